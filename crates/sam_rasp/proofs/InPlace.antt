@@ -1,10 +1,11 @@
 -- What may stand for a stretch of sections between others, and what it stands for.
-use Rattle.sam_rasp.proofs.Common.{◌≡◌, refl, sym, ap, ◌∙◌, subst, ℕ, ◌+◌, ◌-◌, ◌≤◌, ◌<◌, List, [], ◌∷◌, ◌++◌, take, drop, length, arith, append-nil, append_assoc, length-append, take-append-le, drop-append-le, Some, None, max_runes, true, false, ins, del, PartialText, cells, cells_of, size, is_loaded, may_join, most_in_message, IsFilled, IsLast, IsNormal, StaysApart, Section, Loaded, Hole, true≢false}
+use Rattle.sam_rasp.proofs.Common.{◌≡◌, refl, sym, ap, ◌∙◌, subst, ℕ, ◌+◌, ◌-◌, ◌≤◌, ◌<◌, List, [], ◌∷◌, ◌++◌, take, drop, length, arith, append-nil, append_assoc, length-append, take-append-le, drop-append-le, replicate, Some, None, true, false, ins, del, PartialText, cells, cells_of, size, is_loaded, may_join, most_in_message, IsFilled, IsLast, IsNormal, Section, Loaded, Hole, true≢false}
 use Rattle.std.specs.Prelude.{MatchOption, Option}
+use Rattle.sam_rasp.specs.Rasp.{put_cells}
 use Rattle.sam_rasp.specs.Sections.{least, BeginsWith, EndsWith, IfFirst, IsFirst, MayStandFor}
-use Rattle.sam_rasp.proofs.SectionLaws.{back_hole, front_hole, length-cells, length_ins, length_cut}
+use Rattle.sam_rasp.proofs.SectionLaws.{cells-push, back_hole, front_hole, length-cells}
 use Rattle.sam_rasp.proofs.Changes.{take-past, drop-past}
-use Rattle.sam_rasp.proofs.Trees.{cells-forked, length-forked, ins-first, ins-past, normal-grown, Grows}
+use Rattle.sam_rasp.proofs.Trees.{cells-forked, normal-grown, Grows}
 
 -- the last section is one
 pub last-same : (ws vs : List Section) (s a : Section) → ws ++ s ∷ [] ≡ vs ++ a ∷ [] → s ≡ a
@@ -147,13 +148,25 @@ stands-parted n k l i j m b r u f x y xs ys e g h =
 
 -- ## What they stand for
 
-pub fork-ins-left : (l l' : List Section) (s : Section) (r : List Section) (p : ℕ) (m : PartialText) → p ≤ length (cells_of l)
-    → cells_of l' ≡ ins (cells_of l) p m → cells_of (l' ++ s ∷ r) ≡ ins (cells_of (l ++ s ∷ r)) p m
-fork-ins-left l l' s r p m le e = grind (arith, (cells-forked l' s r), (cells-forked l s r), (ins-first (cells_of l) (cells s ++ cells_of r) m p le))
+put-first : (a b m : PartialText) (p q : ℕ) → p ≤ q → q ≤ length a → put_cells a p q m ++ b ≡ put_cells (a ++ b) p q m
+put-first a b m p q o l = grind (arith, (take-append-le p a b), (drop-append-le q a b l), (append_assoc (take p a ++ m) (drop q a) b))
 
-pub fork-ins-right : (l : List Section) (s : Section) (r r' : List Section) (p k : ℕ) (m : PartialText) → length (cells_of l) + size s + k ≡ p
-    → cells_of r' ≡ ins (cells_of r) k m → cells_of (l ++ s ∷ r') ≡ ins (cells_of (l ++ s ∷ r)) p m
-fork-ins-right l s r r' p k m le e = grind (
+put-past : (a b m : PartialText) (p q i j : ℕ) → length a + i ≡ p → length a + j ≡ q → a ++ put_cells b i j m ≡ put_cells (a ++ b) p q m
+put-past a b m p q i j e u = grind (
+  arith,
+  (take-past a b i p e),
+  (drop-past a b j q u),
+  (append_assoc a (take i b ++ m) (drop j b)),
+  (append_assoc a (take i b) m),
+)
+
+pub fork-put-left : (l l' : List Section) (s : Section) (r : List Section) (p q : ℕ) (m : PartialText) → p ≤ q → q ≤ length (cells_of l)
+    → cells_of l' ≡ put_cells (cells_of l) p q m → cells_of (l' ++ s ∷ r) ≡ put_cells (cells_of (l ++ s ∷ r)) p q m
+fork-put-left l l' s r p q m o le e = grind (arith, (cells-forked l' s r), (cells-forked l s r), (put-first (cells_of l) (cells s ++ cells_of r) m p q o le))
+
+pub fork-put-right : (l : List Section) (s : Section) (r r' : List Section) (p q i j : ℕ) (m : PartialText) → length (cells_of l) + size s + i ≡ p
+    → length (cells_of l) + size s + j ≡ q → cells_of r' ≡ put_cells (cells_of r) i j m → cells_of (l ++ s ∷ r') ≡ put_cells (cells_of (l ++ s ∷ r)) p q m
+fork-put-right l s r r' p q i j m le w e = grind (
   arith,
   (cells-forked l s r'),
   (cells-forked l s r),
@@ -161,18 +174,21 @@ fork-ins-right l s r r' p k m le e = grind (
   (length-append (cells_of l) (cells s)),
   (append_assoc (cells_of l) (cells s) (cells_of r)),
   (append_assoc (cells_of l) (cells s) (cells_of r')),
-  (ins-past (cells_of l ++ cells s) (cells_of r) m p k),
+  (put-past (cells_of l ++ cells s) (cells_of r) m p q i j),
 )
 
-pub fork-ins-here : (l : List Section) (s s' : Section) (r : List Section) (p k : ℕ) (m : PartialText) → length (cells_of l) + k ≡ p → k ≤ size s
-    → cells s' ≡ ins (cells s) k m → cells_of (l ++ s' ∷ r) ≡ ins (cells_of (l ++ s ∷ r)) p m
-fork-ins-here l s s' r p k m le w e = grind (
+-- the cells x stand for those of the section, and begin where it does
+pub fork-put-here : (l : List Section) (s : Section) (r new : List Section) (x : PartialText) (p q i j : ℕ) (m : PartialText) → length (cells_of l) + i ≡ p
+    → length (cells_of l) + j ≡ q → i ≤ j → j ≤ size s → x ≡ put_cells (cells s) i j m → cells_of new ≡ cells_of l ++ (x ++ cells_of r)
+    → cells_of new ≡ put_cells (cells_of (l ++ s ∷ r)) p q m
+fork-put-here l s r new x p q i j m le w o z e n = grind (
   arith,
-  (cells-forked l s' r),
+  n,
+  e,
   (cells-forked l s r),
   (length-cells s),
-  (ins-first (cells s) (cells_of r) m k),
-  (ins-past (cells_of l) (cells s ++ cells_of r) m p k),
+  (put-first (cells s) (cells_of r) m i j),
+  (put-past (cells_of l) (cells s ++ cells_of r) m p q i j),
 )
 
 del-first : (a b : PartialText) (p q : ℕ) → p ≤ q → q ≤ length a → del a p q ++ b ≡ del (a ++ b) p q
@@ -209,10 +225,6 @@ fork-del-here l s s' r p q i j le w o z e = grind (
   (del-past (cells_of l) (cells s ++ cells_of r) p q i j),
 )
 
--- a hole with a section in its middle
-pub parted-cells : (n i : ℕ) (b : Section) (r : List Section) → i ≤ n → cells (Hole i) ++ cells_of (b ∷ Hole (n - i) ∷ r) ≡ ins (cells (Hole n)) i (cells b) ++ cells_of r
-parted-cells n i b r le = grind (arith, (front_hole n i le), (back_hole n i), append_assoc)
-
 -- ## Both at once, where nothing else has changed
 
 pub filled-here : (l l' : List Section) (s s' : Section) (r r' : List Section) (p k : ℕ) (m : PartialText) → l' ≡ l → r' ≡ r → length (cells_of l) + k ≡ p → k ≤ size s
@@ -221,7 +233,7 @@ pub filled-here : (l l' : List Section) (s s' : Section) (r r' : List Section) (
 filled-here l l' s s' r r' p k m el er e w done =
     subst (λ x. (cells_of (x ++ s' ∷ r') ≡ ins (cells_of (l ++ s ∷ r)) p m) × MayStandFor 0 0 (l ++ s ∷ r) (x ++ s' ∷ r')) (sym el)
     (subst (λ y. (cells_of (l ++ s' ∷ y) ≡ ins (cells_of (l ++ s ∷ r)) p m) × MayStandFor 0 0 (l ++ s ∷ r) (l ++ s' ∷ y)) (sym er)
-    (fork-ins-here l s s' r p k m e w done.2, stands-grown 0 0 l s s' r (record { loaded = done.0; loaded_after = done.1; more = done.3; limit = done.4 })))
+    (fork-put-here l s r (l ++ s' ∷ r) (cells s') p p k k m e e (omega arith) w done.2 (cells-forked l s' r), stands-grown 0 0 l s s' r (record { loaded = done.0; loaded_after = done.1; more = done.3; limit = done.4 })))
 
 pub filled-right : (l l' : List Section) (s s' : Section) (r r' : List Section) (p k : ℕ) (m : PartialText) → l' ≡ l → s' ≡ s → length (cells_of l) + size s + k ≡ p
     → (cells_of r' ≡ ins (cells_of r) k m) × MayStandFor 0 0 r r'
@@ -229,7 +241,7 @@ pub filled-right : (l l' : List Section) (s s' : Section) (r r' : List Section) 
 filled-right l l' s s' r r' p k m el es e done =
     subst (λ x. (cells_of (x ++ s' ∷ r') ≡ ins (cells_of (l ++ s ∷ r)) p m) × MayStandFor 0 0 (l ++ s ∷ r) (x ++ s' ∷ r')) (sym el)
     (subst (λ y. (cells_of (l ++ y ∷ r') ≡ ins (cells_of (l ++ s ∷ r)) p m) × MayStandFor 0 0 (l ++ s ∷ r) (l ++ y ∷ r')) (sym es)
-    (fork-ins-right l s r r' p k m e done.0, stands-right 0 0 0 l s r r' (omega arith) done.1))
+    (fork-put-right l s r r' p p k k m e e done.0, stands-right 0 0 0 l s r r' (omega arith) done.1))
 
 pub shrunk-right : (n k : ℕ) (l : List Section) (s : Section) (r r' : List Section) (p i j : ℕ) → length (cells_of l) + size s + i ≡ p
     → (cells_of r' ≡ del (cells_of r) i (i + j)) × MayStandFor (least s) k r r'
@@ -254,37 +266,25 @@ shrunk-here n k l l' s s' r r' p i j el er e w done =
     (subst (λ y. (cells_of (l ++ s' ∷ y) ≡ del (cells_of (l ++ s ∷ r)) p (p + j)) × MayStandFor n k (l ++ s ∷ r) (l ++ s' ∷ y)) (sym er)
     (fork-del-here l s s' r p (p + j) i (i + j) e (omega (arith, e)) (omega arith) w done.0, done.2))
 
-pub put-right : (n k : ℕ) (l : List Section) (s : Section) (r r' : List Section) (p i : ℕ) (m : PartialText) → length (cells_of l) + size s + i ≡ p
-    → (cells_of r' ≡ ins (cells_of r) i m) × MayStandFor (least s) k r r'
-    → (cells_of (l ++ s ∷ r') ≡ ins (cells_of (l ++ s ∷ r)) p m) × MayStandFor n k (l ++ s ∷ r) (l ++ s ∷ r')
-put-right n k l s r r' p i m e done = (fork-ins-right l s r r' p i m e done.0, stands-right n k (least s) l s r r' (omega arith) done.1)
+pub put-right : (n k : ℕ) (l : List Section) (s : Section) (r r' : List Section) (p i j : ℕ) (m : PartialText) → length (cells_of l) + size s + i ≡ p
+    → (cells_of r' ≡ put_cells (cells_of r) i (i + j) m) × MayStandFor (least s) k r r'
+    → (cells_of (l ++ s ∷ r') ≡ put_cells (cells_of (l ++ s ∷ r)) p (p + j) m) × MayStandFor n k (l ++ s ∷ r) (l ++ s ∷ r')
+put-right n k l s r r' p i j m e done =
+    (fork-put-right l s r r' p (p + j) i (i + j) m e (omega (arith, e)) done.0, stands-right n k (least s) l s r r' (omega arith) done.1)
 
-pub put-left : (n k : ℕ) (l l' : List Section) (s : Section) (r : List Section) (p : ℕ) (m : PartialText) → p ≤ length (cells_of l)
-    → (cells_of l' ≡ ins (cells_of l) p m) × MayStandFor n (least s) l l'
-    → (cells_of (l' ++ s ∷ r) ≡ ins (cells_of (l ++ s ∷ r)) p m) × MayStandFor n k (l ++ s ∷ r) (l' ++ s ∷ r)
-put-left n k l l' s r p m e done = (fork-ins-left l l' s r p m e done.0, stands-left n k (least s) l l' s r (omega arith) done.1)
+pub put-left : (n k : ℕ) (l l' : List Section) (s : Section) (r : List Section) (p j : ℕ) (m : PartialText) → p + j ≤ length (cells_of l)
+    → (cells_of l' ≡ put_cells (cells_of l) p (p + j) m) × MayStandFor n (least s) l l'
+    → (cells_of (l' ++ s ∷ r) ≡ put_cells (cells_of (l ++ s ∷ r)) p (p + j) m) × MayStandFor n k (l ++ s ∷ r) (l' ++ s ∷ r)
+put-left n k l l' s r p j m e done =
+    (fork-put-left l l' s r p (p + j) m (omega arith) e done.0, stands-left n k (least s) l l' s r (omega arith) done.1)
 
--- a section in the middle of a hole
-pub put-here : (n k : ℕ) (l l' : List Section) (s s' b : Section) (r r' : List Section) (p i : ℕ) → l' ≡ l → length (cells_of l) + i ≡ p → 0 < i → i < size s
-    → is_loaded b ≡ true → IsFilled b → s ≡ Hole (size s) → s' ≡ Hole i → r' ≡ b ∷ Hole (size s - i) ∷ r
-    → (cells_of (l' ++ s' ∷ r') ≡ ins (cells_of (l ++ s ∷ r)) p (cells b)) × MayStandFor n k (l ++ s ∷ r) (l' ++ s' ∷ r')
-put-here n k l l' s s' b r r' p i el e z w u f es es' er =
-    subst (λ x. (cells_of (x ++ s' ∷ r') ≡ ins (cells_of (l ++ s ∷ r)) p (cells b)) × MayStandFor n k (l ++ s ∷ r) (x ++ s' ∷ r')) (sym el)
-    (subst (λ x. (cells_of (l ++ x ∷ r') ≡ ins (cells_of (l ++ s ∷ r)) p (cells b)) × MayStandFor n k (l ++ s ∷ r) (l ++ x ∷ r')) (sym es')
-    (subst (λ x. (cells_of (l ++ Hole i ∷ x) ≡ ins (cells_of (l ++ s ∷ r)) p (cells b)) × MayStandFor n k (l ++ s ∷ r) (l ++ Hole i ∷ x)) (sym er)
-    (holds, subst (λ x. MayStandFor n k (l ++ x ∷ r) (l ++ Hole i ∷ b ∷ Hole (size s - i) ∷ r)) (sym es) (stands-parted n k l i (size s - i) (size s) b r u f z (omega (arith, w))))))
-  where
-    holds : cells_of (l ++ Hole i ∷ b ∷ Hole (size s - i) ∷ r) ≡ ins (cells_of (l ++ s ∷ r)) p (cells b)
-    holds = grind (
-      arith,
-      es,
-      (cells-forked l (Hole i) (b ∷ Hole (size s - i) ∷ r)),
-      (cells-forked l s r),
-      (length-cells s),
-      (parted-cells (size s) i b r (omega (arith, w))),
-      (ins-first (cells s) (cells_of r) (cells b) i),
-      (ins-past (cells_of l) (cells s ++ cells_of r) (cells b) p i),
-    )
+-- a hole with other gaps, or a loaded section, in the place of some of its gaps
+hole-cells : (n i j : ℕ) (m : PartialText) → i + j ≤ n → replicate i None ++ m ++ replicate (n - (i + j)) None ≡ put_cells (cells (Hole n)) i (i + j) m
+hole-cells n i j m le = grind (arith, (front_hole n i (omega (arith, le))), (back_hole n (i + j)))
+
+is-hole : (s : Section) → is_loaded s ≡ false → s ≡ Hole (size s)
+is-hole (Hole n) e = refl
+is-hole (Loaded t) e = absurd (true≢false e)
 
 -- another hole in the place of one, and a loaded section before it
 pub hole-first : (i j : ℕ) (r : List Section) → 0 < j → IsNormal (Hole i ∷ r) → IsNormal (Hole j ∷ r)
@@ -300,8 +300,91 @@ pub match-map : {A : Type 0} {X X' : Type 0} {Y Y' : A → Type 0} (o : Option A
 match-map None f g m = f m
 match-map (Some a) f g m = g a m
 
-pub put-empty : (n k : ℕ) (old new : List Section) (b : Section) (p : ℕ) → old ≡ [] → new ≡ b ∷ [] → Apart n b k
-    → (cells_of new ≡ ins (cells_of old) p (cells b)) × MayStandFor n k old new
-put-empty n k old new b p eo en a =
-    subst (λ x. (cells_of new ≡ ins (cells_of x) p (cells b)) × MayStandFor n k x new) (sym eo)
-    (subst (λ x. (cells_of x ≡ ins (cells_of []) p (cells b)) × MayStandFor n k [] x) (sym en) (grind (arith, append-nil), stands-put n k b a))
+pub put-empty : (n k : ℕ) (old new : List Section) (b : Section) (p q : ℕ) → old ≡ [] → new ≡ b ∷ [] → Apart n b k
+    → (cells_of new ≡ put_cells (cells_of old) p q (cells b)) × MayStandFor n k old new
+put-empty n k old new b p q eo en a =
+    subst (λ x. (cells_of new ≡ put_cells (cells_of x) p q (cells b)) × MayStandFor n k x new) (sym eo)
+    (subst (λ x. (cells_of x ≡ put_cells (cells_of []) p q (cells b)) × MayStandFor n k [] x) (sym en) (grind (arith, append-nil), stands-put n k b a))
+
+-- a loaded section in the place of a hole
+pub stands-whole : (n k x y : ℕ) (l : List Section) (a b : Section) (r : List Section) → Apart x b y
+    → ((xs : List Section) → EndsWith n xs → EndsWith x (xs ++ l)) → ((ys : List Section) → BeginsWith k ys → BeginsWith y (r ++ ys))
+    → MayStandFor n k (l ++ a ∷ r) (l ++ b ∷ r)
+stands-whole n k x y l a b r p ends begins = stands-shrunk n k x y l a b r p ends begins
+
+-- before what is left of it
+pub stands-before : (n k x : ℕ) (l : List Section) (a b : Section) (j : ℕ) (r : List Section) → is_loaded a ≡ false → 0 < j → Apart x b most_in_message
+    → ((xs : List Section) → EndsWith n xs → EndsWith x (xs ++ l)) → MayStandFor n k (l ++ a ∷ r) ((l ++ b ∷ []) ++ Hole j ∷ r)
+stands-before n k x l a b j r u z p ends xs ys e f h =
+    subst IsNormal (sym (after-of xs l b (Hole j) r ys))
+    (normal-put (xs ++ l) b (Hole j ∷ (r ++ ys)) p.filled (apart-last x most_in_message (xs ++ l) b p (ends xs e)) (before-hole b j p.loaded)
+    (subst IsNormal (middle-of xs l (Hole j) r ys) (not-loaded n k l a (Hole j) r u refl z xs ys e f h)))
+  where
+    after-of : (xs l : List Section) (b c : Section) (r ys : List Section) → xs ++ (((l ++ b ∷ []) ++ c ∷ r) ++ ys) ≡ (xs ++ l) ++ b ∷ c ∷ (r ++ ys)
+    after-of xs l b c r ys = grind (arith, append_assoc)
+
+    before-hole : (b : Section) (j : ℕ) → is_loaded b ≡ true → may_join b (Hole j) ≡ false
+    before-hole (Loaded s) j v = refl
+    before-hole (Hole i) j v = absurd (true≢false (sym v))
+
+-- after what is left of it
+pub stands-after : (n k y : ℕ) (l : List Section) (a b : Section) (i : ℕ) (r : List Section) → is_loaded a ≡ false → 0 < i → Apart most_in_message b y
+    → ((ys : List Section) → BeginsWith k ys → BeginsWith y (r ++ ys)) → MayStandFor n k (l ++ a ∷ r) (l ++ Hole i ∷ b ∷ r)
+stands-after n k y l a b i r u z p begins xs ys e f h =
+    subst IsNormal (sym (right-of xs l (Hole i) (b ∷ r) ys))
+    (normal-put ((xs ++ l) ++ Hole i ∷ []) b (r ++ ys) p.filled last (apart-first most_in_message y (r ++ ys) b p (begins ys f))
+    (subst IsNormal (right-of xs l (Hole i) r ys) (not-loaded n k l a (Hole i) r u refl z xs ys e f h)))
+  where
+    after-hole : (b : Section) → is_loaded b ≡ true → may_join (Hole i) b ≡ false
+    after-hole (Loaded s) v = refl
+    after-hole (Hole j) v = absurd (true≢false (sym v))
+
+    last : (vs : List Section) (c : Section) → (xs ++ l) ++ Hole i ∷ [] ≡ vs ++ c ∷ [] → may_join c b ≡ false
+    last vs c q = subst (λ d. may_join d b ≡ false) (last-same (xs ++ l) vs (Hole i) c q) (after-hole b p.loaded)
+
+-- between the two parts of it
+pub stands-between : (n k : ℕ) (l : List Section) (i j : ℕ) (a b : Section) (r : List Section) → is_loaded a ≡ false → is_loaded b ≡ true → IsFilled b → 0 < i → 0 < j
+    → MayStandFor n k (l ++ a ∷ r) (l ++ Hole i ∷ b ∷ Hole j ∷ r)
+stands-between n k l i j (Hole m) b r u v f x y = stands-parted n k l i j m b r v f x y
+stands-between n k l i j (Loaded t) b r u v f x y = absurd (true≢false u)
+
+-- i gaps, the section b and g gaps stand where s stood
+shape : (l : List Section) (s : Section) (r new : List Section) (b : Section) (i j g : ℕ) → is_loaded s ≡ false → i + j + g ≡ size s
+    → cells_of new ≡ cells_of l ++ (((cells (Hole i) ++ cells b) ++ cells (Hole g)) ++ cells_of r)
+    → cells_of new ≡ put_cells (cells_of (l ++ s ∷ r)) (length (cells_of l) + i) (length (cells_of l) + (i + j)) (cells b)
+shape l s r new b i j g u w e =
+    fork-put-here l s r new ((cells (Hole i) ++ cells b) ++ cells (Hole g)) (length (cells_of l) + i) (length (cells_of l) + (i + j)) i (i + j) (cells b)
+    refl refl (omega arith) (omega (arith, w)) (grind (arith, (is-hole s u), (hole-cells (size s) i j (cells b)), w)) e
+
+pub whole-here : (n k : ℕ) (l : List Section) (s : Section) (r new : List Section) (b : Section) (p j : ℕ) → p ≡ 0 → is_loaded s ≡ false → j ≡ size s → new ≡ l ++ b ∷ r
+    → MayStandFor n k (l ++ s ∷ r) (l ++ b ∷ r)
+    → (cells_of new ≡ put_cells (cells_of (l ++ s ∷ r)) (length (cells_of l) + p) (length (cells_of l) + (p + j)) (cells b)) × MayStandFor n k (l ++ s ∷ r) new
+whole-here n k l s r new b p j z u w e m =
+    (shape l s r new b p j 0 u (omega (arith, z, w)) (grind (arith, z, e, (cells-forked l b r), (append-nil (cells b)))), subst (λ x. MayStandFor n k (l ++ s ∷ r) x) (sym e) m)
+
+pub before-here : (n k : ℕ) (l : List Section) (s : Section) (r new : List Section) (b : Section) (p j g : ℕ) → p ≡ 0 → is_loaded s ≡ false → j + g ≡ size s → new ≡ (l ++ b ∷ []) ++ Hole g ∷ r
+    → MayStandFor n k (l ++ s ∷ r) ((l ++ b ∷ []) ++ Hole g ∷ r)
+    → (cells_of new ≡ put_cells (cells_of (l ++ s ∷ r)) (length (cells_of l) + p) (length (cells_of l) + (p + j)) (cells b)) × MayStandFor n k (l ++ s ∷ r) new
+before-here n k l s r new b p j g z u w e m = (
+  shape l s r new b p j g u (omega (arith, z, w))
+      (grind (arith, z, e, (cells-forked (l ++ b ∷ []) (Hole g) r), (cells-push l b), (append_assoc (cells_of l) (cells b) (cells (Hole g) ++ cells_of r)), (append_assoc (cells b) (cells (Hole g)) (cells_of r)))),
+  subst (λ x. MayStandFor n k (l ++ s ∷ r) x) (sym e) m,
+)
+
+pub after-here : (n k : ℕ) (l : List Section) (s : Section) (r new : List Section) (b : Section) (i j : ℕ) → is_loaded s ≡ false → i + j ≡ size s → new ≡ l ++ Hole i ∷ b ∷ r
+    → MayStandFor n k (l ++ s ∷ r) (l ++ Hole i ∷ b ∷ r)
+    → (cells_of new ≡ put_cells (cells_of (l ++ s ∷ r)) (length (cells_of l) + i) (length (cells_of l) + (i + j)) (cells b)) × MayStandFor n k (l ++ s ∷ r) new
+after-here n k l s r new b i j u w e m = (
+  shape l s r new b i j 0 u (omega (arith, w))
+      (grind (arith, e, (cells-forked l (Hole i) (b ∷ r)), (append-nil (cells (Hole i) ++ cells b)), (append_assoc (cells (Hole i)) (cells b) (cells_of r)))),
+  subst (λ x. MayStandFor n k (l ++ s ∷ r) x) (sym e) m,
+)
+
+pub between-here : (n k : ℕ) (l : List Section) (s : Section) (r new : List Section) (b : Section) (i j g : ℕ) → is_loaded s ≡ false → i + j + g ≡ size s
+    → new ≡ l ++ Hole i ∷ b ∷ Hole g ∷ r → MayStandFor n k (l ++ s ∷ r) (l ++ Hole i ∷ b ∷ Hole g ∷ r)
+    → (cells_of new ≡ put_cells (cells_of (l ++ s ∷ r)) (length (cells_of l) + i) (length (cells_of l) + (i + j)) (cells b)) × MayStandFor n k (l ++ s ∷ r) new
+between-here n k l s r new b i j g u w e m = (
+  shape l s r new b i j g u w
+      (grind (arith, e, (cells-forked l (Hole i) (b ∷ Hole g ∷ r)), (append_assoc (cells (Hole i)) (cells b) (cells (Hole g))), (append_assoc (cells (Hole i)) (cells b ++ cells (Hole g)) (cells_of r)), (append_assoc (cells b) (cells (Hole g)) (cells_of r)))),
+  subst (λ x. MayStandFor n k (l ++ s ∷ r) x) (sym e) m,
+)

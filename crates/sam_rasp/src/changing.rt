@@ -5,11 +5,11 @@ ghost use Rattle.std.specs.Prelude.{◌≡◌, ◌<◌, ◌≤◌, ◌+◌, ◌+
 ghost use Rattle.sam_runes.specs.Texts.{del, ins, max_runes, most_in_message};
 ghost use Rattle.sam_rasp.specs.declared.section.Section.{Section};
 ghost use Rattle.sam_rasp.specs.declared.section.Section.TheVariants.{Loaded};
-ghost use Rattle.sam_rasp.specs.Sections.{cells, cells_of, is_loaded, size, may_join, IsFilled, IsNormal};
+ghost use Rattle.sam_rasp.specs.Sections.{cells, cells_of, is_loaded, size, may_join, IsNormal};
 
 use crate::piece::Piece;
 use crate::section::Section;
-use crate::tree::{Fork, Incoming, NOTHING_BESIDE, Tree};
+use crate::tree::{Fork, Incoming, Tree};
 use sam_runes::MOST_IN_MESSAGE;
 use std::alloc::{AllocError, Global};
 use std::mem;
@@ -36,8 +36,15 @@ impl Maker {
     pub fn spare(&self) -> Result<Spare, AllocError>
         ensures { IfOk result (λ s. s.piece ≡ []) }
     {
-        let piece = Piece::new(self.alloc)?;
         let fork = Fork::new(self.alloc, Section::Hole(0))?;
+        self.spare_in(fork)
+    }
+
+    /// As `spare`, where the memory of the section itself is there.
+    pub fn spare_in(&self, fork: Box<Fork>) -> Result<Spare, AllocError>
+        ensures { IfOk result (λ s. s.piece ≡ []) }
+    {
+        let piece = Piece::new(self.alloc)?;
         Ok(Spare { fork, piece })
     }
 
@@ -58,6 +65,16 @@ impl Maker {
         let mut piece = Piece::new(self.alloc)?;
         piece.extend(runes);
         Fork::new(self.alloc, Section::Loaded(piece))
+    }
+
+    /// Returns `runes` as one loaded section that comes in. The only error is out of memory.
+    pub fn incoming(&self, runes: &[char]) -> Result<Incoming, AllocError>
+        requires { length runes.now ≤ most_in_message }
+        ensures { IfOk result (λ i. i.fork.value.section ≡ Loaded runes.now) }
+    {
+        let fork = self.piece(runes)?;
+        let back = Fork::new(self.alloc, Section::Hole(0))?;
+        Ok(Incoming { fork, back })
     }
 
     /// Returns `runes` as loaded sections, of `MOST_IN_MESSAGE` runes each but for the last; without runes there is none. The only error
@@ -172,23 +189,5 @@ impl Tree {
         } = spare;
         back.section = first.section.split(at, piece);
         front.push(first).join(more).push(back).join(rest)
-    }
-
-    /// Puts the loaded section `fork` in at place `p`. No memory is asked for: `spare` serves where a section is cut in two.
-    pub fn put_piece(&mut self, p: u32, fork: Box<Fork>, spare: Spare)
-        requires within { p ≤ length (cells_of self.old) }
-        requires limit { length (cells_of self.old) + size fork.value.section ≤ max_runes }
-        requires loaded { is_loaded fork.value.section ≡ true }
-        requires filled { IsFilled fork.value.section }
-        requires empty { spare.piece ≡ [] }
-        ensures { cells_of self.new ≡ ins (cells_of self.old) p (cells fork.value.section) }
-    {
-        let Spare { fork: back, piece } = spare;
-        let incoming = Incoming { fork, back };
-        let Some(Incoming { fork, back }) = self.put(p, incoming, NOTHING_BESIDE, NOTHING_BESIDE) else {
-            return;
-        };
-        let spare = Spare { fork: back, piece };
-        *self = mem::replace(self, Tree::new()).insert(p, Tree::one(fork), spare);
     }
 }

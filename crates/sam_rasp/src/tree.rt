@@ -9,9 +9,8 @@ ghost use Rattle.sam_rasp.specs.Sections.{all_loaded, cells, cells_of, is_loaded
 
 mod in_place;
 
-pub use in_place::{Incoming, NOTHING_BESIDE};
-
 use crate::section::Section;
+pub use in_place::{Incoming, NOTHING_BESIDE};
 use std::alloc::{AllocError, Global};
 use std::marker::Model;
 use std::mem;

@@ -1,7 +1,9 @@
 //! Changes that touch one section, or the place between two: each is made on one way down, and no other section moves.
 
-ghost use Rattle.std.specs.Prelude.{List, ◌≡◌, ◌<◌, ◌≤◌, ◌+◌, ◌-◌, ◌++◌, ◌∷◌, map, length, None, Some, MatchOption, true, false};
+ghost use Rattle.std.specs.Prelude.{[], ℕ, List, ◌≡◌, ◌<◌, ◌≤◌, ◌+◌, ◌-◌, ◌++◌, ◌∷◌, map, length, None, Some, MatchOption, true, false};
 ghost use Rattle.sam_runes.specs.Texts.{del, ins, max_runes, most_in_message};
+ghost use Rattle.sam_rasp.specs.Forks.{sections_of};
+ghost use Rattle.sam_rasp.specs.Rasp.{put_cells};
 ghost use Rattle.sam_rasp.specs.declared.section.Section.{Section};
 ghost use Rattle.sam_rasp.specs.declared.section.Section.TheVariants.{Hole};
 ghost use Rattle.sam_rasp.specs.Sections.{all_loaded, cells, cells_of, is_loaded, least, size, BeginsWith, EndsWith, IsFilled, IsNormal, MayStandFor};
@@ -36,12 +38,12 @@ impl Fork {
     /// Returns how many runes and gaps it has, how many sections, and whether all are loaded.
     #[tactic(auto, using(crate::proofs::Trees::of_facts))]
     fn counts(&self) -> (u32, usize, bool)
-        requires normal { IsNormal (self.now.left ++ self.now.section ∷ self.now.right) }
-        requires limit { length (cells_of (self.now.left ++ self.now.section ∷ self.now.right)) ≤ max_runes }
-        ensures len { result.0 ≡ length (cells_of (self.now.left ++ self.now.section ∷ self.now.right)) }
+        requires normal { IsNormal (sections_of self.now) }
+        requires limit { length (cells_of (sections_of self.now)) ≤ max_runes }
+        ensures len { result.0 ≡ length (cells_of (sections_of self.now)) }
         ensures limit { result.0 ≤ max_runes }
-        ensures count { result.1 ≡ length (self.now.left ++ self.now.section ∷ self.now.right) }
-        ensures loaded { result.2 ≡ all_loaded (self.now.left ++ self.now.section ∷ self.now.right) }
+        ensures count { result.1 ≡ length (sections_of self.now) }
+        ensures loaded { result.2 ≡ all_loaded (sections_of self.now) }
     {
         let len = self.left.len() + self.section.len() + self.right.len();
         let count = self.left.count() + 1 + self.right.count();
@@ -60,7 +62,9 @@ impl Fork {
             × (size self.old.section ≤ size self.new.section) × (size self.new.section ≤ most_in_message) }
         ensures refused { result ≡ false → self.new.section ≡ self.old.section }
     {
-        if !self.section.is_loaded() || self.section.len() as usize + runes.len() > MOST_IN_MESSAGE {
+        if !self.section.is_loaded()
+            || self.section.len() as usize + runes.len() > MOST_IN_MESSAGE
+        {
             return false;
         }
         self.section.insert(p, runes);
@@ -76,8 +80,8 @@ impl Fork {
         ensures sides { (self.new.left ≡ self.old.left) × (self.new.right ≡ self.old.right) }
         ensures done { result ≡ true → (cells self.new.section ≡ del (cells self.old.section) p (p + n))
             × (size self.new.section + n ≡ size self.old.section)
-            × MayStandFor before after (self.old.left ++ self.old.section ∷ self.old.right)
-                (self.old.left ++ self.new.section ∷ self.old.right) }
+            × MayStandFor before after (sections_of self.old)
+            (self.old.left ++ self.new.section ∷ self.old.right) }
         ensures refused { result ≡ false → self.new.section ≡ self.old.section }
     {
         let left = self.section.len() - n;
@@ -88,49 +92,172 @@ impl Fork {
             self.section.cut(p, p + n);
             return true;
         }
-        if !stays_apart(self.left.least_at_end(before), left, self.right.least_at_front(after)) {
+        if !stays_apart(
+            self.left.least_at_end(before),
+            left,
+            self.right.least_at_front(after),
+        ) {
             return false;
         }
         self.section.cut(p, p + n);
         true
     }
 
-    /// Puts the incoming section in at place `p` of its own, which is a hole and parted there. Returns what is incoming if it is none; then
-    /// nothing is changed.
-    fn part_here(&mut self, p: u32, incoming: Incoming) -> Option<Incoming>
-        requires within { (0 < p) × (p < size self.old.section) }
+    /// Puts the incoming section in the place of its own, which is a hole, if it stays apart from the sections beside. Returns what is
+    /// incoming if not; then nothing is changed. A loaded section beside all of these has at least `before` or `after` runes.
+    fn put_whole(&mut self, incoming: Incoming, before: u32, after: u32) -> Option<Incoming>
+        requires hole { is_loaded self.old.section ≡ false }
+        requires sides { (before ≤ most_in_message) × (after ≤ most_in_message) }
         requires loaded { is_loaded incoming.fork.value.section ≡ true }
         requires filled { IsFilled incoming.fork.value.section }
-        requires normal { IsNormal (self.old.section ∷ self.old.right) }
-        requires limit { size self.old.section + length (cells_of self.old.right) + size incoming.fork.value.section ≤ max_runes }
-        ensures left { self.new.left ≡ self.old.left }
+        requires normal { IsNormal (sections_of self.old) }
+        requires limit { length (cells_of (sections_of self.old)) + size incoming.fork.value.section
+            ≤ max_runes + size self.old.section }
         ensures put { MatchOption result
-            ((self.old.section ≡ Hole (size self.old.section)) × (self.new.section ≡ Hole p)
-                × (self.new.right ≡ incoming.fork.value.section ∷ Hole (size self.old.section - p) ∷ self.old.right))
-            (λ r. (r.fork.value.section ≡ incoming.fork.value.section) × (self.new.section ≡ self.old.section)
-                × (self.new.right ≡ self.old.right)) }
+            ((self.new.left ≡ self.old.left) × (self.new.section ≡ incoming.fork.value.section) × (self.new.right ≡ self.old.right)
+            × MayStandFor before after (sections_of self.old)
+            (self.old.left ++ incoming.fork.value.section ∷ self.old.right))
+            (λ r. (r.fork.value.section ≡ incoming.fork.value.section) × (self.new ≡ self.old)) }
     {
-        let Section::Hole(count) = &mut self.section else {
+        let len = incoming.fork.section.len();
+        if !stays_apart(
+            self.left.least_at_end(before),
+            len,
+            self.right.least_at_front(after),
+        ) {
             return Some(incoming);
-        };
+        }
+        let Incoming { mut fork, back } = incoming;
+        self.section = mem::replace(&mut fork.section, Section::Hole(0));
+        None
+    }
+
+    /// Puts the incoming section in before its own, of which `gaps` gaps are left, as `put_whole` does.
+    fn put_before(&mut self, gaps: u32, incoming: Incoming, before: u32) -> Option<Incoming>
+        requires hole { is_loaded self.old.section ≡ false }
+        requires gaps { (0 < gaps) × (gaps ≤ size self.old.section) }
+        requires sides { before ≤ most_in_message }
+        requires loaded { is_loaded incoming.fork.value.section ≡ true }
+        requires filled { IsFilled incoming.fork.value.section }
+        requires normal { IsNormal (sections_of self.old) }
+        requires limit { length (cells_of (sections_of self.old)) + size incoming.fork.value.section
+            ≤ max_runes + size self.old.section }
+        ensures put { MatchOption result
+            ((self.new.left ≡ self.old.left ++ incoming.fork.value.section ∷ []) × (self.new.section ≡ Hole gaps)
+            × (self.new.right ≡ self.old.right)
+            × ((after : ℕ) → MayStandFor before after (sections_of self.old)
+            ((self.old.left ++ incoming.fork.value.section ∷ []) ++ Hole gaps ∷ self.old.right)))
+            (λ r. (r.fork.value.section ≡ incoming.fork.value.section) × (self.new ≡ self.old)) }
+    {
+        let len = incoming.fork.section.len();
+        if !stays_apart(self.left.least_at_end(before), len, NOTHING_BESIDE) {
+            return Some(incoming);
+        }
+        self.section = Section::Hole(gaps);
+        let left = mem::replace(&mut self.left, Tree::new());
+        self.left = left.link(incoming.fork, Tree::new());
+        None
+    }
+
+    /// Puts the incoming section in after its own, of which `gaps` gaps are left, as `put_whole` does.
+    fn put_after(&mut self, gaps: u32, incoming: Incoming, after: u32) -> Option<Incoming>
+        requires hole { is_loaded self.old.section ≡ false }
+        requires gaps { (0 < gaps) × (gaps ≤ size self.old.section) }
+        requires sides { after ≤ most_in_message }
+        requires loaded { is_loaded incoming.fork.value.section ≡ true }
+        requires filled { IsFilled incoming.fork.value.section }
+        requires normal { IsNormal (sections_of self.old) }
+        requires limit { length (cells_of (sections_of self.old)) + size incoming.fork.value.section
+            ≤ max_runes + size self.old.section }
+        ensures put { MatchOption result
+            ((self.new.left ≡ self.old.left) × (self.new.section ≡ Hole gaps)
+            × (self.new.right ≡ incoming.fork.value.section ∷ self.old.right)
+            × ((before : ℕ) → MayStandFor before after (sections_of self.old)
+            (self.old.left ++ Hole gaps ∷ incoming.fork.value.section ∷ self.old.right)))
+            (λ r. (r.fork.value.section ≡ incoming.fork.value.section) × (self.new ≡ self.old)) }
+    {
+        let len = incoming.fork.section.len();
+        if !stays_apart(NOTHING_BESIDE, len, self.right.least_at_front(after)) {
+            return Some(incoming);
+        }
+        self.section = Section::Hole(gaps);
+        let right = mem::replace(&mut self.right, Tree::new());
+        self.right = Tree::new().link(incoming.fork, right);
+        None
+    }
+
+    /// Puts the incoming section in between the first `front` and the last `end` gaps of its own, which is a hole.
+    fn put_between(&mut self, front: u32, end: u32, incoming: Incoming)
+        requires hole { is_loaded self.old.section ≡ false }
+        requires gaps { (0 < front) × (0 < end) × (front + end ≤ size self.old.section) }
+        requires loaded { is_loaded incoming.fork.value.section ≡ true }
+        requires filled { IsFilled incoming.fork.value.section }
+        requires normal { IsNormal (sections_of self.old) }
+        requires limit { length (cells_of (sections_of self.old)) + size incoming.fork.value.section
+            + front + end ≤ max_runes + size self.old.section }
+        ensures sections { (self.new.left ≡ self.old.left) × (self.new.section ≡ Hole front)
+            × (self.new.right ≡ incoming.fork.value.section ∷ Hole end ∷ self.old.right) }
+        ensures normal { (before after : ℕ) → MayStandFor before after (sections_of self.old)
+            (self.old.left ++ Hole front ∷ incoming.fork.value.section ∷ Hole end ∷ self.old.right) }
+    {
         let Incoming { fork, mut back } = incoming;
-        back.section = Section::Hole(*count - p);
-        *count = p;
+        back.section = Section::Hole(end);
+        self.section = Section::Hole(front);
         let right = mem::replace(&mut self.right, Tree::new());
         self.right = Tree::new().link(fork, Tree::new().link(back, right));
+    }
+
+    /// Puts the incoming section in the place of `n` gaps from place `p` of its own on, if that is a hole, and the incoming one stays apart
+    /// from the sections beside. Returns what is incoming if not; then nothing is changed. A loaded section beside all of these has at
+    /// least `before` or `after` runes.
+    fn put_here(
+        &mut self,
+        p: u32,
+        n: u32,
+        incoming: Incoming,
+        before: u32,
+        after: u32,
+    ) -> Option<Incoming>
+        requires within { p + n ≤ size self.old.section }
+        requires loaded { is_loaded incoming.fork.value.section ≡ true }
+        requires filled { IsFilled incoming.fork.value.section }
+        requires sides { (before ≤ most_in_message) × (after ≤ most_in_message) }
+        requires normal { IsNormal (sections_of self.old) }
+        requires limit { length (cells_of (sections_of self.old)) + size incoming.fork.value.section ≤ max_runes + n }
+        ensures put { MatchOption result
+            ((cells_of (sections_of self.new) ≡ put_cells (cells_of (sections_of self.old)) (length (cells_of self.old.left) + p)
+            (length (cells_of self.old.left) + (p + n))
+            (cells incoming.fork.value.section))
+            × MayStandFor before after (sections_of self.old) (sections_of self.new))
+            (λ r. (r.fork.value.section ≡ incoming.fork.value.section) × (self.new ≡ self.old)) }
+    {
+        if self.section.is_loaded() {
+            return Some(incoming);
+        }
+        let end = self.section.len() - p - n;
+        if p == 0 && end == 0 {
+            return self.put_whole(incoming, before, after);
+        }
+        if p == 0 {
+            return self.put_before(end, incoming, before);
+        }
+        if end == 0 {
+            return self.put_after(p, incoming, after);
+        }
+        self.put_between(p, end, incoming);
         None
     }
 
     /// As `Tree::fill`, for the list of this fork.
     #[cycle(filling)]
     fn fill(&mut self, p: u32, runes: &[char]) -> bool
-        requires normal { IsNormal (self.old.left ++ self.old.section ∷ self.old.right) }
-        requires limit { length (cells_of (self.old.left ++ self.old.section ∷ self.old.right)) + length runes.now ≤ max_runes }
-        ensures done { result ≡ true → (cells_of (self.new.left ++ self.new.section ∷ self.new.right)
-                ≡ ins (cells_of (self.old.left ++ self.old.section ∷ self.old.right)) p (map Some runes.now))
-            × MayStandFor 0 0 (self.old.left ++ self.old.section ∷ self.old.right) (self.new.left ++ self.new.section ∷ self.new.right) }
+        requires normal { IsNormal (sections_of self.old) }
+        requires limit { length (cells_of (sections_of self.old)) + length runes.now ≤ max_runes }
+        ensures done { result ≡ true → (cells_of (sections_of self.new)
+            ≡ ins (cells_of (sections_of self.old)) p (map Some runes.now))
+            × MayStandFor 0 0 (sections_of self.old) (sections_of self.new) }
         ensures refused { result ≡ false
-            → self.new.left ++ self.new.section ∷ self.new.right ≡ self.old.left ++ self.old.section ∷ self.old.right }
+            → sections_of self.new ≡ sections_of self.old }
     {
         let start = self.left.len();
         let end = start + self.section.len();
@@ -152,16 +279,16 @@ impl Fork {
     /// As `Tree::shrink`, for the list of this fork.
     #[cycle(shrinking)]
     fn shrink(&mut self, p: u32, n: u32, before: u32, after: u32) -> bool
-        requires normal { IsNormal (self.old.left ++ self.old.section ∷ self.old.right) }
-        requires limit { length (cells_of (self.old.left ++ self.old.section ∷ self.old.right)) ≤ max_runes }
-        requires within { p + n ≤ length (cells_of (self.old.left ++ self.old.section ∷ self.old.right)) }
+        requires normal { IsNormal (sections_of self.old) }
+        requires limit { length (cells_of (sections_of self.old)) ≤ max_runes }
+        requires within { p + n ≤ length (cells_of (sections_of self.old)) }
         requires sides { (before ≤ most_in_message) × (after ≤ most_in_message) }
-        ensures done { result ≡ true → (cells_of (self.new.left ++ self.new.section ∷ self.new.right)
-                ≡ del (cells_of (self.old.left ++ self.old.section ∷ self.old.right)) p (p + n))
-            × MayStandFor before after (self.old.left ++ self.old.section ∷ self.old.right)
-                (self.new.left ++ self.new.section ∷ self.new.right) }
+        ensures done { result ≡ true → (cells_of (sections_of self.new)
+            ≡ del (cells_of (sections_of self.old)) p (p + n))
+            × MayStandFor before after (sections_of self.old)
+            (sections_of self.new) }
         ensures refused { result ≡ false
-            → self.new.left ++ self.new.section ∷ self.new.right ≡ self.old.left ++ self.old.section ∷ self.old.right }
+            → sections_of self.new ≡ sections_of self.old }
     {
         let start = self.left.len();
         let least = self.section.least();
@@ -177,31 +304,39 @@ impl Fork {
 
     /// As `Tree::put`, for the list of this fork.
     #[cycle(putting)]
-    fn put(&mut self, p: u32, incoming: Incoming, before: u32, after: u32) -> Option<Incoming>
-        requires normal { IsNormal (self.old.left ++ self.old.section ∷ self.old.right) }
-        requires within { p ≤ length (cells_of (self.old.left ++ self.old.section ∷ self.old.right)) }
+    fn put(
+        &mut self,
+        p: u32,
+        n: u32,
+        incoming: Incoming,
+        before: u32,
+        after: u32,
+    ) -> Option<Incoming>
+        requires normal { IsNormal (sections_of self.old) }
+        requires within { p + n ≤ length (cells_of (sections_of self.old)) }
         requires loaded { is_loaded incoming.fork.value.section ≡ true }
         requires filled { IsFilled incoming.fork.value.section }
         requires sides { (before ≤ most_in_message) × (after ≤ most_in_message) }
-        requires limit { length (cells_of (self.old.left ++ self.old.section ∷ self.old.right)) + size incoming.fork.value.section ≤ max_runes }
+        requires limit { length (cells_of (sections_of self.old)) + size incoming.fork.value.section ≤ max_runes + n }
+        requires most { length (cells_of (sections_of self.old)) ≤ max_runes }
         ensures put { MatchOption result
-            ((cells_of (self.new.left ++ self.new.section ∷ self.new.right)
-                ≡ ins (cells_of (self.old.left ++ self.old.section ∷ self.old.right)) p (cells incoming.fork.value.section))
-                × MayStandFor before after (self.old.left ++ self.old.section ∷ self.old.right)
-                    (self.new.left ++ self.new.section ∷ self.new.right))
-            (λ r. (r.fork.value.section ≡ incoming.fork.value.section)
-                × (self.new.left ++ self.new.section ∷ self.new.right ≡ self.old.left ++ self.old.section ∷ self.old.right)) }
+            ((cells_of (sections_of self.new) ≡ put_cells (cells_of (sections_of self.old)) p (p + n) (cells incoming.fork.value.section))
+            × MayStandFor before after (sections_of self.old) (sections_of self.new))
+            (λ r. (r.fork.value.section ≡ incoming.fork.value.section) × (sections_of self.new ≡ sections_of self.old)) }
     {
         let start = self.left.len();
         let least = self.section.least();
-        if p <= start {
-            return self.left.put(p, incoming, before, least);
+        if p + n <= start {
+            return self.left.put(p, n, incoming, before, least);
         }
         let end = start + self.section.len();
         if p >= end {
-            return self.right.put(p - end, incoming, least, after);
+            return self.right.put(p - end, n, incoming, least, after);
         }
-        self.part_here(p - start, incoming)
+        if p < start || p + n > end {
+            return Some(incoming);
+        }
+        self.put_here(p - start, n, incoming, before, after)
     }
 }
 
@@ -248,7 +383,8 @@ impl Tree {
     #[cycle(filling)]
     pub fn fill(&mut self, p: u32, runes: &[char]) -> bool
         requires { length (cells_of self.old) + length runes.now ≤ max_runes }
-        ensures done { result ≡ true → (cells_of self.new ≡ ins (cells_of self.old) p (map Some runes.now)) × MayStandFor 0 0 self.old self.new }
+        ensures done { result ≡ true → (cells_of self.new ≡ ins (cells_of self.old) p (map Some runes.now))
+            × MayStandFor 0 0 self.old self.new }
         ensures refused { result ≡ false → self.new ≡ self.old }
     {
         let Some(fork) = &mut self.root else {
@@ -271,7 +407,8 @@ impl Tree {
     pub fn shrink(&mut self, p: u32, n: u32, before: u32, after: u32) -> bool
         requires within { p + n ≤ length (cells_of self.old) }
         requires sides { (before ≤ most_in_message) × (after ≤ most_in_message) }
-        ensures done { result ≡ true → (cells_of self.new ≡ del (cells_of self.old) p (p + n)) × MayStandFor before after self.old self.new }
+        ensures done { result ≡ true → (cells_of self.new ≡ del (cells_of self.old) p (p + n))
+            × MayStandFor before after self.old self.new }
         ensures refused { result ≡ false → self.new ≡ self.old }
     {
         let Some(fork) = &mut self.root else {
@@ -287,18 +424,26 @@ impl Tree {
         done
     }
 
-    /// Puts the incoming section in at place `p`, into a hole or between two sections from which it stays apart. Returns what is incoming
-    /// if there is no such place at `p`; then nothing is changed. A loaded section beside all of these has at least `before` or `after`
-    /// runes. No memory is asked for.
+    /// Puts the incoming section in the place of `n` gaps from place `p` on, which stand in one hole; without gaps, into a hole or between
+    /// two sections. Returns what is incoming if it wouldn't stay apart from the sections beside, or if there is no such place at `p`; then
+    /// nothing is changed. A loaded section beside all of these has at least `before` or `after` runes. No memory is asked for.
     #[cycle(putting)]
-    pub fn put(&mut self, p: u32, incoming: Incoming, before: u32, after: u32) -> Option<Incoming>
-        requires within { p ≤ length (cells_of self.old) }
+    pub fn put(
+        &mut self,
+        p: u32,
+        n: u32,
+        incoming: Incoming,
+        before: u32,
+        after: u32,
+    ) -> Option<Incoming>
+        requires within { p + n ≤ length (cells_of self.old) }
         requires loaded { is_loaded incoming.fork.value.section ≡ true }
         requires filled { IsFilled incoming.fork.value.section }
         requires sides { (before ≤ most_in_message) × (after ≤ most_in_message) }
-        requires limit { length (cells_of self.old) + size incoming.fork.value.section ≤ max_runes }
+        requires limit { length (cells_of self.old) + size incoming.fork.value.section ≤ max_runes + n }
         ensures put { MatchOption result
-            ((cells_of self.new ≡ ins (cells_of self.old) p (cells incoming.fork.value.section)) × MayStandFor before after self.old self.new)
+            ((cells_of self.new ≡ put_cells (cells_of self.old) p (p + n) (cells incoming.fork.value.section))
+            × MayStandFor before after self.old self.new)
             (λ r. (r.fork.value.section ≡ incoming.fork.value.section) × (self.new ≡ self.old)) }
     {
         let Some(fork) = &mut self.root else {
@@ -308,7 +453,7 @@ impl Tree {
             *self = Tree::one(incoming.fork);
             return None;
         };
-        if let Some(refused) = fork.put(p, incoming, before, after) {
+        if let Some(refused) = fork.put(p, n, incoming, before, after) {
             return Some(refused);
         }
         let (len, count, loaded) = fork.counts();

@@ -1,4 +1,4 @@
-use Rattle.sam_rasp.proofs.Common.{◌-◌, ◌+◌, ◌++◌, ◌∷◌, map, IsNormal, Some, arith, cells_of}
+use Rattle.sam_rasp.proofs.Common.{◌-◌, ◌+◌, ◌++◌, ◌∷◌, map, IsNormal, Some, arith}
 use Rattle.sam_rasp.proofs.InPlace.{filled-here, filled-right, stands-alone}
 use Rattle.sam_rasp.proofs.tree.+filling.Goals as goal
 

@@ -1,4 +1,4 @@
-use Rattle.sam_rasp.proofs.Common.{◌++◌, arith}
+use Rattle.sam_rasp.proofs.Common.{arith}
 use Rattle.sam_rasp.proofs.InPlace.{is-apart, not-loaded, stands-shrunk}
 use Rattle.sam_rasp.proofs.tree.Fork.shrink_here.Goals as goal
 
@@ -15,5 +15,5 @@ returns-clause-done c q =
       grind arith,
       grind arith,
       stands-shrunk c.args.before c.args.after x y f.left f.section c.cut-2.new.self f.right
-      (is-apart x c.cut-2.new.self y (grind arith) (grind arith) (grind arith) (grind arith) (grind arith)) c.least_at_end.ensures.ends c.least_at_front.ensures.begins,
+          (is-apart x c.cut-2.new.self y (grind arith) (grind arith) (grind arith) (grind arith) (grind arith)) c.least_at_end.ensures.ends c.least_at_front.ensures.begins,
     )
