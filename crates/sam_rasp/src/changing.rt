@@ -146,6 +146,9 @@ impl Tree {
     fn skip(self, n: u32) -> Tree
         ensures { cells_of result ≡ drop n (cells_of self) }
     {
+        if n == 0 {
+            return self;
+        }
         let (gone, kept) = self.split(n);
         let Some((mut first, others)) = kept.pop_first() else {
             return Tree::new();
