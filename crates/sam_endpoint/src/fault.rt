@@ -1,4 +1,4 @@
-//! Why a file is not added, why a call is not done, and why an end has stopped.
+//! Why a file is not added, why a call is not done, and why an endpoint has stopped.
 
 ghost use Rattle.std.specs.Prelude.{◌≡◌};
 ghost use Rattle.sam_endpoint.specs.Streams.{not_taken};
@@ -11,7 +11,7 @@ use thiserror::Error;
 /// `NoTag` by their numbers, and has numbers of its own for the other two.
 #[derive(Clone, Copy, Debug, PartialEq, Eq, Drop, Error)]
 pub enum AddFault {
-    /// The host end has taken a piece before, be it an empty one. From then on its files are those that it began with.
+    /// The host endpoint has taken a piece before, be it an empty one. From then on its files are those that it began with.
     #[error("the host has been fed")]
     Begun = 1,
     /// The name or the text is not UTF-8 (RFC 3629).
@@ -28,7 +28,7 @@ pub enum AddFault {
     OutOfMemory = 5,
 }
 
-/// What is wrong with a stream. The end that reads it has stopped for good, since nothing after a fault can be read. The numbers are
+/// What is wrong with a stream. The endpoint that reads it has stopped for good, since nothing after a fault can be read. The numbers are
 /// those of `FeedFault`.
 #[derive(Clone, Copy, Debug, PartialEq, Eq, Drop, Error)]
 pub enum StreamFault {
@@ -43,7 +43,7 @@ pub enum StreamFault {
     BadText = 3,
 }
 
-/// Why a host end has stopped for good. What stood in the stream before the cause is answered, and its frames can be taken out.
+/// Why a host endpoint has stopped for good. What stood in the stream before the cause is answered, and its frames can be taken out.
 #[derive(Clone, Copy, Debug, PartialEq, Eq, Drop, Error)]
 pub enum HostStop {
     /// The terminal's stream shows this fault after the messages that were answered.
@@ -54,7 +54,8 @@ pub enum HostStop {
     Refused(HostFault),
 }
 
-/// Why a terminal end has stopped for good. What stood in the stream before the cause is received, and what it composed can be taken out.
+/// Why a terminal endpoint has stopped for good. What stood in the stream before the cause is received, and what it composed can be taken
+/// out.
 #[derive(Clone, Copy, Debug, PartialEq, Eq, Drop, Error)]
 pub enum TermStop {
     /// The host's stream shows this fault after the frames that were received.
@@ -66,8 +67,8 @@ pub enum TermStop {
     Refused(TermFault),
 }
 
-/// Why a call to an end has not done all that it was asked. Only `Stopped` is for good. After `OutOfMemory` and `CountFull` what the call
-/// brought is not taken; after `Unfinished` it is.
+/// Why a call to an endpoint has not done all that it was asked. Only `Stopped` is for good. After `OutOfMemory` and `CountFull` what the
+/// call brought is not taken; after `Unfinished` it is.
 #[derive(Clone, Copy, Debug, PartialEq, Eq, Drop, Error)]
 pub enum EndpointFault<S> {
     /// Memory was refused before what the call brought was taken: bring it again. What waited before may have gone on.
@@ -80,7 +81,7 @@ pub enum EndpointFault<S> {
     /// The stream would be longer than 2^64-1 bytes, or 2^64-1 events were taken before. What the call brought was not taken.
     #[error("a count is full")]
     CountFull,
-    /// The end has stopped for good, at this call or before. An end that had stopped before is as it was.
+    /// The endpoint has stopped for good, at this call or before. An endpoint that had stopped before is as it was.
     #[error("stopped for good")]
     Stopped(S),
 }
@@ -88,7 +89,7 @@ pub enum EndpointFault<S> {
 /// Why the other side's stream may not end yet, in the order of the tests.
 #[derive(Clone, Copy, Debug, PartialEq, Eq, Drop, Error)]
 pub enum FinishFault<S> {
-    /// The end has stopped for good before.
+    /// The endpoint has stopped for good before.
     #[error("stopped for good")]
     Stopped(S),
     /// Some of what came waits, since memory was refused: feed no bytes until that returns `Ok`, and ask again.

@@ -73,15 +73,15 @@ fn note(writes: &mut VecDeque<u16>, tag: Option<u16>)
 /// A host that takes the bytes of a terminal's messages, answers them in order, and keeps the bytes of its frames until they are taken
 /// out.
 ///
-/// Out of memory loses nothing: what could not be answered or written waits, and the next `feed` goes on with it. A fault of the stream,
-/// or a message that the host refuses, stops the end for good, once the messages before it are answered.
+/// Out of memory loses nothing: what could not be answered or written waits, and the next `feed` goes on with it. A fault of the stream, or
+/// a message that the host refuses, stops the endpoint for good, once the messages before it are answered.
 ///
 /// ```rust
-/// let mut end = HostEndpoint::new(alloc)?;
-/// let tag = end.add_file(b"notes", b"hello\n")?;
-/// end.feed(piece)?;                             // bytes that came from the terminal
-/// let count = end.take_out(&mut buffer);        // bytes that go to the terminal
-/// while let Some(tag) = end.next_written() { .. } // now write end.host().files().saved(tag) to disk
+/// let mut endpoint = HostEndpoint::new(alloc)?;
+/// let tag = endpoint.add_file(b"notes", b"hello\n")?;
+/// endpoint.feed(piece)?;                             // bytes that came from the terminal
+/// let count = endpoint.take_out(&mut buffer);        // bytes that go to the terminal
+/// while let Some(tag) = endpoint.next_written() { .. } // now write endpoint.host().files().saved(tag) to disk
 /// ```
 #[derive(Drop)]
 pub struct HostEndpoint {
@@ -103,7 +103,7 @@ pub struct HostEndpoint {
     pending_bytes: PendingBytes,
     /// The tags of files that the terminal had the host write (Twrite) and `next_written` has not handed out, the oldest first.
     writes: VecDeque<u16>,
-    /// Why the end has stopped for good; `None` while it goes on.
+    /// Why the endpoint has stopped for good; `None` while it goes on.
     stop: Option<HostStop>,
 }
 
@@ -149,7 +149,7 @@ impl HostEndpoint {
         Ok(HostEndpoint::with_host(alloc, host))
     }
 
-    /// Makes an end of this host, to which nothing was fed. It takes no memory.
+    /// Makes an endpoint of this host, to which nothing was fed. It takes no memory.
     pub fn with_host(alloc: Global, host: Host) -> HostEndpoint
         ensures { result ≡ begun_with host }
     {
@@ -193,8 +193,8 @@ impl HostEndpoint {
     /// (RFC 3629). The file is clean and closed, and its name is not announced yet. The cost is that of the name and the text.
     ///
     /// Errors, in this order: `Begun` if a piece was taken before; `NotText` if the name or the text is not UTF-8; `TooLong` if the name
-    /// has more than `MOST_IN_NAME` runes or the text more than `MAX_RUNES`; `NoTag` if all tags were given; `OutOfMemory`. After an
-    /// error the end is as it was.
+    /// has more than `MOST_IN_NAME` runes or the text more than `MAX_RUNES`; `NoTag` if all tags were given; `OutOfMemory`. After an error
+    /// the endpoint is as it was.
     #[tactic(auto, using(crate::proofs::HostEndpointFiles::adds_files))]
     pub fn add_file(&mut self, name: &[u8], text: &[u8]) -> Result<u16, AddFault>
         ensures tag { IfOk result (λ tag. tag ≡ length self.old.host.files.slots) }
@@ -226,7 +226,7 @@ impl HostEndpoint {
     ///
     /// Errors, in this order:
     ///
-    /// - `Stopped` if the end had stopped before. It is as it was.
+    /// - `Stopped` if the endpoint had stopped before. It is as it was.
     /// - `OutOfMemory`, or `Stopped`, as what waited goes on. The piece is not taken.
     /// - `CountFull` if the stream would be longer than 2^64-1 bytes, and then `OutOfMemory`. The piece is not taken, and nothing waits.
     /// - `Unfinished` or `Stopped`, as the messages of the piece are answered. The piece is taken, and after `Unfinished` the next call
@@ -246,8 +246,8 @@ impl HostEndpoint {
         self.go_on()
     }
 
-    /// Says whether the terminal's stream may end here. Errors, in this order: `Stopped` if the end has stopped before; `Unfinished` if
-    /// some of what came waits, since memory was refused; `Truncated` if the stream ends inside a message. A program asks it where its
+    /// Says whether the terminal's stream may end here. Errors, in this order: `Stopped` if the endpoint has stopped before; `Unfinished`
+    /// if some of what came waits, since memory was refused; `Truncated` if the stream ends inside a message. A program asks it where its
     /// input has ended.
     pub fn finish(&self) -> Result<(), FinishFault<HostStop>>
         ensures { Finishes self.now result }
@@ -272,8 +272,8 @@ impl HostEndpoint {
     }
 
     /// Moves the first bytes for the terminal into the buffer, as many as wait and have room there, and returns how many. The rest of the
-    /// buffer stays as it was, and so does everything else of the end. It works on an end that has stopped, too. The cost is that of the
-    /// bytes it moves.
+    /// buffer stays as it was, and so does everything else of the endpoint. It works on an endpoint that has stopped, too. The cost is that
+    /// of the bytes it moves.
     pub fn take_out(&mut self, into: &mut [u8]) -> usize
         ensures count { result ≡ min (length self.old.pending_bytes) (length into.old) }
         ensures bytes { into.new ≡ take result self.old.pending_bytes ++ drop result into.old }
@@ -289,8 +289,8 @@ impl HostEndpoint {
         self.pending_bytes.as_slice()
     }
 
-    /// Takes out the first `count` bytes for the terminal without moving them, or all if fewer wait. Everything else of the end stays as
-    /// it was. It works on an end that has stopped, too.
+    /// Takes out the first `count` bytes for the terminal without moving them, or all if fewer wait. Everything else of the endpoint stays
+    /// as it was. It works on an endpoint that has stopped, too.
     pub fn consume(&mut self, count: usize)
         ensures { self.new ≡ record self.old { pending_bytes = drop count self.old.pending_bytes } }
     {
@@ -313,7 +313,7 @@ impl HostEndpoint {
         &self.host
     }
 
-    /// Returns why the end has stopped for good; `None` while it goes on.
+    /// Returns why the endpoint has stopped for good; `None` while it goes on.
     pub fn stopped(&self) -> Option<HostStop>
         ensures { result ≡ self.now.stop }
     {
@@ -372,7 +372,7 @@ impl HostEndpoint {
         Ok(())
     }
 
-    /// Stops the end for good if the stream shows a fault, once all messages before it are answered.
+    /// Stops the endpoint for good if the stream shows a fault, once all messages before it are answered.
     fn end(&mut self) -> Result<(), EndpointFault<HostStop>>
         ensures { Ends self.old result self.new }
     {

@@ -1,4 +1,4 @@
-//! What holds of every run of an end, stated by the clauses of functions that do nothing.
+//! What holds of every run of an endpoint, stated by the clauses of functions that do nothing.
 
 ghost use Rattle.sam_endpoint.specs.Changes.{ActsKeep, AskingBegins, FlushesKeep, FramesKeep, KeptTellsChange, UnaskedIsKept};
 ghost use Rattle.sam_endpoint.specs.HostRuns.{OneOutcome, RunsServe, StopsServe};
@@ -6,21 +6,21 @@ ghost use Rattle.sam_endpoint.specs.TermRuns.{RunsLead};
 
 use sam_frame::one_reading_t;
 
-/// States what every run of a host end that does not stop comes to, whatever the pieces are and whenever memory is refused. The host has
-/// answered the first messages of the stream in order, and the others wait; the frames of its answers are what was taken out, what is
+/// States what every run of a host endpoint that does not stop comes to, whatever the pieces are and whenever memory is refused. The host
+/// has answered the first messages of the stream in order, and the others wait; the frames of its answers are what was taken out, what is
 /// pending, and what is not written yet.
 #[tactic(auto, using(crate::proofs::HostEndpointRuns::runs_serve))]
 pub fn host_runs_serve()
     ensures { RunsServe }
 {}
 
-/// States what a run of a host end comes to that a piece stops: the same, with the piece or with none of it, and the end shows why it
-/// stopped. The stream has the fault after messages that are all answered; or the host refuses the oldest message that waits.
+/// States what a run of a host endpoint comes to that a piece stops: the same, with the piece or with none of it, and the endpoint shows
+/// why it stopped. The stream has the fault after messages that are all answered; or the host refuses the oldest message that waits.
 pub fn host_stops_serve()
     ensures { StopsServe }
 {}
 
-/// States that two host ends to which the same stream came have the same host and the same bytes for the terminal, once nothing waits,
+/// States that two host endpoints to which the same stream came have the same host and the same bytes for the terminal, once nothing waits,
 /// whatever the pieces were and whenever memory was refused.
 pub fn host_one_outcome()
     ensures { OneOutcome }
@@ -28,9 +28,9 @@ pub fn host_one_outcome()
     one_reading_t();
 }
 
-/// States what every run of a terminal end that does not stop comes to, whatever the pieces are and whenever memory is refused. The
-/// terminal has received the first frames of the stream in order, and the others wait; it was given each event that was put, in order;
-/// and the messages that it composed are what was taken out, what is pending, and what is not written yet.
+/// States what every run of a terminal endpoint that does not stop comes to, whatever the pieces are and whenever memory is refused. The
+/// terminal has received the first frames of the stream in order, and the others wait; it was given each event that was put, in order; and
+/// the messages that it composed are what was taken out, what is pending, and what is not written yet.
 #[tactic(auto, using(crate::proofs::TermEndpointRuns::runs_lead))]
 pub fn term_runs_lead()
     ensures { RunsLead }

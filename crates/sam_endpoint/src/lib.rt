@@ -1,6 +1,6 @@
-//! The two ends of a session as parts of any program: bytes of the other side go in, bytes for the other side come out, and the program
-//! carries them. Out of memory loses nothing: an end keeps what it could not do yet, and goes on with it at the next call that feeds it,
-//! puts an event or flushes.
+//! The two endpoints of a session as parts of any program: bytes of the other side go in, bytes for the other side come out, and the
+//! program carries them. Out of memory loses nothing: an endpoint keeps what it could not do yet, and goes on with it at the next call that
+//! feeds it, puts an event or flushes.
 #![tactic(auto)]
 
 mod changes;

@@ -1,4 +1,4 @@
-//! Bytes that an end has written and that were not taken yet.
+//! Bytes that an endpoint has written and that were not taken yet.
 
 ghost use Rattle.std.specs.Prelude.{◌≡◌, ◌++◌, [], OnOk, OnErr, drop, length, min, take};
 ghost use Rattle.sam_endpoint.specs.Streams.{FitFrames, FitMessages};
@@ -10,8 +10,8 @@ use sam_mesg::{HFrame, Tmesg};
 use std::alloc::{AllocError, Global};
 use std::marker::Model;
 
-/// The bytes that an end has for the other side, in the order in which they were written. Contracts see them as a list. Taking bytes costs
-/// by how many are taken, and not by how many are left.
+/// The bytes that an endpoint has for the other side, in the order in which they were written. Contracts see them as a list. Taking bytes
+/// costs by how many are taken, and not by how many are left.
 ///
 /// ```rust
 /// pending_bytes.put_messages(composed.as_slice())?; // all of them, or none

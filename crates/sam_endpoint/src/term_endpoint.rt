@@ -21,16 +21,16 @@ use std::marker::Model;
 /// A terminal that takes the bytes of a host's frames and the user's events, and keeps the bytes of its messages until they are taken out.
 ///
 /// At each `feed`, `put` and `flush_now` frames are received in order, and then events act for as long as no lock holds the oldest back.
-/// Out of memory loses nothing: what could not be received, done or written waits, and the next of these calls goes on with it. A fault
-/// of the stream, or a frame that the terminal refuses, stops the end for good, once the frames before it are received. An event that the
+/// Out of memory loses nothing: what could not be received, done or written waits, and the next of these calls goes on with it. A fault of
+/// the stream, or a frame that the terminal refuses, stops the endpoint for good, once the frames before it are received. An event that the
 /// terminal refuses stops nothing: `next_refusal` reports it.
 ///
 /// ```rust
-/// let mut end = TermEndpoint::new(alloc);
-/// end.put(UserEvent::Version(2))?;        // the user does something
-/// let count = end.take_out(&mut buffer);  // bytes that go to the host
-/// end.feed(piece)?;                       // bytes that came from the host
-/// let rasp = end.term().rasp(1);          // what can be drawn of file 1, if it is open
+/// let mut endpoint = TermEndpoint::new(alloc);
+/// endpoint.put(UserEvent::Version(2))?;        // the user does something
+/// let count = endpoint.take_out(&mut buffer);  // bytes that go to the host
+/// endpoint.feed(piece)?;                       // bytes that came from the host
+/// let rasp = endpoint.term().rasp(1);          // what can be drawn of file 1, if it is open
 /// ```
 #[derive(Drop)]
 pub struct TermEndpoint {
@@ -55,7 +55,7 @@ pub struct TermEndpoint {
     refusals: VecDeque<(u64, Refusal)>,
     /// How much of each text is as it was when `changed` was asked of it last.
     changes: Changes,
-    /// Why the end has stopped for good; `None` while it goes on.
+    /// Why the endpoint has stopped for good; `None` while it goes on.
     stop: Option<TermStop>,
 }
 
@@ -106,7 +106,7 @@ impl TermEndpoint {
         Ok(())
     }
 
-    /// Stops the end for good if the fault is `Stopped`, and returns the fault.
+    /// Stops the endpoint for good if the fault is `Stopped`, and returns the fault.
     fn stop_by(&mut self, fault: EndpointFault<TermStop>) -> EndpointFault<TermStop>
         ensures answer { result ≡ fault }
         ensures stopped { self.new ≡ stopped_by self.old fault }
@@ -201,7 +201,7 @@ impl TermEndpoint {
         self.act_all()
     }
 
-    /// Goes on with what waits, before the call's own work. An end that has stopped answers why.
+    /// Goes on with what waits, before the call's own work. An endpoint that has stopped answers why.
     fn resume(&mut self) -> Result<(), EndpointFault<TermStop>>
         ensures { Resumes self.old result self.new }
     {
@@ -258,7 +258,7 @@ impl TermEndpoint {
     ///
     /// Errors, in this order:
     ///
-    /// - `Stopped` if the end had stopped before. It is as it was.
+    /// - `Stopped` if the endpoint had stopped before. It is as it was.
     /// - `OutOfMemory`, or `Stopped`, as what waited goes on.
     /// - `CountFull` if 2^64-1 events were taken before, and then `OutOfMemory` if there is no room for the event.
     /// - `Unfinished` or `Stopped`, as events act. The event is taken, and after `Unfinished` the next call goes on.
@@ -277,7 +277,7 @@ impl TermEndpoint {
     ///
     /// Errors, in this order:
     ///
-    /// - `Stopped` if the end had stopped before. It is as it was.
+    /// - `Stopped` if the endpoint had stopped before. It is as it was.
     /// - `OutOfMemory`, or `Stopped`, as what waited goes on. The piece is not taken.
     /// - `CountFull` if the stream would be longer than 2^64-1 bytes, and then `OutOfMemory`. The piece is not taken.
     /// - `Unfinished` or `Stopped`, as frames are received and events act. The piece is taken, and after `Unfinished` the next call goes
@@ -298,7 +298,7 @@ impl TermEndpoint {
     ///
     /// Errors, in this order:
     ///
-    /// - `Stopped` if the end had stopped before. It is as it was.
+    /// - `Stopped` if the endpoint had stopped before. It is as it was.
     /// - `OutOfMemory`, or `Stopped`, as what waited goes on.
     /// - `Stopped` if more than 2^64-1 messages would be composed, and then `OutOfMemory`. The runes are as they were, so after
     ///   `OutOfMemory` it is to be called again.
@@ -311,8 +311,8 @@ impl TermEndpoint {
         self.go_on()
     }
 
-    /// Says whether the host's stream may end here. Errors, in this order: `Stopped` if the end has stopped before; `Unfinished` if some
-    /// of what came or was composed waits, since memory was refused; `Truncated` if the stream ends inside a frame. A program asks it
+    /// Says whether the host's stream may end here. Errors, in this order: `Stopped` if the endpoint has stopped before; `Unfinished` if
+    /// some of what came or was composed waits, since memory was refused; `Truncated` if the stream ends inside a frame. A program asks it
     /// where its input has ended.
     pub fn finish(&self) -> Result<(), FinishFault<TermStop>>
         ensures { Finishes self.now result }
@@ -337,8 +337,8 @@ impl TermEndpoint {
     }
 
     /// Moves the first bytes for the host into the buffer, as many as wait and have room there, and returns how many. The rest of the
-    /// buffer stays as it was, and so does everything else of the end. It works on an end that has stopped, too. The cost is that of the
-    /// bytes it moves.
+    /// buffer stays as it was, and so does everything else of the endpoint. It works on an endpoint that has stopped, too. The cost is that
+    /// of the bytes it moves.
     pub fn take_out(&mut self, into: &mut [u8]) -> usize
         ensures count { result ≡ min (length self.old.pending_bytes) (length into.old) }
         ensures bytes { into.new ≡ take result self.old.pending_bytes ++ drop result into.old }
@@ -356,9 +356,9 @@ impl TermEndpoint {
         self.refusals.pop_front()
     }
 
-    /// Returns the smallest stretch of an open file's text that is known to have changed since this was asked of it last: on the first
-    /// call the text was empty before. Loaded runes count as changed. `None` if the file is not open. Its only error is out of memory,
-    /// on the first call for a tag; the end is then as it was.
+    /// Returns the smallest stretch of an open file's text that is known to have changed since this was asked of it last: on the first call
+    /// the text was empty before. Loaded runes count as changed. `None` if the file is not open. Its only error is out of memory, on the
+    /// first call for a tag; the endpoint is then as it was.
     ///
     /// Each frame and each event narrows what stays by its own range, so a caller that asks after each of them gets each edit. The cost is
     /// constant.
@@ -381,7 +381,7 @@ impl TermEndpoint {
         &self.term
     }
 
-    /// Returns why the end has stopped for good; `None` while it goes on.
+    /// Returns why the endpoint has stopped for good; `None` while it goes on.
     pub fn stopped(&self) -> Option<TermStop>
         ensures { result ≡ self.now.stop }
     {
@@ -433,7 +433,7 @@ impl TermEndpoint {
     }
 }
 
-/// Returns what a fault of the terminal is for the end: out of memory leaves work unfinished, and any other fault stops it.
+/// Returns what a fault of the terminal is for the endpoint: out of memory leaves work unfinished, and any other fault stops it.
 fn end_fault(why: TermFault) -> EndpointFault<TermStop>
     ensures { result ≡ end_fault why }
 {
