@@ -6,9 +6,12 @@ pub use Rattle.std.proofs.lemmas.List.Elements.{All-cons, All-nil, All-tail}
 pub use Rattle.std.specs.Global.{Vec}
 pub use Rattle.std.specs.Vec.Iter.{into_iter_items}
 pub use Rattle.sam_frame.proofs.Cuttings.{Came, comes_more, splits_more}
+pub use Rattle.sam_frame.proofs.Pieces.{gave_of}
+pub use Rattle.sam_frame.specs.Faults.{fault_of}
+pub use Rattle.sam_frame.specs.declared.fault.FeedRefusal.{FeedRefusal}
 pub use Rattle.sam_frame.proofs.Fronts.{stream_of-append, version_after-append}
 pub use Rattle.sam_frame.specs.Direction.{Direction, frame_of, host, terminal}
-pub use Rattle.sam_frame.specs.Framing.{GaveAll, GaveUp, Held, fresh}
+pub use Rattle.sam_frame.specs.Framing.{Feeds, Gave, GaveAll, GaveUp, GaveUpTo, Held, fresh}
 pub use Rattle.sam_frame.specs.Stream.{CanEncode, FitInTurn, Splits, stream_of, version_after}
 pub use Rattle.sam_host.specs.Host.{PlainHost, answer, new_host}
 pub use Rattle.sam_mesg.specs.HostKinds.{FitsH, IsHFrame, after_h, fits_h}
@@ -30,10 +33,10 @@ pub use Rattle.sam_term.specs.declared.event.UserEvent.TheVariants.{Exit}
 pub use Rattle.sam_term.specs.declared.fault.TermFault.{TermFault}
 pub use Rattle.sam_workers.specs.Cutting.{IsPiece, PutSome}
 pub use Rattle.sam_workers.specs.Feeding.{FeedsTerminal, Gives, TakesAll, TakesOne, TakesUpTo}
-pub use Rattle.sam_workers.specs.Handling.{Ends, StopsAtRest, Handled, HandledFront, HandledSome, HandlesAll, Leaves, Serves, StopsBefore, TakesPiece, of_refusal}
+pub use Rattle.sam_workers.specs.Handling.{Ends, StopsAtRest, Handled, HandledFront, HandledSome, HandlesAll, Leaves, Serves, TakesPiece, of_refusal}
 pub use Rattle.sam_workers.specs.Inputs.{bytes_of, frame_of_load, frames_in, user_of_load, users_in}
-pub use Rattle.sam_workers.specs.Numbers.{frame_number}
-pub use Rattle.sam_workers.specs.Passing.{Passes, PassesPiece, Sends, SendsBefore, sent_on}
+pub use Rattle.sam_workers.specs.Numbers.{frame_number, of_fault, of_unfed}
+pub use Rattle.sam_workers.specs.Passing.{Passes, PassesPiece, Sends, sent_on}
 pub use Rattle.sam_workers.specs.RealSides.{acted, at_work, worked, sides, unless_refused}
 pub use Rattle.sam_workers.specs.TermMoments.{Did, Goes, IsDone, IsFound, IsOfUser, IsQuiet, LoggedView, MayExit, Ran, SideView, SoFar, WasNotHandled}
 pub use Rattle.sam_workers.specs.WorkerEnds.{HostStopped, HostTold, ReaderTold, TermTold}

@@ -1,5 +1,7 @@
 -- The host's worker from one moment to the next.
-use Rattle.sam_workers.proofs.Common.{flat_map-append, ◌≡◌, ◌⊎◌, inl, inr, ℕ, ◌+◌, List, [], ◌∷◌, ◌++◌, length, Result, Ok, Err, refl, append_assoc, append-nil, arith, IsTrue, Vec, All-nil, All-cons, MesgFault, FitsT, Tmesg, FitsH, IsHFrame, after_h, HFrame, terminal, host, frame_of, CanEncode, stream_of, Held, GaveAll, GaveUp, stream_of-append, PlainHost, answer, PostView, Each, host_more, each_append, sides, frame_number, bytes_of, PutSome, Handled, HandledSome, HandlesAll, HandledFront, TakesPiece, StopsAtRest, Leaves, StopsBefore, of_refusal, Stop}
+use Rattle.sam_workers.proofs.Common.{flat_map-append, ◌≡◌, ◌⊎◌, inl, inr, ℕ, ◌+◌, List, [], ◌∷◌, ◌++◌, length, Option, None, Some, Result, Ok, Err, false, refl, append_assoc, append-nil, arith, IsTrue, Vec, All-nil, All-cons, MesgFault, FitsT, Tmesg, FitsH, IsHFrame, after_h, HFrame, terminal, host, frame_of, CanEncode, stream_of, Feeds, FeedRefusal, Held, GaveUpTo, gave_of, fault_of, stream_of-append, PlainHost, answer, PostView, Each, host_more, each_append, sides, of_fault, of_unfed, bytes_of, PutSome, Handled, HandledSome, HandlesAll, HandledFront, TakesPiece, StopsAtRest, Leaves, of_refusal, Stop}
+use Rattle.sam_mesg.specs.declared.fault.MesgFault.TheVariants as wrong
+use Rattle.sam_frame.specs.declared.fault.FeedRefusal.TheVariants as unfed
 use Rattle.sam_host.specs.Laws.{FitInPlace}
 use Rattle.sam_host.specs.declared.fault.HostFault.{HostFault}
 use Rattle.sam_host.specs.declared.fault.HostFault.TheVariants as refusal
@@ -82,20 +84,28 @@ leaves_halts : (refuses : Type 0) (k : PlainHost) (version came : ℕ) (left : L
 leaves_halts refuses k version came left bytes (stop.Host n) fits l = grind (arith, (append_assoc (frame_of terminal l.0) (stream_of terminal l.1) bytes))
 leaves_halts refuses k version came left bytes why fits l = grind arith
 
-pub piece_all : (refuses : Type 0) (h k : PlainHost) (p q : PostView (Vec ℕ)) (held fed next : Held) (piece : List ℕ) (ms : List Tmesg) (r : Result (Unit {0}) Stop)
-    → next ≡ fed → GaveAll terminal held piece ms fed → HandlesAll refuses h k p q ms r → TakesPiece refuses h k p q held next piece r
-piece_all refuses h k p q held fed next piece ms r e u w = grind (arith, stream_of-append, append_assoc, front_fits, leaves_halts, each_behind, each_t)
+-- the messages were handled, all or not all
+pub piece_all : (refuses : Type 0) (h k : PlainHost) (p q : PostView (Vec ℕ)) (held fed next : Held) (piece : List ℕ) (ms : List Tmesg) (place : ℕ)
+    → next ≡ fed → GaveUpTo terminal held piece ms None place fed → HandlesAll refuses h k p q ms (Ok tt) → TakesPiece refuses h k p q held next piece (Ok tt)
+piece_all refuses h k p q held fed next piece ms place e up all = grind arith
 
-pub piece_before : (refuses : Type 0) (h k : PlainHost) (p q : PostView (Vec ℕ)) (held next : Held) (piece : List ℕ) (ms : List Tmesg) (place : ℕ) (fault : MesgFault) (why : Stop)
-    → GaveUp terminal held piece ms place fault next → StopsBefore refuses h k p q ms (frame_number fault) why
-    → HandledFront refuses h k p q held.version (held.offset + length held.bytes + length piece) (held.bytes ++ piece) why
-piece_before refuses h k p q held next piece ms place fault why up (inr all) = grind arith
-piece_before refuses h k p q held next piece ms place fault why up (inl some) = grind (arith, stream_of-append, append_assoc, front_fits, leaves_halts, each_behind, each_t)
+pub piece_cut : (refuses : Type 0) (h k : PlainHost) (p q : PostView (Vec ℕ)) (held fed next : Held) (piece : List ℕ) (ms : List Tmesg) (fault : Option MesgFault) (place : ℕ) (why : Stop)
+    → GaveUpTo terminal held piece ms fault place fed → HandlesAll refuses h k p q ms (Err why) → TakesPiece refuses h k p q held next piece (Err why)
+piece_cut refuses h k p q held fed next piece ms fault place why up some =
+    let gave = gave_of terminal held fed piece ms fault place up in
+    grind (arith, stream_of-append, append_assoc, front_fits, leaves_halts, each_behind, each_t)
+
+-- the messages were handled, and then the fault after them stops the worker
+pub piece_before : (refuses : Type 0) (h k : PlainHost) (p q : PostView (Vec ℕ)) (held fed next : Held) (piece : List ℕ) (ms : List Tmesg) (place : ℕ) (why : MesgFault)
+    → GaveUpTo terminal held piece ms (Some why) place fed → HandlesAll refuses h k p q ms (Ok tt) → TakesPiece refuses h k p q held next piece (Err (of_fault why))
+piece_before refuses h k p q held fed next piece ms place wrong.OutOfMemory up all = absurd up.shows
+piece_before refuses h k p q held fed next piece ms place why up all = grind arith
 
 -- the piece was not fed
-pub piece_unfed : (refuses : Type 0) (h : PlainHost) (p : PostView (Vec ℕ)) (version came : ℕ) (bytes : List ℕ) (why : Stop) → StopsAtRest refuses h version came bytes why
-    → HandledFront refuses h h p p version came bytes why
-piece_unfed refuses h p version came bytes why halts = grind (arith, (handled_nothing h p))
+pub piece_unfed : (refuses : Type 0) (h : PlainHost) (p : PostView (Vec ℕ)) (held fed next : Held) (piece : List ℕ) (why : FeedRefusal)
+    → held.failed ≡ false → Feeds terminal held piece (Err (fault_of why)) fed → TakesPiece refuses h h p p held next piece (Err (of_unfed why))
+piece_unfed refuses h p held fed next piece unfed.Failed sound refused = absurd (cc)
+piece_unfed refuses h p held fed next piece why sound refused = grind (arith, (handled_nothing h p))
 
 -- ## Frames that are sent
 

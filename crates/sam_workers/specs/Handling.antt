@@ -66,12 +66,6 @@ abbrev pub HandlesAll : Type 0 → PlainHost → PlainHost → PostView (Vec ℕ
 HandlesAll refuses h k before after messages (Ok done) = (answered : List HFrame) × Handled h k before after messages answered []
 HandlesAll refuses h k before after messages (Err why) = HandledSome refuses h k before after messages why
 
--- the messages were handled up to one of them, or all of them up to a fault of this number
-abbrev pub StopsBefore : Type 0 → PlainHost → PlainHost → PostView (Vec ℕ) → PostView (Vec ℕ) → List Tmesg → ℕ → Stop → Type 0
-StopsBefore refuses h k before after messages number why =
-    HandledSome refuses h k before after messages why
-    ⊎ ((why ≡ stop.Frame number) × ((answered : List HFrame) × Handled h k before after messages answered []))
-
 -- ## Pieces
 
 -- why the host's worker stops before this rest of the stream, of which so many bytes came
