@@ -1,6 +1,6 @@
 -- The host's worker from one moment to the next.
-use Rattle.sam_workers.proofs.Common.{flat_map-append, ◌≡◌, ◌⊎◌, inl, inr, ℕ, ◌+◌, List, [], ◌∷◌, ◌++◌, length, Option, None, Some, Result, Ok, Err, false, refl, append_assoc, append-nil, arith, IsTrue, Vec, All-nil, All-cons, MesgFault, FitsT, Tmesg, FitsH, IsHFrame, after_h, HFrame, terminal, host, frame_of, CanEncode, stream_of, Feeds, FeedRefusal, Held, GaveUpTo, gave_of, fault_of, stream_of-append, PlainHost, answer, PostView, Each, host_more, each_append, sides, of_fault, of_unfed, bytes_of, PutSome, Handled, HandledSome, HandlesAll, HandledFront, TakesPiece, StopsAtRest, Leaves, of_refusal, Stop}
-use Rattle.sam_mesg.specs.declared.fault.MesgFault.TheVariants as wrong
+use Rattle.sam_workers.proofs.Common.{flat_map-append, ◌≡◌, ◌⊎◌, inl, inr, ℕ, ◌+◌, List, [], ◌∷◌, ◌++◌, length, Option, Result, Ok, Err, false, refl, subst, sym, append_assoc, append-nil, arith, IsTrue, Vec, All-nil, All-cons, MesgFault, FitsT, Tmesg, FitsH, IsHFrame, after_h, HFrame, terminal, host, frame_of, CanEncode, stream_of, Feeds, FeedRefusal, Held, Gave, GaveUpTo, gave_of, fault_of, stream_of-append, PlainHost, answer, PostView, Each, host_more, each_append, sides, of_unfed, bytes_of, PutSome, Handled, HandledSome, HandlesAll, HandledFront, TakesPiece, StopsAtRest, Leaves, of_refusal, Stop}
+use Rattle.std.specs.Result.{IsErrAnd}
 use Rattle.sam_frame.specs.declared.fault.FeedRefusal.TheVariants as unfed
 use Rattle.sam_host.specs.Laws.{FitInPlace}
 use Rattle.sam_host.specs.declared.fault.HostFault.{HostFault}
@@ -84,28 +84,29 @@ leaves_halts : (refuses : Type 0) (k : PlainHost) (version came : ℕ) (left : L
 leaves_halts refuses k version came left bytes (stop.Host n) fits l = grind (arith, (append_assoc (frame_of terminal l.0) (stream_of terminal l.1) bytes))
 leaves_halts refuses k version came left bytes why fits l = grind arith
 
--- the messages were handled, all or not all
-pub piece_all : (refuses : Type 0) (h k : PlainHost) (p q : PostView (Vec ℕ)) (held fed next : Held) (piece : List ℕ) (ms : List Tmesg) (place : ℕ)
-    → next ≡ fed → GaveUpTo terminal held piece ms None place fed → HandlesAll refuses h k p q ms (Ok tt) → TakesPiece refuses h k p q held next piece (Ok tt)
-piece_all refuses h k p q held fed next piece ms place e up all = grind arith
+-- some of the messages were handled
+piece_some : (refuses : Type 0) (h k : PlainHost) (p q : PostView (Vec ℕ)) (held fed next : Held) (piece : List ℕ) (ms : List Tmesg) (why : Stop)
+    → Gave terminal held piece ms fed → HandledSome refuses h k p q ms why → TakesPiece refuses h k p q held next piece (Err why)
+piece_some refuses h k p q held fed next piece ms why gave some = grind (arith, stream_of-append, append_assoc, front_fits, leaves_halts, each_behind, each_t)
 
-pub piece_cut : (refuses : Type 0) (h k : PlainHost) (p q : PostView (Vec ℕ)) (held fed next : Held) (piece : List ℕ) (ms : List Tmesg) (fault : Option MesgFault) (place : ℕ) (why : Stop)
-    → GaveUpTo terminal held piece ms fault place fed → HandlesAll refuses h k p q ms (Err why) → TakesPiece refuses h k p q held next piece (Err why)
-piece_cut refuses h k p q held fed next piece ms fault place why up some =
-    let gave = gave_of terminal held fed piece ms fault place up in
-    grind (arith, stream_of-append, append_assoc, front_fits, leaves_halts, each_behind, each_t)
-
--- the messages were handled, and then the fault after them stops the worker
-pub piece_before : (refuses : Type 0) (h k : PlainHost) (p q : PostView (Vec ℕ)) (held fed next : Held) (piece : List ℕ) (ms : List Tmesg) (place : ℕ) (why : MesgFault)
-    → GaveUpTo terminal held piece ms (Some why) place fed → HandlesAll refuses h k p q ms (Ok tt) → TakesPiece refuses h k p q held next piece (Err (of_fault why))
-piece_before refuses h k p q held fed next piece ms place wrong.OutOfMemory up all = absurd up.shows
-piece_before refuses h k p q held fed next piece ms place why up all = grind arith
+pub piece_cut : (refuses : Type 0) (h k : PlainHost) (p q : PostView (Vec ℕ)) (held fed next : Held) (piece : List ℕ) (ms : List Tmesg) (fault : Option MesgFault) (place : ℕ)
+    (why : Stop) (r : Result (Unit {0}) Stop) → GaveUpTo terminal held piece ms fault place fed → HandledSome refuses h k p q ms why → IsErrAnd r (λ e. e ≡ why)
+    → TakesPiece refuses h k p q held next piece r
+piece_cut refuses h k p q held fed next piece ms fault place why (Err e) up some is =
+    subst (λ x. TakesPiece refuses h k p q held next piece (Err x)) (sym is) (piece_some refuses h k p q held fed next piece ms why (gave_of terminal held fed piece ms fault place up) some)
+piece_cut refuses h k p q held fed next piece ms fault place why (Ok done) up some is = absurd is
 
 -- the piece was not fed
-pub piece_unfed : (refuses : Type 0) (h : PlainHost) (p : PostView (Vec ℕ)) (held fed next : Held) (piece : List ℕ) (why : FeedRefusal)
+unfed_by : (refuses : Type 0) (h : PlainHost) (p : PostView (Vec ℕ)) (held fed next : Held) (piece : List ℕ) (why : FeedRefusal)
     → held.failed ≡ false → Feeds terminal held piece (Err (fault_of why)) fed → TakesPiece refuses h h p p held next piece (Err (of_unfed why))
-piece_unfed refuses h p held fed next piece unfed.Failed sound refused = absurd (cc)
-piece_unfed refuses h p held fed next piece why sound refused = grind (arith, (handled_nothing h p))
+unfed_by refuses h p held fed next piece unfed.Failed sound refused = absurd (cc)
+unfed_by refuses h p held fed next piece why sound refused = grind (arith, (handled_nothing h p))
+
+pub piece_unfed : (refuses : Type 0) (h : PlainHost) (p : PostView (Vec ℕ)) (held fed next : Held) (piece : List ℕ) (why : FeedRefusal) (r : Result (Unit {0}) Stop)
+    → held.failed ≡ false → Feeds terminal held piece (Err (fault_of why)) fed → IsErrAnd r (λ e. e ≡ of_unfed why) → TakesPiece refuses h h p p held next piece r
+piece_unfed refuses h p held fed next piece why (Err e) sound refused is =
+    subst (λ x. TakesPiece refuses h h p p held next piece (Err x)) (sym is) (unfed_by refuses h p held fed next piece why sound refused)
+piece_unfed refuses h p held fed next piece why (Ok done) sound refused is = absurd is
 
 -- ## Frames that are sent
 
