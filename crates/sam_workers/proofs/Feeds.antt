@@ -1,5 +1,5 @@
 -- What a terminal composes for frames, and what stops it.
-use Rattle.sam_workers.proofs.Common.{◌≡◌, ℕ, ◌≤◌, option_map, List, [], ◌∷◌, ◌++◌, length, Option, None, Some, Ok, Err, append-nil, append_assoc, length-append, subst, sym, arith, All, IsTrue, All-nil, Tmesg, Tack, MesgFault, fits_h, HFrame, host, FitInTurn, Feeds, FeedRefusal, GaveUpTo, Held, fault_of, PlainTerminal, Made, flushed, sends, sends_if, unchanged, requested, frame_outcome, made_unless, take_of, TermFault, TakesAll, Gives, FeedsTerminal, TakesOne, TakesUpTo, frame_number, of_fault, of_unfed, Stop}
+use Rattle.sam_workers.proofs.Common.{◌≡◌, ℕ, ◌≤◌, option_map, List, [], ◌∷◌, ◌++◌, length, Option, None, Some, Ok, Err, append-nil, append_assoc, length-append, arith, All, IsTrue, All-nil, Tmesg, Tack, MesgFault, fits_h, HFrame, host, FitInTurn, Feeds, FeedRefusal, GaveUpTo, Held, fault_of, PlainTerminal, Made, flushed, sends, sends_if, unchanged, requested, frame_outcome, made_unless, take_of, TermFault, TakesAll, Gives, FeedsTerminal, TakesOne, TakesUpTo, frame_number, of_fault, of_unfed, Stop}
 use Rattle.sam_mesg.specs.declared.fault.MesgFault.TheVariants as wrong
 use Rattle.sam_mesg.specs.declared.hmesg.Hmesg.{Hmesg}
 use Rattle.sam_term.specs.declared.fault.TermFault.TheVariants as fault
@@ -55,12 +55,6 @@ fed h piece k t u ms frames None place stopped up takes = fed_by h piece k t u m
 fed h piece k t u ms frames (Some wrong.OutOfMemory) place stopped up takes = absurd up.shows
 fed h piece k t u ms frames (Some why) place stopped up takes = fed_by h piece k t u ms frames (Some why) stopped (place, up) takes
 
-not_fed_by : (h : Held) (piece : List ℕ) (k : Held) (t : PlainTerminal) (why : FeedRefusal)
-    → Feeds host h piece (Err (fault_of why)) k → FeedsTerminal h piece k t t [] (Some (of_unfed why))
-not_fed_by h piece k t why refused = grind arith
-
 pub not_fed : (h : Held) (piece : List ℕ) (k : Held) (t : PlainTerminal) (ms : List Tmesg) (why : FeedRefusal) (s : Stop)
     → Feeds host h piece (Err (fault_of why)) k → ms ≡ [] → s ≡ of_unfed why → FeedsTerminal h piece k t t ms (Some s)
-not_fed h piece k t ms why s refused none is =
-    let stopped = subst (λ (x : Stop). FeedsTerminal h piece k t t [] (Some x)) (sym is) (not_fed_by h piece k t why refused) in
-    subst (λ (x : List Tmesg). FeedsTerminal h piece k t t x (Some s)) (sym none) stopped
+not_fed h piece k t ms why s refused none is = grind arith

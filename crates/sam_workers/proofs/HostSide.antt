@@ -85,28 +85,16 @@ leaves_halts refuses k version came left bytes (stop.Host n) fits l = grind (ari
 leaves_halts refuses k version came left bytes why fits l = grind arith
 
 -- some of the messages were handled
-piece_some : (refuses : Type 0) (h k : PlainHost) (p q : PostView (Vec ℕ)) (held fed next : Held) (piece : List ℕ) (ms : List Tmesg) (why : Stop)
-    → Gave terminal held piece ms fed → HandledSome refuses h k p q ms why → TakesPiece refuses h k p q held next piece (Err why)
-piece_some refuses h k p q held fed next piece ms why gave some = grind (arith, stream_of-append, append_assoc, front_fits, leaves_halts, each_behind, each_t)
-
 pub piece_cut : (refuses : Type 0) (h k : PlainHost) (p q : PostView (Vec ℕ)) (held fed next : Held) (piece : List ℕ) (ms : List Tmesg) (fault : Option MesgFault) (place : ℕ)
     (why : Stop) (r : Result (Unit {0}) Stop) → GaveUpTo terminal held piece ms fault place fed → HandledSome refuses h k p q ms why → IsErrAnd r (λ e. e ≡ why)
     → TakesPiece refuses h k p q held next piece r
-piece_cut refuses h k p q held fed next piece ms fault place why (Err e) up some is =
-    subst (λ x. TakesPiece refuses h k p q held next piece (Err x)) (sym is) (piece_some refuses h k p q held fed next piece ms why (gave_of terminal held fed piece ms fault place up) some)
-piece_cut refuses h k p q held fed next piece ms fault place why (Ok done) up some is = absurd is
+piece_cut refuses h k p q held fed next piece ms fault place why r up some is =
+    grind (arith, (gave_of terminal held fed piece ms fault place up), stream_of-append, append_assoc, front_fits, leaves_halts, each_behind, each_t)
 
 -- the piece was not fed
-unfed_by : (refuses : Type 0) (h : PlainHost) (p : PostView (Vec ℕ)) (held fed next : Held) (piece : List ℕ) (why : FeedRefusal)
-    → held.failed ≡ false → Feeds terminal held piece (Err (fault_of why)) fed → TakesPiece refuses h h p p held next piece (Err (of_unfed why))
-unfed_by refuses h p held fed next piece unfed.Failed sound refused = absurd (cc)
-unfed_by refuses h p held fed next piece why sound refused = grind (arith, (handled_nothing h p))
-
 pub piece_unfed : (refuses : Type 0) (h : PlainHost) (p : PostView (Vec ℕ)) (held fed next : Held) (piece : List ℕ) (why : FeedRefusal) (r : Result (Unit {0}) Stop)
     → held.failed ≡ false → Feeds terminal held piece (Err (fault_of why)) fed → IsErrAnd r (λ e. e ≡ of_unfed why) → TakesPiece refuses h h p p held next piece r
-piece_unfed refuses h p held fed next piece why (Err e) sound refused is =
-    subst (λ x. TakesPiece refuses h h p p held next piece (Err x)) (sym is) (unfed_by refuses h p held fed next piece why sound refused)
-piece_unfed refuses h p held fed next piece why (Ok done) sound refused is = absurd is
+piece_unfed refuses h p held fed next piece why r sound refused is = grind (arith, (handled_nothing h p))
 
 -- ## Frames that are sent
 

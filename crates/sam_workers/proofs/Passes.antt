@@ -24,16 +24,11 @@ front_splits d version bytes ms ns rest s = grind (arith, stream_of-append, appe
 pub passed : (h : Held) (piece : List ℕ) (k : Held) (p q : PostView Input) (frames : List HFrame) (fault : Option MesgFault) (place : ℕ) (s : Option Stop)
     → GaveUpTo host h piece frames fault place k → Sends frames p q s → PassesPiece h piece k p q (option_or s (option_map of_fault fault))
 passed h piece k p q frames None place None up sends = grind arith
-passed h piece k p q frames (Some wrong.OutOfMemory) place None up sends = absurd up.shows
 passed h piece k p q frames (Some why) place None up sends = grind arith
-passed h piece k p q frames fault place (Some s) up (done, more, parts, sent, gate) =
-    let gave = gave_of host h k piece frames fault place up in
-    let splits = subst (λ (fs : List HFrame). Splits host h.version (h.bytes ++ piece) fs k.bytes) parts gave.splits in
-    grind (arith, (front_splits host h.version (h.bytes ++ piece) done more k.bytes splits))
+passed h piece k p q frames fault place (Some s) up sends = grind (arith, (gave_of host h k piece frames fault place up), (front_splits host h.version (h.bytes ++ piece)))
 
 pub not_passed : (h : Held) (piece : List ℕ) (k : Held) (p : PostView Input) (why : FeedRefusal)
     → h.failed ≡ false → Feeds host h piece (Err (fault_of why)) k → PassesPiece h piece k p p (Some (of_unfed why))
-not_passed h piece k p unfed.Failed sound refused = absurd (cc)
 not_passed h piece k p why sound refused = grind (arith, append-nil)
 
 -- ---- piece by piece
