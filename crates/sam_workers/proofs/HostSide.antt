@@ -1,7 +1,6 @@
 -- The host's worker from one moment to the next.
-use Rattle.sam_workers.proofs.Common.{flat_map-append, ◌≡◌, ◌⊎◌, inl, inr, ℕ, ◌+◌, List, [], ◌∷◌, ◌++◌, length, Option, Result, Ok, Err, false, refl, subst, sym, append_assoc, append-nil, arith, IsTrue, Vec, All-nil, All-cons, MesgFault, FitsT, Tmesg, FitsH, IsHFrame, after_h, HFrame, terminal, host, frame_of, CanEncode, stream_of, Feeds, FeedRefusal, Held, Gave, GaveUpTo, gave_of, fault_of, stream_of-append, PlainHost, answer, PostView, Each, host_more, each_append, sides, of_unfed, bytes_of, PutSome, Handled, HandledSome, HandlesAll, HandledFront, TakesPiece, StopsAtRest, Leaves, of_refusal, Stop}
+use Rattle.sam_workers.proofs.Common.{flat_map-append, ◌≡◌, ◌⊎◌, inl, inr, ℕ, List, [], ◌∷◌, ◌++◌, Option, Result, Ok, Err, false, refl, append_assoc, append-nil, arith, IsTrue, Vec, All-nil, All-cons, MesgFault, FitsT, Tmesg, FitsH, IsHFrame, after_h, HFrame, terminal, host, frame_of, CanEncode, stream_of, Feeds, FeedRefusal, Held, GaveUpTo, gave_of, fault_of, stream_of-append, PlainHost, answer, PostView, Each, host_more, each_append, sides, of_unfed, bytes_of, PutSome, Handled, HandledSome, TakesPiece, StopsAtRest, Leaves, of_refusal, Stop}
 use Rattle.std.specs.Result.{IsErrAnd}
-use Rattle.sam_frame.specs.declared.fault.FeedRefusal.TheVariants as unfed
 use Rattle.sam_host.specs.Laws.{FitInPlace}
 use Rattle.sam_host.specs.declared.fault.HostFault.{HostFault}
 use Rattle.sam_host.specs.declared.fault.HostFault.TheVariants as refusal
