@@ -1,9 +1,11 @@
 //! Why a file is not added, why a call is not done, and why an endpoint has stopped.
 
-ghost use Rattle.std.specs.Prelude.{◌≡◌};
-ghost use Rattle.sam_endpoint.specs.Streams.{not_taken};
+ghost use Rattle.std.specs.Prelude.{◌≡◌, ◌≢◌};
+ghost use Rattle.sam_mesg.specs.declared.fault.MesgFault.TheVariants.{OutOfMemory};
+ghost use Rattle.sam_endpoint.specs.Streams.{mesg_fault, not_taken};
 
 use sam_host::HostFault;
+use sam_mesg::MesgFault;
 use sam_term::TermFault;
 use thiserror::Error;
 
@@ -41,6 +43,21 @@ pub enum StreamFault {
     /// A body is whole, and is that of no message: its text is not UTF-8, or is too long.
     #[error("a wrong body")]
     BadText = 3,
+}
+
+impl StreamFault {
+    /// Returns what a framer's fault is for an endpoint. A framer's fault is never `OutOfMemory`.
+    pub(crate) fn of(fault: MesgFault) -> StreamFault
+        requires { fault ≢ OutOfMemory }
+        ensures { mesg_fault result ≡ fault }
+    {
+        match fault {
+            MesgFault::BadKind => StreamFault::BadKind,
+            MesgFault::BadLength => StreamFault::BadLength,
+            MesgFault::BadText => StreamFault::BadText,
+            MesgFault::OutOfMemory => unreachable!(),
+        }
+    }
 }
 
 /// Why a host endpoint has stopped for good. What stood in the stream before the cause is answered, and its frames can be taken out.

@@ -4,7 +4,7 @@ ghost use Rattle.std.specs.Prelude.{◌≡◌, drop, false};
 ghost use Rattle.sam_endpoint.specs.Streams.{GivesAs};
 
 use crate::fault::{EndpointFault, StreamFault};
-use sam_frame::{FeedFault, Framer, Wire};
+use sam_frame::{FeedRefusal, Framer, Wire};
 use std::collections::VecDeque;
 
 /// What a framer gave for a piece.
@@ -24,20 +24,15 @@ pub(crate) fn feed_framer<M: Wire, S>(
     requires { framer.old.failed ≡ false }
     ensures { GivesAs M.direction framer.old piece.now result framer.new }
 {
-    let (messages, broken_by) = match framer.feed(piece) {
-        Ok(messages) => (messages, None),
-        Err(FeedFault::BadKind(messages, _)) => (messages, Some(StreamFault::BadKind)),
-        Err(FeedFault::BadLength(messages, _)) => (messages, Some(StreamFault::BadLength)),
-        Err(FeedFault::BadText(messages, _)) => (messages, Some(StreamFault::BadText)),
-        Err(FeedFault::OutOfMemory) => return Err(EndpointFault::OutOfMemory),
-        Err(FeedFault::CountFull) => return Err(EndpointFault::CountFull),
-        Err(FeedFault::Truncated) => unreachable!(),
-        Err(FeedFault::Failed) => unreachable!(),
-    };
-    Ok(Given {
-        messages,
-        broken_by,
-    })
+    match framer.give(piece) {
+        Ok(given) => Ok(Given {
+            messages: given.messages,
+            broken_by: given.fault.map(StreamFault::of),
+        }),
+        Err(FeedRefusal::CountFull) => Err(EndpointFault::CountFull),
+        Err(FeedRefusal::OutOfMemory) => Err(EndpointFault::OutOfMemory),
+        Err(FeedRefusal::Failed) => unreachable!(),
+    }
 }
 
 /// Drops the oldest of what waits.

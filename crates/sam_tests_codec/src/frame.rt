@@ -119,6 +119,35 @@ fn wrong_row(alloc: Global) -> Option<usize> {
     None
 }
 
+/// What the framer gives for the piece: how many messages, the number of the fault after them (0: none), and the place where what it
+/// holds begins. If it refuses the piece, no message, the number of the refusal, and 0.
+fn given<M: Wire>(framer: &mut Framer<M>, piece: &[u8]) -> (usize, u8, u64) {
+    told_of(framer.give(piece), |given| match given {
+        Ok(given) => {
+            let number = given.fault.map_or(0, |fault| fault as u8);
+            (given.messages.len(), number, given.place)
+        }
+        Err(why) => (0, why.number(), 0),
+    })
+}
+
+/// A Tstartfile and the first byte of a Ttype, and the rest of it, whose text is not UTF-8.
+const STARTS: [u8; 6] = [6, 0, 2, 0, 1, 8];
+
+const GOES_WRONG: [u8; 9] = [0, 7, 0, 1, 0, 0, 0, 0, 0xC3];
+
+#[test]
+fn messages_are_given_with_the_fault_after_them(rt: HostRuntime) {
+    let told = lent(FramerT::new(rt.alloc()), |framer| {
+        (
+            given(framer, &STARTS),
+            given(framer, &GOES_WRONG),
+            given(framer, &[]),
+        )
+    });
+    assert_eq!(rt; told, ((1, 0, 5), (0, 3, 5), (0, 5, 0)));
+}
+
 #[test]
 fn faults_show_in_their_place(rt: HostRuntime) {
     assert_eq!(rt; wrong_row(rt.alloc()), None);

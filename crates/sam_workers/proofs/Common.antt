@@ -7,14 +7,16 @@ pub use Rattle.std.specs.Global.{Vec}
 pub use Rattle.std.specs.Vec.Iter.{into_iter_items}
 pub use Rattle.sam_frame.proofs.Cuttings.{Came, comes_more, splits_more}
 pub use Rattle.sam_frame.proofs.Fronts.{stream_of-append, version_after-append}
+pub use Rattle.sam_frame.proofs.Pieces.{gave_of}
 pub use Rattle.sam_frame.specs.Direction.{Direction, frame_of, host, terminal}
-pub use Rattle.sam_frame.specs.Framing.{GaveAll, GaveUp, Held, fresh}
+pub use Rattle.sam_frame.specs.Faults.{fault_of}
+pub use Rattle.sam_frame.specs.Framing.{Feeds, GaveUpTo, Held, fresh}
 pub use Rattle.sam_frame.specs.Stream.{CanEncode, FitInTurn, Splits, stream_of, version_after}
+pub use Rattle.sam_frame.specs.declared.fault.FeedRefusal.{FeedRefusal}
 pub use Rattle.sam_host.specs.Host.{PlainHost, answer, new_host}
 pub use Rattle.sam_mesg.specs.HostKinds.{FitsH, IsHFrame, after_h, fits_h}
 pub use Rattle.sam_mesg.specs.TerminalKinds.{FitsT, after_t, fits_t}
 pub use Rattle.sam_mesg.specs.declared.fault.MesgFault.{MesgFault}
-pub use Rattle.sam_mesg.specs.declared.fault.MesgFault.TheVariants.{BadKind, BadLength, BadText}
 pub use Rattle.sam_mesg.specs.declared.hmesg.HFrame.{HFrame}
 pub use Rattle.sam_mesg.specs.declared.tmesg.Tmesg.{Tmesg}
 pub use Rattle.sam_mesg.specs.declared.tmesg.Tmesg.TheVariants.{Tack, Tsetsnarf}
@@ -30,10 +32,10 @@ pub use Rattle.sam_term.specs.declared.event.UserEvent.TheVariants.{Exit}
 pub use Rattle.sam_term.specs.declared.fault.TermFault.{TermFault}
 pub use Rattle.sam_workers.specs.Cutting.{IsPiece, PutSome}
 pub use Rattle.sam_workers.specs.Feeding.{FeedsTerminal, Gives, TakesAll, TakesOne, TakesUpTo}
-pub use Rattle.sam_workers.specs.Handling.{Ends, StopsAtRest, Handled, HandledFront, HandledSome, HandlesAll, Leaves, Serves, StopsBefore, TakesPiece, of_refusal}
+pub use Rattle.sam_workers.specs.Handling.{Ends, StopsAtRest, Handled, HandledFront, HandledSome, Leaves, Serves, TakesPiece, of_refusal}
 pub use Rattle.sam_workers.specs.Inputs.{bytes_of, frame_of_load, frames_in, user_of_load, users_in}
-pub use Rattle.sam_workers.specs.Numbers.{frame_number}
-pub use Rattle.sam_workers.specs.Passing.{Passes, PassesPiece, Sends, SendsBefore, sent_on}
+pub use Rattle.sam_workers.specs.Numbers.{frame_number, of_fault, of_unfed}
+pub use Rattle.sam_workers.specs.Passing.{Passes, PassesPiece, Sends, sent_on}
 pub use Rattle.sam_workers.specs.RealSides.{acted, at_work, worked, sides, unless_refused}
 pub use Rattle.sam_workers.specs.TermMoments.{Did, Goes, IsDone, IsFound, IsOfUser, IsQuiet, LoggedView, MayExit, Ran, SideView, SoFar, WasNotHandled}
 pub use Rattle.sam_workers.specs.WorkerEnds.{HostStopped, HostTold, ReaderTold, TermTold}

@@ -1,7 +1,7 @@
 -- What a terminal composes for frames, and what stops it.
-use Rattle.sam_workers.proofs.Common.{◌≡◌, ℕ, ◌≤◌, option_map, List, [], ◌∷◌, ◌++◌, length, Option, None, Some, Ok, append-nil, append_assoc, length-append, arith, All, IsTrue, All-nil, Tmesg, Tack, MesgFault, fits_h, HFrame, host, FitInTurn, Held, PlainTerminal, Made, flushed, sends, sends_if, unchanged, requested, frame_outcome, made_unless, take_of, TermFault, TakesAll, Gives, FeedsTerminal, TakesOne, TakesUpTo, frame_number, Stop}
+use Rattle.sam_workers.proofs.Common.{◌≡◌, ℕ, ◌≤◌, option_map, List, [], ◌∷◌, ◌++◌, length, Option, None, Some, Ok, Err, append-nil, append_assoc, length-append, arith, All, IsTrue, All-nil, Tmesg, Tack, MesgFault, fits_h, HFrame, host, FitInTurn, Feeds, FeedRefusal, GaveUpTo, Held, fault_of, PlainTerminal, Made, flushed, sends, sends_if, unchanged, requested, frame_outcome, made_unless, take_of, TermFault, TakesAll, Gives, FeedsTerminal, TakesOne, TakesUpTo, frame_number, of_fault, of_unfed, Stop}
+use Rattle.sam_mesg.specs.declared.fault.MesgFault.TheVariants as wrong
 use Rattle.sam_mesg.specs.declared.hmesg.Hmesg.{Hmesg}
-use Rattle.sam_term.specs.declared.fault.TermFault.TheVariants as fault
 use Rattle.sam_workers.specs.declared.stop.Stop.TheVariants as stop
 
 -- ---- what fits at its place fits in version 2
@@ -44,6 +44,16 @@ one_more t u v frames frame before after took one = grind (arith, takes_more)
 
 -- ---- what a piece came to
 
-pub fed : (h : Held) (piece : List ℕ) (k : Held) (t u : PlainTerminal) (ms : List Tmesg) (frames : List HFrame) (o : Option MesgFault) (stopped : Option Stop)
+fed_by : (h : Held) (piece : List ℕ) (k : Held) (t u : PlainTerminal) (ms : List Tmesg) (frames : List HFrame) (o : Option MesgFault) (stopped : Option Stop)
     → Gives h piece k frames o → TakesUpTo frames (option_map (λ fault. stop.Frame (frame_number fault)) o) t u ms stopped → FeedsTerminal h piece k t u ms stopped
-fed h piece k t u ms frames o stopped gives takes = grind arith
+fed_by h piece k t u ms frames o stopped gives takes = grind arith
+
+pub fed : (h : Held) (piece : List ℕ) (k : Held) (t u : PlainTerminal) (ms : List Tmesg) (frames : List HFrame) (o : Option MesgFault) (place : ℕ) (stopped : Option Stop)
+    → GaveUpTo host h piece frames o place k → TakesUpTo frames (option_map of_fault o) t u ms stopped → FeedsTerminal h piece k t u ms stopped
+fed h piece k t u ms frames None place stopped up takes = fed_by h piece k t u ms frames None stopped up.0 takes
+fed h piece k t u ms frames (Some wrong.OutOfMemory) place stopped up takes = absurd up.shows
+fed h piece k t u ms frames (Some why) place stopped up takes = fed_by h piece k t u ms frames (Some why) stopped (place, up) takes
+
+pub not_fed : (h : Held) (piece : List ℕ) (k : Held) (t : PlainTerminal) (ms : List Tmesg) (why : FeedRefusal) (s : Stop)
+    → Feeds host h piece (Err (fault_of why)) k → ms ≡ [] → s ≡ of_unfed why → FeedsTerminal h piece k t t ms (Some s)
+not_fed h piece k t ms why s refused none is = grind arith

@@ -1,5 +1,6 @@
 -- The host's worker from one moment to the next.
-use Rattle.sam_workers.proofs.Common.{flat_map-append, ◌≡◌, ◌⊎◌, inl, inr, ℕ, ◌+◌, List, [], ◌∷◌, ◌++◌, length, Result, Ok, Err, refl, append_assoc, append-nil, arith, IsTrue, Vec, All-nil, All-cons, MesgFault, FitsT, Tmesg, FitsH, IsHFrame, after_h, HFrame, terminal, host, frame_of, CanEncode, stream_of, Held, GaveAll, GaveUp, stream_of-append, PlainHost, answer, PostView, Each, host_more, each_append, sides, frame_number, bytes_of, PutSome, Handled, HandledSome, HandlesAll, HandledFront, TakesPiece, StopsAtRest, Leaves, StopsBefore, of_refusal, Stop}
+use Rattle.sam_workers.proofs.Common.{flat_map-append, ◌≡◌, ◌⊎◌, inl, inr, ℕ, List, [], ◌∷◌, ◌++◌, Option, Result, Ok, Err, false, refl, append_assoc, append-nil, arith, IsTrue, Vec, All-nil, All-cons, MesgFault, FitsT, Tmesg, FitsH, IsHFrame, after_h, HFrame, terminal, host, frame_of, CanEncode, stream_of, Feeds, FeedRefusal, Held, GaveUpTo, gave_of, fault_of, stream_of-append, PlainHost, answer, PostView, Each, host_more, each_append, sides, of_unfed, bytes_of, PutSome, Handled, HandledSome, TakesPiece, StopsAtRest, Leaves, of_refusal, Stop}
+use Rattle.std.specs.Result.{IsErrAnd}
 use Rattle.sam_host.specs.Laws.{FitInPlace}
 use Rattle.sam_host.specs.declared.fault.HostFault.{HostFault}
 use Rattle.sam_host.specs.declared.fault.HostFault.TheVariants as refusal
@@ -82,20 +83,17 @@ leaves_halts : (refuses : Type 0) (k : PlainHost) (version came : ℕ) (left : L
 leaves_halts refuses k version came left bytes (stop.Host n) fits l = grind (arith, (append_assoc (frame_of terminal l.0) (stream_of terminal l.1) bytes))
 leaves_halts refuses k version came left bytes why fits l = grind arith
 
-pub piece_all : (refuses : Type 0) (h k : PlainHost) (p q : PostView (Vec ℕ)) (held fed next : Held) (piece : List ℕ) (ms : List Tmesg) (r : Result (Unit {0}) Stop)
-    → next ≡ fed → GaveAll terminal held piece ms fed → HandlesAll refuses h k p q ms r → TakesPiece refuses h k p q held next piece r
-piece_all refuses h k p q held fed next piece ms r e u w = grind (arith, stream_of-append, append_assoc, front_fits, leaves_halts, each_behind, each_t)
-
-pub piece_before : (refuses : Type 0) (h k : PlainHost) (p q : PostView (Vec ℕ)) (held next : Held) (piece : List ℕ) (ms : List Tmesg) (place : ℕ) (fault : MesgFault) (why : Stop)
-    → GaveUp terminal held piece ms place fault next → StopsBefore refuses h k p q ms (frame_number fault) why
-    → HandledFront refuses h k p q held.version (held.offset + length held.bytes + length piece) (held.bytes ++ piece) why
-piece_before refuses h k p q held next piece ms place fault why up (inr all) = grind arith
-piece_before refuses h k p q held next piece ms place fault why up (inl some) = grind (arith, stream_of-append, append_assoc, front_fits, leaves_halts, each_behind, each_t)
+-- some of the messages were handled
+pub piece_cut : (refuses : Type 0) (h k : PlainHost) (p q : PostView (Vec ℕ)) (held fed next : Held) (piece : List ℕ) (ms : List Tmesg) (fault : Option MesgFault) (place : ℕ)
+    (why : Stop) (r : Result (Unit {0}) Stop) → GaveUpTo terminal held piece ms fault place fed → HandledSome refuses h k p q ms why → IsErrAnd r (λ e. e ≡ why)
+    → TakesPiece refuses h k p q held next piece r
+piece_cut refuses h k p q held fed next piece ms fault place why r up some is =
+    grind (arith, (gave_of terminal held fed piece ms fault place up), stream_of-append, append_assoc, front_fits, leaves_halts, each_behind, each_t)
 
 -- the piece was not fed
-pub piece_unfed : (refuses : Type 0) (h : PlainHost) (p : PostView (Vec ℕ)) (version came : ℕ) (bytes : List ℕ) (why : Stop) → StopsAtRest refuses h version came bytes why
-    → HandledFront refuses h h p p version came bytes why
-piece_unfed refuses h p version came bytes why halts = grind (arith, (handled_nothing h p))
+pub piece_unfed : (refuses : Type 0) (h : PlainHost) (p : PostView (Vec ℕ)) (held fed next : Held) (piece : List ℕ) (why : FeedRefusal) (r : Result (Unit {0}) Stop)
+    → held.failed ≡ false → Feeds terminal held piece (Err (fault_of why)) fed → IsErrAnd r (λ e. e ≡ of_unfed why) → TakesPiece refuses h h p p held next piece r
+piece_unfed refuses h p held fed next piece why r sound refused is = grind (arith, (handled_nothing h p))
 
 -- ## Frames that are sent
 

@@ -1,5 +1,6 @@
 -- Where the host reader stands between two pieces.
-use Rattle.sam_workers.proofs.Common.{◌≡◌, ◌∙◌, ℕ, ◌+◌, inl, inr, List, ◌++◌, length, Option, None, Some, Bool, subst, append-nil, append_assoc, length-append, arith, Vec, map-append, flat_map-append, HFrame, MesgFault, Direction, host, Splits, stream_of, Held, GaveAll, GaveUp, fresh, version_after-append, stream_of-append, Came, splits_more, comes_more, items_of, IsEnded, StartsWith, LineView, PostView, TakeView, TakesNext, new_post, new_take, closed_post, items_of-append, bytes_of, frame_number, sent_on, Sends, SendsBefore, PassesPiece, Passes, ReaderTold, Input, Stop}
+use Rattle.sam_workers.proofs.Common.{◌≡◌, ◌∙◌, ℕ, ◌+◌, List, ◌++◌, length, Err, Option, None, Some, option_map, Bool, false, append-nil, append_assoc, length-append, arith, Vec, map-append, flat_map-append, HFrame, MesgFault, Direction, host, Splits, stream_of, Feeds, FeedRefusal, Held, GaveUpTo, fresh, gave_of, fault_of, version_after-append, stream_of-append, Came, splits_more, comes_more, items_of, IsEnded, StartsWith, LineView, PostView, TakeView, TakesNext, new_post, new_take, closed_post, items_of-append, bytes_of, of_fault, of_unfed, sent_on, Sends, PassesPiece, Passes, ReaderTold, Input, Stop}
+use Rattle.std.specs.Option.{option_or}
 use Rattle.sam_workers.specs.declared.ends.ReaderEnd.{ReaderEnd}
 use Rattle.sam_workers.proofs.ApartTurns.{front_fits}
 
@@ -17,17 +18,16 @@ front_splits d version bytes ms ns rest s = grind (arith, stream_of-append, appe
 
 -- ---- one piece
 
-pub passed_all : (h : Held) (piece : List ℕ) (k : Held) (p q : PostView Input) (frames : List HFrame) (s : Option Stop)
-    → GaveAll host h piece frames k → Sends frames p q s → PassesPiece h piece k p q s
-passed_all h piece k p q frames s all sends = grind (arith, (front_splits host h.version (h.bytes ++ piece)))
+-- the frames were sent on, and then what is wrong after them stops it; or the gate stopped that
+pub passed : (h : Held) (piece : List ℕ) (k : Held) (p q : PostView Input) (frames : List HFrame) (fault : Option MesgFault) (place : ℕ) (s : Option Stop)
+    → GaveUpTo host h piece frames fault place k → Sends frames p q s → PassesPiece h piece k p q (option_or s (option_map of_fault fault))
+passed h piece k p q frames None place None up sends = grind arith
+passed h piece k p q frames (Some why) place None up sends = grind arith
+passed h piece k p q frames fault place (Some s) up sends = grind (arith, (gave_of host h k piece frames fault place up), (front_splits host h.version (h.bytes ++ piece)))
 
-pub passed_before : (h : Held) (piece : List ℕ) (k : Held) (p q : PostView Input) (frames : List HFrame) (place : ℕ) (fault : MesgFault) (n : ℕ) (s : Option Stop)
-    → GaveUp host h piece frames place fault k → n ≡ frame_number fault → SendsBefore frames n p q s → PassesPiece h piece k p q s
-passed_before h piece k p q frames place fault n (Some s) up is (inl (done, more, parts, sent, gate)) =
-    let splits = subst (λ (fs : List HFrame). Splits host h.version (h.bytes ++ piece) fs k.bytes) parts up.gave.splits in
-    grind (arith, (front_splits host h.version (h.bytes ++ piece) done more k.bytes splits))
-passed_before h piece k p q frames place fault n (Some s) up is (inr (sent, at)) = grind arith
-passed_before h piece k p q frames place fault n None up is sends = absurd sends
+pub not_passed : (h : Held) (piece : List ℕ) (k : Held) (p : PostView Input) (why : FeedRefusal)
+    → h.failed ≡ false → Feeds host h piece (Err (fault_of why)) k → PassesPiece h piece k p p (Some (of_unfed why))
+not_passed h piece k p why sound refused = grind (arith, append-nil)
 
 -- ---- piece by piece
 

@@ -1,5 +1,5 @@
 -- What the host's worker does between two moments.
-use Rattle.std.specs.Prelude.{◌≡◌, ℕ, ◌+◌, ◌⊎◌, List, [], ◌∷◌, ◌++◌, length, Option, Some, None, Result, Ok, Err}
+use Rattle.std.specs.Prelude.{◌≡◌, ℕ, ◌+◌, List, [], ◌∷◌, ◌++◌, length, Option, Some, None, Result, Ok, Err}
 use Rattle.std.specs.Global.{Vec}
 use Rattle.sam_mesg.specs.declared.tmesg.Tmesg.{Tmesg}
 use Rattle.sam_mesg.specs.HostKinds.{FitsH}
@@ -65,12 +65,6 @@ pub record HandledSome (refuses : Type 0) (h k : PlainHost) (before after : Post
 abbrev pub HandlesAll : Type 0 → PlainHost → PlainHost → PostView (Vec ℕ) → PostView (Vec ℕ) → List Tmesg → Result (Unit {0}) Stop → Type 0
 HandlesAll refuses h k before after messages (Ok done) = (answered : List HFrame) × Handled h k before after messages answered []
 HandlesAll refuses h k before after messages (Err why) = HandledSome refuses h k before after messages why
-
--- the messages were handled up to one of them, or all of them up to a fault of this number
-abbrev pub StopsBefore : Type 0 → PlainHost → PlainHost → PostView (Vec ℕ) → PostView (Vec ℕ) → List Tmesg → ℕ → Stop → Type 0
-StopsBefore refuses h k before after messages number why =
-    HandledSome refuses h k before after messages why
-    ⊎ ((why ≡ stop.Frame number) × ((answered : List HFrame) × Handled h k before after messages answered []))
 
 -- ## Pieces
 

@@ -3,11 +3,16 @@ use Rattle.std.specs.Prelude.{◌≡◌, ℕ, ◌^◌, ◌≤◌, ◌⊎◌, Lis
 use Rattle.sam_mesg.specs.declared.fault.MesgFault.{MesgFault}
 use Rattle.sam_mesg.specs.declared.fault.MesgFault.TheVariants as wrong
 use Rattle.sam_frame.specs.Direction.{Direction}
+use Rattle.sam_frame.specs.Faults.{refusal_number as unfed_number}
 use Rattle.sam_frame.specs.Stream.{Shows}
+use Rattle.sam_frame.specs.declared.fault.FeedRefusal.{FeedRefusal}
+use Rattle.sam_frame.specs.declared.fault.FeedRefusal.TheVariants as unfed
 use Rattle.sam_host.specs.declared.fault.HostFault.{HostFault}
 use Rattle.sam_host.specs.declared.fault.HostFault.TheVariants as refusal
 use Rattle.sam_term.specs.declared.fault.TermFault.{TermFault}
 use Rattle.sam_term.specs.declared.fault.TermFault.TheVariants as fault
+use Rattle.sam_workers.specs.declared.stop.Stop.{Stop}
+use Rattle.sam_workers.specs.declared.stop.Stop.TheVariants as stop
 
 -- the number of a refusal of the host
 abbrev pub refusal_number : HostFault → ℕ
@@ -26,6 +31,16 @@ frame_number wrong.BadKind = 1
 frame_number wrong.BadLength = 2
 frame_number wrong.BadText = 3
 frame_number wrong.OutOfMemory = 6
+
+-- what a fault of a frame is for a worker
+abbrev pub of_fault : MesgFault → Stop
+of_fault wrong.OutOfMemory = stop.Memory
+of_fault why = stop.Frame (frame_number why)
+
+-- what it is for a worker that its framer refuses a piece
+abbrev pub of_unfed : FeedRefusal → Stop
+of_unfed unfed.OutOfMemory = stop.Memory
+of_unfed why = stop.Frame (unfed_number why)
 
 -- a reader of a stream stops with this number: more bytes came than can be counted, or what it has not read shows the fault
 abbrev pub StopsWith : {M : Type 0} → Direction M → ℕ → ℕ → List ℕ → ℕ → Type 0

@@ -1,5 +1,5 @@
 -- What the host reader does with the pieces of the host's stream.
-use Rattle.std.specs.Prelude.{◌≡◌, ℕ, ◌+◌, ◌⊎◌, List, ◌++◌, length, map, Option, Some, None}
+use Rattle.std.specs.Prelude.{◌≡◌, ℕ, ◌+◌, List, ◌++◌, length, map, Option, Some, None}
 use Rattle.std.specs.Global.{Vec}
 use Rattle.sam_mesg.specs.declared.hmesg.HFrame.{HFrame}
 use Rattle.sam_frame.specs.Direction.{host}
@@ -23,11 +23,6 @@ sent_on p frames = record p { put = p.put ++ map Host frames }
 abbrev pub Sends : List HFrame → PostView Input → PostView Input → Option Stop → Type 0
 Sends frames p q None = q ≡ sent_on p frames
 Sends frames p q (Some s) = (done : List HFrame) × (more : List HFrame) × (frames ≡ done ++ more) × (q ≡ sent_on p done) × (s ≡ stop.Gate)
-
--- the same of the frames before a fault of this number, which stops it after all of them
-abbrev pub SendsBefore : List HFrame → ℕ → PostView Input → PostView Input → Option Stop → Type 0
-SendsBefore frames n p q None = ⊥
-SendsBefore frames n p q (Some s) = Sends frames p q (Some s) ⊎ (Sends frames p q None × (s ≡ stop.Frame n))
 
 -- what stands after the frames that were sent on stops the reader so, once so many bytes of the stream came
 abbrev pub StopsBehind : ℕ → ℕ → List ℕ → Stop → Type 0

@@ -1,11 +1,11 @@
 //! A terminal that is fed the host's stream in pieces.
 
-ghost use Rattle.std.specs.Prelude.{◌≡◌, [], IsTrue, All, Some};
+ghost use Rattle.std.specs.Prelude.{IsTrue, All};
 ghost use Rattle.sam_mesg.specs.HostKinds.{fits_h};
 ghost use Rattle.sam_workers.specs.Feeding.{FeedsTerminal, TakesOne, TakesUpTo};
 
-use crate::stop::Stop;
-use sam_frame::{FeedFault, FramerH};
+use crate::stop::{Stop, stop_for};
+use sam_frame::FramerH;
 use sam_mesg::{HFrame, Tmesg};
 use sam_term::fault::TermFault;
 use sam_term::term::Terminal;
@@ -52,40 +52,12 @@ pub fn feed_terminal(
 ) -> Fed
     ensures { FeedsTerminal framer.old piece.now framer.new terminal.old terminal.new result.composed.items result.stop }
 {
-    match framer.feed(piece) {
-        Ok(frames) => take_all(alloc, terminal, frames, None),
-        Err(FeedFault::BadKind(frames, _)) => take_all(
-            alloc,
-            terminal,
-            frames,
-            Some(Stop::Frame(1)),
-        ),
-        Err(FeedFault::BadLength(frames, _)) => take_all(
-            alloc,
-            terminal,
-            frames,
-            Some(Stop::Frame(2)),
-        ),
-        Err(FeedFault::BadText(frames, _)) => take_all(
-            alloc,
-            terminal,
-            frames,
-            Some(Stop::Frame(3)),
-        ),
-        Err(FeedFault::Failed) => nothing(alloc, Stop::Frame(5)),
-        Err(FeedFault::CountFull) => nothing(alloc, Stop::Frame(7)),
-        Err(FeedFault::OutOfMemory) => nothing(alloc, Stop::Memory),
-        Err(FeedFault::Truncated) => unreachable!(),
-    }
-}
-
-/// Returns what came of a piece that the framer did not take.
-fn nothing(alloc: Global, stop: Stop) -> Fed
-    ensures { (result.composed.items ≡ []) × (result.stop ≡ Some stop) }
-{
-    Fed {
-        composed: Vec::new(alloc),
-        stop: Some(stop),
+    match framer.give(piece) {
+        Ok(given) => take_all(alloc, terminal, given.messages, stop_for(given.fault)),
+        Err(why) => Fed {
+            composed: Vec::new(alloc),
+            stop: Some(Stop::from(why)),
+        },
     }
 }
 

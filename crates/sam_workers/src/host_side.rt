@@ -16,7 +16,7 @@ ghost use Rattle.sam_world.specs.Given.{IsFile};
 ghost use Rattle.sam_world.specs.Sides.{Each};
 ghost use Rattle.sam_workers.specs.Cutting.{Puts};
 ghost use Rattle.sam_workers.specs.Gates.{LetOn};
-ghost use Rattle.sam_workers.specs.Handling.{HandlesAll, StopsBefore, TakesPiece, Serves, of_refusal};
+ghost use Rattle.sam_workers.specs.Handling.{HandlesAll, TakesPiece, Serves, of_refusal};
 ghost use Rattle.sam_workers.specs.WorkerEnds.{HostTold};
 ghost use Rattle.sam_workers.specs.declared.stop.Stop.TheVariants.{Gate as GateStop};
 
@@ -26,7 +26,7 @@ use crate::gate::Gate;
 use crate::pieces::send_pieces;
 use crate::session_lines::Lines;
 use crate::stop::Stop;
-use sam_frame::{FeedFault, FramerT, encode_all};
+use sam_frame::{FramerT, encode_all};
 use sam_host::fault::HostFault;
 use sam_host::host::Host;
 use sam_mesg::{HFrame, Tmesg};
@@ -144,31 +144,8 @@ impl HostSide<'_> {
         Ok(())
     }
 
-    /// Handles the messages before a fault of this number. Returns the fault, or what stopped it before that.
-    fn answer_before<R: Wait, G: Gate>(
-        &mut self,
-        rt: &R,
-        gate: &G,
-        messages: Vec<Tmesg>,
-        number: u8,
-    ) -> Stop
-        requires piece { 0 < self.old.piece }
-        requires open { self.old.post.closed ≡ false }
-        requires fit { Each (FitsT 2) messages.items }
-        ensures piece { self.new.piece ≡ self.old.piece }
-        ensures framer { self.new.framer ≡ self.old.framer }
-        ensures stops { StopsBefore (G.may_refuse gate.now 2) self.old.host self.new.host self.old.post self.new.post
-            messages.items number result }
-        ensures let_on { LetOn (G.must_refuse gate.now 2) self.old.host.taken self.new.host.taken }
-    {
-        match self.answer_all(rt, gate, messages) {
-            Ok(()) => Stop::Frame(number),
-            Err(stop) => stop,
-        }
-    }
-
     /// Handles the messages that are whole with this piece, also those before a fault of the stream.
-    #[tactic(auto, using(crate::proofs::HostSide::piece_all, crate::proofs::HostSide::piece_unfed, crate::proofs::GateLaws::let_on_none))]
+    #[tactic(auto, using(crate::proofs::GateLaws::let_on_none))]
     fn take_piece<R: Wait, G: Gate>(&mut self, rt: &R, gate: &G, piece: &[u8]) -> Result<(), Stop>
         requires piece { 0 < self.old.piece }
         requires open { self.old.post.closed ≡ false }
@@ -178,20 +155,11 @@ impl HostSide<'_> {
             self.old.framer self.new.framer piece.now result }
         ensures let_on { LetOn (G.must_refuse gate.now 2) self.old.host.taken self.new.host.taken }
     {
-        match self.framer.feed(piece) {
-            Ok(messages) => self.answer_all(rt, gate, messages),
-            Err(FeedFault::BadKind(messages, _)) => {
-                Err(self.answer_before(rt, gate, messages, 1))
-            }
-            Err(FeedFault::BadLength(messages, _)) => {
-                Err(self.answer_before(rt, gate, messages, 2))
-            }
-            Err(FeedFault::BadText(messages, _)) => {
-                Err(self.answer_before(rt, gate, messages, 3))
-            }
-            Err(FeedFault::OutOfMemory) => Err(Stop::Memory),
-            Err(FeedFault::CountFull) => Err(Stop::Frame(7)),
-            Err(FeedFault::Truncated | FeedFault::Failed) => unreachable!(),
+        let given = self.framer.give(piece)?;
+        self.answer_all(rt, gate, given.messages)?;
+        match given.fault {
+            None => Ok(()),
+            Some(why) => Err(Stop::from(why)),
         }
     }
 

@@ -3,15 +3,15 @@
 ghost use Rattle.std.specs.Prelude.{◌≡◌, true, false, length, None, Some};
 ghost use Rattle.sam_queue.specs.Views.{new_post, new_take};
 ghost use Rattle.sam_workers.specs.Gates.{IsCount, LetOn};
-ghost use Rattle.sam_workers.specs.Passing.{Sends, SendsBefore, PassesPiece, Passes};
+ghost use Rattle.sam_workers.specs.Passing.{Sends, PassesPiece, Passes};
 ghost use Rattle.sam_workers.specs.WorkerEnds.{ReaderTold};
 
 use crate::drain::drop_rest;
 use crate::ends::ReaderEnd;
 use crate::gate::Gate;
 use crate::input::Input;
-use crate::stop::Stop;
-use sam_frame::{FeedFault, FramerH};
+use crate::stop::{Stop, stop_for};
+use sam_frame::FramerH;
 use sam_mesg::HFrame;
 use sam_queue::{Got, Post, Take};
 use std::alloc::Global;
@@ -135,34 +135,10 @@ fn pass_piece<R: Wait, G: Gate>(
     ensures counted { IsCount handled.new (length post.new.put) }
     ensures let_on { LetOn (G.must_refuse gate.now 3) (length post.old.put) (length post.new.put) }
 {
-    match framer.feed(piece) {
-        Ok(frames) => send_on(rt, gate, frames, post, handled),
-        Err(FeedFault::BadKind(frames, _)) => send_before(rt, gate, frames, post, handled, 1),
-        Err(FeedFault::BadLength(frames, _)) => send_before(rt, gate, frames, post, handled, 2),
-        Err(FeedFault::BadText(frames, _)) => send_before(rt, gate, frames, post, handled, 3),
-        Err(FeedFault::CountFull) => Some(Stop::Frame(7)),
-        Err(FeedFault::OutOfMemory) => Some(Stop::Memory),
-        Err(FeedFault::Failed | FeedFault::Truncated) => unreachable!(),
+    match framer.give(piece) {
+        Ok(given) => send_on(rt, gate, given.messages, post, handled).or(stop_for(given.fault)),
+        Err(why) => Some(Stop::from(why)),
     }
-}
-
-/// Sends on the frames before a fault of this number. Returns what stopped it: the gate, or else the fault.
-fn send_before<R: Wait, G: Gate>(
-    rt: &R,
-    gate: &G,
-    frames: Vec<HFrame>,
-    post: &mut Post<Input>,
-    handled: &mut u64,
-    number: u8,
-) -> Option<Stop>
-    requires opened { post.old.closed ≡ false }
-    requires counted { IsCount handled.old (length post.old.put) }
-    ensures sends { SendsBefore frames.items number post.old post.new result }
-    ensures way { result ≡ Some Stop.Gate → G.may_refuse gate.now 3 }
-    ensures counted { IsCount handled.new (length post.new.put) }
-    ensures let_on { LetOn (G.must_refuse gate.now 3) (length post.old.put) (length post.new.put) }
-{
-    send_on(rt, gate, frames, post, handled).or(Some(Stop::Frame(number)))
 }
 
 /// Sends the frames on for as long as the gate lets the worker go on, and counts them in `handled`. Returns `Gate` if it was refused.

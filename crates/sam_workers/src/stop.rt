@@ -1,5 +1,10 @@
 //! Why a worker of a session stops before its time.
 
+ghost use Rattle.std.specs.Prelude.{◌≡◌, option_map};
+ghost use Rattle.sam_workers.specs.Numbers.{of_fault, of_unfed};
+
+use sam_frame::FeedRefusal;
+use sam_mesg::MesgFault;
 use thiserror::Error;
 
 /// Why a worker of a session stopped before its time. A number is that of the fault in the type that the variant names, so `Host(1)` is
@@ -27,4 +32,33 @@ pub enum Stop {
     /// A request for memory was refused.
     #[error("out of memory")]
     Memory,
+}
+
+impl From<MesgFault> for Stop {
+    ghost from_gives = { λ why e. e ≡ of_fault why };
+
+    fn from(why: MesgFault) -> Stop {
+        match why {
+            MesgFault::OutOfMemory => Stop::Memory,
+            wrong => Stop::Frame(wrong as u8),
+        }
+    }
+}
+
+impl From<FeedRefusal> for Stop {
+    ghost from_gives = { λ why e. e ≡ of_unfed why };
+
+    fn from(why: FeedRefusal) -> Stop {
+        match why {
+            FeedRefusal::OutOfMemory => Stop::Memory,
+            refused => Stop::Frame(refused.number()),
+        }
+    }
+}
+
+/// Returns why a worker stops for the fault after what it was given, if there is one.
+pub(crate) fn stop_for(fault: Option<MesgFault>) -> Option<Stop>
+    ensures { result ≡ option_map of_fault fault }
+{
+    fault.map(Stop::from)
 }

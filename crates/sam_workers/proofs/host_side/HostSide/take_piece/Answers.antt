@@ -1,35 +1,16 @@
-use Rattle.std.proofs.Common.{arith}
-use Rattle.sam_mesg.specs.declared.fault.MesgFault.TheVariants as wrong
+use Rattle.sam_workers.proofs.Common.{gave_of, terminal}
 use Rattle.sam_workers.proofs.ApartTurns.{each_t}
-use Rattle.sam_workers.proofs.HostSide.{piece_before, piece_unfed}
+use Rattle.sam_workers.proofs.HostSide.{piece_cut, piece_unfed}
 use Rattle.sam_workers.proofs.host_side.HostSide.take_piece.Goals as goal
 
-pub returns-in-Err-BadKind-clause-takes : goal.returns-in-Err-BadKind-clause-takes
-returns-in-Err-BadKind-clause-takes g c =
-    let up = rw c.in-Err-BadKind.field-0-is at c.in-Err-BadKind.ensures in
-    piece_before (g.G.Gate.may_refuse c.args.gate.now 2) _ _ _ _ _ _ _ _ _ wrong.BadKind _ up c.answer_before.ensures.stops
-
-pub returns-in-Err-BadLength-clause-takes : goal.returns-in-Err-BadLength-clause-takes
-returns-in-Err-BadLength-clause-takes g c =
-    let up = rw c.in-Err-BadLength.field-0-is at c.in-Err-BadLength.ensures in
-    piece_before (g.G.Gate.may_refuse c.args.gate.now 2) _ _ _ _ _ _ _ _ _ wrong.BadLength _ up c.answer_before-in-Err-BadLength.ensures.stops
-
-pub returns-in-Err-BadText-clause-takes : goal.returns-in-Err-BadText-clause-takes
-returns-in-Err-BadText-clause-takes g c =
-    let up = rw c.in-Err-BadText.field-0-is at c.in-Err-BadText.ensures in
-    piece_before (g.G.Gate.may_refuse c.args.gate.now 2) _ _ _ _ _ _ _ _ _ wrong.BadText _ up c.answer_before-in-Err-BadText.ensures.stops
-
-pub returns-in-Err-OutOfMemory-clause-takes : goal.returns-in-Err-OutOfMemory-clause-takes
-returns-in-Err-OutOfMemory-clause-takes g c = piece_unfed (g.G.Gate.may_refuse c.args.gate.now 2) _ _ _ _ _ _ tt
+pub returns-in_err-given-clause-takes : goal.returns-in_err-given-clause-takes
+returns-in_err-given-clause-takes g c =
+    piece_unfed (g.G.Gate.may_refuse c.args.gate.now 2) _ _ _ _ _ _ c.in_err-given.field-0.0 _ c.requires.sound c.in_err-given.ensures c.from_residual.ensures.1
 
 pub answer_all-requires-clause-fit : goal.answer_all-requires-clause-fit
-answer_all-requires-clause-fit g c κs within = grind (arith, each_t)
+answer_all-requires-clause-fit g c κs within = each_t _ _ (gave_of terminal _ _ _ _ _ _ c.in_ok-given.ensures).splits.fit
 
-pub answer_before-requires-clause-fit : goal.answer_before-requires-clause-fit
-answer_before-requires-clause-fit g c κs within = grind (arith, each_t)
-
-pub answer_before-requires-in-Err-BadLength-clause-fit : goal.answer_before-requires-in-Err-BadLength-clause-fit
-answer_before-requires-in-Err-BadLength-clause-fit g c κs within = grind (arith, each_t)
-
-pub answer_before-requires-in-Err-BadText-clause-fit : goal.answer_before-requires-in-Err-BadText-clause-fit
-answer_before-requires-in-Err-BadText-clause-fit g c κs within = grind (arith, each_t)
+pub returns-in_err-answer_all-clause-takes : goal.returns-in_err-answer_all-clause-takes
+returns-in_err-answer_all-clause-takes g c =
+    let given = c.in_ok-given.given in
+    piece_cut (g.G.Gate.may_refuse c.args.gate.now 2) _ _ _ _ _ _ _ _ _ given.fault given.place _ _ c.in_ok-given.ensures c.in_err-answer_all.ensures.handles c.from_residual-in_err-answer_all.ensures.1
