@@ -264,29 +264,75 @@ pub fn typed_list(size: usize) -> Report {
     typed_as::<List>(size)
 }
 
-/// Sections of one rune and a hole each, made by scattered loads, then typed into at scattered places, asked about and cut out.
-pub fn sections(size: usize) -> Report {
-    let half = size / 2;
-    let begin = Instant::now();
-    let mut text = Chunks::gaps(half * APART);
-    for i in 0..half {
-        text.data(i.wrapping_mul(STEP) % half * APART, &['x']);
+/// Gaps, `APART` of them for each of so many runes.
+fn gaps(count: usize) -> Chunks {
+    Chunks::gaps(count * APART)
+}
+
+/// Loads so many single runes, in a scattered order.
+fn load_singly(text: &mut Chunks, count: usize) {
+    for i in 0..count {
+        text.data(i.wrapping_mul(STEP) % count * APART, &['x']);
     }
+}
+
+fn with_sections(count: usize) -> Chunks {
+    let mut text = gaps(count);
+    load_singly(&mut text, count);
+    text
+}
+
+/// As many sections as ours has, by edits from the last to the first.
+pub fn edited(size: usize) -> Report {
+    let mut text = gaps(size / 2);
+    let begin = Instant::now();
+    for i in (0..size / 2).rev() {
+        text.cut(i * APART, 1);
+        text.type_in(i * APART, 'z');
+    }
+    let took = begin.elapsed();
+    Report { took, check: check_of(&text) }
+}
+
+pub fn scattered(size: usize) -> Report {
+    let mut text = gaps(size / 2);
+    let begin = Instant::now();
+    load_singly(&mut text, size / 2);
+    let took = begin.elapsed();
+    Report { took, check: check_of(&text) }
+}
+
+pub fn typed_apart(size: usize) -> Report {
+    let mut text = with_sections(size / 2);
+    let begin = Instant::now();
     let mut state = 1;
-    for _ in 0..half {
+    for _ in 0..size / 2 {
         state = next_state(state);
         let place = (state >> 33) as usize % text.len().max(1);
         text.type_in(place, 'y');
     }
+    let took = begin.elapsed();
+    Report { took, check: check_of(&text) }
+}
+
+pub fn asked(size: usize) -> Report {
+    let text = with_sections(size / 2);
+    let begin = Instant::now();
     let end = text.len();
-    let mut asked = 0;
-    for _ in 0..half {
+    let mut check = 0;
+    for _ in 0..size / 2 {
         if let Some((start, _)) = text.first_gaps(end.saturating_sub(100), end) {
-            asked = mix(asked, start as u64);
+            check = mix(check, start as u64);
         }
     }
-    let check = mix(check_of(&text), asked);
-    text.cut(1, end.saturating_sub(2));
     let took = begin.elapsed();
     Report { took, check }
+}
+
+pub fn cut_out(size: usize) -> Report {
+    let mut text = with_sections(size / 2);
+    let begin = Instant::now();
+    text.cut(1, text.len().saturating_sub(2));
+    let took = begin.elapsed();
+    Report { took, check: text.len() as u64 }
 }

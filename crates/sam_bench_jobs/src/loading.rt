@@ -5,6 +5,7 @@ use crate::report::Report;
 use crate::sample::{letters, mix, next_state};
 use sam_rasp::Rasp;
 use sam_runes::MAX_RUNES;
+use std::alloc::Global;
 use std::time::{Clock, Instant};
 
 /// How many runes a piece has.
@@ -140,20 +141,88 @@ pub fn typed<R: AllocGlobal + Clock>(rt: &R, size: u32) -> Result<Report, Fault>
     })
 }
 
-/// Makes `size` sections by runes that are loaded one by one, types half as many runes and asks as often, and cuts nearly all of it out.
-pub fn sections<R: AllocGlobal + Clock>(rt: &R, size: u32) -> Result<Report, Fault> {
-    let half = size / 2;
-    let begin = Instant::now(rt)?;
-    let mut rasp = Rasp::new(rt.alloc());
-    if rasp.grow(0, half.wrapping_mul(APART)).is_err() {
+/// Replaces so many runes, from the last to the first, as the answer to a command line does: each is cut, and another put in.
+fn replace_singly(rasp: &mut Rasp, count: u32) -> Result<(), Fault> {
+    for i in 0..count {
+        let place = (count - i).wrapping_sub(1).wrapping_mul(APART);
+        if rasp.cut(place, 1).is_err() || rasp.type_in(place, &['z']).is_err() {
+            return Err(Fault::Refused);
+        }
+    }
+    Ok(())
+}
+
+/// Makes a text of gaps, `APART` of them for each of so many runes.
+fn gaps(alloc: Global, count: u32) -> Result<Rasp, Fault> {
+    let mut rasp = Rasp::new(alloc);
+    if rasp.grow(0, count.wrapping_mul(APART)).is_err() {
         return Err(Fault::Refused);
     }
-    load_singly(&mut rasp, half)?;
-    type_singly(&mut rasp, half)?;
-    let check = mix(check_of(&rasp), ask_at_end(&rasp, half));
+    Ok(rasp)
+}
+
+/// Makes a text of gaps in which so many single runes are loaded.
+fn with_sections(alloc: Global, count: u32) -> Result<Rasp, Fault> {
+    let mut rasp = gaps(alloc, count)?;
+    load_singly(&mut rasp, count)?;
+    Ok(rasp)
+}
+
+/// Makes `size` sections by edits of a text of gaps, from the last to the first.
+pub fn edited<R: AllocGlobal + Clock>(rt: &R, size: u32) -> Result<Report, Fault> {
+    let mut rasp = gaps(rt.alloc(), size / 2)?;
+    let begin = Instant::now(rt)?;
+    replace_singly(&mut rasp, size / 2)?;
+    let took = begin.elapsed(rt)?;
+    Ok(Report {
+        took,
+        check: check_of(&rasp),
+    })
+}
+
+/// Makes `size` sections by runes that are loaded one by one.
+pub fn scattered<R: AllocGlobal + Clock>(rt: &R, size: u32) -> Result<Report, Fault> {
+    let mut rasp = gaps(rt.alloc(), size / 2)?;
+    let begin = Instant::now(rt)?;
+    load_singly(&mut rasp, size / 2)?;
+    let took = begin.elapsed(rt)?;
+    Ok(Report {
+        took,
+        check: check_of(&rasp),
+    })
+}
+
+/// Types runes at scattered places of `size` sections, one for two sections.
+pub fn typed_apart<R: AllocGlobal + Clock>(rt: &R, size: u32) -> Result<Report, Fault> {
+    let mut rasp = with_sections(rt.alloc(), size / 2)?;
+    let begin = Instant::now(rt)?;
+    type_singly(&mut rasp, size / 2)?;
+    let took = begin.elapsed(rt)?;
+    Ok(Report {
+        took,
+        check: check_of(&rasp),
+    })
+}
+
+/// Asks for gaps at the end of `size` sections, once for two sections.
+pub fn asked<R: AllocGlobal + Clock>(rt: &R, size: u32) -> Result<Report, Fault> {
+    let rasp = with_sections(rt.alloc(), size / 2)?;
+    let begin = Instant::now(rt)?;
+    let check = ask_at_end(&rasp, size / 2);
+    let took = begin.elapsed(rt)?;
+    Ok(Report { took, check })
+}
+
+/// Cuts out nearly all of `size` sections at once.
+pub fn cut_out<R: AllocGlobal + Clock>(rt: &R, size: u32) -> Result<Report, Fault> {
+    let mut rasp = with_sections(rt.alloc(), size / 2)?;
+    let begin = Instant::now(rt)?;
     if rasp.cut(1, rasp.len().saturating_sub(2)).is_err() {
         return Err(Fault::Refused);
     }
     let took = begin.elapsed(rt)?;
-    Ok(Report { took, check })
+    Ok(Report {
+        took,
+        check: u64::from(rasp.len()),
+    })
 }
