@@ -1,4 +1,4 @@
-//! A text that is loaded piece by piece, and typed into: as one list of optional runes, and as a list of chunks.
+//! A text that is loaded piece by piece, and typed into, as a list of chunks.
 
 use crate::Report;
 use crate::sample::{letters, mix, next_state};
@@ -7,46 +7,6 @@ use std::time::Instant;
 const PIECE: usize = 512;
 const STEP: usize = 1_000_003;
 const APART: usize = 18;
-
-pub trait PartialText {
-    fn gaps(count: usize) -> Self;
-    fn len(&self) -> usize;
-    fn data(&mut self, p: usize, runes: &[char]);
-    fn cut(&mut self, p: usize, n: usize);
-    fn type_in(&mut self, p: usize, rune: char);
-    fn get(&self, p: usize) -> Option<Option<char>>;
-}
-
-/// One list.
-struct List(Vec<Option<char>>);
-
-impl PartialText for List {
-    fn gaps(count: usize) -> List {
-        List(vec![None; count])
-    }
-
-    fn len(&self) -> usize {
-        self.0.len()
-    }
-
-    fn data(&mut self, p: usize, runes: &[char]) {
-        for (place, rune) in self.0[p..p + runes.len()].iter_mut().zip(runes) {
-            *place = Some(*rune);
-        }
-    }
-
-    fn cut(&mut self, p: usize, n: usize) {
-        self.0.drain(p..p + n);
-    }
-
-    fn type_in(&mut self, p: usize, rune: char) {
-        self.0.insert(p, Some(rune));
-    }
-
-    fn get(&self, p: usize) -> Option<Option<char>> {
-        self.0.get(p).copied()
-    }
-}
 
 /// A list of chunks of at most 1,024 runes or gaps each.
 pub struct Chunks {
@@ -131,8 +91,8 @@ impl Chunks {
     }
 }
 
-impl PartialText for Chunks {
-    fn gaps(count: usize) -> Chunks {
+impl Chunks {
+    pub fn gaps(count: usize) -> Chunks {
         let mut chunks = vec![vec![None; PIECE]; count / PIECE];
         if count % PIECE > 0 {
             chunks.push(vec![None; count % PIECE]);
@@ -140,11 +100,11 @@ impl PartialText for Chunks {
         Chunks { chunks, len: count }
     }
 
-    fn len(&self) -> usize {
+    pub fn len(&self) -> usize {
         self.len
     }
 
-    fn data(&mut self, p: usize, runes: &[char]) {
+    pub fn data(&mut self, p: usize, runes: &[char]) {
         let (mut index, mut at) = self.find(p);
         let mut rest = runes;
         while !rest.is_empty() {
@@ -159,7 +119,7 @@ impl PartialText for Chunks {
         }
     }
 
-    fn cut(&mut self, p: usize, n: usize) {
+    pub fn cut(&mut self, p: usize, n: usize) {
         let (mut index, mut at) = self.find(p);
         let mut left = n;
         while left > 0 {
@@ -174,7 +134,7 @@ impl PartialText for Chunks {
         self.len -= n;
     }
 
-    fn type_in(&mut self, p: usize, rune: char) {
+    pub fn type_in(&mut self, p: usize, rune: char) {
         let (mut index, mut at) = self.find_room(p);
         if index == self.chunks.len() {
             self.chunks.push(Vec::new());
@@ -192,13 +152,13 @@ impl PartialText for Chunks {
         self.len += 1;
     }
 
-    fn get(&self, p: usize) -> Option<Option<char>> {
+    pub fn get(&self, p: usize) -> Option<Option<char>> {
         let (index, at) = self.find(p);
         self.chunks.get(index).map(|chunk| chunk[at])
     }
 }
 
-fn load_pieces(text: &mut impl PartialText, runes: &[char]) {
+fn load_pieces(text: &mut Chunks, runes: &[char]) {
     let pieces = runes.len().div_ceil(PIECE);
     for i in 0..pieces {
         let start = i.wrapping_mul(STEP) % pieces * PIECE;
@@ -207,7 +167,7 @@ fn load_pieces(text: &mut impl PartialText, runes: &[char]) {
     }
 }
 
-fn type_runes(text: &mut impl PartialText, count: usize) {
+fn type_runes(text: &mut Chunks, count: usize) {
     let mut state = 1;
     let mut place = 0;
     for i in 0..count {
@@ -220,7 +180,7 @@ fn type_runes(text: &mut impl PartialText, count: usize) {
     }
 }
 
-fn check_of(text: &impl PartialText) -> u64 {
+fn check_of(text: &Chunks) -> u64 {
     let mut check = 0;
     for i in 0..text.len() / 997 {
         check = mix(check, text.get(i * 997).flatten().map_or(1, |rune| rune as u64));
@@ -228,40 +188,24 @@ fn check_of(text: &impl PartialText) -> u64 {
     check
 }
 
-fn load_as<T: PartialText>(size: usize) -> Report {
+pub fn load(size: usize) -> Report {
     let runes = letters(size);
     let begin = Instant::now();
-    let mut text = T::gaps(size);
+    let mut text = Chunks::gaps(size);
     load_pieces(&mut text, &runes);
     let took = begin.elapsed();
     Report { took, check: check_of(&text) }
 }
 
-fn typed_as<T: PartialText>(size: usize) -> Report {
+pub fn typed(size: usize) -> Report {
     let runes = letters(1_000_000);
-    let mut text = T::gaps(runes.len());
+    let mut text = Chunks::gaps(runes.len());
     load_pieces(&mut text, &runes);
     let begin = Instant::now();
     text.cut(0, size);
     type_runes(&mut text, size);
     let took = begin.elapsed();
     Report { took, check: check_of(&text) }
-}
-
-pub fn load(size: usize) -> Report {
-    load_as::<Chunks>(size)
-}
-
-pub fn typed(size: usize) -> Report {
-    typed_as::<Chunks>(size)
-}
-
-pub fn load_list(size: usize) -> Report {
-    load_as::<List>(size)
-}
-
-pub fn typed_list(size: usize) -> Report {
-    typed_as::<List>(size)
 }
 
 /// Gaps, `APART` of them for each of so many runes.

@@ -71,8 +71,6 @@ fn main() {
         "receive" => receiving::received(size),
         "handle" => handling::handled(size),
         "schedule" => schedule::replayed(size),
-        "rasp_load_list" => loading::load_list(size),
-        "rasp_type_list" => loading::typed_list(size),
         "channel" => queue::channel(size, number(&rest[0]), number(&rest[1])),
         _ => panic!("no such job"),
     };

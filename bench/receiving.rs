@@ -2,7 +2,6 @@
 
 use crate::Report;
 use crate::codec::{HFrame, Hmesg, Tmesg, decode_h, encode_h, fits_h, split};
-use crate::loading::PartialText;
 use crate::sample::{mix, mixed};
 use crate::terminal::{Event, Terminal};
 use std::time::Instant;

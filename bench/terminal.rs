@@ -3,7 +3,7 @@
 
 use crate::codec::{HFrame, Hmesg, MOST_IN_MESSAGE, Tmesg};
 use crate::host::MOST_RUNES;
-use crate::loading::{Chunks, PartialText};
+use crate::loading::Chunks;
 use std::collections::VecDeque;
 
 const COMMAND_FILE: u16 = 0;
