@@ -65,10 +65,10 @@ class Desk:
             self.focus = self.active
         self.arrange(self.rows, self.columns)
 
-    def hear_change(self, change: Change) -> None:
-        """A change of a text, which a window of it goes by."""
-        if change.tag in self.all_windows:
-            self.all_windows[change.tag].hear(change)
+    def hear_changes(self, changes: List[Change]) -> None:
+        """Changes of a text, which a window of it goes by."""
+        if changes[0].tag in self.all_windows:
+            self.all_windows[changes[0].tag].hear(changes)
 
     def window_at(self, row: int) -> Optional[Window]:
         """The window whose title or text stands in a row of the screen."""

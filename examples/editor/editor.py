@@ -52,7 +52,7 @@ class Editor(Desk, Waiting, Actions):
         told = {CLEAN: self._meet_clean, CLOSE: self._meet_close, MOVETO: self._meet_move, SETDOT: self._meet_dot}
         told[UNLOCK] = self._meet_unlock
         self.stream = Stream(terminal, self.texts, told)
-        self.texts.listeners = [self.log.hear, self.numbers.hear, self.keeping.hear_change, self.hear_change]
+        self.texts.listeners = [self.log.hear, self.numbers.hear, self.keeping.hear_changes, self.hear_changes]
         self.pointer, self.menu = Pointer(self), None
         self.is_lost = self.is_leaving = self.is_over = self.has_begun = False
         self.kept_here: List[str] = []  # what was told of texts that were written here

@@ -44,8 +44,8 @@ class Keeping:
             self.unwritten[tag] = True
         self._writing.discard(tag)
 
-    def hear_change(self, change: Change) -> None:
-        self._changes[change.tag] += 1
+    def hear_changes(self, changes: List[Change]) -> None:
+        self._changes[changes[0].tag] += len(changes)
 
     def hear_host(self, told: Said) -> None:
         """A line of the host's standard error."""

@@ -1,6 +1,6 @@
 """Command lines, as far as a terminal has to know them; and the numbers of lines."""
 import re
-from typing import Dict, Optional, Tuple
+from typing import Dict, List, Optional, Tuple
 
 from texts import GAP, Change, Texts
 
@@ -44,17 +44,20 @@ class Numbers:
         self.texts = texts
         self._known: Dict[int, Tuple[int, int]] = {}  # a place, and its line, counted from 1
 
-    def hear(self, change: Change) -> None:
-        place, line = self._known.get(change.tag, (0, 1))
-        if change.place >= place:
-            return
-        end = change.place + len(change.gone)
-        gone = change.gone[: place - change.place]
-        came = change.came if end < place else ""
-        if GAP in gone + came:
-            self._known.pop(change.tag, None)
-        else:
-            self._known[change.tag] = (change.moved(place), line - gone.count("\n") + came.count("\n"))
+    def hear(self, changes: List[Change]) -> None:
+        tag = changes[0].tag
+        place, line = self._known.get(tag, (0, 1))
+        for change in changes:
+            if change.place >= place:
+                continue
+            end = change.place + len(change.gone)
+            gone = change.gone[: place - change.place]
+            came = change.came if end < place else ""
+            if GAP in gone + came:
+                self._known.pop(tag, None)
+                return
+            place, line = change.moved(place), line - gone.count("\n") + came.count("\n")
+            self._known[tag] = (place, line)
 
     def drop(self, tag: int) -> None:
         self._known.pop(tag, None)

@@ -1,11 +1,16 @@
 """The texts of the terminal, with word of each change: by the user here, or by a frame of the host."""
-from typing import Callable, Dict, List, NamedTuple
+from collections import deque
+from itertools import repeat
+from operator import add
+from typing import Callable, Dict, Iterator, List, NamedTuple
 
 from sulgrevad import Terminal
 
 COMMAND = 0  # the tag of the command file
 GAP = "\ud800"  # stands for a rune that is not loaded: no rune is a surrogate
 MOST_IN_EVENT = 512  # runes that are typed in one event
+LONG = 256  # runes from which on it pays to ask first whether all of them are loaded, or none
+DENSE = 64  # runes that are read in the time that one call takes
 
 
 class Change(NamedTuple):
@@ -24,22 +29,84 @@ class Change(NamedTuple):
         return place if place == self.place else place + len(self.came)
 
 
+def moved(changes: List[Change], place: int) -> int:
+    """Where a place stands after some changes."""
+    for change in changes:
+        if place > change.place:
+            place = change.moved(place)
+    return place
+
+
+class Run:
+    """Changes that touch, one after the other, as one: how many they are, how many runes go, and what comes, in pieces."""
+
+    def __init__(self, change: Change):
+        self.place, self.end = change.place, change.place + len(change.came)  # where it begins, and where what comes ends
+        self.count, self.gone, self.came = 1, len(change.gone), deque((change.came,))
+        self.is_known = GAP not in change.gone
+
+    def takes(self, change: Change) -> bool:
+        """Makes a change the last one, if it touches those before it. One of which not all is known that goes stays alone."""
+        _, place, gone, came = change
+        if not self.is_known or GAP in gone:
+            return False
+        if place == self.end:
+            self.came.append(came)
+            self.end += len(came)
+        elif place + len(gone) == self.place:
+            self.came.appendleft(came)
+            self.place, self.end = place, self.end + len(came) - len(gone)
+        else:
+            return False
+        self.count += 1
+        self.gone += len(gone)
+        return True
+
+
+def runs(changes: List[Change]) -> Iterator[Run]:
+    """Changes as runs that come to the same, one after the other."""
+    run = None
+    for change in changes:
+        if run is None:
+            run = Run(change)
+        elif not run.takes(change):
+            yield run
+            run = Run(change)
+    if run is not None:
+        yield run
+
+
 class Texts:
-    """Reads texts, and changes them where they are free. `listeners` hear of each change once it is made."""
+    """Reads texts, and changes them where they are free. `listeners` hear of changes once they are made: of one file, in order."""
 
     def __init__(self, terminal: Terminal):
         self.terminal = terminal
-        self.versions: Dict[int, int] = {}  # how often each text changed, or was loaded further
-        self.listeners: List[Callable[[Change], None]] = []
+        self.versions: Dict[int, int] = {}  # of each text; another one once it changed, or was loaded further
+        self.listeners: List[Callable[[List[Change]], None]] = []
 
     def read(self, tag: int, place: int, count: int) -> str:
         """The runes of an open file from a place on, GAP for one that is not loaded."""
+        if count > LONG:
+            loaded, gaps = self.terminal.bytes(tag, place, min(place + count, self.terminal.len(tag)))
+            if loaded == 0:
+                return GAP * gaps
+            if gaps == 0:
+                return self.terminal.text(tag, place, count)
         return "".join([rune or GAP for rune in self.terminal.read(tag, place, count)]) if count > 0 else ""
 
-    def tell(self, change: Change) -> None:
-        self.touch(change.tag)
+    def read_each(self, tag: int, places: List[int], counts: List[int]) -> List[str]:
+        """The same from each of some places on, so many runes: by one look where they stand close to each other."""
+        start, end = min(places), max(map(add, places, counts))
+        if end - start > DENSE * (len(counts) - counts.count(0)):
+            return list(map(self.read, repeat(tag), places, counts))
+        runes = self.read(tag, start, end - start)
+        return [runes[place - start : place - start + count] if count else "" for place, count in zip(places, counts)]
+
+    def tell(self, changes: List[Change]) -> None:
+        """Tells of changes of one file."""
+        self.touch(changes[0].tag)
         for listener in self.listeners:
-            listener(change)
+            listener(changes)
 
     def touch(self, tag: int) -> None:
         """The text looks otherwise: it changed, or more of it is loaded."""
@@ -73,4 +140,4 @@ class Texts:
             grown = self.terminal.len(tag) - before
             is_made = grown != 0 or len(came) == len(gone)
             if is_made and (gone or came):
-                self.tell(Change(tag, start, gone, came[: grown + len(gone)]))
+                self.tell([Change(tag, start, gone, came[: grown + len(gone)])])

@@ -1,8 +1,8 @@
 """Undo: the changes of each file, oldest first. Of a text nothing is kept but what came and what went."""
 from typing import Dict, List, Optional
 
-from sulgrevad import Terminal
-from texts import GAP, Change, Texts
+from sulgrevad import NoMemory, Terminal
+from texts import GAP, Change, Texts, runs
 from vault import Kept, Part, Vault
 
 MOST_STEPS = 10_000  # steps that are kept of a file
@@ -16,29 +16,34 @@ class Step:
         self.kind = kind  # "type" or "erase" where the next change of this kind may join
         self.before, self.after = before, None  # what the host keeps of the text, where not all that went or came is known here
         self.changes: List[Change] = []
-        self.turned = 0  # how many of them are turned, where memory was out in between
+        self.turned = 0  # how many of them are taken back, from the last one on
 
     @property
-    def is_kept(self) -> bool:
-        """Whether it stays as it was made. Else what takes it back comes in its place."""
-        return self.before is not None or self.after is not None
+    def stand(self) -> List[Change]:
+        """Those that are not taken back."""
+        return self.changes[: len(self.changes) - self.turned]
+
+    @property
+    def went(self) -> List[Change]:
+        """Those that are taken back."""
+        return self.changes[len(self.changes) - self.turned :]
 
     @property
     def lacks(self) -> int:
         """How many runes are known nowhere that have to come to take it back."""
-        return 0 if self.before is not None else sum(change.gone.count(GAP) for change in self.changes)
+        return 0 if self.before is not None else sum(change.gone.count(GAP) for change in self.stand)
 
     @property
     def lacks_again(self) -> int:
         """The same of a step that was taken back, to make it again."""
-        if not self.is_kept:
-            return self.lacks
-        return 0 if self.after is not None else sum(change.came.count(GAP) for change in self.changes)
+        return 0 if self.after is not None else sum(change.came.count(GAP) for change in self.went)
 
-    def add(self, change: Change) -> None:
-        if self.kind and self.changes:
-            change = _joined(self.changes.pop(), change)
-        self.changes.append(change)
+    def add(self, changes: List[Change]) -> None:
+        if not self.kind:
+            self.changes += changes
+            return
+        for change in changes:
+            self.changes.append(_joined(self.changes.pop(), change) if self.changes else change)
 
     def takes(self, kind: str, start: int, end: int) -> bool:
         """Whether a change of this kind from one place to another goes on where the last one stopped."""
@@ -64,7 +69,14 @@ def _filled(text: str, known: str) -> str:
     """A text whose gaps are filled from the same text, as far as it is known there."""
     if GAP not in text or len(text) != len(known):
         return text
+    if text == GAP * len(text):
+        return known
     return "".join(other if rune == GAP else rune for rune, other in zip(text, known))
+
+
+def _with_known(change: Change, gone: str, came: str) -> Change:
+    """A change whose gaps are filled as far as what went and came is known."""
+    return Change(change.tag, change.place, _filled(change.gone, gone), _filled(change.came, came))
 
 
 class Undo:
@@ -76,18 +88,19 @@ class Undo:
         self.past: Steps = {}
         self.future: Steps = {}
         self.goes = self.comes = ""  # what the host takes out or puts in, where it changes a text of this length that is not loaded
-        self._back: Optional[Change] = None  # the change that is taken back
-        self._into: Optional[Step] = None  # what makes it again
-        self._turned: Optional[int] = None  # the file of which a whole step is turned
+        self._halves: Dict[int, Step] = {}  # of a file, the step that is taken back in part, since memory was out
+        self._turned: Optional[int] = None  # the file of which a step is turned
 
     def parts(self) -> List[Part]:
         """What the vault has to keep."""
-        lists = [*self.past.values(), *self.future.values()]
+        lists = [*self.past.values(), *self.future.values(), self._halves.values()]
         return [kept.part for steps in lists for step in steps for kept in (step.before, step.after) if kept is not None]
 
     def begin(self, tag: int, kind: str = "", start: int = 0, end: int = 0) -> None:
         """A key changes a file next: a step begins, or goes on where a key of the same kind stopped."""
         self.goes = self.comes = ""
+        if tag in self._halves:
+            self._stay(tag)
         steps, kept = self.past.setdefault(tag, []), self.vault.take(tag)
         if steps and kind and kept is None and steps[-1].takes(kind, start, end):
             return
@@ -96,26 +109,38 @@ class Undo:
         steps.append(Step(kind) if kept is None else Step(before=kept))
         del steps[:-MOST_STEPS]
 
-    def hear(self, change: Change) -> None:
-        """Notes a change; what was taken back can't be made again then."""
-        if change.tag in (0, self.vault.tag, self._turned):
+    def hear(self, changes: List[Change]) -> None:
+        """Notes changes of a file; what was taken back can't be made again then."""
+        tag = changes[0].tag
+        if tag in (0, self.vault.tag, self._turned):
             return
-        if self._into is not None:
-            self._into.add(change._replace(gone=_filled(change.gone, self._back.came)))
-            return
-        self.future.pop(change.tag, None)
-        steps = self.past.setdefault(change.tag, [])
+        self._stay(tag)
+        steps = self.past.setdefault(tag, [])
         if not steps:
             steps.append(Step())
-        steps[-1].add(change._replace(gone=_filled(change.gone, self.goes), came=_filled(change.came, self.comes)))
+        if self.goes or self.comes:
+            goes, comes = self.goes, self.comes
+            changes = [_with_known(each, goes, comes) if GAP in each.gone or GAP in each.came else each for each in changes]
+        steps[-1].add(changes)
+
+    def _stay(self, tag: int) -> None:
+        """What was taken back stays so."""
+        self.future.pop(tag, None)
+        half = self._halves.pop(tag, None)
+        if half is not None:
+            del half.changes[-half.turned :]
+            half.turned, half.after = 0, None
+            self.past.setdefault(tag, []).append(half)
 
     def drop(self, tag: int) -> None:
         """The file is gone."""
-        self.past.pop(tag, None)
-        self.future.pop(tag, None)
+        for steps in (self.past, self.future, self._halves):
+            steps.pop(tag, None)
 
     def last(self, steps: Dict[int, List[Step]], tag: int) -> Optional[Step]:
-        """The step of a file that comes next, of those done or of those taken back."""
+        """The step of a file that comes next, of those done or of those taken back. One that is taken back in part is both."""
+        if tag in self._halves:
+            return self._halves[tag]
         kept = steps.get(tag, [])
         while kept and not kept[-1].changes:
             kept.pop()
@@ -123,7 +148,7 @@ class Undo:
 
     def unknown(self, step: Step) -> int:
         """How many runes would go with a step that are not known, so that they could not be brought again."""
-        return 0 if step.after is not None else sum(came.count(GAP) for came in self._came_now(step))
+        return 0 if step.after is not None or step.turned else sum(came.count(GAP) for came in self._came_now(step))
 
     def _came_now(self, step: Step) -> List[str]:
         """What came with each change of a step, its gaps filled as far as it is loaded by now."""
@@ -139,53 +164,68 @@ class Undo:
         return texts
 
     def back(self, tag: int) -> None:
-        step, kept = self.past[tag][-1], self.vault.take(tag)
+        step, kept = self.last(self.past, tag), self.vault.take(tag)
         step.after = step.after if kept is None else kept
-        if not step.is_kept:
-            self._turn(tag, self.past, self.future)
+        if step.before is None:
+            self._turn(tag, step, [Change(tag, place, came, gone) for _, place, gone, came in reversed(step.stand)], 1)
             return
-        step.changes = [change._replace(came=came) for change, came in zip(step.changes, self._came_now(step))]
-        reverse = [Change(tag, change.place, change.came, change.gone) for change in reversed(step.changes)]
-        self._turn_kept(tag, step.before, reverse, self.past, self.future)
+        if not step.turned:
+            step.changes = [change._replace(came=came) for change, came in zip(step.changes, self._came_now(step))]
+        self._put_back(tag, step, step.before, len(step.changes))
 
     def again(self, tag: int) -> None:
-        step = self.future[tag][-1]
-        if step.is_kept:
-            self._turn_kept(tag, step.after, step.changes, self.future, self.past)
+        step = self.last(self.future, tag)
+        if step.after is None:
+            self._turn(tag, step, step.went, -1)
         else:
-            self._turn(tag, self.future, self.past)
+            self._put_back(tag, step, step.after, 0)
 
-    def _turn_kept(self, tag: int, kept: Optional[Kept], changes: List[Change], source: Steps, sink: Steps) -> None:
-        """Has the host put back a text that it keeps; where it keeps none makes changes. The step stays as it is."""
+    def _put_back(self, tag: int, step: Step, kept: Kept, turned: int) -> None:
+        """Has the host put back a text that it keeps."""
         self._turned = tag
-        if kept is not None:
-            place = min(change.place for change in changes)
-            self.vault.put_back(kept, place, lambda: self._move(tag, source, sink))
-            return
-        step = source[tag][-1]
+        place = min(change.place for change in step.changes)
+        self.vault.put_back(kept, place, lambda: self._end(tag, step, turned))
+
+    def _turn(self, tag: int, step: Step, changes: List[Change], sign: int) -> None:
+        """Makes changes of a file, which take back what is left of a step; or make it again, where the sign is -1. Out of memory some of
+        them are made."""
+        made, self._turned = 0, tag
         try:
-            for change in changes[step.turned :]:
-                self.terminal.select(tag, change.place, change.place + len(change.gone))
-                self.texts.replace(tag, change.came)
-                step.turned += 1
+            for run in runs(changes):
+                if not run.is_known:
+                    self._fill(step, changes, made, sign)
+                try:
+                    self.terminal.edit(tag, run.place, run.place + run.gone, "".join(run.came))
+                except NoMemory:
+                    raise
+                except MemoryError:  # it was taken all the same
+                    made += run.count
+                    raise
+                made += run.count
+            caret = changes[-1].place + len(changes[-1].came)
+            self.terminal.select(tag, caret, caret)
         finally:
-            self._turned = None
-        step.turned = 0
-        self._move(tag, source, sink)
+            if made:
+                self.texts.tell(changes[:made])
+            self._end(tag, step, step.turned + sign * made)
 
-    def _move(self, tag: int, source: Steps, sink: Steps) -> None:
-        self._turned = None
-        sink.setdefault(tag, []).append(source[tag].pop())
+    def _fill(self, step: Step, changes: List[Change], made: int, sign: int) -> None:
+        """Fills what goes with the next change, as far as it is loaded by now. What makes that again has to know it."""
+        change = changes[made]
+        gone = _filled(self.texts.read(change.tag, change.place, len(change.gone)), change.gone)
+        changes[made] = change._replace(gone=gone)
+        if sign > 0:
+            at = len(step.changes) - step.turned - made - 1
+            step.changes[at] = step.changes[at]._replace(came=gone)
 
-    def _turn(self, tag: int, source: Steps, sink: Steps) -> None:
-        """Takes back the last step of `source`, whose text is known."""
-        changes, self._into = source[tag].pop().changes, Step()
-        try:
-            while changes:
-                self._back = changes[-1]
-                self.terminal.select(tag, self._back.place, self._back.place + len(self._back.came))
-                self.texts.replace(tag, self._back.gone)
-                changes.pop()
-        finally:  # out of memory some of it stays to be taken back
-            sink.setdefault(tag, []).append(self._into)
-            self._into = None
+    def _end(self, tag: int, step: Step, turned: int) -> None:
+        """A step is turned, or as much of it as memory was there for."""
+        self._turned, step.turned, step.kind = None, turned, ""
+        for steps in (self.past, self.future):
+            if steps.get(tag) and steps[tag][-1] is step:
+                steps[tag].pop()
+        self._halves.pop(tag, None)
+        if 0 < turned < len(step.changes):
+            self._halves[tag] = step
+        else:
+            (self.future if turned else self.past).setdefault(tag, []).append(step)

@@ -1,9 +1,9 @@
 """Windows: what of a file is shown, and how it follows the user and the host. No text is kept here, each look reads the terminal."""
-from typing import NamedTuple, Optional, Tuple
+from typing import List, NamedTuple, Optional, Tuple
 
 from layout import Layout, line_end, line_start, looks, row_start, top_above
 from sulgrevad import Terminal
-from texts import GAP, Change, Texts
+from texts import GAP, Change, Texts, moved
 
 LONGEST_LOOK = 512  # runes of the line before that a new line takes its indentation from
 LONGEST_WORD = 4096  # runes that a move over a word looks at
@@ -132,11 +132,11 @@ class Window:
 
     # ---- What is shown
 
-    def hear(self, change: Change) -> None:
-        """A change of the text moves the place where the window begins."""
-        self._top = change.moved(self._top)
+    def hear(self, changes: List[Change]) -> None:
+        """Changes of the text move the place where the window begins."""
+        self._top = moved(changes, self._top)
         if self._aim is not None:
-            self._aim = self._aim._replace(place=change.moved(self._aim.place))
+            self._aim = self._aim._replace(place=moved(changes, self._aim.place))
 
     def follow(self) -> None:
         """Brings the dot into view, also where it stays."""

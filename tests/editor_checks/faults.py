@@ -1,11 +1,13 @@
-"""Signals, and faults of the editor."""
+"""Signals, faults of the editor, and the host's stream in pieces and with faults."""
 import os
+import random
 import signal
+import struct
 import subprocess
 import sys
 from pathlib import Path
 
-from .support import ROOT, SAMHOST, SAMTERM, Session, expect, made, wait_for_text, wait_until
+from .support import ROOT, SAMHOST, SAMTERM, Failed, Session, expect, made, wait_for_text, wait_until
 
 
 def check_signals(folder):
@@ -84,3 +86,171 @@ def check_exception(folder):
         wait_for_text(folder / "a.txt.sam-saved", "typed one\n")
     told = (folder / "stderr").read_text()
     expect("broken on purpose" in told and "a.txt.sam-saved" in told, f"it tells {told!r}")
+
+
+BINDNAME, NEWNAME, GROW, DATA, SETDOT, GROWDATA, DIRTY, CUT = 66, 68, 70, 73, 76, 77, 80, 81
+
+
+def frame(kind, tag, *numbers, text=""):
+    """The bytes of a frame of the host."""
+    body = struct.pack(">QH", 0, tag) + b"".join(struct.pack(">I", number) for number in numbers) + text.encode()
+    return struct.pack(">BH", kind, len(body)) + body
+
+
+def opening(tag, text, parts=()):
+    """The frames that open a file, of which some parts are loaded."""
+    loads = [frame(DATA, tag, start, text=text[start:end]) for start, end in parts]
+    return [frame(NEWNAME, tag), frame(BINDNAME, tag), frame(GROW, tag, 0, len(text)), *loads]
+
+
+def some_edits(numbers, lengths):
+    """Frames that change files of these lengths, by the tag: mostly edits from the last place to the first, as a command line makes them,
+    and some that change again what others have changed."""
+    frames, tag, place, has_gaps = [], 1, 0, numbers.random() < 0.7
+    for _ in range(60):
+        draw = numbers.random()
+        if draw < 0.1:
+            tag = numbers.choice(sorted(lengths))
+        length = lengths[tag]
+        place = max(0, place - numbers.randrange(6)) if draw < 0.8 and place <= length else numbers.randrange(length + 1)
+        count, text = min(length - place, numbers.randrange(4)), numbers.choice(("b", "", "日\n", "long " * 9))
+        came = ((CUT, -count, (count,), ""), (GROWDATA, len(text), (), text), (GROW, count, (count,), ""), (DIRTY, 0, None, ""))
+        for kind, more, words, runes in numbers.choice((came[:2], came[:2], came[:1], came[1:2], came[2:] if has_gaps else came[3:])):
+            lengths[tag] += more
+            frames.append(frame(kind, tag) if words is None else frame(kind, tag, place, *words, text=runes))
+    return frames
+
+
+class Fed:
+    """An editor that is fed a host's frames, and what it tells of them."""
+
+    def __init__(self, numbers):
+        import sulgrevad
+        from editor import Editor
+        from texts import GAP
+
+        self.terminal = sulgrevad.Terminal()
+        self.editor = Editor(self.terminal)
+        self.told, self.tags, self.loaded = [], (1, 2), {}  # what is told of edits; the files, and their texts as far as they are loaded
+        self.editor.texts.listeners.append(self.told.extend)
+        for tag in self.tags:
+            text = "".join(numbers.choice("ab\n日") for _ in range(400))
+            parts = numbers.choice(([], [(0, 400)], [(at, at + 9) for at in range(0, 390, numbers.randrange(10, 200))]))
+            self.loaded[tag] = "".join(rune if any(start <= at < end for start, end in parts) else GAP for at, rune in enumerate(text))
+            self.editor.feed(b"".join(opening(tag, text, parts)))
+            self.editor.window_of(tag)._top = numbers.randrange(len(text))
+            self.editor.numbers.set(tag, numbers.randrange(len(text)), 7)
+        self.editor.log.goes = "a"
+
+    def lengths(self):
+        return {tag: self.terminal.len(tag) for tag in self.tags}
+
+    def state(self):
+        """All that the edits have changed."""
+        editor, tags = self.editor, self.tags
+        steps = {tag: [step.changes for step in steps] for tag, steps in editor.log.past.items()}
+        files = [(editor.texts.read(tag, 0, 10_000), editor.window_of(tag).top, editor.keeping._changes[tag]) for tag in tags]
+        return self.told, files, steps, editor.numbers._known
+
+
+def pieces_of(numbers, data, most):
+    """A stream in pieces of random lengths."""
+    while data:
+        count = numbers.randint(1, most)
+        yield data[:count]
+        data = data[count:]
+
+
+def check_stream_in_pieces(folder):
+    """However the host's stream is cut, the same is told of each edit, and the same is known for undo: what went and what came."""
+    from texts import GAP, Change
+
+    for seed in range(40):
+        one_by_one = Fed(random.Random(seed))
+        frames = some_edits(random.Random(seed), one_by_one.lengths())
+        texts, wanted = one_by_one.loaded, []
+        got = [one_by_one.editor.texts.read(tag, 0, 400) for tag in texts]
+        expect(got == list(texts.values()), f"seed {seed}: it reads {got}, wanted {texts}")
+        for each in frames:
+            one_by_one.editor.feed(each)
+            kind, tag, place = each[0], *struct.unpack_from(">HI", each + bytes(4), 11)
+            text, came = texts[tag], ""
+            if kind == GROWDATA:
+                came = each[17:].decode()
+            count = int.from_bytes(each[17:21], "big") if kind in (CUT, GROW) else 0
+            if kind == GROW:
+                came, count = GAP * count, 0
+            if kind != DIRTY:
+                wanted.append(Change(tag, place, text[place : place + count], came))
+                texts[tag] = text[:place] + came + text[place + count :]
+        state = one_by_one.state()
+        expect(state[0] == wanted, f"seed {seed}: one by one it tells {state[0]}, wanted {wanted}")
+        expect([file[0] for file in state[1]] == list(texts.values()), f"seed {seed}: the texts are {state[1]}")
+        for most in (1, 7, 60, 500, 1_000_000):
+            fed = Fed(random.Random(seed))
+            for piece in pieces_of(random.Random(seed + most), b"".join(frames), most):
+                fed.editor.feed(piece)
+            expect(fed.state() == state, f"seed {seed}, {most} bytes: {fed.state()}, wanted {state}")
+
+
+def check_stream_without_memory(folder):
+    """Where memory is wanting now and then no edit is lost, and none is told twice, though some of them wait in the terminal."""
+    from sulgrevad import NoMemory, Status, Unfinished
+
+    for seed in range(40):
+        quick, slow = Fed(random.Random(seed)), Fed(random.Random(seed))
+        frames = some_edits(random.Random(seed), quick.lengths())
+        quick.editor.feed(b"".join(frames))
+        numbers, feed, waiting = random.Random(seed), slow.terminal.feed, []
+
+        def short(data=b""):
+            if numbers.random() < 0.2:
+                raise NoMemory(Status.NO_MEMORY)
+            while waiting:
+                feed(waiting.pop())
+            if numbers.random() < 0.3:
+                waiting.append(data)
+                raise Unfinished(Status.UNFINISHED)
+            feed(data)
+
+        slow.terminal.feed = short
+        for piece in [*pieces_of(numbers, b"".join(frames), 300), *[b""] * 1000]:
+            try:
+                slow.editor.feed(piece)
+            except MemoryError:
+                continue
+        while waiting:
+            feed(waiting.pop())
+        expect(not slow.editor.stream.is_waiting, f"seed {seed}: bytes stay")
+        expect(slow.state() == quick.state(), f"seed {seed}: {slow.state()}, wanted {quick.state()}")
+
+
+def check_stream_with_faults(folder):
+    """A wrong frame shows once its head has come, or where it is whole, also after many edits. What it changes is not told, and what those
+    before it have changed is drawn and counted."""
+    from sulgrevad import SamError
+
+    for wrong, at in (
+        (b"\x00", 3), (frame(CUT, 1, 1, 1, text="x"), 3), (frame(CUT, 1, 1), 3), (frame(GROWDATA, 1) + bytes(9), 3),
+        (frame(GROWDATA, 1, 1, text="x" * 2049), 3), (frame(CUT, 1, 1 << 31, 1 << 31), 21),
+        (frame(CUT, 1, 0xFFFFFFFF, 0xFFFFFFFF), 21), (frame(GROWDATA, 1, 1 << 31, text="x"), 18), (frame(GROWDATA, 9, 0, text="x"), 18),
+        (bytes([GROWDATA]) + b"\x00\x0f" + frame(GROWDATA, 1, 0)[3:] + b"\xff", 18),
+    ):  # fmt: skip
+        for most in (1, 40, 1_000_000):
+            fed, numbers = Fed(random.Random(1)), random.Random(1)
+            frames = [frame(kind, 1, place, 1) if kind == CUT else frame(kind, 1, place, text="b") for place in (300, 200, 100, 3, 2)
+                      for kind in (CUT, GROWDATA)]  # fmt: skip
+            good, length, before = b"".join(frames), fed.terminal.len(1), dict(fed.editor.texts.versions)
+            taken = 0
+            try:
+                for piece in pieces_of(numbers, good + (wrong + bytes(40))[: max(at, len(wrong))], most):
+                    fed.editor.feed(piece)
+                    taken += len(piece)
+                raise Failed(f"{wrong}: it is taken")
+            except SamError:
+                pass
+            expect(taken <= len(good) + at - 1 and fed.terminal.len(1) == length, f"{wrong}, {most} bytes: it shows after {taken} bytes")
+            places = [change.place for change in fed.told if change.gone or change.came]
+            wanted = [300, 300, 200, 200, 100, 100, 3, 3, 2, 2]
+            expect(places == wanted[: len(places) if at > 3 else 10], f"{wrong}, {most} bytes: it tells of {places}")
+            expect(fed.editor.texts.versions[1] > before[1] and fed.editor.keeping._changes[1] > 0, f"{wrong}: nothing is drawn")

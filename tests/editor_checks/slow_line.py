@@ -337,3 +337,64 @@ def check_cost_of_a_key(folder):
         slowness = max(1, least_loop() / QUIET_LOOP)  # machines of one kind differ by two times, and from hour to hour
         expect(least < 0.003 * slowness, f"a key costs {least * 1000:.1f} ms of processor time, {slowness:.1f} times slowed")
         session.leave_unwritten()
+
+
+PIECE = 65_536  # bytes of the host that the loop reads at once; keys are taken between two pieces
+
+
+def check_cost_of_many_edits(folder):
+    """A command line that changes 54,000 places of a text of which little is loaded costs less than two seconds of processor time, or as
+    many times more as the machine is slow."""
+    pair, editor, key, text = opened("abcdefghijklmno\n" * 54_000, size=(40, 80))
+    for typed in (key("Esc"), text(",x/a/c/b/\n")):
+        editor.take(typed)
+    answer = b""
+    for _ in range(9):
+        editor.feed(answer)
+        pair.pause()
+        pair.host.feed(bytes(pair.up))
+        pair.up.clear()
+        answer = pair.host.take_out()
+        if len(answer) > 54_000:
+            break
+    before = time.process_time()
+    for at in range(0, len(answer), PIECE):
+        editor.feed(answer[at : at + PIECE])
+        editor.update()
+    cost = time.process_time() - before
+    pair.finish()
+    pair.check()
+    step = editor.log.last(editor.log.past, 1)
+    expect(len(step.changes) == 108_000 and step.lacks == 0, f"{len(step.changes)} changes can be taken back, but for {step.lacks} runes")
+    slowness = max(1, least_loop() / QUIET_LOOP)
+    expect(cost < 2 * slowness, f"54,000 edits cost {cost:.1f} s of processor time, {slowness:.1f} times slowed")
+
+
+def check_cost_of_undo(folder):
+    """Taking back what a command line changed in 9,000 places of a text of which little is loaded, and making it again, costs less than half
+    a second of processor time each, or as many times more as the machine is slow; and one call of the terminal for each place."""
+    first = "abcdefghijklmno\n" * 9_000
+    pair, editor, key, text = opened(first, size=(40, 80))
+    pair.press(key("Esc"), text(",x/a/c/b/\n"), key("Esc"))
+    costs, calls, answer = [], [], pair.terminal._answer
+
+    def counted(name, *arguments):
+        calls.append(name)
+        return answer(name, *arguments)
+
+    for name, wanted in (("^Z", first), ("^R", first.replace("a", "b"))) * 2:
+        sent, before, pair.terminal._answer = pair.terminal.sent, time.process_time(), counted
+        editor.take(key(name))
+        editor.update()
+        costs.append(time.process_time() - before)
+        pair.terminal._answer = answer
+        sent = pair.terminal.sent - sent
+        pair.finish()
+        expect(pair.host.text(1) == wanted, f"{name}: the text is {pair.host.text(1)[:60]!r}; it tells {editor.message!r}")
+        expect(sent < 18_100, f"{name}: {sent} messages are made")
+    expect(pair.terminal.first_gap(1) is not None, "this test is wrong: all is loaded")
+    pair.check()
+    slowness = max(1, least_loop() / QUIET_LOOP)
+    cost = max(min(costs[0::2]), min(costs[1::2]))
+    expect(cost < 0.5 * slowness, f"it costs {cost:.2f} s of processor time, {slowness:.1f} times slowed")
+    expect(len(calls) < 4 * 9_500, f"{len(calls)} calls are made")

@@ -153,6 +153,115 @@ def check_undo_of_all_kinds(folder):
         pair.check()
 
 
+class Noted:
+    """An editor in a small window over a long text, and what the host's text was when so many steps could be taken back."""
+
+    LINES = (",x/a/c/bb/", ",x/b/d", ",x/\\n/c/\\n\\n/", ",y/a /c/q/", "3,40d", "#9,#900x/ /a/-/", ",x/c/i/long text/", ",x/a b/d")
+
+    def __init__(self, seed):
+        self.random = random.Random(seed)
+        text = "".join(self.random.choice("ab c\n日") for _ in range(self.random.choice((300, 4000))))
+        self.pair, self.editor, self.key, self.text = opened(text, has_vault=True, size=(12, 20))
+        self.texts = {0: text}
+        self.pair.random = self.random
+
+    @property
+    def steps(self):
+        return sum(bool(step.changes) for step in self.editor.log.past.get(1, []))
+
+    def change(self):
+        """Does something that changes the text, or moves."""
+        key, text, choose = self.key, self.text, self.random.choice
+        keys = [text(choose(("x", "yy", "w\n", "日")))]
+        if self.random.random() < 0.4:
+            keys = [key("Esc"), text(choose(self.LINES) + "\n"), key("Esc")]
+        elif self.random.random() < 0.6:
+            keys = [key(choose(("Backspace", "Delete", "^X", "^V", "^A", "Page Down", "Down", "Shift-Down", "^C", "^End")))]
+        self.pair.press(*keys)
+        if self.steps:
+            self.texts[self.steps] = self.pair.host.text(1)
+
+    def expect_text(self, told):
+        got, wanted = self.pair.host.text(1), self.texts[self.steps]
+        expect(got == wanted, f"{told}: the text is {got[:80]!r}, wanted {wanted[:80]!r}; it tells {self.editor.message!r}")
+        self.pair.check()
+
+
+def check_runs(folder):
+    """Changes that touch are one run, and runs come to the same text as their changes one by one. What is not known stays alone."""
+    from texts import GAP, Change, runs
+
+    numbers = random.Random(1)
+    for _ in range(2000):
+        text = wanted = "".join(numbers.choice("abcd" + GAP) for _ in range(30))
+        changes, place = [], 15
+        for at in range(numbers.randrange(1, 9)):
+            place = min(len(wanted), max(0, place + numbers.choice((-3, -1, 0, 0, 1, 1, 3))))
+            gone, came = wanted[place : place + numbers.randrange(3)], numbers.choice(("", str(at), f"{at}x"))
+            changes.append(Change(1, place, gone, came))
+            wanted = wanted[:place] + came + wanted[place + len(gone) :]
+        got = list(runs(changes))
+        for run in got:
+            text = text[: run.place] + "".join(run.came) + text[run.place + run.gone :]
+        expect(text == wanted, f"{changes}: the text is {text!r}, wanted {wanted!r}")
+        expect(sum(run.count for run in got) == len(changes), f"{changes}: {[run.count for run in got]} changes")
+        expect(all(run.count == 1 or run.is_known for run in got), f"{changes}: what is not known is not alone")
+    touching = [Change(1, 5, "ab", ""), Change(1, 5, "", "c"), Change(1, 6, "d", "ef"), Change(1, 4, "g", "")]
+    counts = [run.count for run in runs([*touching, Change(1, 9, "h", "")])]
+    expect(counts == [4, 1], f"the runs have {counts} changes")
+
+
+def check_undo_step_by_step(folder):
+    """After each step that is taken back or made again the text is what it was, also where it is not loaded."""
+    for seed in range(4):
+        noted = Noted(seed)
+        for at in range(20):
+            if noted.random.random() < 0.6:
+                noted.change()
+                continue
+            for name in [noted.random.choice(("^Z", "^R"))] * noted.random.randrange(1, 4):
+                steps, is_any = noted.steps, noted.editor.log.last(getattr(noted.editor.log, "past" if name == "^Z" else "future"), 1)
+                noted.pair.press(noted.key(name))
+                wanted = steps + (0 if is_any is None else 1 if name == "^R" else -1)
+                expect(noted.steps == wanted, f"seed {seed}, {at}, {name}: {noted.steps} steps, wanted {wanted}")
+                noted.expect_text(f"seed {seed}, {at}, {name}")
+
+
+def check_undo_without_memory(folder):
+    """Where memory is out while a step is taken back or made again, the same key goes on, the other one turns round, and what is typed in
+    between is taken back first."""
+    from sulgrevad import NoMemory, Status, Unfinished
+
+    for seed in range(4):
+        noted = Noted(seed)
+        for _ in range(6):
+            noted.change()
+        numbers, edit = noted.random, noted.pair.terminal.edit
+
+        def short(*words):
+            if numbers.random() < 0.1:
+                raise NoMemory(Status.NO_MEMORY)
+            edit(*words)
+            if numbers.random() < 0.1:
+                raise Unfinished(Status.UNFINISHED)
+
+        noted.pair.terminal.edit = short
+        for at in range(30):
+            log, name = noted.editor.log, numbers.choice(("^Z", "^Z", "^R"))
+            noted.pair.press(noted.key(name))
+            if 1 not in log._halves:
+                noted.expect_text(f"seed {seed}, {at}, {name}")
+            elif numbers.random() < 0.2:
+                noted.texts[noted.steps + 1] = noted.pair.host.text(1)
+                noted.pair.press(noted.text("z"))
+                noted.texts[noted.steps] = noted.pair.host.text(1)
+        del noted.pair.terminal.edit
+        while noted.steps or 1 in noted.editor.log._halves:
+            noted.pair.press(noted.key("^Z"))
+            noted.expect_text(f"seed {seed}, at the end")
+        expect(noted.pair.host.text(1) == noted.texts[0], f"seed {seed}: it is not all taken back")
+
+
 def check_room_to_keep(folder):
     """What the host has no room for is told before it goes. What undo doesn't need any more takes no room."""
     pair, editor, key, text = opened("line\n" * 200_000, has_vault=True, size=(20, 80))

@@ -10,6 +10,7 @@ from sulgrevad.status import Missing, Status, error_of
 
 MOST_IN_NAME = 256  # bytes of the longest name
 MOST_IN_PATTERN = 512  # bytes of the longest pattern
+LEAST_PIECE = 256  # bytes that are read of a text, where so few runes are wished for
 GAP = 2**32 - 1  # what stands for a rune that is not loaded
 
 # The first number that is too great for a type of an argument.
@@ -97,17 +98,18 @@ class _Side:
 
     def _long_text(self, name: str, place: int, most: Optional[int], *arguments: Any) -> str:
         """The runes of a text from a place on: `most` at most, all if that is None."""
-        into, count, runes = ctypes.create_string_buffer(PIECE), c_size_t(), c_uint32()
-        pieces: List[str] = []
         left = _least(most, 2**32)
+        into, count, runes = ctypes.create_string_buffer(min(PIECE, max(LEAST_PIECE, left))), c_size_t(), c_uint32()
+        pieces: List[str] = []
         while True:
-            self._call(name, *arguments, place, into, PIECE, byref(count), byref(runes))
+            room = min(len(into), max(LEAST_PIECE, left))  # where runes take more than a byte each, more pieces come
+            self._call(name, *arguments, place, into, room, byref(count), byref(runes))
             piece = ctypes.string_at(into, count.value).decode()[:left]
-            if not piece:
-                return "".join(pieces)
             pieces.append(piece)
             place += len(piece)
             left -= len(piece)
+            if not piece or left == 0:
+                return "".join(pieces)
 
     def feed(self, data: Union[bytes, bytearray, memoryview] = b"") -> None:
         """Takes bytes of the other side, in whatever pieces they come, and does what they say. Without bytes it goes on with what

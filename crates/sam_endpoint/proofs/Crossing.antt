@@ -5,11 +5,11 @@ use Rattle.std.proofs.option.Option.TheSendSync as option
 use Rattle.sam_mesg.proofs.hmesg.HFrame.TheSendSync as hframe
 use Rattle.sam_mesg.proofs.tmesg.Tmesg.TheSendSync as tmesg
 use Rattle.sam_frame.proofs.framer.Framer.TheSendSync as framer
+use Rattle.sam_frame.proofs.pending_bytes.PendingBytes.TheSendSync as pending_bytes
 use Rattle.sam_term.proofs.fault.Refusal.TheSendSync as refusal
 use Rattle.sam_term.proofs.Crossing.{terminal_send}
 use Rattle.sam_endpoint.proofs.fault.StreamFault.TheSendSync as stream_fault
 use Rattle.sam_endpoint.proofs.fault.TermStop.TheSendSync as term_stop
-use Rattle.sam_endpoint.proofs.pending_bytes.PendingBytes.TheSendSync as pending_bytes
 use Rattle.sam_endpoint.proofs.changes.Changes.TheSendSync as changes
 use Rattle.sam_endpoint.specs.contracts.term_endpoint.TermEndpoint as TermEndpoint
 

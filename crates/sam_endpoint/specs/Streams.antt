@@ -1,5 +1,6 @@
 -- What both ends share: what can be written, and a stream that shows a fault.
 use Rattle.std.specs.Prelude.{◌≡◌, ℕ, ◌+◌, ◌^◌, ◌≤◌, List, length, Option, Some, None, Result, Ok, Err}
+use Rattle.std.specs.Global.{Vec}
 use Rattle.sam_mesg.specs.declared.hmesg.HFrame.{HFrame}
 use Rattle.sam_mesg.specs.declared.tmesg.Tmesg.{Tmesg}
 use Rattle.sam_mesg.specs.declared.fault.MesgFault.{MesgFault}
@@ -11,7 +12,6 @@ use Rattle.sam_endpoint.specs.declared.fault.EndpointFault.{EndpointFault}
 use Rattle.sam_endpoint.specs.declared.fault.EndpointFault.TheVariants as fault
 use Rattle.sam_endpoint.specs.declared.fault.StreamFault.{StreamFault}
 use Rattle.sam_endpoint.specs.declared.fault.StreamFault.TheVariants.{BadKind, BadLength, BadText}
-use Rattle.sam_endpoint.specs.declared.incoming.Given.{Given}
 
 -- each frame fits in version 2, and so can be written
 abbrev pub FitFrames : List HFrame → Type 0
@@ -32,8 +32,8 @@ Gives d h piece messages None k = GaveAll d h piece messages k
 Gives d h piece messages (Some fault) k = (place : ℕ) × GaveUp d h piece messages place (mesg_fault fault) k
 
 -- what the framer gave for the piece; or it took none of it and is as before
-abbrev pub GivesAs : {M S : Type 0} → Direction M → Held → List ℕ → Result (Given M) (EndpointFault S) → Held → Type 0
-GivesAs d h piece (Ok given) k = Gives d h piece given.messages.items given.broken_by k
+abbrev pub GivesAs : {M S : Type 0} → Direction M → Held → List ℕ → Result (Vec M × Option StreamFault) (EndpointFault S) → Held → Type 0
+GivesAs d h piece (Ok (messages, broken_by)) k = Gives d h piece messages.items broken_by k
 GivesAs d h piece (Err fault.OutOfMemory) k = k ≡ h
 GivesAs d h piece (Err fault.CountFull) k = (2 ^ 64 ≤ h.offset + length h.bytes + length piece) × (k ≡ h)
 GivesAs d h piece (Err fault.Unfinished) k = ⊥

@@ -11,8 +11,7 @@ ghost use Rattle.sam_endpoint.specs.HostSteps.{Brings, Ends, Handles, Writes};
 
 use crate::fault::{AddFault, EndpointFault, FinishFault, HostStop, StreamFault};
 use crate::incoming::{drop_first, feed_framer};
-use crate::pending_bytes::PendingBytes;
-use sam_frame::FramerT;
+use sam_frame::{FramerT, PendingBytes};
 use sam_host::{Host, HostFault};
 use sam_mesg::{HFrame, Tmesg};
 use sam_runes::{ALL_TAGS, MAX_RUNES, MOST_IN_NAME, Text, read_utf8};
@@ -364,7 +363,7 @@ impl HostEndpoint {
     fn write_answer(&mut self) -> Result<(), EndpointFault<HostStop>>
         ensures { Writes self.old result self.new }
     {
-        let written = self.pending_bytes.put_frames(self.unwritten.as_slice());
+        let written = self.pending_bytes.put_messages(self.unwritten.as_slice());
         if written.is_err() {
             return Err(EndpointFault::Unfinished);
         }
@@ -403,10 +402,10 @@ impl HostEndpoint {
         requires { self.old.broken_by ≡ None }
         ensures { Brings self.old piece.now result self.new }
     {
-        let given = feed_framer(&mut self.framer, piece)?;
+        let (messages, broken_by) = feed_framer(&mut self.framer, piece)?;
         self.begun = true;
-        self.waiting = VecDeque::from_vec(given.messages);
-        self.broken_by = given.broken_by;
+        self.waiting = VecDeque::from_vec(messages);
+        self.broken_by = broken_by;
         Ok(())
     }
 }

@@ -7,28 +7,17 @@ use crate::fault::{EndpointFault, StreamFault};
 use sam_frame::{FeedRefusal, Framer, Wire};
 use std::collections::VecDeque;
 
-/// What a framer gave for a piece.
-#[derive(Drop)]
-pub(crate) struct Given<M: Drop> {
-    /// The messages that are whole now, in order.
-    pub(crate) messages: Vec<M>,
-    /// What is wrong with the stream after them; `None` if nothing is.
-    pub(crate) broken_by: Option<StreamFault>,
-}
-
-/// Feeds a piece to a framer that has not failed. The errors are `CountFull` and then `OutOfMemory`, and leave the framer as it was.
+/// Feeds a piece to a framer that has not failed. Returns the messages that are whole now, in order, and what is wrong with the stream
+/// after them; `None` if nothing is. The errors are `CountFull` and then `OutOfMemory`, and leave the framer as it was.
 pub(crate) fn feed_framer<M: Wire, S>(
     framer: &mut Framer<M>,
     piece: &[u8],
-) -> Result<Given<M>, EndpointFault<S>>
+) -> Result<(Vec<M>, Option<StreamFault>), EndpointFault<S>>
     requires { framer.old.failed ≡ false }
     ensures { GivesAs M.direction framer.old piece.now result framer.new }
 {
     match framer.give(piece) {
-        Ok(given) => Ok(Given {
-            messages: given.messages,
-            broken_by: given.fault.map(StreamFault::of),
-        }),
+        Ok(given) => Ok((given.messages, given.fault.map(StreamFault::of))),
         Err(FeedRefusal::CountFull) => Err(EndpointFault::CountFull),
         Err(FeedRefusal::OutOfMemory) => Err(EndpointFault::OutOfMemory),
         Err(FeedRefusal::Failed) => unreachable!(),

@@ -9,12 +9,10 @@ mod fault;
 mod host_endpoint;
 mod incoming;
 pub mod laws;
-mod pending_bytes;
 mod term_endpoint;
 
 pub use changes::{Change, Changes, Kept, Touch};
 pub use drawing::{GAP, read_rasp};
 pub use fault::{AddFault, EndpointFault, FinishFault, HostStop, StreamFault, TermStop};
 pub use host_endpoint::HostEndpoint;
-pub use pending_bytes::PendingBytes;
 pub use term_endpoint::TermEndpoint;

@@ -10,8 +10,7 @@ ghost use Rattle.sam_term.specs.Term.{act_of, flush_of, take_of};
 use crate::changes::{Change, Changes, frame_touch, len_if_open, oldest_touch};
 use crate::fault::{EndpointFault, FinishFault, StreamFault, TermStop};
 use crate::incoming::{drop_first, feed_framer};
-use crate::pending_bytes::PendingBytes;
-use sam_frame::FramerH;
+use sam_frame::{FramerH, PendingBytes};
 use sam_mesg::{Batch, HFrame, Tmesg};
 use sam_term::{Acted, Refusal, TermFault, Terminal, UserEvent};
 use std::alloc::{AllocError, Global};
@@ -219,9 +218,9 @@ impl TermEndpoint {
         requires { self.old.broken_by ≡ None }
         ensures { Gains self.old piece.now result self.new }
     {
-        let given = feed_framer(&mut self.framer, piece)?;
-        self.waiting = VecDeque::from_vec(given.messages);
-        self.broken_by = given.broken_by;
+        let (messages, broken_by) = feed_framer(&mut self.framer, piece)?;
+        self.waiting = VecDeque::from_vec(messages);
+        self.broken_by = broken_by;
         Ok(())
     }
 

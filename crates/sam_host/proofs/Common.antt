@@ -1,5 +1,5 @@
 -- What the proofs of this crate cite most from its definitions and from the crates below.
-pub use Rattle.std.proofs.Common.{All, Bool, Err, IfSome, IsTrue, List, None, Ok, Option, Some, [], ap, append-nil, append_assoc, arith, codes, cond, drop, drop_at, drop_of_length-le, encode_utf8_all, false, flat_map, get_or, if◌then◌else◌, is_some, le-leb, leb-true, length, length-append, length-take, ltb-false, min, nat_eq, nat_le, nat_lt, not, option_and_then, option_map, refl, replicate, reverse, rules, subst, suc, sym, take, take-append-drop, take_at, true, unwrap_or, zero, ℕ, ◌&&◌, ◌++◌, ◌+◌, ◌-◌, ◌<◌, ◌==◌, ◌||◌, ◌∙◌, ◌∷◌, ◌≡◌, ◌≢◌, ◌≤◌}
+pub use Rattle.std.proofs.Common.{All, Bool, Err, IfSome, IsTrue, List, None, Ok, Option, Some, [], ap, append-nil, append_assoc, arith, codes, cond, drop, drop_at, drop_of_length-le, encode_utf8_all, false, flat_map, get_or, if◌then◌else◌, le-leb, leb-true, length, length-append, length-take, ltb-false, min, nat_eq, nat_le, nat_lt, not, option_and_then, option_map, refl, replicate, reverse, rules, subst, suc, sym, take, take_at, true, unwrap_or, zero, ℕ, ◌&&◌, ◌++◌, ◌+◌, ◌-◌, ◌<◌, ◌==◌, ◌||◌, ◌∙◌, ◌∷◌, ◌≡◌, ◌≢◌, ◌≤◌}
 pub use Rattle.std.proofs.lemmas.Grind.{common_steps}
 pub use Rattle.std.proofs.lemmas.List.Elements.{All-cons, All-nil}
 pub use Rattle.sam_host.specs.Given.{AreNames, given_of}
@@ -18,7 +18,7 @@ pub use Rattle.sam_runes.proofs.PlaceLaws.{InRange, prefix_within, searched_with
 pub use Rattle.sam_runes.proofs.SlotLaws.{put_slot-push, slot-put_same}
 pub use Rattle.sam_runes.specs.Checks.{first_of_checks}
 pub use Rattle.sam_runes.specs.Slots.{Slots, put_slot, slot}
-pub use Rattle.sam_runes.specs.Texts.{Range, RoomyText, all_tags, as_lines, del, either, ends_line, ins, is_empty, last_line, last_snarf_limit, max_runes, most_count, most_in_message, most_in_name, most_in_pattern, newline, part, prefix_in_bytes, searched, snarf_limit, utf8_length}
+pub use Rattle.sam_runes.specs.Texts.{Range, RoomyText, all_tags, as_lines, either, ends_line, ins, is_empty, last_line, last_snarf_limit, max_runes, most_count, most_in_message, most_in_name, most_in_pattern, newline, part, prefix_in_bytes, searched, snarf_limit, utf8_length}
 pub use Rattle.sam_runes.specs.declared.edit.Edit.{Edit}
 pub use Rattle.sam_text.proofs.OutcomeLaws.{HasShortParts, line_short, named-within}
 pub use Rattle.sam_text.specs.Files.{AreFit, AreSoundFiles, HasShortName, IsFit, IsOutcomeFor, IsOutcomeOf, IsPattern, PlainFile, PlainFiles, PlainOutcome, after_print, announce_all, blank_file, committed, cut_file, file_at, first_files, has_file, has_room, may_look, opened_file, pasted_file, put_file, put_outcome, typed_file, with_work, without_file, written_file}

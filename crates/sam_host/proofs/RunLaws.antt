@@ -1,7 +1,11 @@
--- What is printed and what a line leaves do not meet: a line never works on the command file.
-use Rattle.sam_host.proofs.Common.{common_steps, ◌≡◌, ℕ, zero, suc, ◌<◌, ◌≤◌, List, [], ◌∷◌, ◌++◌, length, take, get_or, Option, Some, None, refl, sym, subst, arith, rules, unwrap_or, option_map, option_and_then, IfSome, flat_map, reverse, max_runes, either, Edit, slot, meaning, work_on, line_outcome, PlainFile, PlainFiles, PlainOutcome, IsOutcomeOf, IsOutcomeFor, blank_file, after_print, put_outcome, committed, AreFit, IsFit, Hmesg, HFrame, stamped, printed, grown}
+-- What is typed, what is printed and what a line leaves do not meet: a line never works on the command file.
+use Rattle.sam_host.proofs.Common.{common_steps, ◌≡◌, ℕ, zero, suc, ◌+◌, ◌<◌, ◌≤◌, List, [], ◌∷◌, ◌++◌, length, take, get_or, Option, Some, None, refl, sym, ap, ◌∙◌, subst, arith, rules, unwrap_or, option_map, option_and_then, IfSome, if◌then◌else◌, flat_map, reverse, max_runes, either, Edit, slot, put_slot, slot-put_same, meaning, work_on, line_outcome, PlainFile, PlainFiles, PlainOutcome, IsOutcomeOf, IsOutcomeFor, blank_file, file_at, put_file, typed_file, after_print, put_outcome, committed, AreFit, IsFit, Hmesg, Hexit, Hunlock, HFrame, PlainHost, stamped, printed, grown, told_edit, told_outcome, reply_line}
 use Rattle.sam_runes.specs.Edits.{inserted}
+use Rattle.sam_runes.proofs.EditLaws.{length-ins}
+use Rattle.sam_text.specs.Files.{IsWork}
 use Rattle.sam_text.proofs.MeaningLaws.{line_fits, without_work}
+use Rattle.sam_host.specs.Host.{reply_outcome}
+use Rattle.sam_host.specs.Typing.{typed_files, typed, printed_at, told_line}
 use Rattle.sam_host.proofs.FrameLaws.{told_both}
 
 -- a line works on another file than the command file
@@ -57,6 +61,92 @@ outcome_after_print fs o s h = (go o.file h.0, h.1, h.2)
     go (Some zero) k = absurd (omega (arith, k.0.0))
     go (Some (suc f)) k = grind (arith, (slot-printed fs fs.slots s f))
 
+-- ## A line after its typing
+
+-- another command file leaves the other files
+slot-kept : (ss : List (Option PlainFile)) (x : PlainFile) (f : ℕ) → slot (put_slot ss 0 x) (suc f) ≡ slot ss (suc f)
+slot-kept [] x f = refl
+slot-kept (y ∷ ys) x f = refl
+
+-- a line does the same where the command file is another one
+meaning-put : (fs : PlainFiles) (x : PlainFile) (line : List ℕ) → IfSome fs.work (IsWork fs) → meaning (put_file fs 0 x) line ≡ meaning fs line
+meaning-put fs x line h = ap (λ w. line_outcome w line) (go fs.work h)
+  where
+    go : (w : Option ℕ) → IfSome w (IsWork fs)
+        → option_and_then (λ f. option_map (work_on f) (slot (put_slot fs.slots 0 x) f)) w ≡ option_and_then (λ f. option_map (work_on f) (slot fs.slots f)) w
+    go None k = refl
+    go (Some zero) k = absurd (omega (arith, k.0))
+    go (Some (suc f)) k = ap (λ (s : Option PlainFile). option_map (work_on (suc f)) s) (slot-kept fs.slots x f)
+
+-- an outcome that can be put in can be put in where the command file is another one
+outcome-put : (fs : PlainFiles) (x : PlainFile) (o : PlainOutcome) → IsOutcomeOf fs o → IsOutcomeOf (put_file fs 0 x) o
+outcome-put fs x o h = (go o.file h.0, h.1, h.2)
+  where
+    go : (y : Option ℕ) → IfSome y (IsOutcomeFor fs o) → IfSome y (IsOutcomeFor (put_file fs 0 x) o)
+    go None k = tt
+    go (Some zero) k = absurd (omega (arith, k.0.0))
+    go (Some (suc f)) k = grind (arith, (slot-kept fs.slots x f))
+
+told-slots : (fs : PlainFiles) (ss : List (Option PlainFile)) (x : PlainFile) (o : PlainOutcome) (f : ℕ)
+    → told_outcome (Some (suc f)) (put_file (with_slots fs ss) 0 x) o ≡ told_outcome (Some (suc f)) (with_slots fs ss) o
+unfolding told_outcome told_edit grown
+told-slots fs [] x o f = refl
+told-slots fs (y ∷ ys) x o f = refl
+
+-- what a line did is told the same where the command file is another one
+told-put : (y : Option ℕ) (fs : PlainFiles) (x : PlainFile) (o : PlainOutcome) → IsElsewhere y → told_outcome y (put_file fs 0 x) o ≡ told_outcome y fs o
+unfolding told_outcome
+told-put None fs x o h = refl
+told-put (Some zero) fs x o h = absurd (omega arith)
+told-put (Some (suc f)) fs x o h = told-slots fs fs.slots x o f
+
+printed-slots-at : (fs : PlainFiles) (ss : List (Option PlainFile)) (x : PlainFile) (s : List ℕ) → x.opened ≡ (file_at (with_slots fs ss) 0).opened
+    → printed (put_file (with_slots fs ss) 0 x) s ≡ printed_at (with_slots fs ss) (length x.text) s
+unfolding printed printed_at grown
+printed-slots-at fs [] x s e = grind arith
+printed-slots-at fs (y ∷ ys) x s e = grind arith
+
+-- what is printed after a typing is told over the files before it
+printed-typed : (fs : PlainFiles) (p : ℕ) (t s : List ℕ) → p ≤ length (file_at fs 0).text
+    → printed (typed_files fs p t) s ≡ printed_at fs (length (file_at fs 0).text + length t) s
+printed-typed fs p t s h =
+    printed-slots-at fs fs.slots (typed_file 0 (file_at fs 0) p t) s refl ∙ ap (λ n. printed_at fs n s) (length-ins (file_at fs 0).text t p h)
+
+elsewhere : (fs : PlainFiles) (o : PlainOutcome) → IsOutcomeOf fs o → IsElsewhere o.file
+elsewhere fs o h = go o.file h.0
+  where
+    go : (y : Option ℕ) → IfSome y (IsOutcomeFor fs o) → IsElsewhere y
+    go None k = tt
+    go (Some f) k = k.0.0
+
+-- the reply to a line after its typing, over the files before it
+pub line_replied : (h : PlainHost) (p : ℕ) (s line : List ℕ) (o : PlainOutcome) → o ≡ meaning h.files line → IsOutcomeOf h.files o → IfSome h.files.work (IsWork h.files)
+    → p ≤ length (file_at h.files 0).text
+    → reply_line (typed h p s) [] line ≡ (
+      record (typed h p s) { files = after_print (committed (typed_files h.files p s) o) o.printed; is_done = o.quit },
+      told_line h.files (length (file_at h.files 0).text + length s) o,
+    )
+line_replied h p s line o is fits work place =
+    let same : meaning (typed_files h.files p s) line ≡ o = meaning-put h.files (typed_file 0 (file_at h.files 0) p s) line work ∙ sym is in
+    let told = told-put o.file h.files (typed_file 0 (file_at h.files 0) p s) o (elsewhere h.files o fits) in
+    let out = printed_committed (typed_files h.files p s) o o.printed (elsewhere h.files o fits) ∙ printed-typed h.files p s o.printed place in
+    ap (λ o. reply_outcome (typed h p s) [] o) same
+    ∙ ap (λ (ms : List Hmesg). (record (typed h p s) { files = after_print (committed (typed_files h.files p s) o) o.printed; is_done = o.quit }, ms))
+    (λ i. told i ++ out i ++ (if o.quit then Hexit else Hunlock) ∷ [])
+
+-- the outcome of a line is put in after its typing and its print
+pub line_put : (fs gs : PlainFiles) (p : ℕ) (s : List ℕ) (o : PlainOutcome) → IsOutcomeOf fs o → gs ≡ after_print (typed_files fs p s) o.printed
+    → IsOutcomeOf gs o × (committed gs o ≡ after_print (committed (typed_files fs p s) o) o.printed)
+line_put fs gs p s o h e =
+    let x = typed_file 0 (file_at fs 0) p s in
+    subst (λ gs. IsOutcomeOf gs o × (committed gs o ≡ after_print (committed (typed_files fs p s) o) o.printed)) (sym e)
+    (outcome_after_print (put_file fs 0 x) o o.printed (outcome-put fs x o h), commit_print (put_file fs 0 x) o o.printed (elsewhere fs o h))
+
+-- what is typed is there
+pub typed_length : (fs : PlainFiles) (p : ℕ) (s : List ℕ) → p ≤ length (file_at fs 0).text
+    → length (file_at (typed_files fs p s) 0).text ≡ length (file_at fs 0).text + length s
+typed_length fs p s h = grind (arith, slot-put_same, length-ins)
+
 -- ## What a line puts in
 
 no-edits : (line : List ℕ) → inserted (line_outcome None line).edits ≤ max_runes
@@ -84,11 +174,6 @@ text_below_inserted es i d e = grind arith
 pub edit_told : (tell : Edit → List Hmesg) (before : List HFrame) (seen : ℕ) (es : List Edit) (i : ℕ) (e : Edit) → i < length es → e ≡ get_or es i e
     → (before ++ stamped seen (tell e)) ++ stamped seen (flat_map tell (reverse (take i es))) ≡ before ++ stamped seen (flat_map tell (reverse (take (suc i) es)))
 edit_told tell before seen es i e l is = search (rules, common_steps, told_both)
-
--- what a line did, what it prints, and its end
-pub told_line : (before : List HFrame) (seen : ℕ) (fs : PlainFiles) (o : PlainOutcome) (s : List ℕ) (a c : List Hmesg) → IsOutcomeOf fs o
-    → before ++ stamped seen (a ++ printed (committed fs o) s ++ c) ≡ ((before ++ stamped seen a) ++ stamped seen (printed fs s)) ++ stamped seen c
-told_line before seen fs o s a c h = grind (arith, printed_committed, told_both)
 
 -- the frames after six parts, each told after those before it
 pub six_told : (before x1 x2 x3 x4 x5 x6 : List HFrame) (seen : ℕ) (a b c d e f : List Hmesg) → x1 ≡ before ++ stamped seen a → x2 ≡ x1 ++ stamped seen b

@@ -1,46 +1,68 @@
--- What is typed and taken out again leaves the host as it was, and typing and sending in terms of a line.
-use Rattle.sam_host.proofs.Common.{common_steps, ◌≡◌, ◌≢◌, ℕ, ◌+◌, ◌<◌, ◌≤◌, List, [], ◌∷◌, ◌++◌, length, Bool, true, false, not, cond, Some, nat_eq, refl, ap, ◌∙◌, arith, append_assoc, append-nil, length-append, rules, unwrap_or, is_some, ◌&&◌, ◌||◌, ◌==◌, take_at, drop_at, take-append-drop, length-take, Range, ins, del, part, is_empty, ends_line, as_lines, last_line, newline, max_runes, Slots, slot, put_slot, slot-put_same, PlainFile, blank_file, file_at, has_file, typed_file, has_room, after_print, Hunlock, PlainHost, with_file, with_files, printed, reply_line, reply_type, reply_send}
+-- The line that a typing ends, and typing and sending in terms of a line.
+use Rattle.sam_host.proofs.Common.{common_steps, ◌≡◌, ◌≢◌, ℕ, ◌+◌, ◌-◌, ◌<◌, ◌≤◌, List, [], ◌∷◌, ◌++◌, length, take, drop, reverse, Bool, true, false, not, cond, if◌then◌else◌, nat_eq, refl, ap, ◌∙◌, arith, append_assoc, append-nil, length-append, rules, ◌&&◌, ◌||◌, ◌==◌, take_at, drop_at, ins, part, is_empty, ends_line, as_lines, last_line, newline, max_runes, slot-put_same, file_at, typed_file, has_room, after_print, Hunlock, PlainHost, line_to, with_file, with_files, printed, reply_line, reply_type, reply_send}
+use Rattle.std.proofs.Common.{eqb, drop-drop, length-take-le, sym, take-add}
 use Rattle.std.proofs.Math.Seq.{take-length, drop-length}
+use Rattle.std.proofs.lemmas.List.{length-reverse, reverse-append, take-append-le, drop-append-le}
+use Rattle.std.proofs.lemmas.List.Folds.{prefix_len-append}
+use Rattle.std.proofs.lemmas.List.Sums.{prefix_len-le-length}
+use Rattle.std.proofs.lemmas.Slice.{between_is}
+use Rattle.std.specs.List.{prefix_len}
 use Rattle.sam_runes.proofs.EditLaws.{length-ins}
-use Rattle.sam_host.specs.Typing.{typed, typed_line, sent}
+use Rattle.sam_runes.specs.Texts.{is_in_line, line_start}
+use Rattle.sam_host.specs.Typing.{sent, typed_line, reply_typed_line}
 
--- ## Putting the command file
+-- ## The line that is typed
 
-pub put_here : (h g : PlainHost) (x : PlainFile) → g ≡ with_file h 0 x → file_at g.files 0 ≡ x
-put_here h g x e = ap (λ (g : PlainHost). file_at g.files 0) e ∙ ap (λ s. unwrap_or s blank_file) (slot-put_same h.files.slots 0 x)
+-- the last line of t, of its own
+abbrev last_of : List ℕ → List ℕ
+last_of t = drop (length t - prefix_len is_in_line (reverse t)) t
 
-put-twice : (ss : Slots PlainFile) (x y : PlainFile) → put_slot (put_slot ss 0 x) 0 y ≡ put_slot ss 0 y
-put-twice [] x y = refl
-put-twice (s ∷ ss) x y = refl
+-- the line of a place is the last one before it
+line-last : (t : List ℕ) (e : ℕ) → e ≤ length t → line_to t e ≡ last_of (take e t)
+line-last t e h = grind (arith, between_is, length-take-le)
 
-pub put_again : (h g k : PlainHost) (x y : PlainFile) → g ≡ with_file h 0 x → k ≡ with_file g 0 y → k ≡ with_file h 0 y
-put_again h g k x y e f = grind (arith, put-twice)
+drop-past : (u v : List ℕ) (n : ℕ) → drop (length u + n) (u ++ v) ≡ drop n v
+drop-past u v n = sym (drop-drop n (length u) (u ++ v)) ∙ ap (λ (t : List ℕ). drop n t) (drop_at u v (length u) refl)
 
--- ## Undoing
+-- the last line of two texts begins in the first one where the second has no newline
+last-joined : (u v : List ℕ) → last_of (u ++ v) ≡ cond (eqb (prefix_len is_in_line (reverse v)) (length v)) (last_of u ++ v) (last_of v)
+last-joined u v = go (eqb (prefix_len is_in_line (reverse v)) (length v)) refl
+  where
+    k : ℕ
+    k = prefix_len is_in_line (reverse v)
 
--- what was put in is taken out
-pub del_ins : (t s : List ℕ) (p : ℕ) → p ≤ length t → del (ins t p s) p (p + length s) ≡ t
-del_ins t s p h = grind (arith, length-take, length-append, append_assoc, take_at, drop_at, take-append-drop)
+    below : k ≤ length v
+    below = omega (arith, prefix_len-le-length is_in_line (reverse v), length-reverse v)
 
--- what was typed can be taken out again, which gives the old text
-pub typed_ready : (h g : PlainHost) (p : ℕ) (s : List ℕ) → g ≡ typed h p s → p ≤ length (file_at h.files 0).text
-    → (has_file g.files 0 ≡ true) × (p + length s ≤ length (file_at g.files 0).text) × (del (file_at g.files 0).text p (p + length s) ≡ (file_at h.files 0).text)
-typed_ready h g p s e place = grind (arith, put_here, length-ins, del_ins, slot-put_same)
+    both : prefix_len is_in_line (reverse (u ++ v)) ≡ cond (eqb k (length v)) (length v + prefix_len is_in_line (reverse u)) k
+    both = ap (prefix_len is_in_line) (reverse-append u v) ∙ prefix_len-append is_in_line (reverse v) (reverse u)
+        ∙ ap (λ (n : ℕ). cond (eqb k n) (n + prefix_len is_in_line (reverse u)) k) (length-reverse v)
 
-abbrev host_with : PlainHost → Slots PlainFile → PlainHost
-host_with h ss = with_files h (record h.files { slots = ss })
+    go : (b : Bool) → eqb k (length v) ≡ b → last_of (u ++ v) ≡ cond b (last_of u ++ v) (last_of v)
+    go true e =
+        let n : length (u ++ v) - prefix_len is_in_line (reverse (u ++ v)) ≡ length u - prefix_len is_in_line (reverse u) = grind (arith, both, length-append) in
+        ap (λ (n : ℕ). drop n (u ++ v)) n ∙ drop-append-le (length u - prefix_len is_in_line (reverse u)) u v (omega arith)
+    go false e =
+        let n : length (u ++ v) - prefix_len is_in_line (reverse (u ++ v)) ≡ length u + (length v - k) = grind (arith, both, below, length-append) in
+        ap (λ (n : ℕ). drop n (u ++ v)) n ∙ drop-past u v (length v - k)
 
-undone-slots : (h : PlainHost) (ss : Slots PlainFile) (p : ℕ) (s : List ℕ) → is_some (slot ss 0) ≡ true → p ≤ length (unwrap_or (slot ss 0) blank_file).text
-    → (let g = typed (host_with h ss) p s in
-    let dot = (unwrap_or (slot ss 0) blank_file).dot in
-    with_file g 0 (record (file_at g.files 0) { text = del (file_at g.files 0).text p (p + length s); dot = dot }) ≡ host_with h ss)
-undone-slots h (Some y ∷ ss) p s there place = λ i. host_with h (Some (record y { text = del_ins y.text s p place i }) ∷ ss)
-undone-slots h ss p s e u = grind arith
+-- what stands before the end of what was typed
+typed-front : (t s : List ℕ) (p e : ℕ) → p ≤ length t → e ≤ length s → take (p + e) (ins t p s) ≡ take p t ++ take e s
+typed-front t s p e h l =
+    let front : length (take p t) ≡ p = length-take-le p t h in
+    grind (arith, (take-add p e (ins t p s)), (take_at (take p t) (s ++ drop p t) p front), (drop_at (take p t) (s ++ drop p t) p front), (take-append-le e s (drop p t) l), append_assoc)
 
--- a host whose typing was taken out again, and whose dot was set back, is as it was
-pub undone : (h g k : PlainHost) (p : ℕ) (s : List ℕ) (dot : Range) → has_file h.files 0 ≡ true → p ≤ length (file_at h.files 0).text → g ≡ typed h p s
-    → k ≡ with_file g 0 (record (file_at g.files 0) { text = del (file_at g.files 0).text p (p + length s); dot = dot }) → dot ≡ (file_at h.files 0).dot → k ≡ h
-undone h g k p s dot there place e f d = grind (arith, (undone-slots h h.files.slots p s there place))
+joined-at : (t s : List ℕ) (p e : ℕ) → p ≤ length t → e ≤ length s
+    → cond (eqb (line_start s e) 0) (line_to t p) [] ++ part s (line_start s e) e ≡ line_to (ins t p s) (p + e)
+joined-at t s p e h l =
+    grind (arith, (line-last (ins t p s) (p + e)), (typed-front t s p e h l), (last-joined (take p t) (take e s)), (line-last t p h), (line-last s e l), (length-take-le e s l), (length-reverse (take e s)), (prefix_len-le-length is_in_line (reverse (take e s))), (length-ins t s p h))
+
+-- the line that a typing ends, in two pieces: what stands before the typing, where its newline is the first, and what is typed
+pub line_joined : (t s : List ℕ) (p : ℕ) → 0 < length s → p ≤ length t
+    → (if line_start s (length s - 1) == 0 then line_to t p else []) ++ part s (line_start s (length s - 1)) (length s - 1) ≡ typed_line t p s
+line_joined t s p filled h =
+    let e : p + (length s - 1) ≡ p + length s - 1 = omega arith in
+    joined-at t s p (length s - 1) h (omega arith) ∙ ap (λ end. line_to (ins t p s) end) e
 
 -- ## Lines
 
@@ -49,12 +71,12 @@ pub ends_filled : (t : List ℕ) → ends_line t ≡ true → 0 < length t
 ends_filled [] e = grind arith
 ends_filled (c ∷ t) e = omega arith
 
-typed-as-line : (h : PlainHost) (f p : ℕ) (s : List ℕ) → f ≡ 0 → (nat_eq f 0 && ends_line s) ≡ true → reply_type h f p s ≡ typed_line h p s
+typed-as-line : (h : PlainHost) (f p : ℕ) (s : List ℕ) → f ≡ 0 → (nat_eq f 0 && ends_line s) ≡ true → reply_type h f p s ≡ reply_typed_line h p s
 unfolding reply_type
-typed-as-line h f p s e test = grind arith
+typed-as-line h f p s e test = grind (arith, slot-put_same)
 
 -- typing that ends a line of the command file runs it, and any other runs none
-pub type_as_line : (h : PlainHost) (f p : ℕ) (s : List ℕ) → f ≡ 0 → ends_line s ≡ true → reply_type h f p s ≡ typed_line h p s
+pub type_as_line : (h : PlainHost) (f p : ℕ) (s : List ℕ) → f ≡ 0 → ends_line s ≡ true → reply_type h f p s ≡ reply_typed_line h p s
 type_as_line h f p s e ends = grind (arith, typed-as-line)
 
 pub type_alone : (h : PlainHost) (f p : ℕ) (s : List ℕ) → (nat_eq f 0 && ends_line s) ≡ false → reply_type h f p s ≡ (with_file h f (typed_file f (file_at h.files f) p s), [])

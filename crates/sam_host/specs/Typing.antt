@@ -1,20 +1,36 @@
--- What is typed into the command file, or put at its end, before a line of it is run.
-use Rattle.std.specs.Prelude.{ℕ, ◌+◌, ◌-◌, List, [], length}
-use Rattle.sam_text.specs.Files.{file_at, typed_file}
-use Rattle.sam_host.specs.Host.{PlainHost, Reply, with_file, reply_line, line_to}
+-- What is typed into the command file, or put at its end, with a line of it that is run.
+use Rattle.std.specs.Prelude.{ℕ, ◌+◌, ◌-◌, List, [], ◌∷◌, ◌++◌, length, not, ◌&&◌, nat_le, if◌then◌else◌}
+use Rattle.sam_runes.specs.Texts.{is_empty, ins, max_runes}
+use Rattle.sam_text.specs.Files.{PlainFiles, PlainOutcome, file_at, put_file, typed_file}
+use Rattle.sam_mesg.specs.declared.hmesg.Hmesg.{Hmesg}
+use Rattle.sam_mesg.specs.declared.hmesg.Hmesg.TheVariants.{Hcheck, Hexit, Hsetdot, Hunlock}
+use Rattle.sam_host.specs.Host.{PlainHost, Reply, with_files, when, grown, told_outcome, reply_line, line_to}
 
 -- s typed at p in the command file
+abbrev pub typed_files : PlainFiles → ℕ → List ℕ → PlainFiles
+typed_files fs p s = put_file fs 0 (typed_file 0 (file_at fs 0) p s)
+
 abbrev pub typed : PlainHost → ℕ → List ℕ → PlainHost
-typed h p s = with_file h 0 (typed_file 0 (file_at h.files 0) p s)
-
--- the reply to the line of the command file that ends at a place
-abbrev pub reply_line_to : PlainHost → ℕ → Reply
-reply_line_to h end = reply_line h [] (line_to (file_at h.files 0).text end)
-
--- the reply to the line that the last rune of s ends, once s is typed
-abbrev pub typed_line : PlainHost → ℕ → List ℕ → Reply
-typed_line h p s = reply_line_to (typed h p s) (p + length s - 1)
+typed h p s = with_files h (typed_files h.files p s)
 
 -- s put at the end of the command file
 abbrev pub sent : PlainHost → List ℕ → PlainHost
 sent h s = typed h (length (file_at h.files 0).text) s
+
+-- the line that the last rune of s ends, once s is typed at p in t
+abbrev pub typed_line : List ℕ → ℕ → List ℕ → List ℕ
+typed_line t p s = line_to (ins t p s) (p + length s - 1)
+
+-- the reply to that line
+abbrev pub reply_typed_line : PlainHost → ℕ → List ℕ → Reply
+reply_typed_line h p s = reply_line (typed h p s) [] (typed_line (file_at h.files 0).text p s)
+
+-- the frames for what is printed in tag 0, whose text has n runes by then
+unfoldable pub printed_at : PlainFiles → ℕ → List ℕ → List Hmesg
+printed_at fs n s =
+    when ((not (is_empty s) && nat_le (n + length s) max_runes) && (file_at fs 0).opened)
+    (grown fs 0 n s ++ Hsetdot 0 (n + length s) (n + length s) ∷ Hcheck 0 ∷ [])
+
+-- the frames for a line with this outcome, where the text of tag 0 has n runes before what it prints
+abbrev pub told_line : PlainFiles → ℕ → PlainOutcome → List Hmesg
+told_line fs n o = told_outcome o.file fs o ++ printed_at fs n o.printed ++ (if o.quit then Hexit else Hunlock) ∷ []

@@ -1,15 +1,17 @@
-//! Typing and command lines. A line is run when its newline is typed into the command file, or when it is sent there. What it
-//! does is worked out first. Then the frames are made, and the files are changed last, so that nothing is changed when memory runs out.
-//! The functions `tell_..` add frames to those of the answer. The only error of a private function is `OutOfMemory`, and the host is then
+//! Typing and command lines. A line is run when its newline is typed into the command file, or when it is sent there. It is read, and what
+//! it does worked out, before it is typed. Then its frames are made, and then room in the command file for what is typed and printed. So
+//! all memory is had before the first change, and no change can fail. The functions `tell_..` add frames to those of the answer, and the
+//! functions `put_..` change files that have the room. The only error of a private function is `OutOfMemory`, and the host is then
 //! unchanged.
 
-ghost use Rattle.std.specs.Prelude.{◌≡◌, ◌<◌, ◌≤◌, ◌+◌, ◌-◌, ◌++◌, ◌∷◌, [], ◌^◌, IfOk, IsTrue, OnOk, OnErr, Err, None, Some, true, not, ◌&&◌, nat_lt, if◌then◌else◌, length};
-ghost use Rattle.sam_host.specs.Typing.{reply_line_to, typed_line, sent};
-ghost use Rattle.sam_host.specs.Host.{host_checks, Refuses, Appends, stamped, when, when_given, printed, told_edit, told_edits, told_outcome, with_file, line_to, reply_outcome, reply_line, reply_type, reply_send};
-ghost use Rattle.sam_runes.specs.Texts.{max_runes, del, is_empty, part, as_lines, last_line, ends_line};
+ghost use Rattle.std.specs.Prelude.{◌≡◌, ◌==◌, ◌<◌, ◌≤◌, ◌+◌, ◌-◌, ◌++◌, ◌∷◌, [], ◌^◌, IfOk, IsTrue, OnOk, OnErr, Err, None, Some, true, not, ◌&&◌, nat_lt, if◌then◌else◌, length};
+ghost use Rattle.sam_host.specs.Typing.{typed_files, typed, sent, typed_line, reply_typed_line, told_line};
+ghost use Rattle.sam_host.specs.Host.{host_checks, Refuses, Appends, stamped, when, when_given, printed, told_edit, told_edits, told_outcome, with_file, line_to, reply_line, reply_type, reply_send};
+ghost use Rattle.sam_runes.specs.Texts.{max_runes, is_empty, part, as_lines, last_line, ends_line};
 ghost use Rattle.sam_runes.specs.Edits.{inserted};
 ghost use Rattle.sam_runes.specs.Checks.{first_of_checks};
-ghost use Rattle.sam_text.specs.Files.{has_file, file_at, cut_file, typed_file, after_print, IsOutcomeOf};
+ghost use Rattle.sam_text.specs.Files.{has_file, file_at, typed_file, after_print, committed, IsOutcomeOf};
+ghost use Rattle.sam_text.specs.Views.{room_at};
 ghost use Rattle.sam_text.specs.Outcomes.{effect};
 ghost use Rattle.sam_text.specs.Meaning.{meaning, nothing};
 
@@ -17,8 +19,8 @@ use crate::fault::HostFault;
 use crate::host::Host;
 use sam_mesg::{HFrame, Hmesg, Tmesg};
 use sam_runes::places::start_of_line;
-use sam_runes::{Edit, Runes};
-use sam_text::Outcome;
+use sam_runes::{Edit, MAX_RUNES, Runes};
+use sam_text::{Files, Outcome};
 
 impl Host {
     /// Adds `Hcut` for what an edit takes out; nothing if the range is empty.
@@ -243,34 +245,24 @@ impl Host {
         }
     }
 
-    /// Adds what a line did, what it prints, and its end. The files are still as they were before the line.
-    #[tactic(auto, using(crate::proofs::RunLaws::told_line))]
-    fn tell_line(&self, frames: &mut Vec<HFrame>, outcome: &Outcome) -> Result<(), HostFault>
+    /// Adds what a line does, what it prints, and its end. The files are still as they were before the typing: `len` is the length of the
+    /// command file after it.
+    #[tactic(auto, using(crate::proofs::FrameLaws::told_both))]
+    fn tell_line(
+        &self,
+        frames: &mut Vec<HFrame>,
+        len: u32,
+        outcome: &Outcome,
+    ) -> Result<(), HostFault>
         requires count { self.now.taken + 1 < 2 ^ 64 }
         requires limit { inserted (effect outcome.now).edits ≤ max_runes }
-        requires fits { IsOutcomeOf self.now.files (effect outcome.now) }
-        ensures ok { OnOk result (Appends self.now frames.old.items frames.new.items (reply_outcome self.now [] (effect outcome.now)).1) }
+        requires len { len ≤ max_runes }
+        ensures ok { OnOk result (Appends self.now frames.old.items frames.new.items (told_line self.now.files len (effect outcome.now))) }
         ensures memory { OnErr result (result ≡ Err HostFault.OutOfMemory) }
     {
         self.tell_outcome(frames, outcome)?;
-        self.tell_print(frames, outcome.printed.as_slice())?;
+        self.tell_print_at(frames, len, outcome.printed.as_slice())?;
         self.tell_end(frames, outcome.quit)
-    }
-
-    /// Puts the outcome of a line in, with what it prints. The print comes first: it alone asks for memory, and it changes another file
-    /// than the line does.
-    #[tactic(auto, using(crate::proofs::RunLaws::outcome_after_print, crate::proofs::RunLaws::commit_print))]
-    fn put_outcome(&mut self, outcome: Outcome) -> Result<(), HostFault>
-        requires { IsOutcomeOf self.old.files (effect outcome) }
-        ensures ok { OnOk result (self.new ≡ (reply_outcome self.old [] (effect outcome)).0) }
-        ensures memory { OnErr result (result ≡ Err HostFault.OutOfMemory) }
-        ensures unchanged { OnErr result (self.new ≡ self.old) }
-    {
-        let quit = outcome.quit;
-        self.files.print(outcome.printed.as_slice())?;
-        self.files.commit(outcome);
-        self.done = quit;
-        Ok(())
     }
 
     /// Works out what a line, without its newline, does. Nothing is changed. A wrong line is no error: its outcome prints a word.
@@ -284,23 +276,38 @@ impl Host {
         Ok(self.files.run_line(line)?)
     }
 
-    /// Runs a line, without its newline, whose text stands in the command file already, and adds its frames. The only error is
-    /// `OutOfMemory`, and the host is then unchanged.
-    pub(crate) fn run(&mut self, frames: &mut Vec<HFrame>, line: &[char]) -> Result<(), HostFault>
+    /// Types `runes` into the command file at `p`, runs `line`, which is the line that they end without its newline, and adds its frames.
+    /// All memory is had before the first change. The only error is `OutOfMemory`, and the host is then unchanged.
+    #[tactic(auto, using(crate::proofs::RunLaws::line_replied))]
+    fn run(
+        &mut self,
+        frames: &mut Vec<HFrame>,
+        p: u32,
+        runes: &[char],
+        line: &[char],
+    ) -> Result<(), HostFault>
         requires count { self.old.taken + 1 < 2 ^ 64 }
-        ensures host { OnOk result (self.new ≡ (reply_line self.old [] line.now).0) }
-        ensures frames { OnOk result (Appends self.old frames.old.items frames.new.items (reply_line self.old [] line.now).1) }
+        requires place { p ≤ length (file_at self.old.files 0).text }
+        requires fits { length (file_at self.old.files 0).text + length runes.now ≤ max_runes }
+        ensures host { OnOk result (self.new ≡ (reply_line (typed self.old p runes.now) [] line.now).0) }
+        ensures frames { OnOk result (Appends self.old frames.old.items frames.new.items
+            (reply_line (typed self.old p runes.now) [] line.now).1) }
         ensures memory { OnErr result (result ≡ Err HostFault.OutOfMemory) }
         ensures unchanged { OnErr result (self.new ≡ self.old) }
     {
+        self.files.facts();
         let outcome = self.outcome(line)?;
-        self.tell_line(frames, &outcome)?;
-        self.put_outcome(outcome)
+        let len = self.text_len(0) + runes.len() as u32;
+        self.tell_line(frames, len, &outcome)?;
+        make_room(&mut self.files, runes.len(), outcome.printed.len())?;
+        self.done = outcome.quit;
+        put_line(&mut self.files, p, runes, outcome);
+        Ok(())
     }
 
-    /// Puts typed runes in at `p`. The dot is then empty, after them, and any file but the command file is dirty.
+    /// Puts typed runes in at `p` and runs no line. The dot is then empty, after them, and any file but the command file is dirty.
     #[tactic(auto, using(crate::proofs::FileLaws::insert_allowed))]
-    fn put_typed(&mut self, tag: u16, p: u32, runes: &[char]) -> Result<(), HostFault>
+    fn type_alone(&mut self, tag: u16, p: u32, runes: &[char]) -> Result<(), HostFault>
         requires there { has_file self.old.files tag ≡ true }
         requires place { p ≤ length (file_at self.old.files tag).text }
         requires fits { length (file_at self.old.files tag).text + length runes.now ≤ max_runes }
@@ -312,135 +319,51 @@ impl Host {
         Ok(())
     }
 
-    /// Takes out what stands from `p` to `q` in the command file.
-    fn cut_command(&mut self, p: u32, q: u32)
-        requires there { has_file self.old.files 0 ≡ true }
-        requires range { (p ≤ q) × (q ≤ length (file_at self.old.files 0).text) }
-        ensures { self.new ≡ with_file self.old 0 (cut_file 0 (file_at self.old.files 0) p q) }
-    {
-        if self.files.delete(0, p, q).is_err() {
-            unreachable!()
-        }
-    }
-
-    /// Sets the dot of the command file.
-    fn set_command_dot(&mut self, dot: (u32, u32))
-        requires there { has_file self.old.files 0 ≡ true }
-        requires range { (dot.0 ≤ dot.1) × (dot.1 ≤ length (file_at self.old.files 0).text) }
-        ensures { self.new ≡ with_file self.old 0 (record (file_at self.old.files 0) { dot = dot }) }
-    {
-        if self.files.set_dot(0, dot.0, dot.1).is_err() {
-            unreachable!()
-        }
-    }
-
-    /// Takes what was put into the command file last, from `p` to `q`, out of it again, and sets its dot back.
-    fn undo(&mut self, p: u32, q: u32, dot: (u32, u32))
-        requires there { has_file self.old.files 0 ≡ true }
-        requires range { (p ≤ q) × (q ≤ length (file_at self.old.files 0).text) }
-        requires dot { (dot.0 ≤ dot.1) × (dot.1 ≤ length (del (file_at self.old.files 0).text p q)) }
-        ensures { self.new ≡ with_file self.old 0
-            (record (file_at self.old.files 0) { text = del (file_at self.old.files 0).text p q; dot = dot }) }
-    {
-        self.cut_command(p, q);
-        self.set_command_dot(dot);
-    }
-
-    /// Returns the dot of the command file.
-    fn command_dot(&self) -> (u32, u32)
-        ensures value { result ≡ (file_at self.now.files 0).dot }
-        ensures range { (result.0 ≤ result.1) × (result.1 ≤ length (file_at self.now.files 0).text) }
+    /// Returns what stands before `p` in its line of the command file, if `start` is 0; else nothing.
+    fn line_before(&self, p: u32, start: usize) -> &[char]
+        requires { p ≤ length (file_at self.now.files 0).text }
+        ensures { result.now ≡ (if start == 0 then line_to (file_at self.now.files 0).text p else []) }
     {
         match self.files.file(0) {
-            Some(file) => file.dot(),
-            None => (0, 0),
+            Some(file) if start == 0 => file.text().slice(file.text().line_start(p), p),
+            _ => &[],
         }
     }
 
-    /// Copies the line of the command file that ends at `end`, without its newline.
-    fn line_to(&self, end: u32) -> Result<Runes, HostFault>
-        requires { end ≤ length (file_at self.now.files 0).text }
-        ensures ok { IfOk result (λ r. r ≡ line_to (file_at self.now.files 0).text end) }
+    /// Returns the line that the newline at the end of `runes` ends once they are typed into the command file at `p`, without that newline.
+    /// It begins in the file if the runes have no other newline. They are not typed yet.
+    #[tactic(auto, using(crate::proofs::TypingLaws::line_joined))]
+    fn typed_line(&self, p: u32, runes: &[char]) -> Result<Runes, HostFault>
+        requires filled { 0 < length runes.now }
+        requires place { p ≤ length (file_at self.now.files 0).text }
+        ensures ok { IfOk result (λ line. line ≡ typed_line (file_at self.now.files 0).text p runes.now) }
         ensures memory { OnErr result (result ≡ Err HostFault.OutOfMemory) }
     {
-        match self.files.file(0) {
-            Some(file) => {
-                let start = file.text().line_start(end);
-                Ok(Runes::from_slice(self.alloc, file.text().slice(start, end))?)
-            }
-            None => Ok(Runes::from_slice(self.alloc, &[])?),
-        }
+        let end = runes.len() - 1;
+        let start = start_of_line(runes, end);
+        let before = self.line_before(p, start);
+        let mut line = Vec::with_capacity(self.alloc, before.len() + (end - start))?;
+        line.extend_from_slice(before)?;
+        line.extend_from_slice(&runes[start..end])?;
+        Ok(Runes::from_vec(line))
     }
 
-    /// Runs the line of the command file that ends at `end`, where its newline stands, and returns its frames.
-    fn run_to(&mut self, end: u32) -> Result<Vec<HFrame>, HostFault>
-        requires count { self.old.taken + 1 < 2 ^ 64 }
-        requires place { end ≤ length (file_at self.old.files 0).text }
-        ensures host { OnOk result (self.new ≡ (reply_line_to self.old end).0) }
-        ensures frames { IfOk result (λ frames. frames.items ≡ stamped (self.old.taken + 1) (reply_line_to self.old end).1) }
-        ensures memory { OnErr result (result ≡ Err HostFault.OutOfMemory) }
-        ensures unchanged { OnErr result (self.new ≡ self.old) }
-    {
-        let line = self.line_to(end)?;
-        let mut frames = Vec::new(self.alloc);
-        self.run(&mut frames, line.as_slice())?;
-        Ok(frames)
-    }
-
-    /// Types runes that end in a newline into the command file at `p`, and runs the line that this newline ends. The line is read where
-    /// it stands, so the runes are typed first. If memory then runs out, what was typed is taken out again, which asks for none.
+    /// Types runes that end in a newline into the command file at `p`, and runs the line that this newline ends.
     fn type_line(&mut self, p: u32, runes: &[char]) -> Result<Vec<HFrame>, HostFault>
         requires count { self.old.taken + 1 < 2 ^ 64 }
         requires filled { 0 < length runes.now }
         requires place { p ≤ length (file_at self.old.files 0).text }
         requires fits { length (file_at self.old.files 0).text + length runes.now ≤ max_runes }
-        ensures host { OnOk result (self.new ≡ (typed_line self.old p runes.now).0) }
-        ensures frames { IfOk result (λ frames. frames.items ≡ stamped (self.old.taken + 1) (typed_line self.old p runes.now).1) }
+        ensures host { OnOk result (self.new ≡ (reply_typed_line self.old p runes.now).0) }
+        ensures frames { IfOk result (λ frames. frames.items ≡ stamped (self.old.taken + 1) (reply_typed_line self.old p runes.now).1) }
         ensures memory { OnErr result (result ≡ Err HostFault.OutOfMemory) }
         ensures count { self.new.taken ≡ self.old.taken }
         ensures unchanged { OnErr result (self.new ≡ self.old) }
     {
-        self.files.facts();
-        let dot = self.command_dot();
-        let end = p + runes.len() as u32;
-        self.put_typed(0, p, runes)?;
-        match self.run_to(end - 1) {
-            Ok(frames) => Ok(frames),
-            Err(why) => {
-                self.undo(p, end, dot);
-                Err(why)
-            }
-        }
-    }
-
-    /// Puts `runes` at the end of the command file, and runs `line`, which is their last line. If memory runs out for the line, what was
-    /// put there is taken out again, which asks for none.
-    fn send_line(
-        &mut self,
-        frames: Vec<HFrame>,
-        runes: &[char],
-        line: &[char],
-    ) -> Result<Vec<HFrame>, HostFault>
-        requires count { self.old.taken + 1 < 2 ^ 64 }
-        requires fits { length (file_at self.old.files 0).text + length runes.now ≤ max_runes }
-        ensures host { OnOk result (self.new ≡ (reply_line (sent self.old runes.now) [] line.now).0) }
-        ensures frames { IfOk result (λ all. Appends self.old frames.items all.items (reply_line (sent self.old runes.now) [] line.now).1) }
-        ensures memory { OnErr result (result ≡ Err HostFault.OutOfMemory) }
-        ensures count { self.new.taken ≡ self.old.taken }
-        ensures unchanged { OnErr result (self.new ≡ self.old) }
-    {
-        self.files.facts();
-        let dot = self.command_dot();
-        let len = self.text_len(0);
-        let mut frames = frames;
-        self.put_typed(0, len, runes)?;
-        match self.run(&mut frames, line) {
-            Ok(()) => Ok(frames),
-            Err(why) => {
-                self.undo(len, len + runes.len() as u32, dot);
-                Err(why)
-            }
-        }
+        let line = self.typed_line(p, runes)?;
+        let mut frames = Vec::new(self.alloc);
+        self.run(&mut frames, p, runes, line.as_slice())?;
+        Ok(frames)
     }
 
     /// Answers `Ttype`: puts the runes in at `p`, as the terminal has done already, and so with no frame. If they go into the command
@@ -467,7 +390,7 @@ impl Host {
         if tag == 0 && runes.ends_line() {
             return self.type_line(p, runes.as_slice());
         }
-        self.put_typed(tag, p, runes.as_slice())?;
+        self.type_alone(tag, p, runes.as_slice())?;
         Ok(Vec::new(self.alloc))
     }
 
@@ -515,7 +438,9 @@ impl Host {
         self.tell_print(&mut frames, lines)?;
         let end = lines.len() - 1;
         let start = start_of_line(lines, end);
-        self.send_line(frames, lines, &lines[start..end])
+        let len = self.text_len(0);
+        self.run(&mut frames, len, lines, &lines[start..end])?;
+        Ok(frames)
     }
 
     /// Answers `Tsend`: prints what stands from `p` to `q` at the end of the command file, with a newline added if it ends in none, and
@@ -542,4 +467,63 @@ impl Host {
         }
         self.send_lines(lines.as_slice())
     }
+}
+
+/// Makes room in the command file for `typed` runes, and for as many more as a line prints if they come within the limit of the text. The
+/// only error is `OutOfMemory`; no text is changed.
+fn make_room(files: &mut Files, typed: usize, printed: usize) -> Result<(), HostFault>
+    requires fits { length (file_at files.old.plain 0).text + typed ≤ max_runes }
+    ensures plain { files.new.plain ≡ files.old.plain }
+    ensures typed { OnOk result (typed ≤ room_at files.new.rooms 0) }
+    ensures printed { OnOk result (length (file_at files.old.plain 0).text + typed + printed ≤ max_runes →
+        typed + printed ≤ room_at files.new.rooms 0) }
+    ensures memory { OnErr result (result ≡ Err HostFault.OutOfMemory) }
+{
+    files.facts();
+    let left = MAX_RUNES as usize - files.text_len(0) - typed;
+    let printed = if printed <= left { printed } else { 0 };
+    files.reserve(0, (typed + printed) as u32)?;
+    Ok(())
+}
+
+/// Types `runes` into the command file at `p`. There is room for them, so that no memory is asked for.
+#[tactic(auto, using(crate::proofs::FileLaws::insert_allowed))]
+fn put_typed(files: &mut Files, p: u32, runes: &[char])
+    requires there { has_file files.old.plain 0 ≡ true }
+    requires place { p ≤ length (file_at files.old.plain 0).text }
+    requires fits { length (file_at files.old.plain 0).text + length runes.now ≤ max_runes }
+    requires room { length runes.now ≤ room_at files.old.rooms 0 }
+    ensures plain { files.new.plain ≡ typed_files files.old.plain p runes.now }
+    ensures room { room_at files.old.rooms 0 ≤ room_at files.new.rooms 0 + length runes.now }
+{
+    if files.insert(0, p, runes).is_err() {
+        unreachable!()
+    }
+}
+
+/// Prints `runes`. There is room for them if they come within the limit of the text, so that no memory is asked for.
+fn put_printed(files: &mut Files, runes: &[char])
+    requires room { length (file_at files.old.plain 0).text + length runes.now ≤ max_runes → length runes.now ≤ room_at files.old.rooms 0 }
+    ensures { files.new.plain ≡ after_print files.old.plain runes.now }
+{
+    if files.print(runes).is_err() {
+        unreachable!()
+    }
+}
+
+/// Types `runes` into the command file at `p`, prints what the line prints, and puts its outcome in. There is room for all of it. The print
+/// may come before the outcome, since a line changes another file.
+fn put_line(files: &mut Files, p: u32, runes: &[char], outcome: Outcome)
+    requires there { has_file files.old.plain 0 ≡ true }
+    requires place { p ≤ length (file_at files.old.plain 0).text }
+    requires fits { length (file_at files.old.plain 0).text + length runes.now ≤ max_runes }
+    requires typed { length runes.now ≤ room_at files.old.rooms 0 }
+    requires printed { length (file_at files.old.plain 0).text + length runes.now + length outcome.printed ≤ max_runes →
+        length runes.now + length outcome.printed ≤ room_at files.old.rooms 0 }
+    requires outcome { IsOutcomeOf files.old.plain (effect outcome) }
+    ensures { files.new.plain ≡ after_print (committed (typed_files files.old.plain p runes.now) (effect outcome)) outcome.printed }
+{
+    put_typed(files, p, runes);
+    put_printed(files, outcome.printed.as_slice());
+    files.commit(outcome);
 }

@@ -3,6 +3,7 @@
 
 ghost use Rattle.std.specs.Prelude.{◌≡◌, ◌<◌, ◌≤◌, ◌+◌, ◌++◌, ◌∷◌, [], ◌^◌, OnOk, OnErr, Err, drop, length, vec_len, vec_capacity};
 ghost use Rattle.sam_host.specs.Host.{Appends, grown, told_dirty, told_length, printed, told_at};
+ghost use Rattle.sam_host.specs.Typing.{printed_at};
 ghost use Rattle.sam_runes.specs.Texts.{max_runes};
 ghost use Rattle.sam_runes.specs.Slots.{slot};
 ghost use Rattle.sam_text.specs.Files.{file_at};
@@ -11,7 +12,7 @@ ghost use Rattle.sam_mesg.specs.declared.hmesg.HFrame.{HFrame};
 use crate::fault::HostFault;
 use crate::host::Host;
 use sam_mesg::{HFrame, Hmesg};
-use sam_runes::{MOST_IN_MESSAGE, Runes};
+use sam_runes::{MAX_RUNES, MOST_IN_MESSAGE, Runes};
 
 impl Host {
     /// Adds one frame of the message that is being answered.
@@ -100,9 +101,33 @@ impl Host {
         self.say(frames, Hmesg::Hcheck(0))
     }
 
-    /// Adds what is about to be printed at the end of the command file. Nothing is added if there are no runes, if the command file has
-    /// no room for them, or if it is not open.
-    #[tactic(auto, using(crate::proofs::FrameLaws::told_both), unfolding(crate::specs::Host::printed, crate::specs::Host::when))]
+    /// Adds what is about to be printed at the end of the command file, whose text has `len` runes by then. Nothing is added if there are
+    /// no runes, if the command file has no room for them, or if it is not open.
+    #[tactic(auto, using(crate::proofs::FrameLaws::told_both), unfolding(crate::specs::Typing::printed_at, crate::specs::Host::when))]
+    pub(crate) fn tell_print_at(
+        &self,
+        frames: &mut Vec<HFrame>,
+        len: u32,
+        runes: &[char],
+    ) -> Result<(), HostFault>
+        requires count { self.now.taken + 1 < 2 ^ 64 }
+        requires len { len ≤ max_runes }
+        ensures ok { OnOk result (Appends self.now frames.old.items frames.new.items (printed_at self.now.files len runes.now)) }
+        ensures memory { OnErr result (result ≡ Err HostFault.OutOfMemory) }
+    {
+        if runes.len() == 0 || runes.len() > (MAX_RUNES - len) as usize {
+            return Ok(());
+        }
+        if !self.files.is_open(0) {
+            return Ok(());
+        }
+        self.grown(frames, 0, len, runes)?;
+        self.end_print(frames, len + runes.len() as u32)
+    }
+
+    /// Adds what is about to be printed at the end of the command file as it is. Nothing is added if there are no runes, if the command
+    /// file has no room for them, or if it is not open.
+    #[tactic(auto, unfolding(crate::specs::Typing::printed_at, crate::specs::Host::printed))]
     pub(crate) fn tell_print(
         &self,
         frames: &mut Vec<HFrame>,
@@ -112,15 +137,7 @@ impl Host {
         ensures ok { OnOk result (Appends self.now frames.old.items frames.new.items (printed self.now.files runes.now)) }
         ensures memory { OnErr result (result ≡ Err HostFault.OutOfMemory) }
     {
-        let len = self.text_len(0);
-        if runes.len() == 0 || self.files.passes_limit(0, runes.len()) {
-            return Ok(());
-        }
-        if !self.files.is_open(0) {
-            return Ok(());
-        }
-        self.grown(frames, 0, len, runes)?;
-        self.end_print(frames, len + runes.len() as u32)
+        self.tell_print_at(frames, self.text_len(0), runes)
     }
 
     /// Adds the tag and the name of a file, if there is a file and it was not announced.

@@ -25,6 +25,8 @@ pub enum Case {
     Data,
     TypeIn,
     Replace,
+    Apart,
+    Cut,
     RunLine,
     HandleLine,
     HandlePaste,
@@ -49,7 +51,7 @@ pub enum Case {
 
 impl Case {
     /// All cases, in the order in which they run.
-    pub const ALL: [Case; 35] = [
+    pub const ALL: [Case; 37] = [
         Case::EncodeT,
         Case::EncodeH,
         Case::EncodeAll,
@@ -65,6 +67,8 @@ impl Case {
         Case::Data,
         Case::TypeIn,
         Case::Replace,
+        Case::Apart,
+        Case::Cut,
         Case::RunLine,
         Case::HandleLine,
         Case::HandlePaste,
@@ -105,6 +109,8 @@ impl Case {
             Case::Data => "data",
             Case::TypeIn => "type_in",
             Case::Replace => "replace",
+            Case::Apart => "apart",
+            Case::Cut => "cut",
             Case::RunLine => "run_line",
             Case::HandleLine => "handle_line",
             Case::HandlePaste => "handle_paste",
@@ -146,6 +152,8 @@ impl Case {
             Case::Data => gaps::data(alloc),
             Case::TypeIn => gaps::type_in(alloc),
             Case::Replace => gaps::replace(alloc),
+            Case::Apart => gaps::apart(alloc),
+            Case::Cut => gaps::cut(alloc),
             Case::RunLine => command_lines::run_line(alloc),
             Case::HandleLine => answers::handle_line(alloc),
             Case::HandlePaste => answers::handle_paste(alloc),

@@ -49,6 +49,15 @@ fn one_between_gaps(alloc: Global) -> Result<Rasp, SetUp> {
     Ok(rasp)
 }
 
+/// A rasp of two texts of 200 runes each, with a gap between them.
+fn two_texts(alloc: Global) -> Result<Rasp, SetUp> {
+    let mut rasp = Rasp::new(alloc);
+    rasp.grow(0, 401)?;
+    rasp.data(0, &['a'; 200])?;
+    rasp.data(201, &['b'; 200])?;
+    Ok(rasp)
+}
+
 /// A rasp of 1,000,000 gaps.
 fn full(alloc: Global) -> Result<Rasp, SetUp> {
     let mut rasp = Rasp::new(alloc);
@@ -116,4 +125,17 @@ pub fn replace(alloc: Global) -> Tried {
     ];
     let wanted = [Some(Some('a')), Some(Some('b')), Some(None), Some(None)];
     Ok(replaced == Ok(()) && rasp.len() == 1_000_000 && read == wanted && rasp.sections() == 2)
+}
+
+/// Two texts are loaded with a gap between them.
+pub fn apart(alloc: Global) -> Tried {
+    let rasp = two_texts(alloc)?;
+    Ok(rasp.len() == 401 && rasp.loaded(200) == Some(None))
+}
+
+/// The gap is cut out, which takes no memory: so this makes as many requests as `apart`.
+pub fn cut(alloc: Global) -> Tried {
+    let mut rasp = two_texts(alloc)?;
+    let cut = rasp.cut(200, 1);
+    Ok(cut == Ok(()) && rasp.len() == 400 && rasp.loaded(200) == Some(Some('b')))
 }

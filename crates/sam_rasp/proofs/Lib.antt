@@ -6,6 +6,7 @@ pub mod RaspLaws
 pub mod Agreeing
 pub mod Trees
 pub mod InPlace
+pub mod Tallies
 pub mod Partings
 pub mod Readings
 pub mod Crossing

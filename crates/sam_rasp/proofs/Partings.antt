@@ -1,7 +1,7 @@
 -- What is left of the sections round a place, and what they stand for.
 use Rattle.sam_rasp.proofs.Common.{◌≡◌, sym, ap, ◌∙◌, ℕ, ◌+◌, ◌-◌, ◌≤◌, ◌<◌, List, [], ◌∷◌, ◌++◌, take, drop, length, min, arith, append-nil, append_assoc, length-append, length-take, length-drop, drop-append-le, take-append-le, take-append-drop, drop_min, drop_all, max_runes, PartialText, del, ins, cells, cells_of, size, Section}
 use Rattle.std.proofs.lemmas.List.{take_all}
-use Rattle.sam_rasp.proofs.SectionLaws.{length-cells}
+use Rattle.sam_rasp.proofs.SectionLaws.{cells-push, fills, length-cells}
 use Rattle.sam_rasp.proofs.Changes.{take-past, drop-past, drop-joined}
 use Rattle.sam_rasp.proofs.Trees.{cells_append, cells-forked, length-forked}
 
@@ -58,6 +58,9 @@ insert-cells t a s r m p at whole place inside = grind (
   (drop-append-le at s r inside),
   (append_assoc ((a ++ take at s) ++ m) (drop at s) r),
 )
+
+-- what `push` rests on
+pub ruleset push_facts = (fills, cells-push, cells_append, cells-forked, length_first, length-forked, length-append, append_assoc, append-nil)
 
 -- what `join` rests on
 pub ruleset join_facts = (cells_append, length_first)

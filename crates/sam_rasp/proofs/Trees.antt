@@ -1,7 +1,7 @@
 -- Lists of sections in a tree: what stands before a section, the section, and what stands after it.
-use Rattle.sam_rasp.proofs.Common.{◌≡◌, sym, ap, ◌∙◌, subst, ℕ, zero, suc, ◌+◌, ◌-◌, ◌≤◌, ◌<◌, List, [], ◌∷◌, ◌++◌, take, drop, length, arith, append_assoc, length-append, flat_map-append, refl, cells, cells_of, size, all_loaded, max_runes, ◌↔◌, Agrees, IsFilled, PartialText, Bool, true, false, prefix_len, is_sort, drop-append-le, length-drop, length-take, length-reverse, reverse, reverse-append, take-append-le, append-nil, map, map-append, Some, Loaded, Hole, ins, most_in_message, true≢false, is_loaded, ◌⊎◌, inl, inr, IsNormal, Section}
+use Rattle.sam_rasp.proofs.Common.{◌≡◌, sym, ap, ◌∙◌, subst, ℕ, zero, suc, ◌+◌, ◌-◌, ◌≤◌, ◌<◌, List, [], ◌∷◌, ◌++◌, take, drop, length, arith, append_assoc, length-append, flat_map-append, refl, cells, cells_of, size, all_loaded, ◌↔◌, Agrees, AllFilled, IsFilled, PartialText, Bool, true, false, prefix_len, is_sort, drop-append-le, length-drop, length-take, length-reverse, reverse, reverse-append, take-append-le, append-nil, map, map-append, Some, Loaded, Hole, ins, true≢false, is_loaded, ◌⊎◌, inl, inr, Section}
 use Rattle.std.specs.Prelude.{◌&&◌}
-use Rattle.sam_rasp.proofs.SectionLaws.{length-cells, cells-push, length_ins, normal-short, filled}
+use Rattle.sam_rasp.proofs.SectionLaws.{length-cells, filled}
 use Rattle.std.proofs.lemmas.List.Folds.{prefix_len-append}
 use Rattle.std.proofs.lemmas.List.Sums.{prefix_len-le-length, prefix_len-drop_all}
 use Rattle.sam_rasp.specs.Rasp.{sort_from, sort_before}
@@ -21,55 +21,32 @@ cells-forked l s r = cells_append l (s ∷ r)
 pub length-forked : (l : List Section) (s : Section) (r : List Section) → length (cells_of (l ++ s ∷ r)) ≡ length (cells_of l) + (size s + length (cells_of r))
 length-forked l s r = grind (arith, (cells-forked l s r), (length-append (cells_of l) (cells s ++ cells_of r)), (length-append (cells s) (cells_of r)), (length-cells s))
 
-pub normal-suffix : (xs ys : List Section) → IsNormal (xs ++ ys) → IsNormal ys
-normal-suffix [] ys h = h
-normal-suffix (x ∷ xs) ys h = normal-suffix xs ys h.2
+-- sections that are filled
+pub filled-append : (xs ys : List Section) → AllFilled xs → AllFilled ys → AllFilled (xs ++ ys)
+filled-append [] ys h g = g
+filled-append (x ∷ xs) ys h g = (h.0, filled-append xs ys h.1 g)
 
-pub normal-prefix : (xs ys : List Section) → IsNormal (xs ++ ys) → IsNormal xs
-normal-prefix [] ys h = tt
-normal-prefix (x ∷ []) ys h = (h.0, tt, tt)
-normal-prefix (x ∷ y ∷ xs) ys h = (h.0, h.1, normal-prefix (y ∷ xs) ys h.2)
+pub filled-forked : (l : List Section) (s : Section) (r : List Section) → AllFilled l → IsFilled s → AllFilled r → AllFilled (l ++ s ∷ r)
+filled-forked l s r h f g = filled-append l (s ∷ r) h (f, g)
 
--- fewer sections in front
-pub normal-back : (f b l xs : List Section) → f ++ b ≡ l → IsNormal (l ++ xs) → IsNormal (b ++ xs)
-normal-back f b l xs e h = normal-suffix f (b ++ xs) (subst IsNormal (append_assoc f b xs) (subst (λ y. IsNormal (y ++ xs)) (sym e) h))
+pub filled-middle : (l : List Section) (s : Section) (r : List Section) → AllFilled (l ++ s ∷ r) → IsFilled s
+filled-middle [] s r h = h.0
+filled-middle (x ∷ l) s r h = filled-middle l s r h.1
 
--- fewer sections at the end
-pub normal-front : (f b ys xs : List Section) → f ++ b ≡ ys → IsNormal (xs ++ ys) → IsNormal (xs ++ f)
-normal-front f b ys xs e h = normal-prefix (xs ++ f) b (subst IsNormal (sym (append_assoc xs f b)) (subst (λ y. IsNormal (xs ++ y)) (sym e) h))
-
-pub normal-shorter : (f b r l : List Section) (s : Section) → f ++ b ≡ r → IsNormal (l ++ s ∷ r) → IsNormal (l ++ s ∷ f)
-normal-shorter f b r l s e h = normal-front (s ∷ f) b (s ∷ r) l (ap (λ y. s ∷ y) e) h
-
--- no section is empty
-pub normal-has : (l : List Section) (s : Section) (r : List Section) → IsNormal (l ++ s ∷ r) → 0 < size s
-normal-has l s r h = filled s (normal-suffix l (s ∷ r) h).0
+-- each section stands for something
+pub filled-short : (xs : List Section) → AllFilled xs → length xs ≤ length (cells_of xs)
+filled-short [] h = omega arith
+filled-short (a ∷ xs) h = omega (arith, filled a h.0, filled-short xs h.1, length-append (cells a) (cells_of xs), length-cells a)
 
 pub all_loaded-append : (xs ys : List Section) → all_loaded (xs ++ ys) ≡ (all_loaded xs && all_loaded ys)
 all_loaded-append [] ys = refl
 all_loaded-append (x ∷ xs) ys = grind (arith, (all_loaded-append xs ys))
-
--- what a list shares with another one after it or before it
-pub normal-left : (xs ys l q : List Section) → ys ≡ l ++ q → IsNormal (xs ++ ys) → IsNormal (xs ++ l)
-normal-left xs ys l q e h = normal-front l q ys xs (sym e) h
-
-pub normal-right : (xs ys l : List Section) (s : Section) (r : List Section) → xs ≡ l ++ s ∷ r → IsNormal (xs ++ ys) → IsNormal (r ++ ys)
-normal-right xs ys l s r e h = normal-back (l ++ s ∷ []) r xs ys (append_assoc l (s ∷ []) r ∙ sym e) h
-
-pub shorter-left : (xs ys l : List Section) (s : Section) (r : List Section) → ys ≡ l ++ s ∷ r → length (cells_of (xs ++ ys)) ≤ max_runes → length (cells_of (xs ++ l)) ≤ max_runes
-shorter-left xs ys l s r e h = grind (arith, (cells_append xs ys), (cells_append xs l), (length-forked l s r), (length-append (cells_of xs) (cells_of ys)), (length-append (cells_of xs) (cells_of l)))
-
-pub shorter-right : (xs ys l : List Section) (s : Section) (r : List Section) → xs ≡ l ++ s ∷ r → length (cells_of (xs ++ ys)) ≤ max_runes → length (cells_of (r ++ ys)) ≤ max_runes
-shorter-right xs ys l s r e h = grind (arith, (cells_append xs ys), (cells_append r ys), (length-forked l s r), (length-append (cells_of xs) (cells_of ys)), (length-append (cells_of r) (cells_of ys)))
 
 pub last-behind : (l : List Section) (s : Section) (r ys : List Section) (a : Section) → r ≡ ys ++ a ∷ [] → l ++ s ∷ r ≡ (l ++ s ∷ ys) ++ a ∷ []
 last-behind l s r ys a e = grind (arith, append_assoc)
 
 pub first-before : (l : List Section) (s : Section) (r ys : List Section) (a : Section) → l ≡ a ∷ ys → l ++ s ∷ r ≡ a ∷ (ys ++ s ∷ r)
 first-before l s r ys a e = grind arith
-
-pub normal-popped : (l : List Section) (s : Section) (r ys : List Section) (a : Section) → r ≡ ys ++ a ∷ [] → IsNormal (l ++ s ∷ r) → IsNormal (l ++ s ∷ ys)
-normal-popped l s r ys a e h = normal-shorter ys (a ∷ []) r l s (sym e) h
 
 -- the cells before the place a + b + k of a list in three parts
 pub drop-forked : (l : List Section) (s : Section) (r : List Section) (a b k : ℕ) → length (cells_of l) ≡ a → size s ≡ b
@@ -118,11 +95,11 @@ pub from-left : (b : Bool) (l : List Section) (s : Section) (r : List Section) (
 from-left b l s r p e = grind (arith, (cells-forked l s r), (from-stop b (cells_of l) (cells s ++ cells_of r) p))
 
 pub from-ends : (b : Bool) (l : List Section) (s : Section) (r : List Section) (p : ℕ) → length (cells_of l) - p ≤ sort_from b (cells_of l) p
-    → p < length (cells_of l) + size s → IsNormal (l ++ s ∷ r) → (is_loaded s ≡ b → ⊥) → sort_from b (cells_of (l ++ s ∷ r)) p ≡ length (cells_of l) - p
+    → p < length (cells_of l) + size s → 0 < size s → (is_loaded s ≡ b → ⊥) → sort_from b (cells_of (l ++ s ∷ r)) p ≡ length (cells_of l) - p
 from-ends b l s r p e h n u = go (cases_lt p (length (cells_of l)))
   where
     go : ((p < length (cells_of l)) ⊎ (length (cells_of l) ≤ p)) → sort_from b (cells_of (l ++ s ∷ r)) p ≡ length (cells_of l) - p
-    go (inl m) = grind (arith, (cells-forked l s r), (from-cross b (cells_of l) (cells s ++ cells_of r) p), (from-other b s 0 (cells_of r)), (normal-has l s r n))
+    go (inl m) = grind (arith, (cells-forked l s r), (from-cross b (cells_of l) (cells s ++ cells_of r) p), (from-other b s 0 (cells_of r)), n)
     go (inr m) = grind (
       arith,
       (cells-forked l s r),
@@ -227,7 +204,7 @@ pub before-stops : (b : Bool) (l : List Section) (s : Section) (r : List Section
 before-stops b l s r p k e w h = grind (arith, (cells-fore l s r), (length-forked l s r), (before-stop b (cells_of l ++ cells s) (cells_of r) p k))
 
 pub before-ends : (b : Bool) (l : List Section) (s : Section) (r : List Section) (p k : ℕ) → k ≡ p - (length (cells_of l) + size s) → p ≤ length (cells_of (l ++ s ∷ r))
-    → k ≤ sort_before b (cells_of r) k → length (cells_of l) < p → IsNormal (l ++ s ∷ r) → (is_loaded s ≡ b → ⊥) → sort_before b (cells_of (l ++ s ∷ r)) p ≡ k
+    → k ≤ sort_before b (cells_of r) k → length (cells_of l) < p → 0 < size s → (is_loaded s ≡ b → ⊥) → sort_before b (cells_of (l ++ s ∷ r)) p ≡ k
 before-ends b l s r p k e w h m n u = go (cases_lt (length (cells_of l) + size s) p)
   where
     go : ((length (cells_of l) + size s < p) ⊎ (p ≤ length (cells_of l) + size s)) → sort_before b (cells_of (l ++ s ∷ r)) p ≡ k
@@ -237,7 +214,7 @@ before-ends b l s r p k e w h m n u = go (cases_lt (length (cells_of l) + size s
       (length-forked l s r),
       (before-cross b (cells_of l ++ cells s) (cells_of r) p k),
       (before-none b s (cells_of l)),
-      (normal-has l s r n),
+      n,
     )
     go (inr i) = grind (
       arith,
@@ -279,18 +256,7 @@ before-most b xs p = omega (arith, prefix_len-le-length (is_sort b) (reverse (ta
 pub all-taken : (xs : List Section) (p : ℕ) → all_loaded xs ≡ true → p ≤ length (cells_of xs) → sort_before true (cells_of xs) p ≡ p
 all-taken xs p e l = let t = loaded-is xs e in grind (arith, t.1, (length-cells (Loaded t.0)), (before-section true (Loaded t.0) [] p))
 
--- ## Runes put into a section that has room for them
-
--- b stands for a, and has as many runes or more
-pub record Grows (a b : Section) : Type 0 where
-  pub loaded : is_loaded a ≡ true
-  pub loaded_after : is_loaded b ≡ true
-  pub more : size a ≤ size b
-  pub limit : size b ≤ most_in_message
-
-pub normal-grown : (xs : List Section) (a b : Section) (ys : List Section) → Grows a b → IsNormal (xs ++ a ∷ ys) → IsNormal (xs ++ b ∷ ys)
-normal-grown (w ∷ v ∷ xs) a b ys g h = (h.0, h.1, normal-grown (v ∷ xs) a b ys g h.2)
-normal-grown xs a b ys g h = grind arith
+-- ## Runes put into a section
 
 pub ins-first : (a b m : PartialText) (p : ℕ) → p ≤ length a → ins a p m ++ b ≡ ins (a ++ b) p m
 ins-first a b m p l = grind (arith, (take-append-le p a b l), (drop-append-le p a b l), (append_assoc (take p a ++ m) (drop p a) b))
@@ -305,25 +271,31 @@ ins-past a b m p k e = grind (
 )
 
 -- what `count` rests on
-pub ruleset count_facts = (normal-short)
+pub ruleset count_facts = (filled-short)
+
+-- what `counts` rests on
+pub ruleset counts_facts = (filled-forked, length-append, length-forked, all_loaded-append)
 
 -- what `of` rests on
-pub ruleset of_facts = (length-append, length-forked, all_loaded-append)
+pub ruleset of_facts = (length-forked)
+
+-- what `opened` rests on
+pub ruleset opened_facts = (filled-middle)
 
 -- what `split` rests on
-pub ruleset split_facts = (normal-back, normal-shorter)
+pub ruleset split_facts = (length-forked, length-append, cells_append, append_assoc)
 
 -- what `raise_left` and `raise_right` rest on
-pub ruleset raise_facts = (normal-left, normal-right, shorter-left, shorter-right, normal-shorter, length-forked, append_assoc)
+pub ruleset raise_facts = (length-forked, append_assoc)
 
 -- what `link` rests on
-pub ruleset link_facts = (normal-left, normal-right, shorter-left, shorter-right, normal-shorter, length-forked, length-append, append_assoc)
+pub ruleset link_facts = (length-forked, length-append, append_assoc)
 
 -- what `pop_first` and `pop_last` rest on
-pub ruleset pop_facts = (normal-popped, normal-right, last-behind, length-forked, length-append, append_assoc)
+pub ruleset pop_facts = (last-behind, length-forked, length-append, append_assoc)
 
 -- what `merge` rests on
-pub ruleset merge_facts = (append_assoc)
+pub ruleset merge_facts = (append_assoc, length-forked)
 
 -- what `section_at` rests on
 pub ruleset section_at_facts = (drop-forked)
@@ -332,7 +304,7 @@ pub ruleset section_at_facts = (drop-forked)
 pub ruleset agrees_facts = (agrees_forked, agrees_long)
 
 -- what `sort_from` rests on
-pub ruleset sort_from_facts = (from-behind, from-most, from-left, from-ends, from-goes-on, from-all, from-end, length-forked)
+pub ruleset sort_from_facts = (from-behind, from-most, from-left, from-ends, from-goes-on, from-all, from-end, length-forked, filled-middle, filled)
 
 -- what `sort_before` rests on
-pub ruleset sort_before_facts = (before-behind, before-stops, before-ends, before-goes-on, before-most, all-taken, length-forked)
+pub ruleset sort_before_facts = (before-behind, before-stops, before-ends, before-goes-on, before-most, all-taken, length-forked, filled-middle, filled)

@@ -1,24 +1,22 @@
 //! Changes of a list of sections: runes and gaps are cut out or put in. Sections move with their memory, and their runes are copied
 //! only where a section is cut in two or joined with another. `Maker` alone asks for memory.
 
-ghost use Rattle.std.specs.Prelude.{◌≡◌, ◌<◌, ◌≤◌, ◌+◌, ◌++◌, ◌∷◌, [], List, map, length, replicate, drop, None, Some, IfOk, true, false, if◌then◌else◌};
+ghost use Rattle.std.specs.Prelude.{◌≡◌, ◌≤◌, ◌+◌, ◌++◌, map, length, replicate, drop, None, Some, IfOk};
 ghost use Rattle.sam_runes.specs.Texts.{del, ins, max_runes, most_in_message};
-ghost use Rattle.sam_rasp.specs.declared.section.Section.{Section};
 ghost use Rattle.sam_rasp.specs.declared.section.Section.TheVariants.{Loaded};
-ghost use Rattle.sam_rasp.specs.Sections.{cells, cells_of, is_loaded, size, may_join, IsNormal};
+ghost use Rattle.sam_rasp.specs.Sections.{cells, cells_of, size};
 
-use crate::piece::Piece;
+use crate::piece::{Piece, Room};
 use crate::section::Section;
 use crate::tree::{Fork, Incoming, Tree};
 use sam_runes::MOST_IN_MESSAGE;
 use std::alloc::{AllocError, Global};
-use std::mem;
 
 /// Memory for the end of a section that is cut in two.
 #[derive(Drop)]
 pub struct Spare {
     fork: Box<Fork>,
-    piece: Piece,
+    room: Room,
 }
 
 /// What asks for the memory of sections.
@@ -33,19 +31,15 @@ impl Maker {
     }
 
     /// Returns memory for the end of a section that is cut in two. The only error is out of memory.
-    pub fn spare(&self) -> Result<Spare, AllocError>
-        ensures { IfOk result (λ s. s.piece ≡ []) }
-    {
+    pub fn spare(&self) -> Result<Spare, AllocError> {
         let fork = Fork::new(self.alloc, Section::Hole(0))?;
         self.spare_in(fork)
     }
 
     /// As `spare`, where the memory of the section itself is there.
-    pub fn spare_in(&self, fork: Box<Fork>) -> Result<Spare, AllocError>
-        ensures { IfOk result (λ s. s.piece ≡ []) }
-    {
-        let piece = Piece::new(self.alloc)?;
-        Ok(Spare { fork, piece })
+    pub fn spare_in(&self, fork: Box<Fork>) -> Result<Spare, AllocError> {
+        let room = Room::new(self.alloc)?;
+        Ok(Spare { fork, room })
     }
 
     /// Returns `n` gaps as one section at most. The only error is out of memory.
@@ -62,8 +56,7 @@ impl Maker {
         requires { length runes.now ≤ most_in_message }
         ensures { IfOk result (λ f. f.value.section ≡ Loaded runes.now) }
     {
-        let mut piece = Piece::new(self.alloc)?;
-        piece.extend(runes);
+        let piece = Piece::of(self.alloc, runes)?;
         Fork::new(self.alloc, Section::Loaded(piece))
     }
 
@@ -96,40 +89,25 @@ impl Maker {
 }
 
 impl Tree {
-    /// Returns whether the last section and `section` are to be one section.
-    fn joins_last(&self, section: &Section) -> bool
-        ensures joins { result ≡ true → (xs : List Section) (a : Section) → self.now ≡ xs ++ a ∷ [] → may_join a section.now ≡ true }
-        ensures apart { result ≡ false → (xs : List Section) (a : Section) → self.now ≡ xs ++ a ∷ [] → may_join a section.now ≡ false }
-        ensures form { IsNormal self.now }
-    {
-        match self.last() {
-            Some(last) => last.may_join(section),
-            None => false,
-        }
-    }
-
-    /// Puts a section at the end, joined with the last section if the two are to be one. An empty section is left out.
+    /// Puts a section at the end, joined with the last section if both are of one sort and memory is at hand. An empty section is left out.
+    #[tactic(auto, using(crate::proofs::Partings::push_facts))]
     fn push(self, fork: Box<Fork>) -> Tree
         requires { length (cells_of self) + size fork.value.section ≤ max_runes }
-        ensures cells { cells_of result ≡ cells_of self ++ cells fork.value.section }
-        ensures behind { (xs : List Section) → IsNormal (fork.value.section ∷ xs) → IsNormal (result ++ xs) }
+        ensures { cells_of result ≡ cells_of self ++ cells fork.value.section }
     {
         if fork.section.len() == 0 {
             return self;
         }
-        if !self.joins_last(&fork.section) {
-            return self.merge(Tree::one(fork));
-        }
         let Some((others, mut last)) = self.pop_last() else {
             return Tree::one(fork);
         };
-        let mut fork = fork;
-        let section = mem::replace(&mut fork.section, Section::Hole(0));
-        last.section.absorb(section);
-        others.merge(Tree::one(last))
+        if last.section.absorb(&fork.section) {
+            return others.merge(Tree::one(last));
+        }
+        others.link(last, Tree::one(fork))
     }
 
-    /// Puts all sections of `next` at the end, with the two where they meet joined if they are to be one.
+    /// Puts all sections of `next` at the end, with the two where they meet joined if that can be.
     #[tactic(auto, using(crate::proofs::Partings::join_facts))]
     fn join(self, next: Tree) -> Tree
         requires { length (cells_of self) + length (cells_of next) ≤ max_runes }
@@ -178,7 +156,6 @@ impl Tree {
     pub fn insert(self, p: u32, more: Tree, spare: Spare) -> Tree
         requires within { p ≤ length (cells_of self) }
         requires limit { length (cells_of self) + length (cells_of more) ≤ max_runes }
-        requires empty { spare.piece ≡ [] }
         ensures { cells_of result ≡ ins (cells_of self) p (cells_of more) }
     {
         let (front, rest) = self.split(p);
@@ -188,9 +165,9 @@ impl Tree {
         let at = p - front.len();
         let Spare {
             fork: mut back,
-            piece,
+            room,
         } = spare;
-        back.section = first.section.split(at, piece);
+        back.section = first.section.split(at, room);
         front.push(first).join(more).push(back).join(rest)
     }
 }

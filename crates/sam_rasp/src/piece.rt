@@ -1,39 +1,69 @@
-//! `Piece`: the text of a loaded section, with room for a full one from the start.
+//! `Piece`: the text of a loaded section.
 
-ghost use Rattle.std.specs.Prelude.{◌≡◌, ◌≤◌, ◌+◌, ◌++◌, ◌↔◌, [], length, IsTrue, IfOk, slice_get, take, drop};
+ghost use Rattle.std.specs.Prelude.{◌≡◌, ◌≢◌, ◌≤◌, ◌+◌, ◌++◌, ◌↔◌, length, IsTrue, IfOk, Ok, OnOk, OnErr, slice_get, take, drop, true, false};
 ghost use Rattle.sam_runes.specs.Texts.{del, ins, most_in_message};
 
 use sam_runes::MOST_IN_MESSAGE;
 use std::alloc::{AllocError, Global};
 use std::marker::Model;
 
-/// The text of a loaded section: at most `MOST_IN_MESSAGE` runes. It has memory for that many from the start, so that no later change of
-/// it asks for memory.
+/// How many runes a new piece has room for at least, so that the next keys find some.
+const LEAST_ROOM: usize = 8;
+
+/// The text of a loaded section: at most `MOST_IN_MESSAGE` runes.
 #[derive(Drop)]
 pub struct Piece {
-    /// The runes: at most `MOST_IN_MESSAGE`, in a vector with room for at least that many.
+    /// The runes: at most `MOST_IN_MESSAGE`.
     runes: Vec<char>,
 }
 
 impl Model for Piece {
-    ghost use Rattle.std.specs.Prelude.{ℕ, List, ◌≤◌, vec_len, vec_capacity};
+    ghost use Rattle.std.specs.Prelude.{ℕ, List, ◌≤◌, vec_len};
     ghost use Rattle.sam_runes.specs.Texts.{most_in_message};
 
     ghost Value = { List ℕ };
 
     ghost view = { λ a. a.runes.items };
 
-    ghost invariant = { λ a. (vec_len a.runes ≤ most_in_message) × (most_in_message ≤ vec_capacity a.runes) };
+    ghost invariant = { λ a. vec_len a.runes ≤ most_in_message };
+}
+
+/// Memory for a piece of any length.
+#[derive(Drop)]
+pub struct Room {
+    /// No runes, with room for `MOST_IN_MESSAGE`.
+    runes: Vec<char>,
+}
+
+impl Model for Room {
+    ghost use Rattle.std.specs.Prelude.{ℕ, List, ◌≡◌, ◌≤◌, vec_len, vec_capacity};
+    ghost use Rattle.sam_runes.specs.Texts.{most_in_message};
+
+    ghost Value = { List ℕ };
+
+    ghost view = { λ a. a.runes.items };
+
+    ghost invariant = { λ a. (vec_len a.runes ≡ 0) × (most_in_message ≤ vec_capacity a.runes) };
+}
+
+impl Room {
+    /// Asks for the memory. The only error is out of memory.
+    pub fn new(alloc: Global) -> Result<Room, AllocError> {
+        Ok(Room {
+            runes: Vec::with_capacity(alloc, MOST_IN_MESSAGE)?,
+        })
+    }
 }
 
 impl Piece {
-    /// Returns an empty piece with memory for `MOST_IN_MESSAGE` runes. The only error is out of memory.
-    pub fn new(alloc: Global) -> Result<Piece, AllocError>
-        ensures { IfOk result (λ a. a ≡ []) }
+    /// Returns a piece of these runes, with room for some more. The only error is out of memory.
+    pub fn of(alloc: Global, runes: &[char]) -> Result<Piece, AllocError>
+        requires { length runes.now ≤ most_in_message }
+        ensures { IfOk result (λ a. a ≡ runes.now) }
     {
-        Ok(Piece {
-            runes: Vec::with_capacity(alloc, MOST_IN_MESSAGE)?,
-        })
+        let mut own = Vec::with_capacity(alloc, runes.len().max(LEAST_ROOM))?;
+        own.extend_from_slice(runes)?;
+        Ok(Piece { runes: own })
     }
 
     /// Returns how many runes it has: at most `MOST_IN_MESSAGE`.
@@ -65,33 +95,32 @@ impl Piece {
         self.runes.as_slice() == runes
     }
 
-    /// Puts `runes` at the end. The caller makes sure that there is room for them.
-    pub fn extend(&mut self, runes: &[char])
-        requires { length self.old + length runes.now ≤ most_in_message }
-        ensures { self.new ≡ self.old ++ runes.now }
+    /// Puts `runes` at the end if there is room for them, and it has at most `MOST_IN_MESSAGE` then. Returns whether it did; if not, nothing
+    /// is changed. No memory is asked for.
+    pub fn append(&mut self, runes: &[char]) -> bool
+        ensures done { result ≡ true → self.new ≡ self.old ++ runes.now }
+        ensures refused { result ≡ false → self.new ≡ self.old }
+        ensures limit { (length self.old ≤ length self.new) × (length self.new ≤ most_in_message) }
     {
-        if self.runes.extend_from_slice(runes).is_err() {
-            unreachable!();
+        let len = self.runes.len();
+        if runes.len() > MOST_IN_MESSAGE - len || runes.len() > self.runes.capacity() - len {
+            return false;
         }
+        self.runes.extend_from_slice(runes).is_ok()
     }
 
-    /// Puts the runes of `other` at the end. The caller makes sure that there is room for them.
-    pub fn append(&mut self, other: Piece)
-        requires { length self.old + length other ≤ most_in_message }
-        ensures { self.new ≡ self.old ++ other }
-    {
-        self.extend(other.runes.as_slice());
-    }
-
-    /// Puts `runes` in at place `p`. The caller makes sure that there is room for them.
-    pub fn insert(&mut self, p: usize, runes: &[char])
+    /// Puts `runes` in at place `p`. The caller makes sure that it has at most `MOST_IN_MESSAGE` then. The only error is out of memory; the
+    /// piece is then unchanged.
+    pub fn insert(&mut self, p: usize, runes: &[char]) -> Result<(), AllocError>
         requires within { p ≤ length self.old }
-        requires room { length self.old + length runes.now ≤ most_in_message }
-        ensures { self.new ≡ ins self.old p runes.now }
+        requires most { length self.old + length runes.now ≤ most_in_message }
+        ensures ok { OnOk result (self.new ≡ ins self.old p runes.now) }
+        ensures err { OnErr result (self.new ≡ self.old) }
     {
-        self.extend(runes);
+        self.runes.extend_from_slice(runes)?;
         let tail = &mut self.runes[p..];
         tail.rotate_right(runes.len());
+        Ok(())
     }
 
     /// Takes out the runes from place `p` to place `q`.
@@ -103,14 +132,20 @@ impl Piece {
         self.runes.drain(p..q);
     }
 
-    /// Moves the runes from place `p` on into `tail`, which must be empty.
-    pub fn split_into(&mut self, p: usize, tail: &mut Piece)
+    /// Takes out the runes from place `p` on, and returns them as a piece of that room.
+    pub fn split_off(&mut self, p: usize, room: Room) -> Piece
         requires within { p ≤ length self.old }
-        requires empty { tail.old ≡ [] }
         ensures front { self.new ≡ take p self.old }
-        ensures back { tail.new ≡ drop p self.old }
+        ensures back { result ≡ drop p self.old }
     {
-        tail.extend(&self.runes.as_slice()[p..]);
+        let mut runes = room.runes;
+        if runes
+            .extend_from_slice(&self.runes.as_slice()[p..])
+            .is_err()
+        {
+            unreachable!();
+        }
         self.runes.truncate(p);
+        Piece { runes }
     }
 }

@@ -1,15 +1,16 @@
 //! `Section`: a stretch of a rasp, either a loaded text or a hole.
 
-ghost use Rattle.std.specs.Prelude.{◌≡◌, ◌<◌, ◌≤◌, ◌+◌, ◌-◌, ◌++◌, ◌↔◌, IsTrue, [], length, map, slice_get, take, drop, true, Some};
+ghost use Rattle.std.specs.Prelude.{◌≡◌, ◌<◌, ◌≤◌, ◌+◌, ◌-◌, ◌++◌, ◌↔◌, IsTrue, OnOk, OnErr, length, map, slice_get, take, drop, true, false, Some};
 ghost use Rattle.sam_runes.specs.Texts.{del, ins, max_runes, most_in_message};
 ghost use Rattle.sam_rasp.specs.Rasp.{Agrees};
-ghost use Rattle.sam_rasp.specs.Sections.{cells, least, size, may_join, is_loaded, joined, IsShort};
+ghost use Rattle.sam_rasp.specs.Sections.{cells, size, is_loaded, IsFilled, IsShort};
 
-use crate::piece::Piece;
+use crate::piece::{Piece, Room};
 use sam_runes::MOST_IN_MESSAGE;
+use std::alloc::AllocError;
 
 /// A stretch of a rasp: either runes that are loaded, or a hole, which keeps only how many gaps it has. In a rasp no section is
-/// empty, a loaded one has at most `MOST_IN_MESSAGE` runes, and no two neighbours are left that could be one section (see `may_join`).
+/// empty, and a loaded one has at most `MOST_IN_MESSAGE` runes. Neighbours that could be one section are joined where memory is at hand.
 ///
 /// `Rasp::section_at` returns the section at a place, and where it begins, so a rasp is read section by section:
 ///
@@ -81,8 +82,7 @@ impl Section {
     /// Returns the fewest runes that count for it where it stands beside another section: its own if it is loaded, and `MOST_IN_MESSAGE` if
     /// it is a hole, since no loaded section joins a hole.
     pub(crate) fn least(&self) -> u32
-        ensures least { result ≡ least self.now }
-        ensures limit { result ≤ most_in_message }
+        ensures { result ≤ most_in_message }
     {
         match self {
             Section::Loaded(text) => text.len() as u32,
@@ -90,62 +90,53 @@ impl Section {
         }
     }
 
-    /// Returns whether this section and `next`, which follows it, are to be one section. Two holes always are; two loaded texts are
-    /// if they have at most `MOST_IN_MESSAGE` runes together.
-    pub fn may_join(&self, next: &Section) -> bool
-        ensures { result ≡ may_join self.now next.now }
+    /// Puts the runes or gaps of `next` at its end if both are of one sort and memory is at hand. A loaded section has at most
+    /// `MOST_IN_MESSAGE` runes then. Returns whether it did; if not, nothing is changed. The caller makes sure that the two have at most
+    /// `MAX_RUNES` runes or gaps together.
+    #[tactic(auto, using(crate::proofs::SectionLaws::absorbed))]
+    pub(crate) fn absorb(&mut self, next: &Section) -> bool
+        requires filled { IsFilled self.old }
+        requires limit { size self.old + size next.now ≤ max_runes }
+        ensures filled { IsFilled self.new }
+        ensures done { result ≡ true → cells self.new ≡ cells self.old ++ cells next.now }
+        ensures size { result ≡ true → size self.new ≡ size self.old + size next.now }
+        ensures refused { result ≡ false → self.new ≡ self.old }
     {
         match self {
             Section::Loaded(text) => match next {
-                Section::Loaded(more) => text.len() + more.len() <= MOST_IN_MESSAGE,
+                Section::Loaded(more) => text.append(more.as_slice()),
                 Section::Hole(_) => false,
             },
-            Section::Hole(_) => match next {
+            Section::Hole(count) => match next {
                 Section::Loaded(_) => false,
-                Section::Hole(_) => true,
+                Section::Hole(more) => {
+                    *count += *more;
+                    true
+                }
             },
         }
     }
 
-    /// Puts the runes or gaps of `next` at its end. The caller makes sure that `may_join` is true of the two, and that they have at most
-    /// `MAX_RUNES` runes or gaps together.
-    pub fn absorb(&mut self, next: Section)
-        requires may { may_join self.old next ≡ true }
-        requires within { size self.old + size next ≤ max_runes }
-        ensures { self.new ≡ joined self.old next }
-    {
-        match self {
-            Section::Loaded(text) => {
-                if let Section::Loaded(more) = next {
-                    text.append(more);
-                }
-            }
-            Section::Hole(count) => {
-                if let Section::Hole(more) = next {
-                    *count += more;
-                }
-            }
-        }
-    }
-
-    /// Puts `runes` in at place `p`. The caller makes sure that the section is loaded and has room for them.
+    /// Puts `runes` in at place `p`. The caller makes sure that the section is loaded, and has at most `MOST_IN_MESSAGE` runes then. The only
+    /// error is out of memory; the section is then unchanged.
     #[tactic(auto, using(crate::proofs::SectionLaws::insert_loaded, crate::proofs::SectionLaws::length_ins))]
-    pub fn insert(&mut self, p: u32, runes: &[char])
+    pub(crate) fn insert(&mut self, p: u32, runes: &[char]) -> Result<(), AllocError>
         requires loaded { is_loaded self.old ≡ true }
         requires within { p ≤ size self.old }
-        requires room { size self.old + length runes.now ≤ most_in_message }
-        ensures cells { cells self.new ≡ ins (cells self.old) p (map Some runes.now) }
-        ensures size { size self.new ≡ size self.old + length runes.now }
-        ensures loaded { is_loaded self.new ≡ true }
+        requires most { size self.old + length runes.now ≤ most_in_message }
+        ensures cells { OnOk result (cells self.new ≡ ins (cells self.old) p (map Some runes.now)) }
+        ensures size { OnOk result (size self.new ≡ size self.old + length runes.now) }
+        ensures err { OnErr result (self.new ≡ self.old) }
     {
-        if let Section::Loaded(text) = self {
-            text.insert(p as usize, runes);
+        match self {
+            Section::Loaded(text) => text.insert(p as usize, runes),
+            Section::Hole(_) => Ok(()),
         }
     }
 
     /// Takes out the runes or gaps from place `p` to place `q`, which may leave the section empty.
     #[tactic(auto, using(crate::proofs::SectionLaws::cuts))]
-    pub fn cut(&mut self, p: u32, q: u32)
+    pub(crate) fn cut(&mut self, p: u32, q: u32)
         requires ascending { p ≤ q }
         requires within { q ≤ size self.old }
         ensures cells { cells self.new ≡ del (cells self.old) p q }
@@ -158,22 +149,17 @@ impl Section {
         }
     }
 
-    /// Cuts the section in two at place `p`: it keeps what stands before `p`, and what stands from `p` on is returned. The returned
-    /// section is made in `tail`, an empty piece, so that no memory is asked for.
+    /// Cuts the section in two at place `p`: it keeps what stands before `p`, and what stands from `p` on is returned. Runes get that room,
+    /// so no memory is asked for.
     #[tactic(auto, using(crate::proofs::SectionLaws::halves))]
-    pub fn split(&mut self, p: u32, tail: Piece) -> Section
+    pub(crate) fn split(&mut self, p: u32, room: Room) -> Section
         requires within { p ≤ size self.old }
-        requires empty { tail ≡ [] }
         ensures front { cells self.new ≡ take p (cells self.old) }
         ensures back { cells result ≡ drop p (cells self.old) }
         ensures sizes { (size self.new ≡ p) × (p + size result ≡ size self.old) }
     {
         match self {
-            Section::Loaded(text) => {
-                let mut back = tail;
-                text.split_into(p as usize, &mut back);
-                Section::Loaded(back)
-            }
+            Section::Loaded(text) => Section::Loaded(text.split_off(p as usize, room)),
             Section::Hole(count) => {
                 let back = *count - p;
                 *count = p;

@@ -1,13 +1,13 @@
 //! `Tree`: sections in order, in a form in which a place is found, and lists are parted and put together, in few steps.
 
-ghost use Rattle.std.specs.Prelude.{◌≡◌, ◌<◌, ◌≤◌, ◌+◌, ◌-◌, ◌++◌, ◌∷◌, ◌↔◌, [], ℕ, List, IsTrue, IfSome, MatchOption, IfOk, Some, length, map, slice_get, take, drop, reverse, if◌then◌else◌, false, true};
-ghost use Rattle.std.specs.List.{prefix_len};
-ghost use Rattle.sam_runes.specs.Texts.{ins, max_runes, most_in_message};
-ghost use Rattle.sam_rasp.specs.declared.section.Section.{Section};
-ghost use Rattle.sam_rasp.specs.Rasp.{Agrees, is_sort, sort_before, sort_from};
-ghost use Rattle.sam_rasp.specs.Sections.{all_loaded, cells, cells_of, is_loaded, size, IfFirst, IsFilled, IsFirst, IsLast, IsNormal};
+ghost use Rattle.std.specs.Prelude.{◌≡◌, ◌<◌, ◌≤◌, ◌+◌, ◌++◌, ◌∷◌, ◌↔◌, [], List, IsTrue, MatchOption, IfOk, length, take, drop};
+ghost use Rattle.sam_runes.specs.Texts.{max_runes, most_in_message};
+ghost use Rattle.sam_rasp.specs.Rasp.{Agrees, sort_before, sort_from};
+ghost use Rattle.sam_rasp.specs.Forks.{sections_of};
+ghost use Rattle.sam_rasp.specs.Sections.{all_loaded, cells, cells_of, size, AllFilled, IfFirst, IsFilled, IsFirst, IsLast};
 
 mod in_place;
+mod tally;
 
 use crate::section::Section;
 pub use in_place::{Incoming, NOTHING_BESIDE};
@@ -18,8 +18,7 @@ use std::mem;
 /// How many times as heavy as one side of a section the other may be. The weight is one more than the number of sections.
 const MOST_HEAVIER: usize = 3;
 
-/// Sections in order, in the form of a rasp: none is empty, and no two neighbours are to be one. Neither side of a section is heavier than
-/// `MOST_HEAVIER` times the other, so no way down is long.
+/// Sections in order, none of them empty. Neither side of a section is heavier than `MOST_HEAVIER` times the other, so no way down is long.
 #[cycle(tree)]
 #[derive(Drop)]
 pub struct Tree {
@@ -100,10 +99,10 @@ impl Tree {
 
     /// Returns how many sections there are.
     #[tactic(auto, using(crate::proofs::Trees::count_facts))]
-    pub fn count(&self) -> usize
+    fn count(&self) -> usize
         ensures count { result ≡ length self.now }
         ensures limit { length self.now ≤ max_runes }
-        ensures form { IsNormal self.now }
+        ensures filled { AllFilled self.now }
     {
         self.count
     }
@@ -115,19 +114,13 @@ impl Tree {
         self.loaded
     }
 
-    /// Returns the list of `left`, this section, and `right`.
-    #[tactic(auto, using(crate::proofs::Trees::of_facts))]
-    fn of(left: Tree, fork: Box<Fork>, right: Tree) -> Tree
-        requires normal { IsNormal (left ++ fork.value.section ∷ right) }
-        requires limit { length (cells_of (left ++ fork.value.section ∷ right)) ≤ max_runes }
-        ensures { result ≡ left ++ fork.value.section ∷ right }
+    /// Returns the list of a fork's sections.
+    fn whole(fork: Box<Fork>) -> Tree
+        requires filled { IsFilled fork.value.section }
+        requires limit { length (cells_of (sections_of fork.value)) ≤ max_runes }
+        ensures { result ≡ sections_of fork.value }
     {
-        let len = left.len() + fork.section.len() + right.len();
-        let count = left.count() + 1 + right.count();
-        let loaded = left.is_loaded() && fork.section.is_loaded() && right.is_loaded();
-        let mut fork = fork;
-        fork.left = left;
-        fork.right = right;
+        let (len, count, loaded) = fork.counts();
         Tree {
             root: Some(fork),
             len,
@@ -136,10 +129,23 @@ impl Tree {
         }
     }
 
+    /// Returns the list of `left`, this section, and `right`.
+    #[tactic(auto, using(crate::proofs::Trees::of_facts))]
+    fn of(left: Tree, fork: Box<Fork>, right: Tree) -> Tree
+        requires filled { IsFilled fork.value.section }
+        requires limit { length (cells_of left) + size fork.value.section + length (cells_of right) ≤ max_runes }
+        ensures { result ≡ left ++ fork.value.section ∷ right }
+    {
+        let mut fork = fork;
+        fork.left = left;
+        fork.right = right;
+        Tree::whole(fork)
+    }
+
     /// Returns the section at which the list is parted, with the sections before it and those after it, or `None` if there is none.
+    #[tactic(auto, using(crate::proofs::Trees::opened_facts))]
     fn opened(self) -> Option<(Tree, Box<Fork>, Tree)>
-        ensures parts { MatchOption result (self ≡ []) (λ r. self ≡ r.0 ++ r.1.value.section ∷ r.2) }
-        ensures form { IsNormal self }
+        ensures parts { MatchOption result (self ≡ []) (λ r. (self ≡ r.0 ++ r.1.value.section ∷ r.2) × IsFilled r.1.value.section) }
         ensures limit { length (cells_of self) ≤ max_runes }
     {
         let mut fork = self.root?;
@@ -189,8 +195,8 @@ impl Tree {
     /// Returns the list of `left`, this section, and `right`. A side that is too heavy, by a section that came or went, gives some of its
     /// sections to the other.
     fn balanced(left: Tree, fork: Box<Fork>, right: Tree) -> Tree
-        requires normal { IsNormal (left ++ fork.value.section ∷ right) }
-        requires limit { length (cells_of (left ++ fork.value.section ∷ right)) ≤ max_runes }
+        requires filled { IsFilled fork.value.section }
+        requires limit { length (cells_of left) + size fork.value.section + length (cells_of right) ≤ max_runes }
         ensures { result ≡ left ++ fork.value.section ∷ right }
     {
         let front = left.count() + 1;
@@ -218,9 +224,9 @@ impl Tree {
 
     /// Returns the sections of this list, the section `fork`, and the sections of `next`.
     #[tactic(auto, using(crate::proofs::Trees::link_facts))]
-    fn link(self, fork: Box<Fork>, next: Tree) -> Tree
-        requires normal { IsNormal (self ++ fork.value.section ∷ next) }
-        requires limit { length (cells_of (self ++ fork.value.section ∷ next)) ≤ max_runes }
+    pub fn link(self, fork: Box<Fork>, next: Tree) -> Tree
+        requires filled { IsFilled fork.value.section }
+        requires limit { length (cells_of self) + size fork.value.section + length (cells_of next) ≤ max_runes }
         ensures { result ≡ self ++ fork.value.section ∷ next }
     {
         let front = self.count() + 1;
@@ -255,7 +261,7 @@ impl Tree {
         ensures whole { result.0 ++ result.1 ≡ self }
         ensures place { length (cells_of result.0) ≤ p }
         ensures limit { length (cells_of self) ≤ max_runes }
-        ensures behind { IfFirst result.1 (λ s. p < length (cells_of result.0) + size s) }
+        ensures after { IfFirst result.1 (λ s. p < length (cells_of result.0) + size s) }
     {
         let Some((left, fork, right)) = self.opened() else {
             return (Tree::new(), Tree::new());
@@ -273,8 +279,7 @@ impl Tree {
     /// Returns the sections of this list and those of `next` after them.
     #[tactic(auto, using(crate::proofs::Trees::merge_facts))]
     pub fn merge(self, next: Tree) -> Tree
-        requires normal { IsNormal (self ++ next) }
-        requires limit { length (cells_of (self ++ next)) ≤ max_runes }
+        requires { length (cells_of self) + length (cells_of next) ≤ max_runes }
         ensures { result ≡ self ++ next }
     {
         match next.pop_first() {
@@ -286,8 +291,8 @@ impl Tree {
     /// Returns the first section and the others, or `None` if there is none.
     #[tactic(auto, using(crate::proofs::Trees::pop_facts))]
     pub fn pop_first(self) -> Option<(Box<Fork>, Tree)>
-        ensures others { MatchOption result (self ≡ []) (λ r. self ≡ r.0.value.section ∷ r.1) }
-        ensures form { IsNormal self }
+        ensures others { MatchOption result (self ≡ []) (λ r. (self ≡ r.0.value.section ∷ r.1) × IsFilled r.0.value.section) }
+        ensures limit { length (cells_of self) ≤ max_runes }
     {
         let (left, fork, right) = self.opened()?;
         match left.pop_first() {
@@ -299,8 +304,8 @@ impl Tree {
     /// Returns the last section and the others, or `None` if there is none.
     #[tactic(auto, using(crate::proofs::Trees::pop_facts))]
     pub fn pop_last(self) -> Option<(Tree, Box<Fork>)>
-        ensures others { MatchOption result (self ≡ []) (λ r. self ≡ r.0 ++ r.1.value.section ∷ []) }
-        ensures form { IsNormal self }
+        ensures others { MatchOption result (self ≡ []) (λ r. (self ≡ r.0 ++ r.1.value.section ∷ []) × IsFilled r.1.value.section) }
+        ensures limit { length (cells_of self) ≤ max_runes }
     {
         let (left, fork, right) = self.opened()?;
         match right.pop_last() {
@@ -325,7 +330,6 @@ impl Tree {
     /// Returns the last section, if there is one.
     pub fn last(&self) -> Option<&Section>
         ensures last { MatchOption result (self.now ≡ []) (λ s. IsLast self.now s.now) }
-        ensures form { IsNormal self.now }
     {
         let Some(fork) = &self.root else {
             return None;

@@ -1,6 +1,6 @@
 -- What the proofs of this crate cite most from its definitions and from the crates below.
 pub use Rattle.std.proofs.Common.{All, Bool, Err, IsTrue, List, MatchBool, None, Ok, Option, Result, Some, [], ap, append-nil, append_assoc, arith, drop, false, inl, inr, is_some, length, length-append, map, option_map, refl, rules, subst, suc, sym, take, true, ℕ, ◌++◌, ◌+◌, ◌∙◌, ◌∷◌, ◌≡◌, ◌≤◌, ◌⊎◌}
-pub use Rattle.std.proofs.lemmas.List.{drop-append-le, map-append}
+pub use Rattle.std.proofs.lemmas.List.{map-append}
 pub use Rattle.std.proofs.lemmas.List.Concat.{flat_map-append}
 pub use Rattle.std.proofs.lemmas.List.Elements.{All-cons, All-nil, All-tail}
 pub use Rattle.std.specs.Global.{Vec}

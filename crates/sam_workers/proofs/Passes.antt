@@ -62,7 +62,7 @@ came_is d bytes ms k piece came = grind (arith, length-append)
 
 pub stops : (t u v : TakeView (Vec ℕ)) (p q r : PostView Input) (k e : Held) (i : ℕ) (piece : Vec ℕ) (s : Stop) → t.line.senders ≡ 1
     → SoFar t u p q k → TakesNext u (record { sender = i; load = Some piece }) v → PassesPiece k piece.items e q r (Some s) → Passes t v p r (Some s)
-stops t u v p q r k e i piece s one far next (frames, rest, splits, sent, behind) = grind (
+stops t u v p q r k e i piece s one far next (frames, rest, splits, sent, after) = grind (
   arith,
   (splits_more host fresh (bytes_of (items_of 0 u.taken)) far.passed k piece.items frames rest far.came splits),
   (version_after-append host 1 far.passed frames),

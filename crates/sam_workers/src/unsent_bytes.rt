@@ -1,6 +1,6 @@
 //! The bytes that the terminal has composed and not yet put into its line.
 
-ghost use Rattle.std.specs.Prelude.{◌≡◌, ◌<◌, ◌≤◌, ◌++◌, [], ℕ, List, IsTrue, IfOk, OnOk, OnErr, None, Ok, length, drop};
+ghost use Rattle.std.specs.Prelude.{◌≡◌, ◌<◌, ◌++◌, [], IsTrue, IfOk, OnOk, OnErr};
 ghost use Rattle.std.specs.Bool.{OnFalse};
 ghost use Rattle.sam_mesg.specs.TerminalKinds.{FitsT};
 ghost use Rattle.sam_frame.specs.Direction.{terminal};
@@ -9,7 +9,7 @@ ghost use Rattle.sam_world.specs.Sides.{Each};
 ghost use Rattle.sam_workers.specs.Cutting.{PutSome};
 ghost use Rattle.sam_workers.specs.PiecesUp.{piece_bytes, IsCut};
 
-use sam_frame::encode_all;
+use sam_frame::PendingBytes;
 use sam_mesg::Tmesg;
 use sam_queue::{Post, Refused};
 use std::alloc::{AllocError, Global};
@@ -26,89 +26,18 @@ fn know_all(messages: &[Tmesg])
     }
 }
 
-/// Bytes that are taken from the front, a piece at a time. Taken bytes are let go of once they are more than half of all, so that a byte
-/// is moved at most once for each byte that is taken. Contracts see the bytes that are not taken yet.
-#[derive(Drop)]
-struct Uncut {
-    /// The bytes, with those in front that are taken already.
-    bytes: Vec<u8>,
-    /// How many bytes in front are taken: at most all.
-    start: usize,
-}
-
-impl Model for Uncut {
-    ghost use Rattle.std.specs.Prelude.{ℕ, List, ◌≤◌, length, drop};
-
-    ghost Value = { List ℕ };
-
-    ghost view = { λ u. drop u.start u.bytes.items };
-
-    ghost invariant = { λ u. u.start ≤ length u.bytes.items };
-}
-
-impl Uncut {
-    /// Makes an empty list of bytes. It takes no memory.
-    fn new(alloc: Global) -> Uncut
-        ensures { result ≡ [] }
-    {
-        Uncut {
-            bytes: Vec::new(alloc),
-            start: 0,
-        }
+/// Takes up to `most` bytes from the front as a piece. Returns `None` if there are none. After an error, out of memory, all is as it was.
+fn cut(rest: &mut PendingBytes, alloc: Global, most: usize) -> Result<Option<Vec<u8>>, AllocError>
+    requires { 0 < most }
+    ensures cut { IfOk result (λ piece. rest.old ≡ piece_bytes piece ++ rest.new) }
+    ensures sizes { IfOk result (IsCut most) }
+    ensures unchanged { OnErr result (rest.new ≡ rest.old) }
+{
+    if rest.is_empty() {
+        return Ok(None);
     }
-
-    /// Returns whether no byte is left to take.
-    #[tactic(auto, using(crate::proofs::PiecesUp::nothing_behind))]
-    fn is_empty(&self) -> bool
-        ensures { IsTrue result → self.now ≡ [] }
-    {
-        self.start == self.bytes.len()
-    }
-
-    /// Adds the bytes of the messages after the others, all or none. The only error is out of memory, after which all is as it was.
-    #[tactic(auto, using(crate::proofs::PiecesUp::all_behind))]
-    fn push_all(&mut self, messages: &[Tmesg]) -> Result<(), AllocError>
-        requires { CanEncode terminal messages.now }
-        ensures encoded { OnOk result (self.new ≡ self.old ++ stream_of terminal messages.now) }
-        ensures unchanged { OnErr result (self.new ≡ self.old) }
-    {
-        match encode_all(messages, &mut self.bytes) {
-            Ok(()) => Ok(()),
-            Err(_) => Err(AllocError),
-        }
-    }
-
-    /// Lets go of the bytes that are taken, if they are more than half of all.
-    fn forget(&mut self)
-        ensures { self.new ≡ self.old }
-    {
-        let rest = self.bytes.len() - self.start;
-        if rest < self.start {
-            self.bytes.copy_within(self.start.., 0);
-            self.bytes.truncate(rest);
-            self.start = 0;
-        }
-    }
-
-    /// Takes up to `most` bytes from the front as a piece. Returns `None` if there are none. After an error, out of memory, all
-    /// is as it was.
-    #[tactic(auto, using(std::proofs::lemmas::List::Folds::drop_split))]
-    fn cut(&mut self, alloc: Global, most: usize) -> Result<Option<Vec<u8>>, AllocError>
-        requires { 0 < most }
-        ensures cut { IfOk result (λ piece. self.old ≡ piece_bytes piece ++ self.new) }
-        ensures sizes { IfOk result (IsCut most) }
-        ensures unchanged { OnErr result (self.new ≡ self.old) }
-    {
-        let len = most.min(self.bytes.len() - self.start);
-        if len == 0 {
-            return Ok(None);
-        }
-        let end = self.start + len;
-        let piece = self.bytes[self.start..end].to_vec(alloc)?;
-        self.start = end;
-        self.forget();
-        Ok(Some(piece))
-    }
+    let piece = rest.take_piece(alloc, most)?;
+    Ok(Some(piece))
 }
 
 /// The bytes of composed messages that are not put into the line yet. They stand here so that the terminal never waits in a send.
@@ -122,7 +51,7 @@ pub(crate) struct UnsentBytes {
     /// The next piece, if it was cut and the line was full. It has 1 to `most` bytes.
     ready: Option<Vec<u8>>,
     /// The bytes after that piece.
-    rest: Uncut,
+    rest: PendingBytes,
 }
 
 impl Model for UnsentBytes {
@@ -146,7 +75,7 @@ impl UnsentBytes {
             alloc,
             most,
             ready: None,
-            rest: Uncut::new(alloc),
+            rest: PendingBytes::new(alloc),
         }
     }
 
@@ -166,7 +95,7 @@ impl UnsentBytes {
         ensures most { self.new.most ≡ self.old.most }
     {
         know_all(messages);
-        self.rest.push_all(messages)
+        self.rest.put_messages(messages)
     }
 
     /// Puts the next piece if the line has room for it, without waiting. Returns whether it put one. After an error, which is want of
@@ -184,7 +113,7 @@ impl UnsentBytes {
     {
         let next = match self.ready.take() {
             Some(piece) => Some(piece),
-            None => self.rest.cut(self.alloc, self.most)?,
+            None => cut(&mut self.rest, self.alloc, self.most)?,
         };
         let Some(piece) = next else {
             return Ok(false);

@@ -9,8 +9,8 @@ invariant_of-self-2 c = grind (arith, given_fit, given_reads)
 pub returns : goal.returns
 returns c =
     let e : PlainTermEndpoint = shown c.self.inside in
-    let given = c.in_ok-given.given in
+    let broken_by = c.in_ok-messages.broken_by in
     let framer = c.feed_framer.new.framer in
-    let g : PlainTermEndpoint = record e { framer = framer; waiting = c.from_vec.result.items; broken_by = given.broken_by } in
+    let g : PlainTermEndpoint = record e { framer = framer; waiting = c.from_vec.result.items; broken_by = broken_by } in
     subst (λ (x : PlainTermEndpoint). TakesIn x c.args.piece.now g) c.self.view_is
-    (given.messages.items, given.broken_by, framer, c.in_ok-given.ensures, ap (λ frames. record e { framer = framer; waiting = frames; broken_by = given.broken_by }) c.from_vec.ensures.items)
+    (c.in_ok-messages.messages.items, broken_by, framer, c.in_ok-messages.ensures, ap (λ frames. record e { framer = framer; waiting = frames; broken_by = broken_by }) c.from_vec.ensures.items)

@@ -1,17 +1,16 @@
-//! Bytes that an endpoint has written and that were not taken yet.
+//! Bytes that a side has written and that were not taken yet.
 
-ghost use Rattle.std.specs.Prelude.{◌≡◌, ◌++◌, [], OnOk, OnErr, drop, length, min, take};
-ghost use Rattle.sam_endpoint.specs.Streams.{FitFrames, FitMessages};
-ghost use Rattle.sam_frame.specs.Direction.{host, terminal};
-ghost use Rattle.sam_frame.specs.Stream.{stream_of};
+ghost use Rattle.std.specs.Prelude.{◌≡◌, ◌↔◌, ◌++◌, [], IsTrue, IfOk, OnOk, OnErr, drop, length, min, take};
+ghost use Rattle.sam_frame.specs.Stream.{CanEncode, stream_of};
 
-use sam_frame::encode_all;
-use sam_mesg::{HFrame, Tmesg};
+use crate::wire::Wire;
+use crate::writing::encode_all;
 use std::alloc::{AllocError, Global};
 use std::marker::Model;
 
-/// The bytes that an endpoint has for the other side, in the order in which they were written. Contracts see them as a list. Taking bytes
-/// costs by how many are taken, and not by how many are left.
+/// The bytes that a side has for the other side, in the order in which they were written. Contracts see them as a list. Taking bytes
+/// costs by how many are taken, and not by how many are left. What was taken leaves memory as more is put: that moves at most one byte
+/// for each byte that was taken.
 ///
 /// ```rust
 /// pending_bytes.put_messages(composed.as_slice())?; // all of them, or none
@@ -53,6 +52,13 @@ impl PendingBytes {
         self.bytes.len() - self.taken
     }
 
+    /// Returns whether no byte waits to be taken.
+    pub fn is_empty(&self) -> bool
+        ensures { IsTrue result ↔ (self.now ≡ []) }
+    {
+        self.len() == 0
+    }
+
     /// Moves the first bytes into the buffer, as many as wait and have room there, and returns how many. The rest of the buffer stays as
     /// it was.
     pub fn take_into(&mut self, into: &mut [u8]) -> usize
@@ -81,6 +87,19 @@ impl PendingBytes {
         self.taken += count.min(self.len());
     }
 
+    /// Takes the first bytes into memory of their own: `most` bytes, or all if there are fewer. Its only error is out of memory, which
+    /// leaves the bytes as they were. The cost is that of the bytes it takes.
+    pub fn take_piece(&mut self, alloc: Global, most: usize) -> Result<Vec<u8>, AllocError>
+        ensures piece { IfOk result (λ piece. piece.items ≡ take most self.old) }
+        ensures rest { OnOk result (self.new ≡ drop most self.old) }
+        ensures unchanged { OnErr result (self.new ≡ self.old) }
+    {
+        let count = most.min(self.len());
+        let piece = self.as_slice()[..count].to_vec(alloc)?;
+        self.consume(count);
+        Ok(piece)
+    }
+
     /// Forgets the bytes that were taken, once they are half of all. So a byte is moved at most once for each byte that is taken.
     fn compact(&mut self)
         ensures { self.new ≡ self.old }
@@ -93,23 +112,11 @@ impl PendingBytes {
         }
     }
 
-    /// Puts the bytes of the frames after the others, all or none. Its only error is out of memory, which leaves the bytes as they were.
-    pub fn put_frames(&mut self, frames: &[HFrame]) -> Result<(), AllocError>
-        requires { FitFrames frames.now }
-        ensures written { OnOk result (self.new ≡ self.old ++ stream_of host frames.now) }
-        ensures unchanged { OnErr result (self.new ≡ self.old) }
-    {
-        self.compact();
-        match encode_all(frames, &mut self.bytes) {
-            Ok(()) => Ok(()),
-            Err(_) => Err(AllocError),
-        }
-    }
-
-    /// Puts the bytes of the messages after the others, all or none. Its only error is out of memory, which leaves the bytes as they were.
-    pub fn put_messages(&mut self, messages: &[Tmesg]) -> Result<(), AllocError>
-        requires { FitMessages messages.now }
-        ensures written { OnOk result (self.new ≡ self.old ++ stream_of terminal messages.now) }
+    /// Puts the bytes of the messages after the others, all or none. Each message has to fit in version 2, as `can_encode` says. The only
+    /// error is out of memory, which leaves the bytes as they were.
+    pub fn put_messages<M: Wire>(&mut self, messages: &[M]) -> Result<(), AllocError>
+        requires { CanEncode M.direction messages.now }
+        ensures written { OnOk result (self.new ≡ self.old ++ stream_of M.direction messages.now) }
         ensures unchanged { OnErr result (self.new ≡ self.old) }
     {
         self.compact();
