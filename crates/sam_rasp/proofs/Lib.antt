@@ -4,9 +4,8 @@ pub mod Changes
 pub mod Runs
 pub mod RaspLaws
 pub mod Agreeing
+pub mod Blocks
 pub mod Trees
-pub mod InPlace
 pub mod Tallies
-pub mod Partings
 pub mod Readings
 pub mod Crossing

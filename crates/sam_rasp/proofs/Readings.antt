@@ -3,7 +3,7 @@ use Rattle.sam_rasp.proofs.Common.{◌≡◌, ap, ◌∙◌, ℕ, zero, suc, ◌
 use Rattle.sam_rasp.specs.Rasp.{run_round, sort_from}
 use Rattle.sam_rasp.specs.declared.run.Run.{Run}
 use Rattle.sam_rasp.proofs.SectionLaws.{length-cells}
-use Rattle.sam_rasp.proofs.Changes.{take-past, drop-past}
+use Rattle.sam_rasp.proofs.Changes.{length-del, length-ins, put-after, put-is}
 use Rattle.sam_rasp.proofs.Runs.{get-left, get-past, sort-here}
 
 -- the section x begins at the place a of r
@@ -69,17 +69,6 @@ pub hole-found : (r : PartialText) (p q start end : ℕ) → q ≤ length r → 
     → hole_within r p q ≡ Some (start, min end q)
 hole-found r p q start end w es l ee = grind (arith, (gaps-found (drop p r) (q - p)), (length-drop p r), (drop-drop (sort_from true r p) p r))
 
--- runes in the place of others
-pub put-is : (t m : PartialText) (p q : ℕ) → p ≤ q → q ≤ length t → ins (del t p (p + (q - p))) p m ≡ (take p t ++ m) ++ drop q t
-put-is t m p q l w =
-    let whole : length (take p t) + 0 ≡ p = omega (arith, length-take p t, l, w) in
-    let same : p + (q - p) ≡ q = omega (arith, l) in
-    ap (λ k. ins (del t p k) p m) same
-    ∙ grind (arith, (take-past (take p t) (drop q t) 0 p whole), (drop-past (take p t) (drop q t) 0 p whole), (append-nil (take p t)))
-
-pub length-del : (t : PartialText) (p q : ℕ) → p ≤ q → q ≤ length t → length (del t p q) + (q - p) ≡ length t
-length-del t p q l w = omega (arith, length-append (take p t) (drop q t), length-take p t, length-drop q t, l, w)
-
 -- what `loaded` rests on
 pub ruleset loaded_facts = (read-part, get-none, rest_at)
 
@@ -89,5 +78,8 @@ pub ruleset run_at_facts = (run-found, run-none)
 -- what `first_hole` rests on
 pub ruleset first_hole_facts = (hole-none, hole-found)
 
+-- what `put` rests on
+pub ruleset put_facts = (put-is, put-after, length-del, length-ins)
+
 -- what `put_runes` rests on
-pub ruleset put_facts = (put-is, length-del)
+pub ruleset pieces_facts = (length-ins)

@@ -1,8 +1,15 @@
 -- In how few sections a partial text may be kept.
-use Rattle.sam_rasp.proofs.Common.{◌≡◌, refl, sym, ap, ◌∙◌, subst, ℕ, zero, suc, ◌+◌, ◌-◌, ◌≤◌, ◌<◌, List, [], ◌∷◌, ◌++◌, map, replicate, drop, length, Some, None, Bool, true, false, arith, append_assoc, length-append, drop_at, drop-replicate, length-replicate, map-append, PartialText, cells, cells_of, size, is_loaded, may_join, joined, IsFilled, IsLast, IsNormal, Section, Loaded, Hole}
-use Rattle.sam_rasp.specs.Sections.{EndsIn, IsKeptIn, IsTallied}
-use Rattle.sam_rasp.proofs.Trees.{cells-forked, filled-middle, length-forked}
+use Rattle.sam_rasp.proofs.Common.{◌≡◌, refl, sym, ap, ◌∙◌, subst, ℕ, zero, suc, ◌+◌, ◌-◌, ◌≤◌, ◌<◌, List, [], ◌∷◌, ◌++◌, map, replicate, drop, length, Some, None, Bool, true, false, arith, append_assoc, length-append, drop_at, drop-replicate, length-replicate, map-append, PartialText, cells, cells_of, size, is_loaded, may_join, most_in_message, IsFilled, IsNormal, Section, Loaded, Hole}
+use Rattle.sam_rasp.specs.Sections.{EndsIn, IsKeptIn, IsLast, IsTallied}
+use Rattle.sam_rasp.proofs.Blocks.{length-first}
 use Rattle.sam_rasp.proofs.SectionLaws.{absorbed_gaps, cells-push, filled, length-cells}
+
+-- the section that two such neighbours make
+abbrev pub joined : Section → Section → Section
+joined (Loaded s) (Loaded t) = Loaded (s ++ t)
+joined (Loaded s) (Hole m) = Loaded s
+joined (Hole n) (Loaded t) = Hole n
+joined (Hole n) (Hole m) = Hole (n + m)
 
 -- what stayed apart from a section stays apart from a longer one
 joined-apart : (w a b : Section) → may_join w a ≡ false → may_join a b ≡ true → may_join w (joined a b) ≡ false
@@ -130,8 +137,5 @@ pub kept-gaps : (r : PartialText) (count : ℕ) → IsKeptIn r count → 0 < len
 kept-gaps r count k l e =
     sym k.3 ∙ gaps-exactly-one k.0 k.1 (subst (λ y. 0 < length y) (sym k.2) l) (subst (λ y. y ≡ replicate (length y) None) (sym k.2) e)
 
-pub tallied-cells : (l : List Section) (s : Section) (r : List Section) (x : PartialText) → ((x ++ cells_of l) ++ cells s) ++ cells_of r ≡ x ++ cells_of (l ++ s ∷ r)
-tallied-cells l s r x = grind (arith, (cells-forked l s r), (append_assoc (x ++ cells_of l) (cells s) (cells_of r)), (append_assoc x (cells_of l) (cells s ++ cells_of r)))
-
 -- what `tally` rests on
-pub ruleset tally_facts = (filled-middle, filled, length-forked)
+pub ruleset tally_facts = (filled, length-first)

@@ -1,310 +1,223 @@
--- Lists of sections in a tree: what stands before a section, the section, and what stands after it.
-use Rattle.sam_rasp.proofs.Common.{◌≡◌, sym, ap, ◌∙◌, subst, ℕ, zero, suc, ◌+◌, ◌-◌, ◌≤◌, ◌<◌, List, [], ◌∷◌, ◌++◌, take, drop, length, arith, append_assoc, length-append, flat_map-append, refl, cells, cells_of, size, all_loaded, ◌↔◌, Agrees, AllFilled, IsFilled, PartialText, Bool, true, false, prefix_len, is_sort, drop-append-le, length-drop, length-take, length-reverse, reverse, reverse-append, take-append-le, append-nil, map, map-append, Some, Loaded, Hole, ins, true≢false, is_loaded, ◌⊎◌, inl, inr, Section}
-use Rattle.std.specs.Prelude.{◌&&◌}
-use Rattle.sam_rasp.proofs.SectionLaws.{length-cells, filled}
-use Rattle.std.proofs.lemmas.List.Folds.{prefix_len-append}
-use Rattle.std.proofs.lemmas.List.Sums.{prefix_len-le-length, prefix_len-drop_all}
-use Rattle.sam_rasp.specs.Rasp.{sort_from, sort_before}
-use Rattle.sam_rasp.proofs.Runs.{sort-all, sort-none, back, back-is, front, front-is, turned, turned-cells, back-all}
+-- Partial texts in three parts: what stands before a block, the block, and what stands after it.
+use Rattle.sam_rasp.proofs.Common.{◌≡◌, refl, sym, ap, ◌∙◌, ℕ, ◌+◌, ◌-◌, ◌≤◌, ◌<◌, List, [], ◌∷◌, ◌++◌, take, drop, length, min, max, arith, append_assoc, append-nil, length-append, ◌↔◌, Agrees, PartialText, Bool, gaps_of, drop-append-le, take-append-le, drop_all, length-take, length-drop, ◌⊎◌, inl, inr, del, cells, size, Section}
 use Rattle.std.proofs.lemmas.Bool.{cases_lt}
-use Rattle.std.proofs.lemmas.List.{take_all}
-use Rattle.sam_rasp.proofs.RaspLaws.{length_agrees}
-use Rattle.sam_rasp.proofs.Changes.{take-past, drop-past}
+use Rattle.std.proofs.lemmas.List.Sums.{prefix_len-le-length}
+use Rattle.sam_rasp.specs.Rasp.{is_sort, put_cells, sort_from, sort_before}
 use Rattle.sam_rasp.proofs.Agreeing.{stretch}
+use Rattle.sam_rasp.proofs.Changes.{del-both, drop-past, length-del, length-put, put-left, put-middle, put-nowhere, put-right}
+use Rattle.sam_rasp.proofs.RaspLaws.{length_agrees}
+use Rattle.sam_rasp.proofs.Runs.{before-cross, before-first, before-most, before-runes, before-stop, from-cross, from-end, from-most, from-runes, from-stop}
+use Rattle.sam_rasp.proofs.SectionLaws.{gaps-append, gaps-most, length-cells}
 
-pub cells_append : (xs ys : List Section) → cells_of (xs ++ ys) ≡ cells_of xs ++ cells_of ys
-cells_append xs ys = flat_map-append cells xs ys
+pub length-three : (a b c : PartialText) → length (a ++ (b ++ c)) ≡ length a + (length b + length c)
+length-three a b c = omega (arith, length-append a (b ++ c), length-append b c)
 
-pub cells-forked : (l : List Section) (s : Section) (r : List Section) → cells_of (l ++ s ∷ r) ≡ cells_of l ++ (cells s ++ cells_of r)
-cells-forked l s r = cells_append l (s ∷ r)
+pub gaps-three : (a b c : PartialText) → gaps_of (a ++ (b ++ c)) ≡ gaps_of a + (gaps_of b + gaps_of c)
+gaps-three a b c = omega (arith, gaps-append a (b ++ c), gaps-append b c)
 
-pub length-forked : (l : List Section) (s : Section) (r : List Section) → length (cells_of (l ++ s ∷ r)) ≡ length (cells_of l) + (size s + length (cells_of r))
-length-forked l s r = grind (arith, (cells-forked l s r), (length-append (cells_of l) (cells s ++ cells_of r)), (length-append (cells s) (cells_of r)), (length-cells s))
+-- ## Places
 
--- sections that are filled
-pub filled-append : (xs ys : List Section) → AllFilled xs → AllFilled ys → AllFilled (xs ++ ys)
-filled-append [] ys h g = g
-filled-append (x ∷ xs) ys h g = (h.0, filled-append xs ys h.1 g)
+pub drop-three : (a b c : PartialText) (p k : ℕ) → length a + length b + k ≡ p → drop p (a ++ (b ++ c)) ≡ drop k c
+drop-three a b c p k e = drop-past a (b ++ c) (length b + k) p (omega (arith, e)) ∙ drop-past b c k (length b + k) refl
 
-pub filled-forked : (l : List Section) (s : Section) (r : List Section) → AllFilled l → IsFilled s → AllFilled r → AllFilled (l ++ s ∷ r)
-filled-forked l s r h f g = filled-append l (s ∷ r) h (f, g)
+-- ## Agreement
 
-pub filled-middle : (l : List Section) (s : Section) (r : List Section) → AllFilled (l ++ s ∷ r) → IsFilled s
-filled-middle [] s r h = h.0
-filled-middle (x ∷ l) s r h = filled-middle l s r h.1
-
--- each section stands for something
-pub filled-short : (xs : List Section) → AllFilled xs → length xs ≤ length (cells_of xs)
-filled-short [] h = omega arith
-filled-short (a ∷ xs) h = omega (arith, filled a h.0, filled-short xs h.1, length-append (cells a) (cells_of xs), length-cells a)
-
-pub all_loaded-append : (xs ys : List Section) → all_loaded (xs ++ ys) ≡ (all_loaded xs && all_loaded ys)
-all_loaded-append [] ys = refl
-all_loaded-append (x ∷ xs) ys = grind (arith, (all_loaded-append xs ys))
-
-pub last-behind : (l : List Section) (s : Section) (r ys : List Section) (a : Section) → r ≡ ys ++ a ∷ [] → l ++ s ∷ r ≡ (l ++ s ∷ ys) ++ a ∷ []
-last-behind l s r ys a e = grind (arith, append_assoc)
-
-pub first-before : (l : List Section) (s : Section) (r ys : List Section) (a : Section) → l ≡ a ∷ ys → l ++ s ∷ r ≡ a ∷ (ys ++ s ∷ r)
-first-before l s r ys a e = grind arith
-
--- the cells before the place a + b + k of a list in three parts
-pub drop-forked : (l : List Section) (s : Section) (r : List Section) (a b k : ℕ) → length (cells_of l) ≡ a → size s ≡ b
-    → drop (a + b + k) (cells_of (l ++ s ∷ r)) ≡ drop k (cells_of r)
-drop-forked l s r a b k ea eb = grind (
+pub agrees-three : (a b c : PartialText) (t : List ℕ) (m n : ℕ) → length a ≡ m → m + length b ≡ n
+    → Agrees (a ++ (b ++ c)) t ↔ (Agrees a (take m t) × (Agrees b (take (n - m) (drop m t)) × Agrees c (drop n t)))
+agrees-three a b c t m n ea eb = grind (
   arith,
-  (cells-forked l s r),
-  (length-cells s),
-  (drop-past (cells_of l) (cells s ++ cells_of r) (b + k) (a + b + k)),
-  (drop-past (cells s) (cells_of r) k (b + k)),
+  (stretch a (b ++ c) (a ++ (b ++ c)) t (take m t) 0 m),
+  (stretch b c (b ++ c) t (take (n - m) (drop m t)) m (n - m)),
 )
 
--- the same, against a text
-pub agrees_forked : (l : List Section) (s : Section) (r : List Section) (t : List ℕ) (a b : ℕ) → length (cells_of l) ≡ a → a + size s ≡ b
-    → Agrees (cells_of (l ++ s ∷ r)) t ↔ (Agrees (cells_of l) (take a t) × (Agrees (cells s) (take (b - a) (drop a t)) × Agrees (cells_of r) (drop b t)))
-agrees_forked l s r t a b ea eb = grind (
-  arith,
-  (cells-forked l s r),
-  (length-cells s),
-  (stretch (cells_of l) (cells s ++ cells_of r) (cells_of (l ++ s ∷ r)) t (take a t) 0 a),
-  (stretch (cells s) (cells_of r) (cells s ++ cells_of r) t (take (b - a) (drop a t)) a (b - a)),
-)
-
-pub agrees_long : (l : List Section) (s : Section) (r : List Section) (t : List ℕ) → length t < length (cells_of l) + size s → Agrees (cells_of (l ++ s ∷ r)) t → ⊥
-agrees_long l s r t short a = grind (arith, (length-forked l s r), (length_agrees (cells_of (l ++ s ∷ r)) t a))
+pub agrees-long : (a b c : PartialText) (t : List ℕ) → length t < length a + length b → Agrees (a ++ (b ++ c)) t → ⊥
+agrees-long a b c t short h = grind (arith, (length-three a b c), (length_agrees (a ++ (b ++ c)) t h))
 
 -- ## Stretches of one sort
 
--- a stretch that goes on after the first of two lists, or ends in it
-pub from-cross : (b : Bool) (xs ys : PartialText) (p : ℕ) → p ≤ length xs → length xs - p ≤ sort_from b xs p → sort_from b (xs ++ ys) p ≡ (length xs - p) + prefix_len (is_sort b) ys
-from-cross b xs ys p l e = grind (arith, (drop-append-le p xs ys l), (prefix_len-append (is_sort b) (drop p xs) ys), (length-drop p xs), (prefix_len-le-length (is_sort b) (drop p xs)))
+-- a stretch that ends in the first of two parts, or goes on after it
+from-ends : (b : Bool) (x y : PartialText) (p : ℕ) → p + sort_from b x p < length x → sort_from b (x ++ y) p ≡ sort_from b x p
+from-ends b x y p l = from-stop b x y p (omega (arith, l)) (omega (arith, l))
 
-pub from-stop : (b : Bool) (xs ys : PartialText) (p : ℕ) → p ≤ length xs → sort_from b xs p < length xs - p → sort_from b (xs ++ ys) p ≡ sort_from b xs p
-from-stop b xs ys p l e = grind (arith, (drop-append-le p xs ys l), (prefix_len-append (is_sort b) (drop p xs) ys), (length-drop p xs))
-
--- a section of that sort from its place k on, or one of the other sort
-pub from-section : (b : Bool) (x : Section) (k : ℕ) → k ≤ size x → is_loaded x ≡ b → sort_from b (cells x) k ≡ size x - k
-from-section b x k l e = grind (arith, (back-is k x), (sort-all b (back k x) []), (append-nil (cells (back k x))))
-
-pub from-other : (b : Bool) (x : Section) (k : ℕ) (r : PartialText) → k < size x → (is_loaded x ≡ b → ⊥) → sort_from b (cells x ++ r) k ≡ 0
-from-other b x k r l e = grind (arith, (back-is k x), (sort-none b (back k x) r), (drop-append-le k (cells x) r), (length-cells x))
-
--- the place p stands before the end of the section, or in it
-pub from-left : (b : Bool) (l : List Section) (s : Section) (r : List Section) (p : ℕ)
-    → sort_from b (cells_of l) p < length (cells_of l) - p → sort_from b (cells_of (l ++ s ∷ r)) p ≡ sort_from b (cells_of l) p
-from-left b l s r p e = grind (arith, (cells-forked l s r), (from-stop b (cells_of l) (cells s ++ cells_of r) p))
-
-pub from-ends : (b : Bool) (l : List Section) (s : Section) (r : List Section) (p : ℕ) → length (cells_of l) - p ≤ sort_from b (cells_of l) p
-    → p < length (cells_of l) + size s → 0 < size s → (is_loaded s ≡ b → ⊥) → sort_from b (cells_of (l ++ s ∷ r)) p ≡ length (cells_of l) - p
-from-ends b l s r p e h n u = go (cases_lt p (length (cells_of l)))
+from-goes-on : (b : Bool) (x y : PartialText) (p : ℕ) → length x ≤ p + sort_from b x p → sort_from b (x ++ y) p ≡ sort_from b x p + sort_from b y (p - length x)
+from-goes-on b x y p l = go (cases_lt p (length x))
   where
-    go : ((p < length (cells_of l)) ⊎ (length (cells_of l) ≤ p)) → sort_from b (cells_of (l ++ s ∷ r)) p ≡ length (cells_of l) - p
-    go (inl m) = grind (arith, (cells-forked l s r), (from-cross b (cells_of l) (cells s ++ cells_of r) p), (from-other b s 0 (cells_of r)), n)
-    go (inr m) = grind (
-      arith,
-      (cells-forked l s r),
-      (drop-past (cells_of l) (cells s ++ cells_of r) (p - length (cells_of l)) p),
-      (from-other b s (p - length (cells_of l)) (cells_of r)),
-    )
+    go : ((p < length x) ⊎ (length x ≤ p)) → sort_from b (x ++ y) p ≡ sort_from b x p + sort_from b y (p - length x)
+    go (inl u) = grind (arith, (from-cross b x y p), (from-most b x p))
+    go (inr u) = grind (arith, (drop-past x y (p - length x) p), (from-end b x p))
 
-pub from-behind : (b : Bool) (l : List Section) (s : Section) (r : List Section) (p k : ℕ) → length (cells_of l) + size s + k ≡ p
-    → sort_from b (cells_of (l ++ s ∷ r)) p ≡ sort_from b (cells_of r) k
-from-behind b l s r p k e = grind (arith, (drop-forked l s r (length (cells_of l)) (size s) k))
+pub from-first : (b : Bool) (x y z : PartialText) (p : ℕ) → p + sort_from b x p < length x → sort_from b (x ++ (y ++ z)) p ≡ sort_from b x p
+from-first b x y z p l = from-ends b x (y ++ z) p l
 
-pub from-most : (b : Bool) (xs : PartialText) (p : ℕ) → sort_from b xs p ≤ length xs
-from-most b xs p = omega (arith, prefix_len-le-length (is_sort b) (drop p xs), length-drop p xs)
+pub from-second : (b : Bool) (x y z : PartialText) (p found : ℕ) → length x ≤ p + sort_from b x p
+    → found ≡ sort_from b x p + sort_from b y (max p (length x) - length x) → p + found < length x + length y → sort_from b (x ++ (y ++ z)) p ≡ found
+from-second b x y z p found l e m = grind (
+  arith,
+  (from-goes-on b x (y ++ z) p),
+  (from-ends b y z (p - length x)),
+  (from-most b x p),
+)
 
-pub from-goes-on : (b : Bool) (l : List Section) (s : Section) (r : List Section) (p : ℕ) → length (cells_of l) - p ≤ sort_from b (cells_of l) p
-    → p < length (cells_of l) + size s → is_loaded s ≡ b → sort_from b (cells_of (l ++ s ∷ r)) p ≡ (length (cells_of l) + size s - p) + sort_from b (cells_of r) 0
-from-goes-on b l s r p e h u = go (cases_lt p (length (cells_of l)))
-  where
-    go : ((p < length (cells_of l)) ⊎ (length (cells_of l) ≤ p))
-        → sort_from b (cells_of (l ++ s ∷ r)) p ≡ (length (cells_of l) + size s - p) + sort_from b (cells_of r) 0
-    go (inl m) = grind (arith, (cells-forked l s r), (from-cross b (cells_of l) (cells s ++ cells_of r) p), (sort-all b s (cells_of r)))
-    go (inr m) = grind (
-      arith,
-      (cells-forked l s r),
-      (length-cells s),
-      (drop-past (cells_of l) (cells s ++ cells_of r) (p - length (cells_of l)) p),
-      (from-section b s (p - length (cells_of l))),
-      (from-cross b (cells s) (cells_of r) (p - length (cells_of l))),
-    )
-
--- sections that are all loaded stand for one text
-pub loaded-is : (xs : List Section) → all_loaded xs ≡ true → (t : List ℕ) × (cells_of xs ≡ cells (Loaded t))
-loaded-is [] e = ([], refl)
-loaded-is (Loaded s ∷ xs) e = let t = loaded-is xs e in (s ++ t.0, grind (arith, t.1, (map-append Some s t.0)))
-loaded-is (Hole n ∷ xs) e = absurd (true≢false (sym e))
-
-pub from-all : (xs : List Section) (p : ℕ) → all_loaded xs ≡ true → p ≤ length (cells_of xs) → sort_from true (cells_of xs) p ≡ length (cells_of xs) - p
-from-all xs p e l = let t = loaded-is xs e in grind (arith, t.1, (length-cells (Loaded t.0)), (from-section true (Loaded t.0) p))
-
-pub from-end : (b : Bool) (xs : PartialText) (p : ℕ) → length xs ≤ p → sort_from b xs p ≡ 0
-from-end b xs p l = prefix_len-drop_all (is_sort b) xs p l
+pub from-third : (b : Bool) (x y z : PartialText) (p found : ℕ) → length x ≤ p + sort_from b x p
+    → found ≡ sort_from b x p + sort_from b y (max p (length x) - length x) → length x + length y ≤ p + found
+    → sort_from b (x ++ (y ++ z)) p ≡ found + sort_from b z (max p (length x + length y) - (length x + length y))
+from-third b x y z p found l e m = grind (
+  arith,
+  (from-goes-on b x (y ++ z) p),
+  (from-goes-on b y z (p - length x)),
+  (from-most b x p),
+  (from-most b y (p - length x)),
+)
 
 -- the same towards the front
-pub before-first : (b : Bool) (xs ys : PartialText) (p : ℕ) → p ≤ length xs → sort_before b (xs ++ ys) p ≡ sort_before b xs p
-before-first b xs ys p l = grind (arith, (take-append-le p xs ys l))
+before-ends : (b : Bool) (x y : PartialText) (p k : ℕ) → p ≤ length x + length y → k ≡ max p (length x) - length x → length x + sort_before b y k < p
+    → sort_before b (x ++ y) p ≡ sort_before b y k
+before-ends b x y p k w e l = before-stop b x y p k (omega (arith, e, l)) (omega (arith, e, w)) (omega (arith, e, l))
 
-pub before-cross : (b : Bool) (xs ys : PartialText) (p k : ℕ) → length xs + k ≡ p → k ≤ length ys → k ≤ sort_before b ys k → sort_before b (xs ++ ys) p ≡ k + prefix_len (is_sort b) (reverse xs)
-before-cross b xs ys p k e l h = grind (
-  arith,
-  (take-past xs ys k p e),
-  (reverse-append xs (take k ys)),
-  (prefix_len-append (is_sort b) (reverse (take k ys)) (reverse xs)),
-  (length-reverse (take k ys)),
-  (length-take k ys),
-  (prefix_len-le-length (is_sort b) (reverse (take k ys))),
-)
-
-pub before-stop : (b : Bool) (xs ys : PartialText) (p k : ℕ) → length xs + k ≡ p → k ≤ length ys → sort_before b ys k < k → sort_before b (xs ++ ys) p ≡ sort_before b ys k
-before-stop b xs ys p k e l h = grind (
-  arith,
-  (take-past xs ys k p e),
-  (reverse-append xs (take k ys)),
-  (prefix_len-append (is_sort b) (reverse (take k ys)) (reverse xs)),
-  (length-reverse (take k ys)),
-  (length-take k ys),
-)
-
-pub before-section : (b : Bool) (x : Section) (pre : PartialText) (k : ℕ) → k ≤ size x → is_loaded x ≡ b
-    → prefix_len (is_sort b) (reverse (pre ++ take k (cells x))) ≡ k + prefix_len (is_sort b) (reverse pre)
-before-section b x pre k l e = grind (arith, (front-is k x l), (back-all b pre (front k x)))
-
-turned-is : (x : Section) → (size (turned x) ≡ size x) × (is_loaded (turned x) ≡ is_loaded x)
-turned-is x = grind (arith, length-reverse)
-
-pub before-other : (b : Bool) (x : Section) (pre : PartialText) (k : ℕ) → 0 < k → k ≤ size x → (is_loaded x ≡ b → ⊥) → prefix_len (is_sort b) (reverse (pre ++ take k (cells x))) ≡ 0
-before-other b x pre k z l e = grind (
-  arith,
-  (front-is k x l),
-  (reverse-append pre (cells (front k x))),
-  (turned-cells (front k x)),
-  (sort-none b (turned (front k x)) (reverse pre)),
-  (turned-is (front k x)),
-)
-
--- the whole section
-pub before-whole : (b : Bool) (x : Section) (pre : PartialText) → is_loaded x ≡ b → prefix_len (is_sort b) (reverse (pre ++ cells x)) ≡ size x + prefix_len (is_sort b) (reverse pre)
-before-whole b x pre e = back-all b pre x e
-
-pub before-none : (b : Bool) (x : Section) (pre : PartialText) → 0 < size x → (is_loaded x ≡ b → ⊥) → prefix_len (is_sort b) (reverse (pre ++ cells x)) ≡ 0
-before-none b x pre z u = grind (arith, (before-other b x pre (size x)), (take_all (size x) (cells x)), (length-cells x))
-
-pub before-behind : (b : Bool) (l : List Section) (s : Section) (r : List Section) (p : ℕ) → p ≤ length (cells_of l) → sort_before b (cells_of (l ++ s ∷ r)) p ≡ sort_before b (cells_of l) p
-before-behind b l s r p e = grind (arith, (cells-forked l s r), (before-first b (cells_of l) (cells s ++ cells_of r) p))
-
--- the cells up to the section's end, and those after it
-pub cells-fore : (l : List Section) (s : Section) (r : List Section)
-    → (cells_of (l ++ s ∷ r) ≡ (cells_of l ++ cells s) ++ cells_of r) × (length (cells_of l ++ cells s) ≡ length (cells_of l) + size s)
-cells-fore l s r = grind (arith, (cells-forked l s r), (append_assoc (cells_of l) (cells s) (cells_of r)), (length-append (cells_of l) (cells s)), (length-cells s))
-
-pub before-stops : (b : Bool) (l : List Section) (s : Section) (r : List Section) (p k : ℕ) → k ≡ p - (length (cells_of l) + size s)
-    → p ≤ length (cells_of (l ++ s ∷ r)) → sort_before b (cells_of r) k < k → sort_before b (cells_of (l ++ s ∷ r)) p ≡ sort_before b (cells_of r) k
-before-stops b l s r p k e w h = grind (arith, (cells-fore l s r), (length-forked l s r), (before-stop b (cells_of l ++ cells s) (cells_of r) p k))
-
-pub before-ends : (b : Bool) (l : List Section) (s : Section) (r : List Section) (p k : ℕ) → k ≡ p - (length (cells_of l) + size s) → p ≤ length (cells_of (l ++ s ∷ r))
-    → k ≤ sort_before b (cells_of r) k → length (cells_of l) < p → 0 < size s → (is_loaded s ≡ b → ⊥) → sort_before b (cells_of (l ++ s ∷ r)) p ≡ k
-before-ends b l s r p k e w h m n u = go (cases_lt (length (cells_of l) + size s) p)
+before-goes-on : (b : Bool) (x y : PartialText) (p k : ℕ) → p ≤ length x + length y → k ≡ max p (length x) - length x → p ≤ length x + sort_before b y k
+    → sort_before b (x ++ y) p ≡ sort_before b y k + sort_before b x (min p (length x))
+before-goes-on b x y p k w e l = go (cases_lt (length x) p)
   where
-    go : ((length (cells_of l) + size s < p) ⊎ (p ≤ length (cells_of l) + size s)) → sort_before b (cells_of (l ++ s ∷ r)) p ≡ k
-    go (inl i) = grind (
-      arith,
-      (cells-fore l s r),
-      (length-forked l s r),
-      (before-cross b (cells_of l ++ cells s) (cells_of r) p k),
-      (before-none b s (cells_of l)),
-      n,
-    )
-    go (inr i) = grind (
-      arith,
-      (cells-forked l s r),
-      (length-cells s),
-      (take-past (cells_of l) (cells s ++ cells_of r) (p - length (cells_of l)) p),
-      (take-append-le (p - length (cells_of l)) (cells s) (cells_of r)),
-      (before-other b s (cells_of l) (p - length (cells_of l))),
-    )
+    go : ((length x < p) ⊎ (p ≤ length x)) → sort_before b (x ++ y) p ≡ sort_before b y k + sort_before b x (min p (length x))
+    go (inl u) = grind (arith, (before-cross b x y p k), (before-most b y k), (Rattle.std.proofs.lemmas.List.take_all (length x) x))
+    go (inr u) = grind (arith, (before-first b x y p), (before-most b y k))
 
-pub before-goes-on : (b : Bool) (l : List Section) (s : Section) (r : List Section) (p k : ℕ) → k ≡ p - (length (cells_of l) + size s) → p ≤ length (cells_of (l ++ s ∷ r))
-    → k ≤ sort_before b (cells_of r) k → length (cells_of l) < p → is_loaded s ≡ b
-    → sort_before b (cells_of (l ++ s ∷ r)) p ≡ (p - length (cells_of l)) + sort_before b (cells_of l) (length (cells_of l))
-before-goes-on b l s r p k e w h m u = go (cases_lt (length (cells_of l) + size s) p)
-  where
-    go : ((length (cells_of l) + size s < p) ⊎ (p ≤ length (cells_of l) + size s))
-        → sort_before b (cells_of (l ++ s ∷ r)) p ≡ (p - length (cells_of l)) + sort_before b (cells_of l) (length (cells_of l))
-    go (inl i) = grind (
-      arith,
-      (cells-fore l s r),
-      (length-forked l s r),
-      (before-cross b (cells_of l ++ cells s) (cells_of r) p k),
-      (before-whole b s (cells_of l)),
-      (take_all (length (cells_of l)) (cells_of l)),
-    )
-    go (inr i) = grind (
-      arith,
-      (cells-forked l s r),
-      (length-cells s),
-      (take-past (cells_of l) (cells s ++ cells_of r) (p - length (cells_of l)) p),
-      (take-append-le (p - length (cells_of l)) (cells s) (cells_of r)),
-      (before-section b s (cells_of l) (p - length (cells_of l))),
-      (take_all (length (cells_of l)) (cells_of l)),
-    )
+pub before-third : (b : Bool) (x y z : PartialText) (p k : ℕ) → p ≤ length x + (length y + length z) → k ≡ max p (length x + length y) - (length x + length y)
+    → length x + length y + sort_before b z k < p → sort_before b (x ++ (y ++ z)) p ≡ sort_before b z k
+before-third b x y z p k w e l =
+    grind (arith, (append_assoc x y z), (length-append x y), (before-ends b (x ++ y) z p k))
 
-pub before-most : (b : Bool) (xs : PartialText) (p : ℕ) → sort_before b xs p ≤ p
-before-most b xs p = omega (arith, prefix_len-le-length (is_sort b) (reverse (take p xs)), length-reverse (take p xs), length-take p xs)
+before-on : (b : Bool) (x y z : PartialText) (p k : ℕ) → p ≤ length x + (length y + length z) → k ≡ max p (length x + length y) - (length x + length y)
+    → p ≤ length x + length y + sort_before b z k → sort_before b (x ++ (y ++ z)) p ≡ sort_before b z k + sort_before b (x ++ y) (min p (length x + length y))
+before-on b x y z p k w e l =
+    grind (arith, (append_assoc x y z), (length-append x y), (before-goes-on b (x ++ y) z p k))
 
-pub all-taken : (xs : List Section) (p : ℕ) → all_loaded xs ≡ true → p ≤ length (cells_of xs) → sort_before true (cells_of xs) p ≡ p
-all-taken xs p e l = let t = loaded-is xs e in grind (arith, t.1, (length-cells (Loaded t.0)), (before-section true (Loaded t.0) [] p))
-
--- ## Runes put into a section
-
-pub ins-first : (a b m : PartialText) (p : ℕ) → p ≤ length a → ins a p m ++ b ≡ ins (a ++ b) p m
-ins-first a b m p l = grind (arith, (take-append-le p a b l), (drop-append-le p a b l), (append_assoc (take p a ++ m) (drop p a) b))
-
-pub ins-past : (a b m : PartialText) (p k : ℕ) → length a + k ≡ p → a ++ ins b k m ≡ ins (a ++ b) p m
-ins-past a b m p k e = grind (
+pub before-second : (b : Bool) (x y z : PartialText) (p k j found : ℕ) → p ≤ length x + (length y + length z) → k ≡ max p (length x + length y) - (length x + length y)
+    → p ≤ length x + length y + sort_before b z k → j ≡ min (max p (length x)) (length x + length y) - length x
+    → found ≡ sort_before b z k + sort_before b y j → length x + found < p → sort_before b (x ++ (y ++ z)) p ≡ found
+before-second b x y z p k j found w e l d f m = grind (
   arith,
-  (take-past a b k p e),
-  (drop-past a b k p e),
-  (append_assoc a (take k b ++ m) (drop k b)),
-  (append_assoc a (take k b) m),
+  (before-on b x y z p k),
+  (before-ends b x y (min p (length x + length y)) j),
+  (before-most b z k),
 )
 
--- what `count` rests on
-pub ruleset count_facts = (filled-short)
+pub before-rest : (b : Bool) (x y z : PartialText) (p k j found : ℕ) → p ≤ length x + (length y + length z) → k ≡ max p (length x + length y) - (length x + length y)
+    → p ≤ length x + length y + sort_before b z k → j ≡ min (max p (length x)) (length x + length y) - length x
+    → found ≡ sort_before b z k + sort_before b y j → p ≤ length x + found → sort_before b (x ++ (y ++ z)) p ≡ found + sort_before b x (min p (length x))
+before-rest b x y z p k j found w e l d f m = grind (
+  arith,
+  (before-on b x y z p k),
+  (before-goes-on b x y (min p (length x + length y)) j),
+  (before-most b z k),
+  (before-most b y j),
+)
 
--- what `counts` rests on
-pub ruleset counts_facts = (filled-forked, length-append, length-forked, all_loaded-append)
+-- ## Cutting
+
+pub del-three : (a b c : PartialText) (p q : ℕ) → p ≤ q → del (a ++ (b ++ c)) p q
+    ≡ del a (min p (length a)) (min q (length a)) ++ (del b (min (p - length a) (length b)) (min (q - length a) (length b))
+    ++ del c (p - length a - length b) (q - length a - length b))
+del-three a b c p q o =
+    del-both a (b ++ c) p q o ∙ ap (λ z. del a (min p (length a)) (min q (length a)) ++ z) (del-both b c (p - length a) (q - length a) (omega (arith, o)))
+
+-- the parts of a fork of which the places from p to q are taken out
+cut-parts : (a b c : PartialText) (p n s e : ℕ) → length a ≡ s → s + length b ≡ e → del (a ++ (b ++ c)) p (p + n)
+    ≡ del a (min p s) (min p s + (min (p + n) s - min p s))
+    ++ (del b (min (max p s) e - s) ((min (max p s) e - s) + ((min (max (p + n) s) e - s) - (min (max p s) e - s)))
+    ++ del c (max p e - e) ((max p e - e) + (max (p + n) e - max p e)))
+cut-parts a b c p n s e ea eb = grind (arith, (del-three a b c p (p + n)), ea, eb)
+
+pub cut-left : (a b c x y z : PartialText) (p n s e : ℕ) → length a ≡ s → s + length b ≡ e → x ≡ del a (min p s) (min p s + (min (p + n) s - min p s))
+    → y ≡ del b (min (max p s) e - s) ((min (max p s) e - s) + ((min (max (p + n) s) e - s) - (min (max p s) e - s)))
+    → z ≡ del c (max p e - e) ((max p e - e) + (max (p + n) e - max p e)) → x ++ (y ++ z) ≡ del (a ++ (b ++ c)) p (p + n)
+cut-left a b c x y z p n s e ea eb u v w = grind (arith, (cut-parts a b c p n s e), ea, eb, u, v, w)
+
+pub cut-gone : (a b c x z : PartialText) (p n s e : ℕ) → length a ≡ s → s + length b ≡ e → x ≡ del a (min p s) (min p s + (min (p + n) s - min p s))
+    → (min (max (p + n) s) e - s) - (min (max p s) e - s) ≡ length b
+    → z ≡ del c (max p e - e) ((max p e - e) + (max (p + n) e - max p e)) → x ++ z ≡ del (a ++ (b ++ c)) p (p + n)
+cut-gone a b c x z p n s e ea eb u v w =
+    let none : del b 0 (length b) ≡ [] = drop_all (length b) b (omega arith) in
+    let from : min (max p s) e - s ≡ 0 = omega (arith, v, ea, eb) in
+    let to : (min (max p s) e - s) + ((min (max (p + n) s) e - s) - (min (max p s) e - s)) ≡ length b = omega (arith, v, from) in
+    grind (arith, (cut-parts a b c p n s e), ea, eb, u, w, none, from, to)
+
+-- ## The section at a place
+
+nil-of : (r : PartialText) → length r ≡ 0 → r ≡ []
+nil-of [] e = refl
+nil-of (x ∷ r) e = absurd (omega (arith, e))
+
+section-within : (b c : PartialText) (x : Section) (place : ℕ) → take (size x) (drop place b) ≡ cells x → take (size x) (drop place (b ++ c)) ≡ cells x
+section-within b c x place e = go (cases_lt (length b) place)
+  where
+    fits : size x ≤ length b - place
+    fits = omega (arith, ap length e, length-take (size x) (drop place b), length-drop place b, length-cells x)
+    go : ((length b < place) ⊎ (place ≤ length b)) → take (size x) (drop place (b ++ c)) ≡ cells x
+    go (inl u) = grind (arith, fits, u, e, (length-cells x), (nil-of (cells x)))
+    go (inr u) = grind (arith, fits, e, (drop-append-le place b c), (take-append-le (size x) (drop place b) c), (length-drop place b))
+
+pub section-middle : (a b c : PartialText) (x : Section) (start place : ℕ) → length a ≡ start → take (size x) (drop place b) ≡ cells x
+    → take (size x) (drop (start + place) (a ++ (b ++ c))) ≡ cells x
+section-middle a b c x start place e u = ap (take (size x)) (drop-past a (b ++ c) place (start + place) (omega (arith, e))) ∙ section-within b c x place u
+
+pub section-left : (a b c : PartialText) (x : Section) (place : ℕ) → take (size x) (drop place a) ≡ cells x → take (size x) (drop place (a ++ (b ++ c))) ≡ cells x
+section-left a b c x place u = section-within a (b ++ c) x place u
+
+pub section-right : (a b c : PartialText) (x : Section) (place p : ℕ) → length a + length b + place ≡ p → take (size x) (drop place c) ≡ cells x
+    → take (size x) (drop p (a ++ (b ++ c))) ≡ cells x
+section-right a b c x place p e u = ap (take (size x)) (drop-three a b c p place e) ∙ u
+
+-- what `gaps` rests on
+pub ruleset gaps_facts = (gaps-most)
+
+-- what `whole` rests on
+pub ruleset whole_facts = (length-three, gaps-three, gaps-most)
 
 -- what `of` rests on
-pub ruleset of_facts = (length-forked)
+pub ruleset of_facts = (length-three)
 
 -- what `opened` rests on
-pub ruleset opened_facts = (filled-middle)
-
--- what `split` rests on
-pub ruleset split_facts = (length-forked, length-append, cells_append, append_assoc)
+pub ruleset opened_facts = (length-three)
 
 -- what `raise_left` and `raise_right` rest on
-pub ruleset raise_facts = (length-forked, append_assoc)
+pub ruleset raise_facts = (length-three, length-append, append_assoc)
+
+-- what `balanced` rests on
+pub ruleset balanced_facts = (length-three)
 
 -- what `link` rests on
-pub ruleset link_facts = (length-forked, length-append, append_assoc)
-
--- what `pop_first` and `pop_last` rest on
-pub ruleset pop_facts = (last-behind, length-forked, length-append, append_assoc)
+pub ruleset link_facts = (length-three, append_assoc)
 
 -- what `merge` rests on
-pub ruleset merge_facts = (append_assoc, length-forked)
+pub ruleset merge_facts = (append-nil, length-append)
+
+-- what `pop_first` rests on
+pub ruleset pop_facts = (length-three, length-append, append_assoc)
 
 -- what `section_at` rests on
-pub ruleset section_at_facts = (drop-forked)
+pub ruleset section_at_facts = (section-left, section-middle, section-right, length-three)
 
 -- what `agrees` rests on
-pub ruleset agrees_facts = (agrees_forked, agrees_long)
+pub ruleset agrees_facts = (agrees-three, agrees-long)
 
 -- what `sort_from` rests on
-pub ruleset sort_from_facts = (from-behind, from-most, from-left, from-ends, from-goes-on, from-all, from-end, length-forked, filled-middle, filled)
+pub ruleset sort_from_facts = (from-runes, from-first, from-second, from-third, from-end, from-most, length-three)
 
 -- what `sort_before` rests on
-pub ruleset sort_before_facts = (before-behind, before-stops, before-ends, before-goes-on, before-most, all-taken, length-forked, filled-middle, filled)
+pub ruleset sort_before_facts = (before-runes, before-third, before-second, before-rest, before-most, length-three)
+
+-- what `part` rests on
+pub ruleset part_facts = (length-three, append_assoc)
+
+-- what `put` rests on
+pub ruleset put_facts = (put-left, put-middle, put-right, put-nowhere, length-put, length-three, append-nil)
+
+-- what `cut` rests on
+pub ruleset cut_facts = (cut-left, cut-gone, length-del, length-three)
+
+-- what `settled` rests on
+pub ruleset settled_facts = (length-three, length-append)
+
+-- what `tally` rests on
+pub ruleset tally_facts = (length-three, length-append)

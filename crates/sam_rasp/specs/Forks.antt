@@ -1,8 +1,8 @@
--- Forks of a tree of sections.
-use Rattle.std.specs.Prelude.{List, ◌++◌, ◌∷◌}
-use Rattle.sam_rasp.specs.declared.section.Section.{Section}
+-- Forks of a tree of blocks.
+use Rattle.std.specs.Prelude.{◌++◌}
+use Rattle.sam_rasp.specs.Rasp.{PartialText}
 use Rattle.sam_rasp.specs.declared.tree.Fork.{Fork}
 
--- the sections of a fork: those before its own, its own, and those after it
-abbrev pub sections_of : Fork → List Section
-sections_of f = f.left ++ f.section ∷ f.right
+-- what a fork stands for: the blocks before its own, its own, and those after it
+abbrev pub cells_in : Fork → PartialText
+cells_in f = f.left ++ (f.block ++ f.right)

@@ -1,7 +1,7 @@
 //! `Piece`: the text of a loaded section.
 
-ghost use Rattle.std.specs.Prelude.{◌≡◌, ◌≢◌, ◌≤◌, ◌+◌, ◌++◌, ◌↔◌, length, IsTrue, IfOk, Ok, OnOk, OnErr, slice_get, take, drop, true, false};
-ghost use Rattle.sam_runes.specs.Texts.{del, ins, most_in_message};
+ghost use Rattle.std.specs.Prelude.{◌≡◌, ◌≤◌, ◌+◌, ◌-◌, ◌++◌, ◌↔◌, length, IsTrue, IfOk, OnOk, OnErr, slice_get, take, drop, vec_capacity, vec_len, true, false};
+ghost use Rattle.sam_runes.specs.Texts.{del, most_in_message};
 
 use sam_runes::MOST_IN_MESSAGE;
 use std::alloc::{AllocError, Global};
@@ -28,30 +28,13 @@ impl Model for Piece {
     ghost invariant = { λ a. vec_len a.runes ≤ most_in_message };
 }
 
-/// Memory for a piece of any length.
-#[derive(Drop)]
-pub struct Room {
-    /// No runes, with room for `MOST_IN_MESSAGE`.
-    runes: Vec<char>,
-}
-
-impl Model for Room {
-    ghost use Rattle.std.specs.Prelude.{ℕ, List, ◌≡◌, ◌≤◌, vec_len, vec_capacity};
-    ghost use Rattle.sam_runes.specs.Texts.{most_in_message};
-
-    ghost Value = { List ℕ };
-
-    ghost view = { λ a. a.runes.items };
-
-    ghost invariant = { λ a. (vec_len a.runes ≡ 0) × (most_in_message ≤ vec_capacity a.runes) };
-}
-
-impl Room {
-    /// Asks for the memory. The only error is out of memory.
-    pub fn new(alloc: Global) -> Result<Room, AllocError> {
-        Ok(Room {
-            runes: Vec::with_capacity(alloc, MOST_IN_MESSAGE)?,
-        })
+/// Puts `more` at the end of `runes`, which has room for it, so no memory is asked for.
+fn put_within(runes: &mut Vec<char>, more: &[char])
+    requires room { vec_len runes.old + length more.now ≤ vec_capacity runes.old }
+    ensures items { runes.new.items ≡ runes.old.items ++ more.now }
+{
+    if runes.extend_from_slice(more).is_err() {
+        unreachable!();
     }
 }
 
@@ -106,20 +89,23 @@ impl Piece {
         if runes.len() > MOST_IN_MESSAGE - len || runes.len() > self.runes.capacity() - len {
             return false;
         }
-        self.runes.extend_from_slice(runes).is_ok()
+        put_within(&mut self.runes, runes);
+        true
     }
 
-    /// Puts `runes` in at place `p`. The caller makes sure that it has at most `MOST_IN_MESSAGE` then. The only error is out of memory; the
-    /// piece is then unchanged.
-    pub fn insert(&mut self, p: usize, runes: &[char]) -> Result<(), AllocError>
-        requires within { p ≤ length self.old }
-        requires most { length self.old + length runes.now ≤ most_in_message }
-        ensures ok { OnOk result (self.new ≡ ins self.old p runes.now) }
+    /// Puts `runes` in the place of those from place `p` to place `q`. The caller makes sure that it has at most `MOST_IN_MESSAGE` then. The
+    /// only error is out of memory; the piece is then unchanged.
+    pub fn replace(&mut self, p: usize, q: usize, runes: &[char]) -> Result<(), AllocError>
+        requires ascending { p ≤ q }
+        requires within { q ≤ length self.old }
+        requires most { length self.old + length runes.now ≤ most_in_message + (q - p) }
+        ensures ok { OnOk result (self.new ≡ take p self.old ++ runes.now ++ drop q self.old) }
         ensures err { OnErr result (self.new ≡ self.old) }
     {
         self.runes.extend_from_slice(runes)?;
-        let tail = &mut self.runes[p..];
+        let tail = &mut self.runes[q..];
         tail.rotate_right(runes.len());
+        self.runes.drain(p..q);
         Ok(())
     }
 
@@ -132,20 +118,14 @@ impl Piece {
         self.runes.drain(p..q);
     }
 
-    /// Takes out the runes from place `p` on, and returns them as a piece of that room.
-    pub fn split_off(&mut self, p: usize, room: Room) -> Piece
+    /// Takes out the runes from place `p` on, and returns them. The only error is out of memory; the piece is then unchanged.
+    pub fn split_off(&mut self, alloc: Global, p: usize) -> Result<Piece, AllocError>
         requires within { p ≤ length self.old }
-        ensures front { self.new ≡ take p self.old }
-        ensures back { result ≡ drop p self.old }
+        ensures ok { IfOk result (λ a. (self.new ≡ take p self.old) × (a ≡ drop p self.old)) }
+        ensures err { OnErr result (self.new ≡ self.old) }
     {
-        let mut runes = room.runes;
-        if runes
-            .extend_from_slice(&self.runes.as_slice()[p..])
-            .is_err()
-        {
-            unreachable!();
-        }
+        let back = Piece::of(alloc, &self.runes.as_slice()[p..])?;
         self.runes.truncate(p);
-        Piece { runes }
+        Ok(back)
     }
 }

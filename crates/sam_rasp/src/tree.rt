@@ -1,59 +1,59 @@
-//! `Tree`: sections in order, in a form in which a place is found, and lists are parted and put together, in few steps.
+//! `Tree`: blocks in order, in a form in which a place is found, and lists are put together, in few steps.
 
-ghost use Rattle.std.specs.Prelude.{◌≡◌, ◌<◌, ◌≤◌, ◌+◌, ◌++◌, ◌∷◌, ◌↔◌, [], List, IsTrue, MatchOption, IfOk, length, take, drop};
-ghost use Rattle.sam_runes.specs.Texts.{max_runes, most_in_message};
-ghost use Rattle.sam_rasp.specs.Rasp.{Agrees, sort_before, sort_from};
-ghost use Rattle.sam_rasp.specs.Forks.{sections_of};
-ghost use Rattle.sam_rasp.specs.Sections.{all_loaded, cells, cells_of, size, AllFilled, IfFirst, IsFilled, IsFirst, IsLast};
+ghost use Rattle.std.specs.Prelude.{◌≡◌, ◌<◌, ◌≤◌, ◌+◌, ◌++◌, ◌↔◌, [], IsTrue, IfOk, MatchOption, length, take, drop};
+ghost use Rattle.sam_rasp.specs.Forks.{cells_in};
+ghost use Rattle.sam_rasp.specs.Rasp.{sort_before, sort_from, Agrees, PartialText};
+ghost use Rattle.sam_rasp.specs.Sections.{cells, gaps_of, most_kept, size, IsKeptIn, IsTallied};
 
-mod in_place;
-mod tally;
+mod changes;
 
+use crate::block::Block;
 use crate::section::Section;
-pub use in_place::{Incoming, NOTHING_BESIDE};
+use crate::tally::Tally;
 use std::alloc::{AllocError, Global};
 use std::marker::Model;
 use std::mem;
 
-/// How many times as heavy as one side of a section the other may be. The weight is one more than the number of sections.
+/// How many times as heavy as one side of a block the other may be. The weight is one more than the number of blocks.
 const MOST_HEAVIER: usize = 3;
 
-/// Sections in order, none of them empty. Neither side of a section is heavier than `MOST_HEAVIER` times the other, so no way down is long.
+/// Blocks in order. Neither side of a block is heavier than `MOST_HEAVIER` times the other, so no way down is long.
 #[cycle(tree)]
 #[derive(Drop)]
 pub struct Tree {
-    /// The section at which the list is parted, if there is one.
+    /// The block at which the list is parted, if there is one. It is not empty.
     root: Option<Box<Fork>>,
-    /// How many runes and gaps all sections have together: at most `MAX_RUNES`.
+    /// How many runes and gaps all blocks have together: at most `MOST_KEPT`.
     len: u32,
-    /// How many sections there are.
-    count: usize,
-    /// Whether all sections are loaded.
-    loaded: bool,
+    /// How many of them are gaps.
+    gaps: u32,
+    /// How many blocks there are.
+    blocks: usize,
 }
 
-/// A section with the sections before it and those after it, in memory of its own, which goes with the section where it is moved.
+/// A block with the blocks before it and those after it.
 #[cycle(tree)]
 #[derive(Drop)]
 pub struct Fork {
-    /// The sections before it.
+    /// The blocks before it.
     left: Tree,
-    /// The section.
-    pub section: Section,
-    /// The sections after it.
+    /// The block.
+    block: Block,
+    /// The blocks after it.
     right: Tree,
 }
 
 impl Model for Tree {
-    ghost use Rattle.std.specs.Prelude.{List, ◌++◌, ◌∷◌, length};
-    ghost use Rattle.sam_rasp.specs.declared.section.Section.{Section};
-    ghost use Rattle.sam_rasp.specs.Sections.{or_none, IsCounted};
+    ghost use Rattle.std.specs.Prelude.{◌++◌, length};
+    ghost use Rattle.sam_rasp.specs.Rasp.{PartialText};
+    ghost use Rattle.sam_rasp.specs.Sections.{IsCounted, cells_below, IsParted};
 
-    ghost Value = { List Section };
+    ghost Value = { PartialText };
 
-    ghost view = { λ t. or_none (λ f. f.value.left ++ f.value.section ∷ f.value.right) t.root };
+    ghost view = { λ t. cells_below (λ f. f.value.left ++ (f.value.block ++ f.value.right)) t.root };
 
-    ghost invariant = { λ t. IsCounted (or_none (λ f. f.value.left ++ f.value.section ∷ f.value.right) t.root) t.len t.count t.loaded };
+    ghost invariant = { λ t. IsCounted (cells_below (λ f. f.value.left ++ (f.value.block ++ f.value.right)) t.root) t.len t.gaps t.blocks
+        × IsParted (λ f. f.value.block) t.root };
 
     ghost size = { length };
 
@@ -63,13 +63,13 @@ impl Model for Tree {
 }
 
 impl Fork {
-    /// Returns the section in memory of its own. The only error is out of memory.
-    pub fn new(alloc: Global, section: Section) -> Result<Box<Fork>, AllocError>
-        ensures { IfOk result (λ f. f.value.section ≡ section) }
+    /// Returns a block in memory of its own. The only error is out of memory.
+    fn new(alloc: Global, block: Block) -> Result<Box<Fork>, AllocError>
+        ensures { IfOk result (λ f. (f.value.left ≡ []) × (f.value.block ≡ block) × (f.value.right ≡ [])) }
     {
         let fork = Fork {
             left: Tree::new(),
-            section,
+            block,
             right: Tree::new(),
         };
         Ok(Box::new(alloc, fork)?)
@@ -84,57 +84,59 @@ impl Tree {
         Tree {
             root: None,
             len: 0,
-            count: 0,
-            loaded: true,
+            gaps: 0,
+            blocks: 0,
         }
     }
 
-    /// Returns how many runes and gaps all sections have together.
+    /// Returns how many runes and gaps all blocks have together.
     pub fn len(&self) -> u32
-        ensures len { result ≡ length (cells_of self.now) }
-        ensures limit { length (cells_of self.now) ≤ max_runes }
+        ensures len { result ≡ length self.now }
+        ensures limit { length self.now ≤ most_kept }
     {
         self.len
     }
 
-    /// Returns how many sections there are.
-    #[tactic(auto, using(crate::proofs::Trees::count_facts))]
-    fn count(&self) -> usize
-        ensures count { result ≡ length self.now }
-        ensures limit { length self.now ≤ max_runes }
-        ensures filled { AllFilled self.now }
+    /// Returns how many of them are gaps.
+    #[tactic(auto, using(crate::proofs::Trees::gaps_facts))]
+    fn gaps(&self) -> u32
+        ensures gaps { result ≡ gaps_of self.now }
+        ensures limit { gaps_of self.now ≤ length self.now }
     {
-        self.count
+        self.gaps
     }
 
-    /// Returns whether all sections are loaded.
-    fn is_loaded(&self) -> bool
-        ensures { result ≡ all_loaded self.now }
+    /// Returns how many blocks there are.
+    fn blocks(&self) -> usize
+        ensures { result ≤ length self.now }
     {
-        self.loaded
+        self.blocks
     }
 
-    /// Returns the list of a fork's sections.
+    /// Returns the list of a fork's blocks.
+    #[tactic(auto, using(crate::proofs::Trees::whole_facts))]
     fn whole(fork: Box<Fork>) -> Tree
-        requires filled { IsFilled fork.value.section }
-        requires limit { length (cells_of (sections_of fork.value)) ≤ max_runes }
-        ensures { result ≡ sections_of fork.value }
+        requires some { 0 < length fork.value.block }
+        requires limit { length (cells_in fork.value) ≤ most_kept }
+        ensures { result ≡ cells_in fork.value }
     {
-        let (len, count, loaded) = fork.counts();
+        let len = fork.left.len() + fork.block.len() + fork.right.len();
+        let gaps = fork.left.gaps() + fork.block.gaps() + fork.right.gaps();
+        let blocks = fork.left.blocks() + 1 + fork.right.blocks();
         Tree {
             root: Some(fork),
             len,
-            count,
-            loaded,
+            gaps,
+            blocks,
         }
     }
 
-    /// Returns the list of `left`, this section, and `right`.
+    /// Returns the list of `left`, this block, and `right`.
     #[tactic(auto, using(crate::proofs::Trees::of_facts))]
     fn of(left: Tree, fork: Box<Fork>, right: Tree) -> Tree
-        requires filled { IsFilled fork.value.section }
-        requires limit { length (cells_of left) + size fork.value.section + length (cells_of right) ≤ max_runes }
-        ensures { result ≡ left ++ fork.value.section ∷ right }
+        requires some { 0 < length fork.value.block }
+        requires limit { length left + length fork.value.block + length right ≤ most_kept }
+        ensures { result ≡ left ++ (fork.value.block ++ right) }
     {
         let mut fork = fork;
         fork.left = left;
@@ -142,11 +144,11 @@ impl Tree {
         Tree::whole(fork)
     }
 
-    /// Returns the section at which the list is parted, with the sections before it and those after it, or `None` if there is none.
+    /// Returns the block at which the list is parted, with the blocks before it and those after it, or `None` if there is none.
     #[tactic(auto, using(crate::proofs::Trees::opened_facts))]
     fn opened(self) -> Option<(Tree, Box<Fork>, Tree)>
-        ensures parts { MatchOption result (self ≡ []) (λ r. (self ≡ r.0 ++ r.1.value.section ∷ r.2) × IsFilled r.1.value.section) }
-        ensures limit { length (cells_of self) ≤ max_runes }
+        ensures parts { MatchOption result (self ≡ []) (λ r. (self ≡ r.0 ++ (r.1.value.block ++ r.2)) × (0 < length r.1.value.block)) }
+        ensures limit { length self ≤ most_kept }
     {
         let mut fork = self.root?;
         let left = mem::replace(&mut fork.left, Tree::new());
@@ -154,7 +156,7 @@ impl Tree {
         Some((left, fork, right))
     }
 
-    /// Returns the list parted at the section at which its front was.
+    /// Returns the list parted at the block at which its front was.
     #[tactic(auto, using(crate::proofs::Trees::raise_facts))]
     fn raise_left(self) -> Tree
         ensures { result ≡ self }
@@ -168,7 +170,7 @@ impl Tree {
         Tree::of(outer, above, Tree::of(inner, fork, right))
     }
 
-    /// Returns the list parted at the section at which its end was.
+    /// Returns the list parted at the block at which its end was.
     #[tactic(auto, using(crate::proofs::Trees::raise_facts))]
     fn raise_right(self) -> Tree
         ensures { result ≡ self }
@@ -182,25 +184,26 @@ impl Tree {
         Tree::of(Tree::of(left, fork, inner), above, outer)
     }
 
-    /// Returns how heavy the two sides are of the section at which the list is parted: one more than the number of their sections.
+    /// Returns how heavy the two sides are of the block at which the list is parted: one more than the number of their blocks.
     fn weights(&self) -> (usize, usize)
-        ensures { (result.0 ≤ max_runes + 1) × (result.1 ≤ max_runes + 1) }
+        ensures { (result.0 ≤ most_kept + 1) × (result.1 ≤ most_kept + 1) }
     {
         match &self.root {
-            Some(fork) => (fork.left.count() + 1, fork.right.count() + 1),
+            Some(fork) => (fork.left.blocks() + 1, fork.right.blocks() + 1),
             None => (1, 1),
         }
     }
 
-    /// Returns the list of `left`, this section, and `right`. A side that is too heavy, by a section that came or went, gives some of its
-    /// sections to the other.
+    /// Returns the list of `left`, this block, and `right`. A side that is too heavy, by a block that came or went, gives some of its blocks
+    /// to the other.
+    #[tactic(auto, using(crate::proofs::Trees::balanced_facts))]
     fn balanced(left: Tree, fork: Box<Fork>, right: Tree) -> Tree
-        requires filled { IsFilled fork.value.section }
-        requires limit { length (cells_of left) + size fork.value.section + length (cells_of right) ≤ max_runes }
-        ensures { result ≡ left ++ fork.value.section ∷ right }
+        requires some { 0 < length fork.value.block }
+        requires limit { length left + length fork.value.block + length right ≤ most_kept }
+        ensures { result ≡ left ++ (fork.value.block ++ right) }
     {
-        let front = left.count() + 1;
-        let end = right.count() + 1;
+        let front = left.blocks() + 1;
+        let end = right.blocks() + 1;
         if end > MOST_HEAVIER * front {
             let (inner, outer) = right.weights();
             let right = if inner < 2 * outer {
@@ -222,15 +225,15 @@ impl Tree {
         Tree::of(left, fork, right)
     }
 
-    /// Returns the sections of this list, the section `fork`, and the sections of `next`.
+    /// Returns the blocks of this list, the block `fork`, and the blocks of `next`.
     #[tactic(auto, using(crate::proofs::Trees::link_facts))]
-    pub fn link(self, fork: Box<Fork>, next: Tree) -> Tree
-        requires filled { IsFilled fork.value.section }
-        requires limit { length (cells_of self) + size fork.value.section + length (cells_of next) ≤ max_runes }
-        ensures { result ≡ self ++ fork.value.section ∷ next }
+    fn link(self, fork: Box<Fork>, next: Tree) -> Tree
+        requires some { 0 < length fork.value.block }
+        requires limit { length self + length fork.value.block + length next ≤ most_kept }
+        ensures { result ≡ self ++ (fork.value.block ++ next) }
     {
-        let front = self.count() + 1;
-        let end = next.count() + 1;
+        let front = self.blocks() + 1;
+        let end = next.blocks() + 1;
         if end > MOST_HEAVIER * front {
             let Some((inner, above, outer)) = next.opened() else {
                 return Tree::of(self, fork, Tree::new());
@@ -246,53 +249,11 @@ impl Tree {
         Tree::of(self, fork, next)
     }
 
-    /// Returns the list of this section alone.
-    pub fn one(fork: Box<Fork>) -> Tree
-        requires filled { IsFilled fork.value.section }
-        requires limit { size fork.value.section ≤ max_runes }
-        ensures { result ≡ fork.value.section ∷ [] }
-    {
-        Tree::of(Tree::new(), fork, Tree::new())
-    }
-
-    /// Parts the list: the sections that end at or before place `p`, and the others.
-    #[tactic(auto, using(crate::proofs::Trees::split_facts))]
-    pub fn split(self, p: u32) -> (Tree, Tree)
-        ensures whole { result.0 ++ result.1 ≡ self }
-        ensures place { length (cells_of result.0) ≤ p }
-        ensures limit { length (cells_of self) ≤ max_runes }
-        ensures after { IfFirst result.1 (λ s. p < length (cells_of result.0) + size s) }
-    {
-        let Some((left, fork, right)) = self.opened() else {
-            return (Tree::new(), Tree::new());
-        };
-        let start = left.len();
-        let end = start + fork.section.len();
-        if p < end {
-            let (front, back) = left.split(p);
-            return (front, back.link(fork, right));
-        }
-        let (front, back) = right.split(p - end);
-        (left.link(fork, front), back)
-    }
-
-    /// Returns the sections of this list and those of `next` after them.
-    #[tactic(auto, using(crate::proofs::Trees::merge_facts))]
-    pub fn merge(self, next: Tree) -> Tree
-        requires { length (cells_of self) + length (cells_of next) ≤ max_runes }
-        ensures { result ≡ self ++ next }
-    {
-        match next.pop_first() {
-            Some((first, others)) => self.link(first, others),
-            None => self,
-        }
-    }
-
-    /// Returns the first section and the others, or `None` if there is none.
+    /// Returns the first block and the others, or `None` if there is none.
     #[tactic(auto, using(crate::proofs::Trees::pop_facts))]
-    pub fn pop_first(self) -> Option<(Box<Fork>, Tree)>
-        ensures others { MatchOption result (self ≡ []) (λ r. (self ≡ r.0.value.section ∷ r.1) × IsFilled r.0.value.section) }
-        ensures limit { length (cells_of self) ≤ max_runes }
+    fn pop_first(self) -> Option<(Box<Fork>, Tree)>
+        ensures others { MatchOption result (self ≡ []) (λ r. (self ≡ r.0.value.block ++ r.1) × (0 < length r.0.value.block)) }
+        ensures limit { length self ≤ most_kept }
     {
         let (left, fork, right) = self.opened()?;
         match left.pop_first() {
@@ -301,51 +262,24 @@ impl Tree {
         }
     }
 
-    /// Returns the last section and the others, or `None` if there is none.
-    #[tactic(auto, using(crate::proofs::Trees::pop_facts))]
-    pub fn pop_last(self) -> Option<(Tree, Box<Fork>)>
-        ensures others { MatchOption result (self ≡ []) (λ r. (self ≡ r.0 ++ r.1.value.section ∷ []) × IsFilled r.1.value.section) }
-        ensures limit { length (cells_of self) ≤ max_runes }
+    /// Returns the blocks of this list and those of `next` after them.
+    #[tactic(auto, using(crate::proofs::Trees::merge_facts))]
+    fn merge(self, next: Tree) -> Tree
+        requires { length self + length next ≤ most_kept }
+        ensures { result ≡ self ++ next }
     {
-        let (left, fork, right) = self.opened()?;
-        match right.pop_last() {
-            Some((right, last)) => Some((left.link(fork, right), last)),
-            None => Some((left, fork)),
-        }
-    }
-
-    /// Returns the first section, if there is one.
-    fn first(&self) -> Option<&Section>
-        ensures first { MatchOption result (self.now ≡ []) (λ s. IsFirst self.now s.now) }
-    {
-        let Some(fork) = &self.root else {
-            return None;
-        };
-        match fork.left.first() {
-            Some(first) => Some(first),
-            None => Some(&fork.section),
-        }
-    }
-
-    /// Returns the last section, if there is one.
-    pub fn last(&self) -> Option<&Section>
-        ensures last { MatchOption result (self.now ≡ []) (λ s. IsLast self.now s.now) }
-    {
-        let Some(fork) = &self.root else {
-            return None;
-        };
-        match fork.right.last() {
-            Some(last) => Some(last),
-            None => Some(&fork.section),
+        match next.pop_first() {
+            Some((first, others)) => self.link(first, others),
+            None => self,
         }
     }
 
     /// Returns the section in which place `p` stands, and the place at which it begins, or `None` from the end on.
     #[tactic(auto, using(crate::proofs::Trees::section_at_facts))]
     pub fn section_at(&self, p: u32) -> Option<(&Section, u32)>
-        ensures limit { length (cells_of self.now) ≤ max_runes }
-        ensures section { MatchOption result (length (cells_of self.now) ≤ p) (λ r. (r.1 ≤ p) × (p < r.1 + size r.0.now)
-            × (take (size r.0.now) (drop r.1 (cells_of self.now)) ≡ cells r.0.now)) }
+        ensures limit { length self.now ≤ most_kept }
+        ensures section { MatchOption result (length self.now ≤ p) (λ r. (r.1 ≤ p) × (p < r.1 + size r.0.now)
+            × (take (size r.0.now) (drop r.1 self.now) ≡ cells r.0.now)) }
     {
         if p >= self.len {
             return None;
@@ -355,31 +289,32 @@ impl Tree {
         if p < start {
             return fork.left.section_at(p);
         }
-        let end = start + fork.section.len();
+        let end = start + fork.block.len();
         if p < end {
-            return Some((&fork.section, start));
+            let (section, place) = fork.block.section_at(p - start);
+            return Some((section, start + place));
         }
         let (section, place) = fork.right.section_at(p - end)?;
         Some((section, end + place))
     }
 
-    /// Returns whether the sections have the length of `text`, and each of their runes is the rune of `text` at the same place.
+    /// Returns whether the blocks have the length of `text`, and each of their runes is the rune of `text` at the same place.
     #[tactic(auto, using(crate::proofs::Trees::agrees_facts))]
     pub fn agrees(&self, text: &[char]) -> bool
-        ensures { IsTrue result ↔ Agrees (cells_of self.now) text.now }
+        ensures { IsTrue result ↔ Agrees self.now text.now }
     {
         let Some(fork) = &self.root else {
             return text.is_empty();
         };
         let start = fork.left.len() as usize;
-        let end = start + fork.section.len() as usize;
+        let end = start + fork.block.len() as usize;
         if text.len() < end {
             return false;
         }
         if !fork.left.agrees(&text[..start]) {
             return false;
         }
-        if !fork.section.agrees(&text[start..end]) {
+        if !fork.block.agrees(&text[start..end]) {
             return false;
         }
         fork.right.agrees(&text[end..])
@@ -388,62 +323,81 @@ impl Tree {
     /// Returns how many runes (if `loaded`) or gaps stand from place `p` on before the other sort begins.
     #[tactic(auto, using(crate::proofs::Trees::sort_from_facts))]
     pub fn sort_from(&self, loaded: bool, p: u32) -> u32
-        ensures count { result ≡ sort_from loaded (cells_of self.now) p }
-        ensures limit { (result ≤ length (cells_of self.now)) × (length (cells_of self.now) ≤ max_runes) }
+        ensures count { result ≡ sort_from loaded self.now p }
+        ensures limit { (result ≤ length self.now) × (length self.now ≤ most_kept) }
     {
         if p >= self.len {
             return 0;
         }
-        if loaded && self.loaded {
+        if loaded && self.gaps == 0 {
             return self.len - p;
         }
         let Some(fork) = &self.root else {
             return 0;
         };
         let start = fork.left.len();
-        let end = start + fork.section.len();
-        if p >= end {
-            return fork.right.sort_from(loaded, p - end);
-        }
-        let before = start.saturating_sub(p);
         let found = fork.left.sort_from(loaded, p);
-        if found < before {
+        if p + found < start {
             return found;
         }
-        if fork.section.is_loaded() != loaded {
-            return before;
+        let end = start + fork.block.len();
+        let found = found + fork.block.sort_from(loaded, p.max(start) - start);
+        if p + found < end {
+            return found;
         }
-        end - p + fork.right.sort_from(loaded, 0)
+        found + fork.right.sort_from(loaded, p.max(end) - end)
     }
 
     /// Returns how many runes (if `loaded`) or gaps stand at once before place `p` after the last of the other sort.
     #[tactic(auto, using(crate::proofs::Trees::sort_before_facts))]
     pub fn sort_before(&self, loaded: bool, p: u32) -> u32
-        requires { p ≤ length (cells_of self.now) }
-        ensures count { result ≡ sort_before loaded (cells_of self.now) p }
+        requires { p ≤ length self.now }
+        ensures count { result ≡ sort_before loaded self.now p }
         ensures limit { result ≤ p }
     {
-        if p == 0 {
-            return 0;
-        }
-        if loaded && self.loaded {
+        if loaded && self.gaps == 0 {
             return p;
         }
         let Some(fork) = &self.root else {
             return 0;
         };
         let start = fork.left.len();
-        if p <= start {
-            return fork.left.sort_before(loaded, p);
-        }
-        let after = p.saturating_sub(start + fork.section.len());
-        let found = fork.right.sort_before(loaded, after);
-        if found < after {
+        let end = start + fork.block.len();
+        let found = fork.right.sort_before(loaded, p.max(end) - end);
+        if p > end + found {
             return found;
         }
-        if fork.section.is_loaded() != loaded {
-            return after;
+        let found = found + fork.block.sort_before(loaded, p.clamp(start, end) - start);
+        if p > start + found {
+            return found;
         }
-        p - start + fork.left.sort_before(loaded, start)
+        found + fork.left.sort_before(loaded, p.min(start))
+    }
+
+    /// Returns how many sections there are if each is joined with the one before it where the two may be one.
+    pub fn joined_count(&self) -> usize
+        ensures { IsKeptIn self.now result }
+    {
+        if self.len == 0 {
+            return 0;
+        }
+        self.tally(Tally::new()).count
+    }
+
+    /// Returns the tally of `before` with the sections of all blocks added.
+    #[tactic(auto, using(crate::proofs::Trees::tally_facts))]
+    fn tally(&self, before: Tally) -> Tally
+        requires count { before.count + length self.now ≤ most_kept }
+        requires len { before.len + length self.now ≤ most_kept }
+        ensures tallied { (r : PartialText) → IsTallied r before.count before.loaded before.len
+            → IsTallied (r ++ self.now) result.count result.loaded result.len }
+        ensures count { result.count ≤ before.count + length self.now }
+        ensures len { result.len ≤ before.len + length self.now }
+    {
+        let Some(fork) = &self.root else {
+            return before;
+        };
+        let left = fork.left.tally(before);
+        fork.right.tally(fork.block.tally(left))
     }
 }

@@ -1,0 +1,272 @@
+//! Changes of a list of sections. `index` is the number of a section, counted from 0, and `at` a place in it.
+
+ghost use Rattle.std.specs.Prelude.{◌≡◌, ◌≢◌, ◌<◌, ◌≤◌, ◌+◌, ◌-◌, ◌++◌, IfOk, OnOk, OnErr, MatchOption, Ok, length, take, vec_capacity, vec_len, true, false};
+ghost use Rattle.sam_runes.specs.Texts.{del, ins, max_runes};
+ghost use Rattle.sam_rasp.specs.Rasp.{put_cells};
+ghost use Rattle.sam_rasp.specs.Sections.{cells, cells_of, gaps_of, incoming_cells, most_kept, size, AllFilled, CanComeIn, IsFilled};
+
+use crate::section::{Incoming, Section};
+use std::alloc::{AllocError, Global};
+
+/// Returns the number of the first section that ends at or after place `q`, and the place at which it begins.
+#[tactic(auto, using(crate::proofs::Blocks::find_facts))]
+pub fn find(sections: &[Section], q: u32) -> (usize, u32)
+    requires some { 0 < length sections.now }
+    requires within { q ≤ length (cells_of sections.now) }
+    requires limit { length (cells_of sections.now) ≤ most_kept }
+    ensures index { result.0 < length sections.now }
+    ensures start { result.1 ≡ length (cells_of (take result.0 sections.now)) }
+    ensures place { (result.1 ≤ q - 1) × (q ≤ length (cells_of (take (result.0 + 1) sections.now))) }
+{
+    let mut index = 0;
+    let mut start = 0;
+    while index + 1 < sections.len() {
+        let end = start + sections[index].len();
+        if q <= end {
+            return (index, start);
+        }
+        index += 1;
+        start = end;
+    }
+    (index, start)
+}
+
+/// Returns how many runes and gaps the sections have together, and how many of them are gaps.
+#[tactic(auto, using(crate::proofs::Blocks::count_facts))]
+pub fn counts(sections: &[Section]) -> (u32, u32)
+    requires { length (cells_of sections.now) ≤ most_kept }
+    ensures { (result.0 ≡ length (cells_of sections.now)) × (result.1 ≡ gaps_of (cells_of sections.now)) }
+{
+    let Some((first, others)) = sections.split_first() else {
+        return (0, 0);
+    };
+    let (len, gaps) = counts(others);
+    (first.len() + len, first.gaps() + gaps)
+}
+
+/// Puts a section in before section `index`, or after the last one. There is room for it, so no memory is asked for.
+#[tactic(auto, using(crate::proofs::Blocks::insert_facts))]
+fn insert(sections: &mut Vec<Section>, index: usize, section: Section)
+    requires index { index ≤ vec_len sections.old }
+    requires room { vec_len sections.old < vec_capacity sections.old }
+    requires filled { AllFilled sections.old.items × IsFilled section }
+    ensures cells { cells_of sections.new.items
+        ≡ ins (cells_of sections.old.items) (length (cells_of (take index sections.old.items))) (cells section) }
+    ensures filled { AllFilled sections.new.items }
+    ensures before { take index sections.new.items ≡ take index sections.old.items }
+    ensures len { vec_len sections.new ≡ vec_len sections.old + 1 }
+    ensures capacity { vec_capacity sections.old ≤ vec_capacity sections.new }
+{
+    if sections.insert(index, section).is_err() {
+        unreachable!();
+    }
+}
+
+/// Takes out what stands in section `index` from place `at` to place `end` of it, but not all of the section.
+#[tactic(auto, using(crate::proofs::Blocks::cut_in_facts))]
+fn cut_in(sections: &mut Vec<Section>, index: usize, at: u32, end: u32)
+    requires index { index < vec_len sections.old }
+    requires ascending { at ≤ end }
+    requires within { length (cells_of (take index sections.old.items)) + end ≤ length (cells_of (take (index + 1) sections.old.items)) }
+    requires some { length (cells_of (take index sections.old.items)) + (end - at)
+        < length (cells_of (take (index + 1) sections.old.items)) }
+    requires filled { AllFilled sections.old.items }
+    ensures cells { cells_of sections.new.items ≡ del (cells_of sections.old.items)
+        (length (cells_of (take index sections.old.items)) + at) (length (cells_of (take index sections.old.items)) + end) }
+    ensures filled { AllFilled sections.new.items }
+    ensures before { take index sections.new.items ≡ take index sections.old.items }
+    ensures end { length (cells_of (take (index + 1) sections.new.items)) + (end - at)
+        ≡ length (cells_of (take (index + 1) sections.old.items)) }
+    ensures room { (vec_len sections.new ≡ vec_len sections.old) × (vec_capacity sections.new ≡ vec_capacity sections.old) }
+{
+    sections[index].cut(at, end);
+}
+
+/// Cuts section `index` in two at place `at`, which stands inside. The only error is out of memory for runes; nothing is changed then.
+/// There is room for the second part.
+#[tactic(auto, using(crate::proofs::Blocks::part_facts))]
+fn part(
+    alloc: Global,
+    sections: &mut Vec<Section>,
+    index: usize,
+    at: u32,
+) -> Result<(), AllocError>
+    requires index { index < vec_len sections.old }
+    requires inside { (0 < at) × (length (cells_of (take index sections.old.items)) + at
+        < length (cells_of (take (index + 1) sections.old.items))) }
+    requires room { vec_len sections.old < vec_capacity sections.old }
+    requires filled { AllFilled sections.old.items }
+    ensures cells { cells_of sections.new.items ≡ cells_of sections.old.items }
+    ensures filled { AllFilled sections.new.items }
+    ensures before { take index sections.new.items ≡ take index sections.old.items }
+    ensures end { OnOk result (length (cells_of (take (index + 1) sections.new.items))
+        ≡ length (cells_of (take index sections.old.items)) + at) }
+    ensures room { (vec_len sections.new ≤ vec_len sections.old + 1) × (vec_len sections.old ≤ vec_len sections.new)
+        × (vec_capacity sections.old ≤ vec_capacity sections.new) }
+{
+    let back = sections[index].split_off(alloc, at)?;
+    insert(sections, index + 1, back);
+    Ok(())
+}
+
+/// Puts what comes in in section `index`, in the place of what stands there from place `at` to place `end` of it, if it is of that sort, and a
+/// loaded section has at most `MOST_IN_MESSAGE` runes then. Returns whether it did. The only error is out of memory. If it didn't, nothing
+/// is changed.
+#[tactic(auto, using(crate::proofs::Blocks::take_in_facts))]
+fn take_in(
+    sections: &mut Vec<Section>,
+    index: usize,
+    at: u32,
+    end: u32,
+    incoming: Incoming<'_>,
+) -> Result<bool, AllocError>
+    requires index { index < vec_len sections.old }
+    requires ascending { at ≤ end }
+    requires within { length (cells_of (take index sections.old.items)) + end ≤ length (cells_of (take (index + 1) sections.old.items)) }
+    requires incoming { CanComeIn incoming }
+    requires limit { length (cells_of sections.old.items) + length (incoming_cells incoming) ≤ most_kept }
+    requires filled { AllFilled sections.old.items }
+    ensures done { result ≡ Ok true → cells_of sections.new.items ≡ put_cells (cells_of sections.old.items)
+        (length (cells_of (take index sections.old.items)) + at) (length (cells_of (take index sections.old.items)) + end)
+        (incoming_cells incoming.entry) }
+    ensures refused { result ≢ Ok true → sections.new.items ≡ sections.old.items }
+    ensures filled { AllFilled sections.new.items }
+{
+    sections[index].take_in(at, end, incoming)
+}
+
+/// Puts what comes in in a section of its own in the place of what stands in section `index` from place `at` to place `end` of it. The only
+/// error is out of memory; what the sections stand for is then unchanged.
+#[tactic(auto, using(crate::proofs::Blocks::apart_facts))]
+fn put_apart(
+    alloc: Global,
+    sections: &mut Vec<Section>,
+    index: usize,
+    at: u32,
+    end: u32,
+    incoming: Incoming<'_>,
+) -> Result<(), AllocError>
+    requires index { index < vec_len sections.old }
+    requires ascending { at ≤ end }
+    requires within { length (cells_of (take index sections.old.items)) + end ≤ length (cells_of (take (index + 1) sections.old.items)) }
+    requires incoming { CanComeIn incoming }
+    requires filled { AllFilled sections.old.items }
+    requires limit { length (cells_of sections.old.items) ≤ most_kept }
+    ensures ok { OnOk result (cells_of sections.new.items ≡ put_cells (cells_of sections.old.items)
+        (length (cells_of (take index sections.old.items)) + at) (length (cells_of (take index sections.old.items)) + end)
+        (incoming_cells incoming.entry)) }
+    ensures err { OnErr result (cells_of sections.new.items ≡ cells_of sections.old.items) }
+    ensures filled { AllFilled sections.new.items }
+{
+    sections.reserve(2)?;
+    let section = incoming.section(alloc)?;
+    let len = sections[index].len();
+    if end - at == len {
+        sections[index] = section;
+        return Ok(());
+    }
+    if at > 0 && end < len {
+        part(alloc, sections, index, end)?;
+    }
+    cut_in(sections, index, at, end);
+    insert(sections, if at == 0 { index } else { index + 1 }, section);
+    Ok(())
+}
+
+/// Puts what comes in in the place of what stands in section `index` from place `at` to place `end` of it: in that section or the next one
+/// where it is of that sort and has room, else in a section of its own, but not in the place of loaded runes. Returns how many gaps went, or
+/// `None` if it put nothing in. The only error is out of memory. If it put nothing in, what the sections stand for is unchanged.
+#[tactic(auto, using(crate::proofs::Blocks::put_facts))]
+pub fn put(
+    alloc: Global,
+    sections: &mut Vec<Section>,
+    index: usize,
+    at: u32,
+    end: u32,
+    incoming: Incoming<'_>,
+) -> Result<Option<u32>, AllocError>
+    requires index { index < vec_len sections.old }
+    requires ascending { at ≤ end }
+    requires within { length (cells_of (take index sections.old.items)) + end ≤ length (cells_of (take (index + 1) sections.old.items)) }
+    requires incoming { CanComeIn incoming }
+    requires filled { AllFilled sections.old.items }
+    requires limit { length (cells_of sections.old.items) + length (incoming_cells incoming) ≤ most_kept }
+    ensures ok { IfOk result (λ r. MatchOption r (cells_of sections.new.items ≡ cells_of sections.old.items)
+        (λ gaps. (cells_of sections.new.items ≡ put_cells (cells_of sections.old.items)
+        (length (cells_of (take index sections.old.items)) + at) (length (cells_of (take index sections.old.items)) + end)
+        (incoming_cells incoming.entry))
+        × (gaps_of (cells_of sections.new.items) + gaps ≡ gaps_of (cells_of sections.old.items) + gaps_of (incoming_cells incoming.entry))
+        × (gaps ≤ gaps_of (cells_of sections.old.items)))) }
+    ensures always { at ≡ end → IfOk result (λ r. r ≢ None) }
+    ensures err { OnErr result (cells_of sections.new.items ≡ cells_of sections.old.items) }
+    ensures filled { AllFilled sections.new.items }
+{
+    let section = &sections[index];
+    let len = section.len();
+    let loaded = section.is_loaded();
+    let gaps = section.gaps_within(at, end);
+    if take_in(sections, index, at, end, incoming)? {
+        return Ok(Some(gaps));
+    }
+    if at == len && index + 1 < sections.len() && take_in(sections, index + 1, 0, 0, incoming)? {
+        return Ok(Some(gaps));
+    }
+    if loaded && at < end {
+        return Ok(None);
+    }
+    put_apart(alloc, sections, index, at, end, incoming)?;
+    Ok(Some(gaps))
+}
+
+/// Takes what stands from place `at` to place `end` of section `index` out, and the section if nothing of it is left. Returns how many gaps
+/// went.
+#[tactic(auto, using(crate::proofs::Blocks::take_out_facts))]
+pub fn take_out(sections: &mut Vec<Section>, index: usize, at: u32, end: u32) -> u32
+    requires index { index < vec_len sections.old }
+    requires ascending { at ≤ end }
+    requires within { length (cells_of (take index sections.old.items)) + end ≤ length (cells_of (take (index + 1) sections.old.items)) }
+    requires filled { AllFilled sections.old.items }
+    ensures cells { cells_of sections.new.items ≡ del (cells_of sections.old.items)
+        (length (cells_of (take index sections.old.items)) + at) (length (cells_of (take index sections.old.items)) + end) }
+    ensures gaps { gaps_of (cells_of sections.new.items) + result ≡ gaps_of (cells_of sections.old.items) }
+    ensures filled { AllFilled sections.new.items }
+{
+    let section = &sections[index];
+    let gaps = section.gaps_within(at, end);
+    if end - at == section.len() {
+        sections.remove(index);
+    } else {
+        cut_in(sections, index, at, end);
+    }
+    gaps
+}
+
+/// Joins section `index` with the next one if there is one, both are of one sort, and memory is at hand.
+#[tactic(auto, using(crate::proofs::Blocks::join_facts))]
+fn join_next(sections: &mut Vec<Section>, index: usize)
+    requires filled { AllFilled sections.old.items }
+    requires limit { length (cells_of sections.old.items) ≤ most_kept }
+    ensures cells { cells_of sections.new.items ≡ cells_of sections.old.items }
+    ensures filled { AllFilled sections.new.items }
+{
+    if index >= sections.len() || index + 1 == sections.len() {
+        return;
+    }
+    let (front, back) = sections.split_at_mut(index + 1);
+    if front[index].absorb(&back[0]) {
+        sections.remove(index + 1);
+    }
+}
+
+/// Joins section `index` with those beside it where they can be one.
+pub fn join(sections: &mut Vec<Section>, index: usize)
+    requires filled { AllFilled sections.old.items }
+    requires limit { length (cells_of sections.old.items) ≤ most_kept }
+    ensures cells { cells_of sections.new.items ≡ cells_of sections.old.items }
+    ensures filled { AllFilled sections.new.items }
+{
+    join_next(sections, index);
+    if index > 0 {
+        join_next(sections, index - 1);
+    }
+}

@@ -1,0 +1,186 @@
+//! Changes of a tree: what comes in goes into one block, and what goes is taken out of each block, all on one way down.
+
+ghost use Rattle.std.specs.Prelude.{◌≡◌, ◌≢◌, ◌<◌, ◌≤◌, ◌+◌, ◌++◌, Ok, length, true, false};
+ghost use Rattle.sam_runes.specs.Texts.{del};
+ghost use Rattle.sam_rasp.specs.Forks.{cells_in};
+ghost use Rattle.sam_rasp.specs.Rasp.{put_cells};
+ghost use Rattle.sam_rasp.specs.Sections.{incoming_cells, most_kept, CanComeIn};
+
+use crate::block::Block;
+use crate::section::Incoming;
+use crate::tree::{Fork, MOST_HEAVIER, Tree};
+use std::alloc::{AllocError, Global};
+use std::mem;
+
+impl Fork {
+    /// Puts the second half of the block's sections in a block of their own, if memory is at hand.
+    #[tactic(auto, using(crate::proofs::Trees::part_facts))]
+    fn part(&mut self, alloc: Global)
+        requires some { 0 < length self.old.block }
+        requires limit { length (cells_in self.old) ≤ most_kept }
+        ensures cells { cells_in self.new ≡ cells_in self.old }
+        ensures some { 0 < length self.new.block }
+    {
+        let Ok(mut fork) = Fork::new(alloc, Block::new(alloc)) else {
+            return;
+        };
+        let Ok(Some(back)) = self.block.split_off() else {
+            return;
+        };
+        fork.block = back;
+        let right = mem::replace(&mut self.right, Tree::new());
+        self.right = Tree::new().link(fork, right);
+    }
+
+    /// As `Tree::put`, for the list of this fork.
+    #[cycle(putting)]
+    #[tactic(auto, using(crate::proofs::Trees::put_facts))]
+    fn put(
+        &mut self,
+        alloc: Global,
+        p: u32,
+        n: u32,
+        incoming: Incoming<'_>,
+    ) -> Result<bool, AllocError>
+        requires some { 0 < length self.old.block }
+        requires within { p + n ≤ length (cells_in self.old) }
+        requires incoming { CanComeIn incoming }
+        requires limit { length (cells_in self.old) + length (incoming_cells incoming) ≤ most_kept }
+        ensures done { result ≡ Ok true → cells_in self.new ≡ put_cells (cells_in self.old) p (p + n) (incoming_cells incoming.entry) }
+        ensures refused { result ≢ Ok true → cells_in self.new ≡ cells_in self.old }
+        ensures always { n ≡ 0 → result ≢ Ok false }
+        ensures some { 0 < length self.new.block }
+    {
+        let start = self.left.len();
+        let end = start + self.block.len();
+        let q = p + n;
+        if start > 0 && q <= start {
+            return self.left.put(alloc, p, n, incoming);
+        }
+        if q > end && p >= end {
+            return self.right.put(alloc, p - end, n, incoming);
+        }
+        if q > end || p < start {
+            return Ok(false);
+        }
+        let done = self.block.put(alloc, p - start, n, incoming)?;
+        if self.block.is_full() {
+            self.part(alloc);
+        }
+        Ok(done)
+    }
+
+    /// Takes `n` runes and gaps out from place `p` on, in each of its three parts, but leaves the block as it is where nothing of it would be
+    /// left. Returns whether something of it is left.
+    #[cycle(cutting)]
+    #[tactic(auto, using(crate::proofs::Trees::cut_facts))]
+    fn cut(&mut self, p: u32, n: u32) -> bool
+        requires within { p + n ≤ length (cells_in self.old) }
+        requires limit { length (cells_in self.old) ≤ most_kept }
+        ensures left { result ≡ true → (cells_in self.new ≡ del (cells_in self.old) p (p + n)) × (0 < length self.new.block) }
+        ensures gone { result ≡ false → self.new.left ++ self.new.right ≡ del (cells_in self.old) p (p + n) }
+        ensures limit { length (cells_in self.new) ≤ length (cells_in self.old) }
+    {
+        let start = self.left.len();
+        let len = self.block.len();
+        let end = start + len;
+        let q = p + n;
+        self.left.cut(p.min(start), q.min(start) - p.min(start));
+        self.right.cut(p.max(end) - end, q.max(end) - p.max(end));
+        let from = p.max(start).min(end) - start;
+        let to = q.max(start).min(end) - start;
+        if to - from == len {
+            return false;
+        }
+        self.block.cut(from, to - from);
+        true
+    }
+}
+
+impl Tree {
+    /// Gives blocks from one side to the other if one has become too heavy by a block that came.
+    fn rebalance(&mut self)
+        ensures { self.new ≡ self.old }
+    {
+        let (front, end) = self.weights();
+        if front <= MOST_HEAVIER * end && end <= MOST_HEAVIER * front {
+            return;
+        }
+        if let Some((left, fork, right)) = mem::replace(self, Tree::new()).opened() {
+            *self = Tree::balanced(left, fork, right);
+        }
+    }
+
+    /// Puts what comes in in the place of `n` runes or gaps from place `p` on, if they stand in one section, and that is a hole or has room.
+    /// Returns whether it did, which it always does where `n` is 0. The only error is out of memory. If it didn't, nothing is changed.
+    #[cycle(putting)]
+    #[tactic(auto, using(crate::proofs::Trees::put_facts))]
+    pub fn put(
+        &mut self,
+        alloc: Global,
+        p: u32,
+        n: u32,
+        incoming: Incoming<'_>,
+    ) -> Result<bool, AllocError>
+        requires within { p + n ≤ length self.old }
+        requires incoming { CanComeIn incoming }
+        requires limit { length self.old + length (incoming_cells incoming) ≤ most_kept }
+        ensures done { result ≡ Ok true → self.new ≡ put_cells self.old p (p + n) (incoming_cells incoming.entry) }
+        ensures refused { result ≢ Ok true → self.new ≡ self.old }
+        ensures always { n ≡ 0 → result ≢ Ok false }
+    {
+        let Some(mut fork) = mem::replace(self, Tree::new()).root else {
+            let block = Block::of(alloc, incoming)?;
+            *self = Tree::whole(Fork::new(alloc, block)?);
+            return Ok(true);
+        };
+        let done = fork.put(alloc, p, n, incoming);
+        *self = Tree::whole(fork);
+        self.rebalance();
+        done
+    }
+
+    /// Takes `n` runes and gaps out from place `p` on. No memory is asked for.
+    #[cycle(cutting)]
+    #[tactic(auto, using(crate::proofs::Trees::cut_facts))]
+    pub fn cut(&mut self, p: u32, n: u32)
+        requires { p + n ≤ length self.old }
+        ensures { self.new ≡ del self.old p (p + n) }
+    {
+        if n == 0 {
+            return;
+        }
+        let whole = n == self.len;
+        let Some(mut fork) = mem::replace(self, Tree::new()).root else {
+            return;
+        };
+        if whole {
+            return;
+        }
+        let left = fork.cut(p, n);
+        *self = Tree::settled(fork, left);
+    }
+
+    /// Returns the list of a fork's blocks after some of what they stand for is gone, with its own if `left`.
+    #[tactic(auto, using(crate::proofs::Trees::settled_facts))]
+    fn settled(fork: Box<Fork>, left: bool) -> Tree
+        requires limit { length (cells_in fork.value) ≤ most_kept }
+        requires some { left ≡ true → 0 < length fork.value.block }
+        ensures left { left ≡ true → result ≡ cells_in fork.value }
+        ensures gone { left ≡ false → result ≡ fork.value.left ++ fork.value.right }
+    {
+        let mut fork = fork;
+        let front = fork.left.blocks() + 1;
+        let end = fork.right.blocks() + 1;
+        if left && front <= MOST_HEAVIER * end && end <= MOST_HEAVIER * front {
+            return Tree::whole(fork);
+        }
+        let before = mem::replace(&mut fork.left, Tree::new());
+        let after = mem::replace(&mut fork.right, Tree::new());
+        if left {
+            before.link(fork, after)
+        } else {
+            before.merge(after)
+        }
+    }
+}
