@@ -1,5 +1,5 @@
 -- Cutting and putting in, part by part.
-use Rattle.sam_rasp.proofs.Common.{◌≡◌, sym, ap, ℕ, zero, suc, ◌+◌, ◌-◌, ◌≤◌, List, [], ◌∷◌, ◌++◌, take, drop, length, min, arith, append_assoc, take-append-le, drop-append-le, length-append, length-take, length-drop, take-append-drop, append-nil, PartialText, del, ins, ◌∙◌, ◌<◌, ◌⊎◌, inl, inr, drop_all, drop-drop, drop-take, take-take, map, Some, Option, refl, map-append}
+use Rattle.sam_rasp.proofs.Common.{◌≡◌, ap, ℕ, zero, suc, ◌+◌, ◌-◌, ◌≤◌, List, [], ◌∷◌, ◌++◌, take, drop, length, min, arith, append_assoc, take-append-le, drop-append-le, length-append, length-take, length-drop, take-append-drop, append-nil, PartialText, del, ins, ◌∙◌, ◌<◌, ◌⊎◌, inl, inr, drop_all, drop-drop, drop-take, take-take, map, Some, Option, refl, map-append}
 use Rattle.std.proofs.lemmas.Bool.{cases_lt}
 use Rattle.std.proofs.lemmas.List.{take_all}
 use Rattle.sam_rasp.specs.Rasp.{put_cells}
@@ -24,10 +24,10 @@ put-past a b m p q i j e u = grind (
   (append_assoc a (take i b) m),
 )
 
-del-first : (a b : PartialText) (p q : ℕ) → p ≤ q → q ≤ length a → del a p q ++ b ≡ del (a ++ b) p q
+pub del-first : (a b : PartialText) (p q : ℕ) → p ≤ q → q ≤ length a → del a p q ++ b ≡ del (a ++ b) p q
 del-first a b p q o l = grind (arith, (take-append-le p a b), (drop-append-le q a b l), (append_assoc (take p a) (drop q a) b))
 
-del-past : (a b : PartialText) (p q i j : ℕ) → length a + i ≡ p → length a + j ≡ q → a ++ del b i j ≡ del (a ++ b) p q
+pub del-past : (a b : PartialText) (p q i j : ℕ) → length a + i ≡ p → length a + j ≡ q → a ++ del b i j ≡ del (a ++ b) p q
 del-past a b p q i j e u = grind (arith, (take-past a b i p e), (drop-past a b j q u), (append_assoc a (take i b) (drop j b)))
 
 -- ## A change in one of three parts

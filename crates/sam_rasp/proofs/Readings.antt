@@ -1,5 +1,5 @@
 -- What a rasp reads off its sections.
-use Rattle.sam_rasp.proofs.Common.{◌≡◌, ap, ◌∙◌, ℕ, zero, suc, ◌+◌, ◌-◌, ◌≤◌, ◌<◌, List, [], ◌∷◌, ◌++◌, take, drop, length, min, arith, Bool, true, false, Option, Some, None, option_map, slice_get, take-append-drop, length-take, length-drop, drop-drop, drop-take, length-append, append-nil, prefix_len, PartialText, has_rune, is_sort, first_gaps, gaps_in_front, hole_within, run_of, cells, size, is_loaded, del, ins, Section}
+use Rattle.sam_rasp.proofs.Common.{◌≡◌, ap, ◌∙◌, ℕ, zero, suc, ◌+◌, ◌-◌, ◌≤◌, ◌<◌, List, [], ◌∷◌, take, drop, length, min, arith, Bool, true, false, Option, Some, None, option_map, slice_get, take-append-drop, length-take, length-drop, drop-drop, drop-take, prefix_len, PartialText, has_rune, is_sort, first_gaps, gaps_in_front, hole_within, run_of, cells, size, is_loaded, Section}
 use Rattle.sam_rasp.specs.Rasp.{run_round, sort_from}
 use Rattle.sam_rasp.specs.declared.run.Run.{Run}
 use Rattle.sam_rasp.proofs.SectionLaws.{length-cells}

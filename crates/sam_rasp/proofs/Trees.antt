@@ -1,10 +1,9 @@
 -- Partial texts in three parts: what stands before a block, the block, and what stands after it.
 use Rattle.sam_rasp.proofs.Common.{◌≡◌, refl, sym, ap, ◌∙◌, ℕ, ◌+◌, ◌-◌, ◌≤◌, ◌<◌, List, [], ◌∷◌, ◌++◌, take, drop, length, min, max, arith, append_assoc, append-nil, length-append, ◌↔◌, Agrees, PartialText, Bool, gaps_of, drop-append-le, take-append-le, drop_all, length-take, length-drop, ◌⊎◌, inl, inr, del, cells, size, Section}
 use Rattle.std.proofs.lemmas.Bool.{cases_lt}
-use Rattle.std.proofs.lemmas.List.Sums.{prefix_len-le-length}
-use Rattle.sam_rasp.specs.Rasp.{is_sort, put_cells, sort_from, sort_before}
+use Rattle.sam_rasp.specs.Rasp.{sort_from, sort_before}
 use Rattle.sam_rasp.proofs.Agreeing.{stretch}
-use Rattle.sam_rasp.proofs.Changes.{del-both, drop-past, length-del, length-put, put-left, put-middle, put-nowhere, put-right}
+use Rattle.sam_rasp.proofs.Changes.{del-both, del-first, del-middle, del-past, drop-past, length-del, length-put, put-left, put-middle, put-nowhere, put-right}
 use Rattle.sam_rasp.proofs.RaspLaws.{length_agrees}
 use Rattle.sam_rasp.proofs.Runs.{before-cross, before-first, before-most, before-runes, before-stop, from-cross, from-end, from-most, from-runes, from-stop}
 use Rattle.sam_rasp.proofs.SectionLaws.{gaps-append, gaps-most, length-cells}
@@ -128,19 +127,28 @@ cut-parts : (a b c : PartialText) (p n s e : ℕ) → length a ≡ s → s + len
     ++ del c (max p e - e) ((max p e - e) + (max (p + n) e - max p e)))
 cut-parts a b c p n s e ea eb = grind (arith, (del-three a b c p (p + n)), ea, eb)
 
-pub cut-left : (a b c x y z : PartialText) (p n s e : ℕ) → length a ≡ s → s + length b ≡ e → x ≡ del a (min p s) (min p s + (min (p + n) s - min p s))
-    → y ≡ del b (min (max p s) e - s) ((min (max p s) e - s) + ((min (max (p + n) s) e - s) - (min (max p s) e - s)))
+pub cut-whole : (a b c x y z : PartialText) (p n s e : ℕ) → length a ≡ s → s + length b ≡ e → x ≡ del a (min p s) (min p s + (min (p + n) s - min p s))
+    → y ≡ del b (min (max p s) e - s) (min (max (p + n) s) e - s)
     → z ≡ del c (max p e - e) ((max p e - e) + (max (p + n) e - max p e)) → x ++ (y ++ z) ≡ del (a ++ (b ++ c)) p (p + n)
-cut-left a b c x y z p n s e ea eb u v w = grind (arith, (cut-parts a b c p n s e), ea, eb, u, v, w)
+cut-whole a b c x y z p n s e ea eb u v w =
+    let to : (min (max p s) e - s) + ((min (max (p + n) s) e - s) - (min (max p s) e - s)) ≡ min (max (p + n) s) e - s = omega arith in
+    grind (arith, (cut-parts a b c p n s e), ea, eb, u, v, w, to)
 
-pub cut-gone : (a b c x z : PartialText) (p n s e : ℕ) → length a ≡ s → s + length b ≡ e → x ≡ del a (min p s) (min p s + (min (p + n) s - min p s))
-    → (min (max (p + n) s) e - s) - (min (max p s) e - s) ≡ length b
-    → z ≡ del c (max p e - e) ((max p e - e) + (max (p + n) e - max p e)) → x ++ z ≡ del (a ++ (b ++ c)) p (p + n)
-cut-gone a b c x z p n s e ea eb u v w =
-    let none : del b 0 (length b) ≡ [] = drop_all (length b) b (omega arith) in
-    let from : min (max p s) e - s ≡ 0 = omega (arith, v, ea, eb) in
-    let to : (min (max p s) e - s) + ((min (max (p + n) s) e - s) - (min (max p s) e - s)) ≡ length b = omega (arith, v, from) in
-    grind (arith, (cut-parts a b c p n s e), ea, eb, u, w, none, from, to)
+-- nothing of the part is left
+pub del-whole : (a b c : PartialText) (from to : ℕ) → from ≤ to → to ≤ length b → to - from ≡ length b → a ++ c ≡ a ++ (del b from to ++ c)
+del-whole a b c from to o l e =
+    let first : from ≡ 0 = omega (arith, o, l, e) in
+    let last : to ≡ length b = omega (arith, o, l, e) in
+    let none : del b from to ≡ [] = grind (arith, first, last, (drop_all (length b) b)) in ap (λ z. a ++ (z ++ c)) (sym none)
+
+pub del-left : (a b c a' : PartialText) (p q : ℕ) → p ≤ q → q ≤ length a → a' ≡ del a p q → a' ++ (b ++ c) ≡ del (a ++ (b ++ c)) p q
+del-left a b c a' p q o l e = ap (λ z. z ++ (b ++ c)) e ∙ del-first a (b ++ c) p q o l
+
+pub del-right : (a b c c' : PartialText) (p q i j : ℕ) → (length a + length b) + i ≡ p → (length a + length b) + j ≡ q → c' ≡ del c i j
+    → a ++ (b ++ c') ≡ del (a ++ (b ++ c)) p q
+del-right a b c c' p q i j le lu e =
+    ap (λ z. a ++ (b ++ z)) e ∙ (ap (λ z. a ++ z) (del-past b c (length b + i) (length b + j) i j refl refl)
+    ∙ del-past a (b ++ c) p q (length b + i) (length b + j) (omega (arith, le)) (omega (arith, lu)))
 
 -- ## The section at a place
 
@@ -214,10 +222,13 @@ pub ruleset part_facts = (length-three, append_assoc)
 pub ruleset put_facts = (put-left, put-middle, put-right, put-nowhere, length-put, length-three, append-nil)
 
 -- what `cut` rests on
-pub ruleset cut_facts = (cut-left, cut-gone, length-del, length-three)
+pub ruleset cut_facts = (cut-whole, del-left, del-middle, del-right, length-del, length-three)
 
--- what `settled` rests on
-pub ruleset settled_facts = (length-three, length-append)
+-- what `without` rests on
+pub ruleset without_facts = (del-whole, length-del, length-append)
+
+-- what `settle` rests on
+pub ruleset settle_facts = (length-three)
 
 -- what `tally` rests on
 pub ruleset tally_facts = (length-three, length-append)

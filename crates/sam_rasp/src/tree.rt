@@ -3,7 +3,7 @@
 ghost use Rattle.std.specs.Prelude.{◌≡◌, ◌<◌, ◌≤◌, ◌+◌, ◌++◌, ◌↔◌, [], IsTrue, IfOk, MatchOption, length, take, drop};
 ghost use Rattle.sam_rasp.specs.Forks.{cells_in};
 ghost use Rattle.sam_rasp.specs.Rasp.{sort_before, sort_from, Agrees, PartialText};
-ghost use Rattle.sam_rasp.specs.Sections.{cells, gaps_of, most_kept, size, IsKeptIn, IsTallied};
+ghost use Rattle.sam_rasp.specs.Sections.{cells, gaps_of, most_kept, size, IsCounted, IsKeptIn, IsTallied};
 
 mod changes;
 
@@ -63,6 +63,19 @@ impl Model for Tree {
 }
 
 impl Fork {
+    /// Returns how many runes and gaps stand in it, how many of them are gaps, and how many blocks it has.
+    #[tactic(auto, using(crate::proofs::Trees::whole_facts))]
+    fn counts(&self) -> (u32, u32, usize)
+        requires some { 0 < length self.now.block }
+        requires limit { length (cells_in self.now) ≤ most_kept }
+        ensures { IsCounted (cells_in self.now) result.0 result.1 result.2 }
+    {
+        let len = self.left.len() + self.block.len() + self.right.len();
+        let gaps = self.left.gaps() + self.block.gaps() + self.right.gaps();
+        let blocks = self.left.blocks() + 1 + self.right.blocks();
+        (len, gaps, blocks)
+    }
+
     /// Returns a block in memory of its own. The only error is out of memory.
     fn new(alloc: Global, block: Block) -> Result<Box<Fork>, AllocError>
         ensures { IfOk result (λ f. (f.value.left ≡ []) × (f.value.block ≡ block) × (f.value.right ≡ [])) }
@@ -120,9 +133,7 @@ impl Tree {
         requires limit { length (cells_in fork.value) ≤ most_kept }
         ensures { result ≡ cells_in fork.value }
     {
-        let len = fork.left.len() + fork.block.len() + fork.right.len();
-        let gaps = fork.left.gaps() + fork.block.gaps() + fork.right.gaps();
-        let blocks = fork.left.blocks() + 1 + fork.right.blocks();
+        let (len, gaps, blocks) = fork.counts();
         Tree {
             root: Some(fork),
             len,

@@ -70,29 +70,34 @@ impl Fork {
         Ok(done)
     }
 
-    /// Takes `n` runes and gaps out from place `p` on, in each of its three parts, but leaves the block as it is where nothing of it would be
-    /// left. Returns whether something of it is left.
+    /// Takes `n` runes and gaps out from place `p` on, if they stand before its block, in it, or after it, and something of it is left. Returns
+    /// whether it did; if not, nothing is changed.
     #[cycle(cutting)]
     #[tactic(auto, using(crate::proofs::Trees::cut_facts))]
     fn cut(&mut self, p: u32, n: u32) -> bool
+        requires some { 0 < length self.old.block }
         requires within { p + n ≤ length (cells_in self.old) }
         requires limit { length (cells_in self.old) ≤ most_kept }
-        ensures left { result ≡ true → (cells_in self.new ≡ del (cells_in self.old) p (p + n)) × (0 < length self.new.block) }
-        ensures gone { result ≡ false → self.new.left ++ self.new.right ≡ del (cells_in self.old) p (p + n) }
-        ensures limit { length (cells_in self.new) ≤ length (cells_in self.old) }
+        ensures done { result ≡ true → cells_in self.new ≡ del (cells_in self.old) p (p + n) }
+        ensures refused { result ≡ false → cells_in self.new ≡ cells_in self.old }
+        ensures some { 0 < length self.new.block }
+        ensures limit { length (cells_in self.new) ≤ most_kept }
     {
         let start = self.left.len();
-        let len = self.block.len();
-        let end = start + len;
+        let end = start + self.block.len();
         let q = p + n;
-        self.left.cut(p.min(start), q.min(start) - p.min(start));
-        self.right.cut(p.max(end) - end, q.max(end) - p.max(end));
-        let from = p.max(start).min(end) - start;
-        let to = q.max(start).min(end) - start;
-        if to - from == len {
+        if q <= start {
+            self.left.cut(p, n);
+            return true;
+        }
+        if p >= end {
+            self.right.cut(p - end, n);
+            return true;
+        }
+        if p < start || q > end || n == self.block.len() {
             return false;
         }
-        self.block.cut(from, to - from);
+        self.block.cut(p - start, n);
         true
     }
 }
@@ -129,15 +134,18 @@ impl Tree {
         ensures refused { result ≢ Ok true → self.new ≡ self.old }
         ensures always { n ≡ 0 → result ≢ Ok false }
     {
-        let Some(mut fork) = mem::replace(self, Tree::new()).root else {
+        let Some(fork) = &mut self.root else {
             let block = Block::of(alloc, incoming)?;
             *self = Tree::whole(Fork::new(alloc, block)?);
             return Ok(true);
         };
-        let done = fork.put(alloc, p, n, incoming);
-        *self = Tree::whole(fork);
+        let done = fork.put(alloc, p, n, incoming)?;
+        let (len, gaps, blocks) = fork.counts();
+        self.len = len;
+        self.gaps = gaps;
+        self.blocks = blocks;
         self.rebalance();
-        done
+        Ok(done)
     }
 
     /// Takes `n` runes and gaps out from place `p` on. No memory is asked for.
@@ -150,37 +158,63 @@ impl Tree {
         if n == 0 {
             return;
         }
-        let whole = n == self.len;
-        let Some(mut fork) = mem::replace(self, Tree::new()).root else {
+        if n == self.len {
+            *self = Tree::new();
+            return;
+        }
+        let Some(fork) = &mut self.root else {
             return;
         };
-        if whole {
+        let done = fork.cut(p, n);
+        let (len, gaps, blocks) = fork.counts();
+        self.len = len;
+        self.gaps = gaps;
+        self.blocks = blocks;
+        if done {
+            self.settle();
             return;
         }
-        let left = fork.cut(p, n);
-        *self = Tree::settled(fork, left);
+        let Some((mut left, fork, mut right)) = mem::replace(self, Tree::new()).opened() else {
+            return;
+        };
+        let start = left.len();
+        let end = start + fork.block.len();
+        let q = p + n;
+        left.cut(p.min(start), q.min(start) - p.min(start));
+        right.cut(p.max(end) - end, q.max(end) - p.max(end));
+        let from = p.max(start).min(end) - start;
+        let to = q.max(start).min(end) - start;
+        *self = Tree::without(left, fork, right, from, to);
     }
 
-    /// Returns the list of a fork's blocks after some of what they stand for is gone, with its own if `left`.
-    #[tactic(auto, using(crate::proofs::Trees::settled_facts))]
-    fn settled(fork: Box<Fork>, left: bool) -> Tree
-        requires limit { length (cells_in fork.value) ≤ most_kept }
-        requires some { left ≡ true → 0 < length fork.value.block }
-        ensures left { left ≡ true → result ≡ cells_in fork.value }
-        ensures gone { left ≡ false → result ≡ fork.value.left ++ fork.value.right }
+    /// Returns the blocks of `left`, this block without what stands in it from place `from` to place `to`, and the blocks of `right`.
+    #[tactic(auto, using(crate::proofs::Trees::without_facts))]
+    fn without(left: Tree, fork: Box<Fork>, right: Tree, from: u32, to: u32) -> Tree
+        requires some { 0 < length fork.value.block }
+        requires ascending { from ≤ to }
+        requires within { to ≤ length fork.value.block }
+        requires limit { length left + length fork.value.block + length right ≤ most_kept }
+        ensures { result ≡ left ++ (del fork.value.block from to ++ right) }
     {
         let mut fork = fork;
-        let front = fork.left.blocks() + 1;
-        let end = fork.right.blocks() + 1;
-        if left && front <= MOST_HEAVIER * end && end <= MOST_HEAVIER * front {
-            return Tree::whole(fork);
+        if to - from == fork.block.len() {
+            return left.merge(right);
         }
-        let before = mem::replace(&mut fork.left, Tree::new());
-        let after = mem::replace(&mut fork.right, Tree::new());
-        if left {
-            before.link(fork, after)
-        } else {
-            before.merge(after)
+        fork.block.cut(from, to - from);
+        left.link(fork, right)
+    }
+
+    /// Parts the list at another block if one side has become too heavy by blocks that went.
+    #[tactic(auto, using(crate::proofs::Trees::settle_facts))]
+    fn settle(&mut self)
+        ensures { self.new ≡ self.old }
+    {
+        let (front, end) = self.weights();
+        if front <= MOST_HEAVIER * end && end <= MOST_HEAVIER * front {
+            return;
+        }
+        if let Some((left, fork, right)) = mem::replace(self, Tree::new()).opened() {
+            *self = left.link(fork, right);
         }
     }
 }
