@@ -91,7 +91,7 @@ pub set-del : (xs : List Section) (i : ℕ) (x y : Section) (at end : ℕ) → i
 set-del xs i x y at end l e o w c =
     cells-set xs i y l
     ∙ (del-middle (cells_of (take i xs)) (cells x) (cells_of (drop (i + 1) xs)) (cells y)
-      (length (cells_of (take i xs)) + at) (length (cells_of (take i xs)) + end) at end refl refl o (omega (arith, w, length-cells x)) c
+    (length (cells_of (take i xs)) + at) (length (cells_of (take i xs)) + end) at end refl refl o (omega (arith, w, length-cells x)) c
     ∙ ap (λ z. del z (length (cells_of (take i xs)) + at) (length (cells_of (take i xs)) + end)) (sym (at-index xs i x l e).0))
 
 pub set-put : (xs : List Section) (i : ℕ) (x y : Section) (at end : ℕ) (m : PartialText) → i < length xs → x ≡ get_or xs i x → at ≤ end → end ≤ size x
@@ -100,7 +100,7 @@ pub set-put : (xs : List Section) (i : ℕ) (x y : Section) (at end : ℕ) (m : 
 set-put xs i x y at end m l e o w c =
     cells-set xs i y l
     ∙ (put-middle (cells_of (take i xs)) (cells x) (cells_of (drop (i + 1) xs)) (cells y) m
-      (length (cells_of (take i xs)) + at) (length (cells_of (take i xs)) + end) at end refl refl o (omega (arith, w, length-cells x)) c
+    (length (cells_of (take i xs)) + at) (length (cells_of (take i xs)) + end) at end refl refl o (omega (arith, w, length-cells x)) c
     ∙ ap (λ z. put_cells z (length (cells_of (take i xs)) + at) (length (cells_of (take i xs)) + end) m) (sym (at-index xs i x l e).0))
 
 pub set-whole : (xs : List Section) (i : ℕ) (x y : Section) (at end : ℕ) (m : PartialText) → i < length xs → x ≡ get_or xs i x → at ≡ 0 → end ≡ size x
@@ -137,7 +137,7 @@ remove-del xs i x at end l e z w =
     cells_append (take i xs) (drop (suc i) xs)
     ∙ (ap (λ k. a ++ cells_of (drop k xs)) step
     ∙ (del-middle a (cells x) b [] (length a + at) (length a + end) at end refl refl (omega (arith, z)) (omega (arith, w, length-cells x))
-      (grind (arith, z, w, (length-cells x), (drop_all end (cells x))))
+    (grind (arith, z, w, (length-cells x), (drop_all end (cells x))))
     ∙ ap (λ y. del y (length a + at) (length a + end)) (sym (at-index xs i x l e).0)))
 
 -- one section in two parts
@@ -267,6 +267,7 @@ pair-size xs i a b l e u h =
     filled-middle : (l : List Section) (s : Section) (r : List Section) → AllFilled (l ++ s ∷ r) → IsFilled s
     filled-middle [] s r h = h.0
     filled-middle (x ∷ l) s r h = filled-middle l s r h.1
+
     length-three : (l : List Section) (s : Section) (r : List Section) → length (cells_of (l ++ s ∷ r)) ≡ length (cells_of l) + (size s + length (cells_of r))
     length-three l s r = ap length (cells-three l s r) ∙ omega (arith, length-append (cells_of l) (cells s ++ cells_of r), length-append (cells s) (cells_of r), length-cells s)
 
@@ -334,15 +335,20 @@ pub ruleset take_in_facts = (set-put, filled-set, filled-at, at-index)
 
 -- what `take_out` rests on
 pub ruleset take_out_facts = (remove-del, filled-remove, at-index)
+
 pub ruleset one_facts = (cells_append)
 
 -- what `Block::split_off` rests on
 pub ruleset half_facts = (half-cells, half-length, half-gaps, filled-take, filled-drop)
 
 pub ruleset put_facts = (cells_append)
+
 pub ruleset apart_facts = (cells_append)
+
 pub ruleset join_facts = (cells_append)
+
 pub ruleset cut_facts = (cells_append)
+
 pub ruleset sort_before_facts = (cells_append)
 
 -- what `agrees` rests on

@@ -1,6 +1,7 @@
 -- In how few sections a partial text may be kept.
 use Rattle.sam_rasp.proofs.Common.{◌≡◌, refl, sym, ap, ◌∙◌, subst, ℕ, zero, suc, ◌+◌, ◌-◌, ◌≤◌, ◌<◌, List, [], ◌∷◌, ◌++◌, map, replicate, drop, length, Some, None, Bool, true, false, arith, append_assoc, length-append, drop_at, drop-replicate, length-replicate, map-append, PartialText, cells, cells_of, size, is_loaded, may_join, IsFilled, IsNormal, Section, Loaded, Hole}
-use Rattle.sam_rasp.specs.Sections.{EndsIn, IsKeptIn, IsLast, IsTallied}
+use Rattle.sam_rasp.specs.Blocks.{EndsIn, IsLast, IsTallied}
+use Rattle.sam_rasp.specs.Sections.{IsKeptIn}
 use Rattle.sam_rasp.proofs.Blocks.{length-first}
 use Rattle.sam_rasp.proofs.SectionLaws.{absorbed_gaps, cells-push, filled, length-cells}
 

@@ -161,6 +161,7 @@ section-within b c x place e = go (cases_lt (length b) place)
   where
     fits : size x ≤ length b - place
     fits = omega (arith, ap length e, length-take (size x) (drop place b), length-drop place b, length-cells x)
+
     go : ((length b < place) ⊎ (place ≤ length b)) → take (size x) (drop place (b ++ c)) ≡ cells x
     go (inl u) = grind (arith, fits, u, e, (length-cells x), (nil-of (cells x)))
     go (inr u) = grind (arith, fits, e, (drop-append-le place b c), (take-append-le (size x) (drop place b) c), (length-drop place b))

@@ -3,7 +3,8 @@
 ghost use Rattle.std.specs.Prelude.{◌≡◌, ◌≢◌, ◌<◌, ◌≤◌, ◌+◌, ◌++◌, ◌↔◌, IsTrue, IfOk, OnErr, MatchOption, Ok, Some, length, take, drop, true, false};
 ghost use Rattle.sam_runes.specs.Texts.{del};
 ghost use Rattle.sam_rasp.specs.Rasp.{Agrees, PartialText, put_cells, sort_before, sort_from};
-ghost use Rattle.sam_rasp.specs.Sections.{cells, cells_of, gaps_of, incoming_cells, most_kept, size, CanComeIn, IsTallied};
+ghost use Rattle.sam_rasp.specs.Blocks.{gaps_of, incoming_cells, most_kept, CanComeIn, IsTallied};
+ghost use Rattle.sam_rasp.specs.Sections.{cells, cells_of, size};
 
 mod list;
 mod reading;
@@ -15,7 +16,7 @@ use std::alloc::{AllocError, Global};
 use std::marker::Model;
 
 /// How many sections a block has at most. With more of them a change moves more, with fewer a place is found through more forks.
-const MOST_SECTIONS: usize = 64;
+const MOST_SECTIONS: usize = 32;
 
 /// Sections in order, none of them empty, in one piece of memory.
 #[derive(Drop)]
@@ -31,7 +32,8 @@ pub struct Block {
 impl Model for Block {
     ghost use Rattle.std.specs.Prelude.{◌≡◌, ◌≤◌, length};
     ghost use Rattle.sam_rasp.specs.Rasp.{PartialText};
-    ghost use Rattle.sam_rasp.specs.Sections.{cells_of, gaps_of, most_kept, AllFilled};
+    ghost use Rattle.sam_rasp.specs.Blocks.{gaps_of, most_kept, AllFilled};
+    ghost use Rattle.sam_rasp.specs.Sections.{cells_of};
 
     ghost Value = { PartialText };
 
@@ -114,6 +116,8 @@ impl Block {
 
     /// Puts what comes in in the place of `n` runes or gaps from place `p` on, if they stand in one section, and that is a hole or has room.
     /// Returns whether it did, which it always does where `n` is 0. The only error is out of memory. If it didn't, nothing is changed.
+    // Not inlined: the way down a tree then needs a small frame at each fork.
+    #[inline(never)]
     #[tactic(auto, using(crate::proofs::Blocks::put_facts))]
     pub fn put(
         &mut self,
@@ -144,6 +148,7 @@ impl Block {
     }
 
     /// Takes `n` runes and gaps out from place `p` on, but not all. No memory is asked for.
+    #[inline(never)]
     #[tactic(auto, using(crate::proofs::Blocks::cut_facts))]
     pub fn cut(&mut self, p: u32, n: u32)
         requires within { p + n ≤ length self.old }

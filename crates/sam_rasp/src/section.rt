@@ -4,7 +4,8 @@ ghost use Rattle.std.specs.Prelude.{◌≡◌, ◌≢◌, ◌<◌, ◌≤◌, �
 ghost use Rattle.std.specs.List.{prefix_len};
 ghost use Rattle.sam_runes.specs.Texts.{del, max_runes, most_in_message};
 ghost use Rattle.sam_rasp.specs.Rasp.{is_sort, put_cells, Agrees, PartialText};
-ghost use Rattle.sam_rasp.specs.Sections.{cells, gaps_of, incoming_cells, size, is_loaded, most_kept, CanComeIn, IsFilled, IsShort};
+ghost use Rattle.sam_rasp.specs.Blocks.{gaps_of, incoming_cells, most_kept, CanComeIn};
+ghost use Rattle.sam_rasp.specs.Sections.{cells, size, is_loaded, IsFilled, IsShort};
 
 use crate::piece::Piece;
 use sam_runes::MOST_IN_MESSAGE;

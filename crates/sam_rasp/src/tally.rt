@@ -2,7 +2,8 @@
 
 ghost use Rattle.std.specs.Prelude.{◌≡◌, ◌<◌, ◌≤◌, ◌+◌, ◌++◌, [], length, true, false};
 ghost use Rattle.sam_rasp.specs.Rasp.{PartialText};
-ghost use Rattle.sam_rasp.specs.Sections.{cells, cells_of, is_loaded, may_join, most_kept, size, AllFilled, IsFilled, IsTallied};
+ghost use Rattle.sam_rasp.specs.Blocks.{most_kept, AllFilled, IsTallied};
+ghost use Rattle.sam_rasp.specs.Sections.{cells, cells_of, is_loaded, may_join, size, IsFilled};
 ghost use Rattle.sam_rasp.specs.declared.section.Section.{Section};
 
 use crate::section::Section;

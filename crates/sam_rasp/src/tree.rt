@@ -3,7 +3,8 @@
 ghost use Rattle.std.specs.Prelude.{◌≡◌, ◌<◌, ◌≤◌, ◌+◌, ◌++◌, ◌↔◌, [], IsTrue, IfOk, MatchOption, length, take, drop};
 ghost use Rattle.sam_rasp.specs.Forks.{cells_in};
 ghost use Rattle.sam_rasp.specs.Rasp.{sort_before, sort_from, Agrees, PartialText};
-ghost use Rattle.sam_rasp.specs.Sections.{cells, gaps_of, most_kept, size, IsCounted, IsKeptIn, IsTallied};
+ghost use Rattle.sam_rasp.specs.Blocks.{gaps_of, most_kept, IsCounted, IsTallied};
+ghost use Rattle.sam_rasp.specs.Sections.{cells, size, IsKeptIn};
 
 mod changes;
 
@@ -46,7 +47,7 @@ pub struct Fork {
 impl Model for Tree {
     ghost use Rattle.std.specs.Prelude.{◌++◌, length};
     ghost use Rattle.sam_rasp.specs.Rasp.{PartialText};
-    ghost use Rattle.sam_rasp.specs.Sections.{IsCounted, cells_below, IsParted};
+    ghost use Rattle.sam_rasp.specs.Blocks.{IsCounted, cells_below, IsParted};
 
     ghost Value = { PartialText };
 

@@ -3,7 +3,8 @@
 ghost use Rattle.std.specs.Prelude.{◌≡◌, ◌≢◌, ◌<◌, ◌≤◌, ◌+◌, ◌-◌, ◌++◌, IfOk, OnOk, OnErr, MatchOption, Ok, length, take, vec_capacity, vec_len, true, false};
 ghost use Rattle.sam_runes.specs.Texts.{del, ins, max_runes};
 ghost use Rattle.sam_rasp.specs.Rasp.{put_cells};
-ghost use Rattle.sam_rasp.specs.Sections.{cells, cells_of, gaps_of, incoming_cells, most_kept, size, AllFilled, CanComeIn, IsFilled};
+ghost use Rattle.sam_rasp.specs.Blocks.{gaps_of, incoming_cells, most_kept, AllFilled, CanComeIn};
+ghost use Rattle.sam_rasp.specs.Sections.{cells, cells_of, size, IsFilled};
 
 use crate::section::{Incoming, Section};
 use std::alloc::{AllocError, Global};
@@ -85,12 +86,7 @@ fn cut_in(sections: &mut Vec<Section>, index: usize, at: u32, end: u32)
 /// Cuts section `index` in two at place `at`, which stands inside. The only error is out of memory for runes; nothing is changed then.
 /// There is room for the second part.
 #[tactic(auto, using(crate::proofs::Blocks::part_facts))]
-fn part(
-    alloc: Global,
-    sections: &mut Vec<Section>,
-    index: usize,
-    at: u32,
-) -> Result<(), AllocError>
+fn part(alloc: Global, sections: &mut Vec<Section>, index: usize, at: u32) -> Result<(), AllocError>
     requires index { index < vec_len sections.old }
     requires inside { (0 < at) × (length (cells_of (take index sections.old.items)) + at
         < length (cells_of (take (index + 1) sections.old.items))) }

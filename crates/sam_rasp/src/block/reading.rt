@@ -3,7 +3,8 @@
 ghost use Rattle.std.specs.Prelude.{◌≡◌, ◌≤◌, ◌+◌, ◌++◌, ◌↔◌, IsTrue, length, take, reverse};
 ghost use Rattle.std.specs.List.{prefix_len};
 ghost use Rattle.sam_rasp.specs.Rasp.{is_sort, sort_from, Agrees, PartialText};
-ghost use Rattle.sam_rasp.specs.Sections.{cells_of, most_kept, AllFilled};
+ghost use Rattle.sam_rasp.specs.Blocks.{most_kept, AllFilled};
+ghost use Rattle.sam_rasp.specs.Sections.{cells_of};
 
 use crate::section::Section;
 

@@ -4,7 +4,7 @@ ghost use Rattle.std.specs.Prelude.{◌≡◌, ◌≢◌, ◌<◌, ◌≤◌, �
 ghost use Rattle.sam_runes.specs.Texts.{del};
 ghost use Rattle.sam_rasp.specs.Forks.{cells_in};
 ghost use Rattle.sam_rasp.specs.Rasp.{put_cells};
-ghost use Rattle.sam_rasp.specs.Sections.{incoming_cells, most_kept, CanComeIn};
+ghost use Rattle.sam_rasp.specs.Blocks.{incoming_cells, most_kept, CanComeIn};
 
 use crate::block::Block;
 use crate::section::Incoming;

@@ -1,5 +1,5 @@
 use Rattle.sam_rasp.proofs.Common.{subst, arith, append_assoc, cells, cells_of}
-use Rattle.sam_rasp.specs.Sections.{IsTallied}
+use Rattle.sam_rasp.specs.Blocks.{IsTallied}
 use Rattle.sam_rasp.proofs.tally.+of_sections.Goals as goal
 
 pub returns-clause-tallied : goal.returns-clause-tallied

@@ -1,5 +1,5 @@
 use Rattle.sam_rasp.proofs.Common.{arith}
-use Rattle.sam_rasp.specs.Sections.{incoming_cells}
+use Rattle.sam_rasp.specs.Blocks.{incoming_cells}
 use Rattle.sam_rasp.proofs.SectionLaws.{gaps-most}
 use Rattle.sam_rasp.proofs.block.Block.put.Goals as goal
 

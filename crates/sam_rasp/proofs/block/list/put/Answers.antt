@@ -1,5 +1,5 @@
 use Rattle.sam_rasp.proofs.Common.{arith, cells_of, ◌+◌}
-use Rattle.sam_rasp.specs.Sections.{incoming_cells}
+use Rattle.sam_rasp.specs.Blocks.{incoming_cells}
 use Rattle.sam_rasp.proofs.Blocks.{at-index, put-gaps, taken-more}
 use Rattle.sam_rasp.proofs.block.list.put.Goals as goal
 

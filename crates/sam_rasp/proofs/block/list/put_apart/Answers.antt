@@ -1,5 +1,5 @@
 use Rattle.sam_rasp.proofs.Common.{arith}
-use Rattle.sam_rasp.specs.Sections.{incoming_cells}
+use Rattle.sam_rasp.specs.Blocks.{incoming_cells}
 use Rattle.sam_rasp.proofs.Blocks.{at-index, filled-set, set-whole}
 use Rattle.sam_rasp.proofs.block.list.put_apart.Goals as goal
 

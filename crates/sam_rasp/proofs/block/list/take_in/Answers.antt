@@ -1,6 +1,6 @@
 use Rattle.sam_rasp.proofs.Common.{arith, ◌+◌}
 use Rattle.sam_rasp.proofs.Blocks.{at-index, set-put, taken-short}
-use Rattle.sam_rasp.specs.Sections.{incoming_cells}
+use Rattle.sam_rasp.specs.Blocks.{incoming_cells}
 use Rattle.sam_rasp.proofs.block.list.take_in.Goals as goal
 
 pub take_in-requires-clause-limit : goal.take_in-requires-clause-limit

@@ -1,5 +1,5 @@
 use Rattle.sam_rasp.proofs.Common.{◌+◌, ◌++◌, sym, subst, cells, size}
-use Rattle.sam_rasp.specs.Sections.{IsTallied}
+use Rattle.sam_rasp.specs.Blocks.{IsTallied}
 use Rattle.sam_rasp.proofs.Tallies.{one-longer, one-more}
 use Rattle.sam_rasp.proofs.tally.Tally.add.Goals as goal
 

@@ -1,0 +1,59 @@
+-- Words of this crate's private calls alone: what a tree of blocks keeps, what comes into it, and how sections are counted.
+use Rattle.std.specs.Prelude.{◌≡◌, ℕ, ◌+◌, ◌<◌, ◌≤◌, Bool, List, [], ◌∷◌, ◌++◌, map, replicate, length, Option, Some, None, ⊤}
+use Rattle.sam_runes.specs.Texts.{max_runes, most_in_message}
+use Rattle.sam_rasp.specs.Rasp.{PartialText}
+use Rattle.sam_rasp.specs.Sections.{cells_of, is_loaded, size, IsFilled, IsNormal}
+use Rattle.sam_rasp.specs.declared.section.Incoming.{Incoming}
+use Rattle.sam_rasp.specs.declared.section.Incoming.TheVariants.{Runes, Gaps}
+use Rattle.sam_rasp.specs.declared.section.Section.{Section}
+
+-- how many runes and gaps a rasp has at most while runes take the place of others: those come in before these go
+abbrev pub most_kept : ℕ
+most_kept = max_runes + max_runes
+
+-- how many gaps the partial text has
+abbrev pub gaps_of : PartialText → ℕ
+gaps_of [] = 0
+gaps_of (None ∷ r) = 1 + gaps_of r
+gaps_of (Some c ∷ r) = gaps_of r
+
+-- no section is empty, and each loaded text has at most most_in_message runes
+abbrev pub AllFilled : List Section → Type 0
+AllFilled [] = ⊤
+AllFilled (a ∷ xs) = IsFilled a × AllFilled xs
+
+-- what stands for what comes in
+abbrev pub incoming_cells : Incoming → PartialText
+incoming_cells (Runes s) = map Some s.now
+incoming_cells (Gaps n) = replicate n None
+
+-- what comes in is not empty; runes are at most most_in_message, and gaps at most max_runes
+abbrev pub CanComeIn : Incoming → Type 0
+CanComeIn (Runes s) = (0 < length s.now) × (length s.now ≤ most_in_message)
+CanComeIn (Gaps n) = (0 < n) × (n ≤ max_runes)
+
+-- what stands below a fork, and nothing if there is none
+abbrev pub cells_below : {F : Type 0} → (F → PartialText) → Option F → PartialText
+cells_below f None = []
+cells_below f (Some x) = f x
+
+-- where there is a fork, its block is not empty
+abbrev pub IsParted : {F : Type 0} → (F → PartialText) → Option F → Type 0
+IsParted f None = ⊤
+IsParted f (Some x) = 0 < length (f x)
+
+-- the partial text has this length of at most most_kept, so many gaps, and at least one member for each of so many blocks
+abbrev pub IsCounted : PartialText → ℕ → ℕ → ℕ → Type 0
+IsCounted r len gaps blocks = (len ≡ length r) × (len ≤ most_kept) × (gaps ≡ gaps_of r) × (blocks ≤ len)
+
+-- the section is the last of the list
+abbrev pub IsLast : List Section → Section → Type 0
+IsLast xs a = (ys : List Section) × (xs ≡ ys ++ a ∷ [])
+
+-- where there is a last section, it is loaded or not, as `loaded` says, and has this length
+abbrev pub EndsIn : List Section → Bool → ℕ → Type 0
+EndsIn xs loaded len = (a : Section) → IsLast xs a → (is_loaded a ≡ loaded) × (size a ≡ len)
+
+-- the partial text may be kept in so many sections of that form, of which the last is loaded or not, as `loaded` says, and has this length
+abbrev pub IsTallied : PartialText → ℕ → Bool → ℕ → Type 0
+IsTallied r count loaded len = (xs : List Section) × IsNormal xs × (cells_of xs ≡ r) × (length xs ≡ count) × EndsIn xs loaded len
