@@ -4,6 +4,8 @@
 use std::io::Write;
 use std::time::{Duration, Instant};
 
+mod blocks;
+mod chunks;
 mod codec;
 mod editing;
 mod handling;

@@ -1,9 +1,9 @@
 //! A terminal over partial texts in chunks: the user's events and the host's frames in, messages out, with the locks that ours takes and
 //! the tests that ours makes.
 
+use crate::chunks::Chunks;
 use crate::codec::{HFrame, Hmesg, MOST_IN_MESSAGE, Tmesg};
 use crate::host::MOST_RUNES;
-use crate::loading::Chunks;
 use std::collections::VecDeque;
 
 const COMMAND_FILE: u16 = 0;
