@@ -7,6 +7,8 @@ use std::time::Instant;
 
 const PIECE: usize = 512;
 const STEP: usize = 1_000_003;
+/// How many places the questions begin at.
+const QUESTIONS: u32 = 64;
 const APART: u32 = 18;
 
 fn load_pieces(text: &mut Blocks, runes: &[char]) {
@@ -115,8 +117,9 @@ pub fn asked(size: usize) -> Report {
     let begin = Instant::now();
     let end = text.len();
     let mut check = 0;
-    for _ in 0..size / 2 {
-        if let Some((start, _)) = text.first_gaps(end.saturating_sub(100), end) {
+    for i in 0..size as u32 / 2 {
+        let back = i % QUESTIONS + 100;
+        if let Some((start, _)) = text.first_gaps(end.saturating_sub(back), end) {
             check = mix(check, start as u64);
         }
     }

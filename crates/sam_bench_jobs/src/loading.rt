@@ -80,12 +80,16 @@ fn type_singly(rasp: &mut Rasp, count: u32) -> Result<(), Fault> {
     Ok(())
 }
 
-/// Asks so many times for the first hole among the last 100 members. Returns the check value of the answers.
+/// How many places the questions begin at, so that no compiler asks once for all.
+const QUESTIONS: u32 = 64;
+
+/// Asks so many times for the first hole among the last members, some 100 of them. Returns the check value of the answers.
 fn ask_at_end(rasp: &Rasp, count: u32) -> u64 {
     let end = rasp.len();
     let mut check = 0;
-    for _ in 0..count {
-        if let Some((start, _)) = rasp.first_hole(end.saturating_sub(100), end) {
+    for i in 0..count {
+        let back = (i % QUESTIONS).saturating_add(100);
+        if let Some((start, _)) = rasp.first_hole(end.saturating_sub(back), end) {
             check = mix(check, u64::from(start));
         }
     }

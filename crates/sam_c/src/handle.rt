@@ -73,12 +73,12 @@ impl HeldHost {
     }
 }
 
-/// The handle of a host: `sam_host` of include/sulgrevad.h. It is empty, or holds an end, which clauses call `held.end`.
+/// The handle of a host: `sam_host` of include/sulgrevad.h. It is empty, or holds an endpoint, which clauses call `held.end`.
 #[repr(C)]
 pub struct SamHost {
     /// The end, if the handle is made.
     held: HeldHost,
-    /// `HOST_MARK` if and only if the handle holds an end.
+    /// `HOST_MARK` if and only if the handle holds an endpoint.
     made: u64,
     /// States that `held` and `made` agree.
     ghost is_marked: { is_some held.end ≡ eqb made host_mark },
@@ -107,7 +107,7 @@ impl SamHost {
         }
     }
 
-    /// Returns whether the handle holds an end.
+    /// Returns whether the handle holds an endpoint.
     pub(crate) fn is_made(&self) -> bool
         ensures { result ≡ is_some self.now.held.end }
     {
@@ -125,7 +125,7 @@ impl SamHost {
         std::mem::replace(self, SamHost::empty(alloc)).into_end()
     }
 
-    /// Puts an end into the handle. An end that it held before is freed.
+    /// Puts an endpoint into the handle. An endpoint that it held before is freed.
     pub(crate) fn put(&mut self, end: Box<HostEndpoint>)
         ensures { self.new.held.end ≡ Some end.value }
     {
@@ -185,12 +185,12 @@ impl HeldTerm {
     }
 }
 
-/// The handle of a terminal: `sam_term` of include/sulgrevad.h. It is empty, or holds an end, which clauses call `held.end`.
+/// The handle of a terminal: `sam_term` of include/sulgrevad.h. It is empty, or holds an endpoint, which clauses call `held.end`.
 #[repr(C)]
 pub struct SamTerm {
     /// The end, if the handle is made.
     held: HeldTerm,
-    /// `TERM_MARK` if and only if the handle holds an end.
+    /// `TERM_MARK` if and only if the handle holds an endpoint.
     made: u64,
     /// States that `held` and `made` agree.
     ghost is_marked: { is_some held.end ≡ eqb made term_mark },
@@ -219,7 +219,7 @@ impl SamTerm {
         }
     }
 
-    /// Returns whether the handle holds an end.
+    /// Returns whether the handle holds an endpoint.
     pub(crate) fn is_made(&self) -> bool
         ensures { result ≡ is_some self.now.held.end }
     {
@@ -237,7 +237,7 @@ impl SamTerm {
         std::mem::replace(self, SamTerm::empty(alloc)).into_end()
     }
 
-    /// Puts an end into the handle. An end that it held before is freed.
+    /// Puts an endpoint into the handle. An endpoint that it held before is freed.
     pub(crate) fn put(&mut self, end: Box<TermEndpoint>)
         ensures { self.new.held.end ≡ Some end.value }
     {
