@@ -15,13 +15,13 @@ use list::find;
 use std::alloc::{AllocError, Global};
 use std::marker::Model;
 
-/// How many sections a block has at most. With more of them a change moves more, with fewer a place is found through more forks.
+/// How many sections a block has at most when a change comes to it. With more of them a change moves more, with fewer a place is found through more forks.
 const MOST_SECTIONS: usize = 32;
 
 /// Sections in order, none of them empty, in one piece of memory.
 #[derive(Drop)]
 pub struct Block {
-    /// The sections. More than `MOST_SECTIONS` are parted where memory is at hand.
+    /// The sections. Where they are more than `MOST_SECTIONS`, the next change that comes by parts them.
     sections: Vec<Section>,
     /// How many runes and gaps they have together.
     len: u32,

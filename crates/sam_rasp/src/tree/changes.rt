@@ -13,23 +13,22 @@ use std::alloc::{AllocError, Global};
 use std::mem;
 
 impl Fork {
-    /// Puts the second half of the block's sections in a block of their own, if memory is at hand.
+    /// Puts the second half of the block's sections in a block of their own. The only error is out of memory; nothing is changed then.
     #[tactic(auto, using(crate::proofs::Trees::part_facts))]
-    fn part(&mut self, alloc: Global)
+    fn part(&mut self, alloc: Global) -> Result<(), AllocError>
         requires some { 0 < length self.old.block }
         requires limit { length (cells_in self.old) ≤ most_kept }
         ensures cells { cells_in self.new ≡ cells_in self.old }
         ensures some { 0 < length self.new.block }
     {
-        let Ok(mut fork) = Fork::new(alloc, Block::new(alloc)) else {
-            return;
-        };
-        let Ok(Some(back)) = self.block.split_off() else {
-            return;
+        let mut fork = Fork::new(alloc, Block::new(alloc))?;
+        let Some(back) = self.block.split_off()? else {
+            return Ok(());
         };
         fork.block = back;
         let right = mem::replace(&mut self.right, Tree::new());
         self.right = Tree::new().link(fork, right);
+        Ok(())
     }
 
     /// As `Tree::put`, for the list of this fork.
@@ -51,6 +50,9 @@ impl Fork {
         ensures always { n ≡ 0 → result ≢ Ok false }
         ensures some { 0 < length self.new.block }
     {
+        if self.block.is_full() {
+            self.part(alloc)?;
+        }
         let start = self.left.len();
         let end = start + self.block.len();
         let q = p + n;
@@ -63,11 +65,7 @@ impl Fork {
         if q > end || p < start {
             return Ok(false);
         }
-        let done = self.block.put(alloc, p - start, n, incoming)?;
-        if self.block.is_full() {
-            self.part(alloc);
-        }
-        Ok(done)
+        self.block.put(alloc, p - start, n, incoming)
     }
 
     /// Takes `n` runes and gaps out from place `p` on, if they stand before its block, in it, or after it, and something of it is left. Returns
