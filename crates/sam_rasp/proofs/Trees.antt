@@ -1,5 +1,5 @@
 -- Partial texts in three parts: what stands before a block, the block, and what stands after it.
-use Rattle.sam_rasp.proofs.Common.{◌≡◌, refl, sym, ap, ◌∙◌, ℕ, ◌+◌, ◌-◌, ◌≤◌, ◌<◌, List, [], ◌∷◌, ◌++◌, take, drop, length, min, max, arith, append_assoc, append-nil, length-append, ◌↔◌, Agrees, PartialText, Bool, gaps_of, drop-append-le, take-append-le, drop_all, length-take, length-drop, ◌⊎◌, inl, inr, del, cells, size, Section}
+use Rattle.sam_rasp.proofs.Common.{◌≡◌, refl, sym, ap, ◌∙◌, ℕ, ◌+◌, ◌-◌, ◌≤◌, ◌<◌, List, [], ◌∷◌, ◌++◌, take, drop, length, min, max, arith, append_assoc, append-nil, length-append, ◌↔◌, Agrees, PartialText, Bool, gaps_of, is_sort, prefix_len, drop-append-le, take-append-le, drop_all, length-take, length-drop, ◌⊎◌, inl, inr, del, cells, size, Section}
 use Rattle.std.proofs.lemmas.Bool.{cases_lt}
 use Rattle.sam_rasp.specs.Rasp.{sort_from, sort_before}
 use Rattle.sam_rasp.proofs.Agreeing.{stretch}
@@ -57,10 +57,13 @@ from-second b x y z p found l e m = grind (
   (from-most b x p),
 )
 
-pub from-third : (b : Bool) (x y z : PartialText) (p found : ℕ) → length x ≤ p + sort_from b x p
+pub from-after : (b : Bool) (x y z : PartialText) (p k : ℕ) → (length x + length y) + k ≡ p → sort_from b (x ++ (y ++ z)) p ≡ sort_from b z k
+from-after b x y z p k e = ap (prefix_len (is_sort b)) (drop-three x y z p k e)
+
+pub from-third : (b : Bool) (x y z : PartialText) (p found : ℕ) → p < length x + length y → length x ≤ p + sort_from b x p
     → found ≡ sort_from b x p + sort_from b y (max p (length x) - length x) → length x + length y ≤ p + found
-    → sort_from b (x ++ (y ++ z)) p ≡ found + sort_from b z (max p (length x + length y) - (length x + length y))
-from-third b x y z p found l e m = grind (
+    → sort_from b (x ++ (y ++ z)) p ≡ found + sort_from b z 0
+from-third b x y z p found w l e m = grind (
   arith,
   (from-goes-on b x (y ++ z) p),
   (from-goes-on b y z (p - length x)),
@@ -211,7 +214,7 @@ pub ruleset section_at_facts = (section-left, section-middle, section-right, len
 pub ruleset agrees_facts = (agrees-three, agrees-long)
 
 -- what `sort_from` rests on
-pub ruleset sort_from_facts = (from-runes, from-first, from-second, from-third, from-end, from-most, length-three)
+pub ruleset sort_from_facts = (from-runes, from-first, from-second, from-third, from-after, from-end, from-most, length-three)
 
 -- what `sort_before` rests on
 pub ruleset sort_before_facts = (before-runes, before-third, before-second, before-rest, before-most, length-three)

@@ -187,10 +187,17 @@ impl Block {
     }
 
     /// Returns how many runes (if `loaded`) or gaps stand from place `p` on before the other sort begins.
+    #[tactic(auto, using(crate::proofs::Runs::from_facts))]
     pub fn sort_from(&self, loaded: bool, p: u32) -> u32
         ensures count { result ≡ sort_from loaded self.now p }
         ensures limit { result ≤ length self.now }
     {
+        if p >= self.len {
+            return 0;
+        }
+        if loaded && self.gaps == 0 {
+            return self.len - p;
+        }
         reading::sort_from(self.sections.as_slice(), loaded, p)
     }
 

@@ -348,16 +348,19 @@ impl Tree {
             return 0;
         };
         let start = fork.left.len();
+        let end = start + fork.block.len();
+        if p >= end {
+            return fork.right.sort_from(loaded, p - end);
+        }
         let found = fork.left.sort_from(loaded, p);
         if p + found < start {
             return found;
         }
-        let end = start + fork.block.len();
         let found = found + fork.block.sort_from(loaded, p.max(start) - start);
         if p + found < end {
             return found;
         }
-        found + fork.right.sort_from(loaded, p.max(end) - end)
+        found + fork.right.sort_from(loaded, 0)
     }
 
     /// Returns how many runes (if `loaded`) or gaps stand at once before place `p` after the last of the other sort.
