@@ -109,7 +109,7 @@ put-after r m p q o l =
       (append_assoc (take p r) m (drop q r)),
     )
 
-length-some : (s : List ℕ) → length (map {B = Option ℕ} Some s) ≡ length s
+pub length-some : (s : List ℕ) → length (map {B = Option ℕ} Some s) ≡ length s
 length-some [] = refl
 length-some (c ∷ s) = ap suc (length-some s)
 
@@ -151,3 +151,24 @@ none-left old r p at t l w e =
       (append-nil (take p old)),
       (take-append-drop p old),
     )
+
+nil-of : (r : PartialText) → length r ≡ 0 → r ≡ []
+nil-of [] e = refl
+nil-of (x ∷ r) e = absurd (omega (arith, e))
+
+-- what comes in where nothing is
+pub put-alone : (r m : PartialText) (p q : ℕ) → length r ≡ 0 → put_cells r p q m ≡ m
+put-alone r m p q e = ap (λ z. put_cells z p q m) (nil-of r e) ∙ put-nowhere m p q
+
+-- all goes
+pub del-all : (r s : PartialText) (p n : ℕ) → p + n ≤ length r → n ≡ length r → length s ≡ 0 → s ≡ del r p (p + n)
+del-all r s p n l e z =
+    let first : p ≡ 0 = omega (arith, l, e) in
+    let last : p + n ≡ length r = omega (arith, first, e) in
+    nil-of s z ∙ grind (arith, first, last, (drop_all (length r) r))
+
+-- what a tree's `put` rests on
+pub ruleset put_facts = (put-alone)
+
+-- what a tree's `cut` rests on
+pub ruleset cut_facts = (del-all)

@@ -6,6 +6,7 @@ pub mod RaspLaws
 pub mod Agreeing
 pub mod Blocks
 pub mod Trees
+pub mod Rows
 pub mod Tallies
 pub mod Readings
 pub mod Crossing

@@ -35,10 +35,10 @@ agrees-long a b c t short h = grind (arith, (length-three a b c), (length_agrees
 -- ## Stretches of one sort
 
 -- a stretch that ends in the first of two parts, or goes on after it
-from-ends : (b : Bool) (x y : PartialText) (p : ℕ) → p + sort_from b x p < length x → sort_from b (x ++ y) p ≡ sort_from b x p
+pub from-ends : (b : Bool) (x y : PartialText) (p : ℕ) → p + sort_from b x p < length x → sort_from b (x ++ y) p ≡ sort_from b x p
 from-ends b x y p l = from-stop b x y p (omega (arith, l)) (omega (arith, l))
 
-from-goes-on : (b : Bool) (x y : PartialText) (p : ℕ) → length x ≤ p + sort_from b x p → sort_from b (x ++ y) p ≡ sort_from b x p + sort_from b y (p - length x)
+pub from-goes-on : (b : Bool) (x y : PartialText) (p : ℕ) → length x ≤ p + sort_from b x p → sort_from b (x ++ y) p ≡ sort_from b x p + sort_from b y (p - length x)
 from-goes-on b x y p l = go (cases_lt p (length x))
   where
     go : ((p < length x) ⊎ (length x ≤ p)) → sort_from b (x ++ y) p ≡ sort_from b x p + sort_from b y (p - length x)
@@ -72,11 +72,11 @@ from-third b x y z p found w l e m = grind (
 )
 
 -- the same towards the front
-before-ends : (b : Bool) (x y : PartialText) (p k : ℕ) → p ≤ length x + length y → k ≡ max p (length x) - length x → length x + sort_before b y k < p
+pub before-ends : (b : Bool) (x y : PartialText) (p k : ℕ) → p ≤ length x + length y → k ≡ max p (length x) - length x → length x + sort_before b y k < p
     → sort_before b (x ++ y) p ≡ sort_before b y k
 before-ends b x y p k w e l = before-stop b x y p k (omega (arith, e, l)) (omega (arith, e, w)) (omega (arith, e, l))
 
-before-goes-on : (b : Bool) (x y : PartialText) (p k : ℕ) → p ≤ length x + length y → k ≡ max p (length x) - length x → p ≤ length x + sort_before b y k
+pub before-goes-on : (b : Bool) (x y : PartialText) (p k : ℕ) → p ≤ length x + length y → k ≡ max p (length x) - length x → p ≤ length x + sort_before b y k
     → sort_before b (x ++ y) p ≡ sort_before b y k + sort_before b x (min p (length x))
 before-goes-on b x y p k w e l = go (cases_lt (length x) p)
   where

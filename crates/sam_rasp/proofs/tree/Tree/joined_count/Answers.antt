@@ -1,8 +1,10 @@
-use Rattle.sam_rasp.proofs.Common.{[]}
+use Rattle.sam_rasp.proofs.Common.{[], arith, subst}
+use Rattle.sam_rasp.specs.Sections.{IsKeptIn}
 use Rattle.sam_rasp.proofs.Tallies.{kept-in}
 use Rattle.sam_rasp.proofs.tree.Tree.joined_count.Goals as goal
 
 pub returns : goal.returns
 returns c =
     let now = c.tally.result in
-    kept-in c.args.self.now now.count now.len now.loaded (c.tally.ensures.tallied [] c.new.ensures.none)
+    let kept = kept-in c.self.inside.rows now.count now.len now.loaded (c.tally.ensures.tallied [] c.new.ensures.none) in
+    subst (λ r. IsKeptIn r now.count) (grind arith) kept

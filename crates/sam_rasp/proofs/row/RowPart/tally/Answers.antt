@@ -1,0 +1,8 @@
+use Rattle.sam_rasp.proofs.Common.{subst, arith, ◌++◌}
+use Rattle.sam_rasp.specs.Blocks.{IsTallied}
+use Rattle.sam_rasp.proofs.row.RowPart.tally.Goals as goal
+
+pub returns-clause-tallied : goal.returns-clause-tallied
+returns-clause-tallied g c r start =
+    let now = c.tally.result in
+    subst (λ x. IsTallied (r ++ x) now.count now.loaded now.len) (grind arith) (c.tally.ensures.tallied r start)

@@ -1,0 +1,178 @@
+//! Changes of a list of parts. `index` is the number of a part, counted from 0, and `at` a place in it.
+
+ghost use Rattle.std.specs.Prelude.{◌≡◌, ◌≢◌, ◌<◌, ◌≤◌, ◌+◌, ◌-◌, ◌++◌, IfOk, OnOk, OnErr, MatchOption, Ok, length, take, vec_capacity, vec_len, true, false};
+ghost use Rattle.sam_runes.specs.Texts.{del, ins};
+ghost use Rattle.sam_rasp.specs.Rasp.{put_cells};
+ghost use Rattle.sam_rasp.specs.Blocks.{gaps_of, incoming_cells, most_kept, CanComeIn};
+ghost use Rattle.sam_rasp.specs.Rows.{members_of, NoneEmpty};
+
+use crate::part::Part;
+use crate::section::Incoming;
+use std::alloc::{AllocError, Global};
+
+/// Returns the number of the first part that ends at or after place `q`, and the place at which it begins.
+#[tactic(auto, using(crate::proofs::Rows::find_facts))]
+pub fn find<P: Part>(parts: &[P], q: u32) -> (usize, u32)
+    requires some { 0 < length parts.now }
+    requires within { q ≤ length (members_of P.members parts.now) }
+    requires limit { length (members_of P.members parts.now) ≤ most_kept }
+    ensures index { result.0 < length parts.now }
+    ensures start { result.1 ≡ length (members_of P.members (take result.0 parts.now)) }
+    ensures place { (result.1 ≤ q - 1) × (q ≤ length (members_of P.members (take (result.0 + 1) parts.now))) }
+{
+    let mut index = 0;
+    let mut start = 0;
+    while index + 1 < parts.len() {
+        let end = start + parts[index].len();
+        if q <= end {
+            return (index, start);
+        }
+        index += 1;
+        start = end;
+    }
+    (index, start)
+}
+
+/// Returns how many runes and gaps the parts have together, and how many of them are gaps.
+#[tactic(auto, using(crate::proofs::Rows::count_facts))]
+pub fn counts<P: Part>(parts: &[P]) -> (u32, u32)
+    requires { length (members_of P.members parts.now) ≤ most_kept }
+    ensures { (result.0 ≡ length (members_of P.members parts.now)) × (result.1 ≡ gaps_of (members_of P.members parts.now)) }
+{
+    let Some((first, others)) = parts.split_first() else {
+        return (0, 0);
+    };
+    let (len, gaps) = counts(others);
+    (first.len() + len, first.gaps() + gaps)
+}
+
+/// Puts a part in before part `index`, or after the last one. There is room for it, so no memory is asked for.
+#[tactic(auto, using(crate::proofs::Rows::insert_facts))]
+fn insert<P: Part>(parts: &mut Vec<P>, index: usize, part: P)
+    requires index { index ≤ vec_len parts.old }
+    requires room { vec_len parts.old < vec_capacity parts.old }
+    requires some { NoneEmpty P.members parts.old.items × (0 < length (P.members part)) }
+    ensures members { members_of P.members parts.new.items
+        ≡ ins (members_of P.members parts.old.items) (length (members_of P.members (take index parts.old.items))) (P.members part) }
+    ensures some { NoneEmpty P.members parts.new.items }
+{
+    if parts.insert(index, part).is_err() {
+        unreachable!();
+    }
+}
+
+/// Cuts part `index` in two, if it has two sections or parts at least. The only error is out of memory; what the parts stand for is then
+/// unchanged.
+#[tactic(auto, using(crate::proofs::Rows::halve_facts))]
+fn halve<P: Part>(parts: &mut Vec<P>, index: usize) -> Result<(), AllocError>
+    requires index { index < vec_len parts.old }
+    requires some { NoneEmpty P.members parts.old.items }
+    ensures members { members_of P.members parts.new.items ≡ members_of P.members parts.old.items }
+    ensures some { NoneEmpty P.members parts.new.items }
+{
+    parts.reserve(1)?;
+    if let Some(back) = parts[index].split_off()? {
+        insert(parts, index + 1, back);
+    }
+    Ok(())
+}
+
+/// As `find`, but cuts that part in two first if it is full. The only error is out of memory; what the parts stand for is unchanged.
+#[tactic(auto, using(crate::proofs::Rows::find_room_facts))]
+pub fn find_room<P: Part>(parts: &mut Vec<P>, q: u32) -> Result<(usize, u32), AllocError>
+    requires some { 0 < length (members_of P.members parts.old.items) }
+    requires parts { NoneEmpty P.members parts.old.items }
+    requires within { q ≤ length (members_of P.members parts.old.items) }
+    requires limit { length (members_of P.members parts.old.items) ≤ most_kept }
+    ensures members { members_of P.members parts.new.items ≡ members_of P.members parts.old.items }
+    ensures parts { NoneEmpty P.members parts.new.items }
+    ensures ok { IfOk result (λ r. (r.0 < vec_len parts.new) × (r.1 ≡ length (members_of P.members (take r.0 parts.new.items)))
+        × (r.1 ≤ q - 1) × (q ≤ length (members_of P.members (take (r.0 + 1) parts.new.items)))) }
+{
+    let (index, start) = find(parts.as_slice(), q);
+    if !parts[index].is_full() {
+        return Ok((index, start));
+    }
+    halve(parts, index)?;
+    Ok(find(parts.as_slice(), q))
+}
+
+/// Puts what comes in in part `index`, in the place of what stands there from place `at` to place `end` of it. Returns how many gaps went, or
+/// `None` if it put nothing in. The only error is out of memory. If it put nothing in, what the parts stand for is unchanged.
+#[tactic(auto, using(crate::proofs::Rows::put_facts))]
+pub fn put<P: Part>(
+    alloc: Global,
+    parts: &mut Vec<P>,
+    index: usize,
+    at: u32,
+    end: u32,
+    incoming: Incoming<'_>,
+) -> Result<Option<u32>, AllocError>
+    requires index { index < vec_len parts.old }
+    requires ascending { at ≤ end }
+    requires within { length (members_of P.members (take index parts.old.items)) + end
+        ≤ length (members_of P.members (take (index + 1) parts.old.items)) }
+    requires incoming { CanComeIn incoming }
+    requires some { NoneEmpty P.members parts.old.items }
+    requires limit { length (members_of P.members parts.old.items) + length (incoming_cells incoming) ≤ most_kept }
+    ensures ok { IfOk result (λ r. MatchOption r (members_of P.members parts.new.items ≡ members_of P.members parts.old.items)
+        (λ gaps. (members_of P.members parts.new.items ≡ put_cells (members_of P.members parts.old.items)
+        (length (members_of P.members (take index parts.old.items)) + at) (length (members_of P.members (take index parts.old.items)) + end)
+        (incoming_cells incoming.entry))
+        × (gaps_of (members_of P.members parts.new.items) + gaps
+        ≡ gaps_of (members_of P.members parts.old.items) + gaps_of (incoming_cells incoming.entry))
+        × (gaps ≤ gaps_of (members_of P.members parts.old.items)))) }
+    ensures always { at ≡ end → IfOk result (λ r. r ≢ None) }
+    ensures err { OnErr result (members_of P.members parts.new.items ≡ members_of P.members parts.old.items) }
+    ensures some { NoneEmpty P.members parts.new.items }
+{
+    let part = &mut parts[index];
+    let gaps = part.gaps();
+    if !part.put(alloc, at, end - at, incoming)? {
+        return Ok(None);
+    }
+    Ok(Some(gaps + incoming.gaps() - part.gaps()))
+}
+
+/// Takes out what stands in part `index` from place `at` to place `end` of it, but not all of the part. Returns how many gaps went.
+#[tactic(auto, using(crate::proofs::Rows::cut_in_facts))]
+fn cut_in<P: Part>(parts: &mut Vec<P>, index: usize, at: u32, end: u32) -> u32
+    requires index { index < vec_len parts.old }
+    requires ascending { at ≤ end }
+    requires within { length (members_of P.members (take index parts.old.items)) + end
+        ≤ length (members_of P.members (take (index + 1) parts.old.items)) }
+    requires left { length (members_of P.members (take index parts.old.items)) + (end - at)
+        < length (members_of P.members (take (index + 1) parts.old.items)) }
+    requires some { NoneEmpty P.members parts.old.items }
+    ensures members { members_of P.members parts.new.items ≡ del (members_of P.members parts.old.items)
+        (length (members_of P.members (take index parts.old.items)) + at) (length (members_of P.members (take index parts.old.items)) + end) }
+    ensures gaps { gaps_of (members_of P.members parts.new.items) + result ≡ gaps_of (members_of P.members parts.old.items) }
+    ensures some { NoneEmpty P.members parts.new.items }
+{
+    let part = &mut parts[index];
+    let gaps = part.gaps();
+    part.cut(at, end - at);
+    gaps - part.gaps()
+}
+
+/// Takes what stands from place `at` to place `end` of part `index` out, and the part if nothing of it is left. Returns how many gaps went.
+#[tactic(auto, using(crate::proofs::Rows::take_out_facts))]
+pub fn take_out<P: Part>(parts: &mut Vec<P>, index: usize, at: u32, end: u32) -> u32
+    requires index { index < vec_len parts.old }
+    requires ascending { at ≤ end }
+    requires within { length (members_of P.members (take index parts.old.items)) + end
+        ≤ length (members_of P.members (take (index + 1) parts.old.items)) }
+    requires some { NoneEmpty P.members parts.old.items }
+    ensures members { members_of P.members parts.new.items ≡ del (members_of P.members parts.old.items)
+        (length (members_of P.members (take index parts.old.items)) + at) (length (members_of P.members (take index parts.old.items)) + end) }
+    ensures gaps { gaps_of (members_of P.members parts.new.items) + result ≡ gaps_of (members_of P.members parts.old.items) }
+    ensures some { NoneEmpty P.members parts.new.items }
+{
+    let part = &parts[index];
+    let gaps = part.gaps();
+    if end - at == part.len() {
+        parts.remove(index);
+        return gaps;
+    }
+    cut_in(parts, index, at, end)
+}

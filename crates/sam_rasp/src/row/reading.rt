@@ -1,0 +1,81 @@
+//! What is read off a list of parts.
+
+ghost use Rattle.std.specs.Prelude.{◌≡◌, ◌≤◌, ◌+◌, ◌++◌, ◌↔◌, IsTrue, length};
+ghost use Rattle.sam_rasp.specs.Rasp.{sort_before, sort_from, Agrees, PartialText};
+ghost use Rattle.sam_rasp.specs.Blocks.{most_kept, IsTallied};
+ghost use Rattle.sam_rasp.specs.Rows.{members_of};
+
+use crate::part::Part;
+use crate::tally::Tally;
+
+/// Returns whether the parts have the length of `text`, and each of their runes is the rune of `text` at the same place.
+#[tactic(auto, using(crate::proofs::Rows::agrees_facts))]
+pub fn agrees<P: Part>(parts: &[P], text: &[char]) -> bool
+    ensures { IsTrue result ↔ Agrees (members_of P.members parts.now) text.now }
+{
+    let Some((first, others)) = parts.split_first() else {
+        return text.is_empty();
+    };
+    let len = first.len() as usize;
+    if text.len() < len {
+        return false;
+    }
+    first.agrees(&text[..len]) && agrees(others, &text[len..])
+}
+
+/// Returns how many runes (if `loaded`) or gaps stand from place `p` on before the other sort begins.
+#[tactic(auto, using(crate::proofs::Rows::from_facts))]
+pub fn sort_from<P: Part>(parts: &[P], loaded: bool, p: u32) -> u32
+    requires { length (members_of P.members parts.now) ≤ most_kept }
+    ensures count { result ≡ sort_from loaded (members_of P.members parts.now) p }
+    ensures limit { result ≤ length (members_of P.members parts.now) }
+{
+    let Some((first, others)) = parts.split_first() else {
+        return 0;
+    };
+    let len = first.len();
+    if p >= len {
+        return sort_from(others, loaded, p - len);
+    }
+    let found = first.sort_from(loaded, p);
+    if p + found < len {
+        return found;
+    }
+    found + sort_from(others, loaded, 0)
+}
+
+/// Returns how many runes (if `loaded`) or gaps stand at once before place `p` after the last of the other sort. The parts have `len` runes
+/// and gaps together.
+#[tactic(auto, using(crate::proofs::Rows::before_facts))]
+pub fn sort_before<P: Part>(parts: &[P], len: u32, loaded: bool, p: u32) -> u32
+    requires len { len ≡ length (members_of P.members parts.now) }
+    requires within { p ≤ len }
+    ensures count { result ≡ sort_before loaded (members_of P.members parts.now) p }
+    ensures limit { result ≤ p }
+{
+    let Some((last, others)) = parts.split_last() else {
+        return 0;
+    };
+    let start = len - last.len();
+    let found = last.sort_before(loaded, p.max(start) - start);
+    if p > start + found {
+        return found;
+    }
+    found + sort_before(others, start, loaded, p.min(start))
+}
+
+/// Returns the tally of `before` with all sections of the parts added.
+#[tactic(auto, using(crate::proofs::Rows::tally_facts))]
+pub fn tally<P: Part>(parts: &[P], before: Tally) -> Tally
+    requires count { before.count + length (members_of P.members parts.now) ≤ most_kept }
+    requires len { before.len + length (members_of P.members parts.now) ≤ most_kept }
+    ensures tallied { (r : PartialText) → IsTallied r before.count before.loaded before.len
+        → IsTallied (r ++ members_of P.members parts.now) result.count result.loaded result.len }
+    ensures count { result.count ≤ before.count + length (members_of P.members parts.now) }
+    ensures len { result.len ≤ before.len + length (members_of P.members parts.now) }
+{
+    let Some((first, others)) = parts.split_first() else {
+        return before;
+    };
+    tally(others, first.tally(before))
+}
