@@ -17,7 +17,7 @@ use std::alloc::{AllocError, Global};
 use std::marker::Model;
 
 /// How many sections a block has at most when a change comes to it. With more of them a change moves more, with fewer a place is found through more rows.
-const MOST_SECTIONS: usize = 32;
+const MOST_SECTIONS: usize = 16;
 
 /// Sections in order, none of them empty, in one piece of memory.
 #[derive(Drop)]

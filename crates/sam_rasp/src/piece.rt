@@ -8,7 +8,7 @@ use std::alloc::{AllocError, Global};
 use std::marker::Model;
 
 /// How many runes a new piece has room for at least, so that the next keys find some.
-const LEAST_ROOM: usize = 8;
+const LEAST_ROOM: usize = 6;
 
 /// The text of a loaded section: at most `MOST_IN_MESSAGE` runes.
 #[derive(Drop)]
@@ -105,7 +105,9 @@ impl Piece {
         self.runes.extend_from_slice(runes)?;
         let tail = &mut self.runes[q..];
         tail.rotate_right(runes.len());
-        self.runes.drain(p..q);
+        if p < q {
+            self.runes.drain(p..q);
+        }
         Ok(())
     }
 
