@@ -1,29 +1,22 @@
 -- Lists of sections: what one of them stands for, between those before it and those after it.
-use Rattle.sam_rasp.proofs.Common.{◌≡◌, refl, sym, ap, ◌∙◌, subst, ℕ, zero, suc, ◌+◌, ◌-◌, ◌≤◌, ◌<◌, List, [], ◌∷◌, ◌++◌, take, drop, length, get_or, set, insert, arith, take-append-drop, take-take, drop_all, length-set, length-take, length-drop, append-nil, append_assoc, length-append, flat_map-append, Bool, ◌↔◌, Agrees, is_loaded, is_sort, prefix_len, PartialText, AllFilled, IsFilled, cells, cells_of, gaps_of, size, del, ins, Section}
+use Rattle.sam_rasp.proofs.Common.{◌≡◌, refl, sym, ap, ◌∙◌, subst, ℕ, zero, suc, ◌+◌, ◌-◌, ◌≤◌, ◌<◌, List, [], ◌∷◌, ◌++◌, take, drop, length, get_or, set, insert, arith, take-append-drop, take-take, drop_all, length-set, length-take, length-drop, append-nil, append_assoc, length-append, Bool, ◌↔◌, Agrees, is_loaded, PartialText, AllFilled, IsFilled, cells, cells_of, gaps_of, size, del, ins, Section}
 use Rattle.std.specs.Prelude.{remove}
 use Rattle.std.proofs.lemmas.List.{take_all, take-set, take_more, take_more_set, set_split}
 use Rattle.std.proofs.Common.{get_or-take, length-take-le}
 use Rattle.sam_rasp.specs.Rasp.{put_cells, sort_from}
-use Rattle.sam_rasp.proofs.Agreeing.{stretch}
-use Rattle.sam_rasp.proofs.RaspLaws.{length_agrees}
 use Rattle.sam_rasp.proofs.Runs.{from-cross, from-other, from-section}
 use Rattle.sam_rasp.proofs.SectionLaws.{cells-push, length-cells, gaps-append, filled}
-use Rattle.sam_rasp.proofs.Changes.{put-middle, del-middle, take-past, drop-past}
+use Rattle.sam_rasp.proofs.Rows as rows
+use Rattle.sam_rasp.proofs.Changes.{del-middle, drop-past}
 
 pub cells_append : (xs ys : List Section) → cells_of (xs ++ ys) ≡ cells_of xs ++ cells_of ys
-cells_append xs ys = flat_map-append cells xs ys
+cells_append xs ys = rows.members_append cells xs ys
 
 pub length-first : (a : Section) (xs : List Section) → length (cells_of (a ∷ xs)) ≡ size a + length (cells_of xs)
-length-first a xs = omega (arith, length-append (cells a) (cells_of xs), length-cells a)
+length-first a xs = omega (arith, rows.length-first cells a xs, length-cells a)
 
 pub gaps-first : (a : Section) (xs : List Section) → gaps_of (cells_of (a ∷ xs)) ≡ gaps_of (cells a) + gaps_of (cells_of xs)
-gaps-first a xs = gaps-append (cells a) (cells_of xs)
-
-take-first : {X : Type 0} (a b : List X) (n : ℕ) → length a ≡ n → take n (a ++ b) ≡ a
-take-first a b n e = grind (arith, (take-past a b 0 n), append-nil, e)
-
-ins-here : (a b m : PartialText) → ins (a ++ b) (length a) m ≡ (a ++ m) ++ b
-ins-here a b m = grind (arith, (take-past a b 0 (length a)), (drop-past a b 0 (length a)), append-nil)
+gaps-first a xs = rows.gaps-first cells a xs
 
 -- sections are filled
 pub filled-append : (xs ys : List Section) → AllFilled xs → AllFilled ys → AllFilled (xs ++ ys)
@@ -45,28 +38,14 @@ pub filled-short : (xs : List Section) → AllFilled xs → length xs ≤ length
 filled-short [] h = omega arith
 filled-short (a ∷ xs) h = omega (arith, filled a h.0, filled-short xs h.1, length-first a xs)
 
--- the sections before number i, it, and those after it
-parted : (xs : List Section) (i : ℕ) (x : Section) → i < length xs → x ≡ get_or xs i x → xs ≡ take i xs ++ x ∷ drop (i + 1) xs
-parted xs i x l e =
-    sym (take-append-drop (i + 1) xs)
-    ∙ (ap (λ y. y ++ drop (i + 1) xs) (take_more xs i x l) ∙ grind (arith, e, append_assoc))
-
-put-set : (xs : List Section) (i : ℕ) (y : Section) → i < length xs → set xs i y ≡ take i xs ++ y ∷ drop (i + 1) xs
-put-set xs i y l = let step : suc i ≡ i + 1 = omega arith in set_split xs i y l ∙ ap (λ k. take i xs ++ y ∷ drop k xs) step
-
 -- the cells of three parts
 pub cells-three : (l : List Section) (x : Section) (r : List Section) → cells_of (l ++ x ∷ r) ≡ cells_of l ++ (cells x ++ cells_of r)
-cells-three l x r = cells_append l (x ∷ r)
+cells-three l x r = rows.members-three cells l x r
 
 pub at-index : (xs : List Section) (i : ℕ) (x : Section) → i < length xs → x ≡ get_or xs i x
     → (cells_of xs ≡ cells_of (take i xs) ++ (cells x ++ cells_of (drop (i + 1) xs)))
     × (length (cells_of (take (i + 1) xs)) ≡ length (cells_of (take i xs)) + size x)
-at-index xs i x l e =
-    let far : cells_of (take (i + 1) xs) ≡ cells_of (take i xs) ++ cells x =
-    ap cells_of (take_more xs i x l ∙ ap (λ y. take i xs ++ y ∷ []) (sym e)) ∙ cells-push (take i xs) x in (
-      ap cells_of (parted xs i x l e) ∙ cells-three (take i xs) x (drop (i + 1) xs),
-      ap length far ∙ omega (arith, length-append (cells_of (take i xs)) (cells x), length-cells x),
-    )
+at-index xs i x l e = let r = rows.at-index cells xs i x l e in (r.0, omega (arith, r.1, length-cells x))
 
 pub filled-at : (xs : List Section) (i : ℕ) (x : Section) → i < length xs → x ≡ get_or xs i x → AllFilled xs → IsFilled x
 filled-at (a ∷ xs) zero x l e h = subst IsFilled (sym e) h.0
@@ -74,10 +53,10 @@ filled-at (a ∷ xs) (suc i) x l e h = filled-at xs i x (omega (arith, l)) e h.1
 filled-at [] i x l e h = absurd (omega (arith, l))
 
 pub cells-set : (xs : List Section) (i : ℕ) (y : Section) → i < length xs → cells_of (set xs i y) ≡ cells_of (take i xs) ++ (cells y ++ cells_of (drop (i + 1) xs))
-cells-set xs i y l = ap cells_of (put-set xs i y l) ∙ cells-three (take i xs) y (drop (i + 1) xs)
+cells-set xs i y l = rows.set-members cells xs i y l
 
 pub filled-set : (xs : List Section) (i : ℕ) (y : Section) → i < length xs → AllFilled xs → IsFilled y → AllFilled (set xs i y)
-filled-set xs i y l h f = subst AllFilled (sym (put-set xs i y l)) (filled-append (take i xs) (y ∷ drop (i + 1) xs) (filled-take xs i h) (f, filled-drop xs (i + 1) h))
+filled-set xs i y l h f = subst AllFilled (sym (rows.put-set xs i y l)) (filled-append (take i xs) (y ∷ drop (i + 1) xs) (filled-take xs i h) (f, filled-drop xs (i + 1) h))
 
 pub end-set : (xs : List Section) (i : ℕ) (y : Section) → i < length xs → length (cells_of (take (i + 1) (set xs i y))) ≡ length (cells_of (take i xs)) + size y
 end-set xs i y l =
@@ -88,20 +67,12 @@ end-set xs i y l =
 
 pub set-del : (xs : List Section) (i : ℕ) (x y : Section) (at end : ℕ) → i < length xs → x ≡ get_or xs i x → at ≤ end → end ≤ size x → cells y ≡ del (cells x) at end
     → cells_of (set xs i y) ≡ del (cells_of xs) (length (cells_of (take i xs)) + at) (length (cells_of (take i xs)) + end)
-set-del xs i x y at end l e o w c =
-    cells-set xs i y l
-    ∙ (del-middle (cells_of (take i xs)) (cells x) (cells_of (drop (i + 1) xs)) (cells y)
-    (length (cells_of (take i xs)) + at) (length (cells_of (take i xs)) + end) at end refl refl o (omega (arith, w, length-cells x)) c
-    ∙ ap (λ z. del z (length (cells_of (take i xs)) + at) (length (cells_of (take i xs)) + end)) (sym (at-index xs i x l e).0))
+set-del xs i x y at end l e o w c = rows.set-del cells xs i x y at end l e o (omega (arith, w, length-cells x)) c
 
 pub set-put : (xs : List Section) (i : ℕ) (x y : Section) (at end : ℕ) (m : PartialText) → i < length xs → x ≡ get_or xs i x → at ≤ end → end ≤ size x
     → cells y ≡ put_cells (cells x) at end m
     → cells_of (set xs i y) ≡ put_cells (cells_of xs) (length (cells_of (take i xs)) + at) (length (cells_of (take i xs)) + end) m
-set-put xs i x y at end m l e o w c =
-    cells-set xs i y l
-    ∙ (put-middle (cells_of (take i xs)) (cells x) (cells_of (drop (i + 1) xs)) (cells y) m
-    (length (cells_of (take i xs)) + at) (length (cells_of (take i xs)) + end) at end refl refl o (omega (arith, w, length-cells x)) c
-    ∙ ap (λ z. put_cells z (length (cells_of (take i xs)) + at) (length (cells_of (take i xs)) + end) m) (sym (at-index xs i x l e).0))
+set-put xs i x y at end m l e o w c = rows.set-put cells xs i x y at end m l e o (omega (arith, w, length-cells x)) c
 
 pub set-whole : (xs : List Section) (i : ℕ) (x y : Section) (at end : ℕ) (m : PartialText) → i < length xs → x ≡ get_or xs i x → at ≡ 0 → end ≡ size x
     → cells y ≡ m → cells_of (set xs i y) ≡ put_cells (cells_of xs) (length (cells_of (take i xs)) + at) (length (cells_of (take i xs)) + end) m
@@ -112,48 +83,25 @@ set-whole xs i x y at end m l e z w c =
 -- ## A section more or less
 
 pub insert-cells : (xs : List Section) (i : ℕ) (y : Section) → cells_of (insert xs i y) ≡ ins (cells_of xs) (length (cells_of (take i xs))) (cells y)
-insert-cells xs i y =
-    let a = cells_of (take i xs) in
-    let b = cells_of (drop i xs) in
-    let whole : cells_of xs ≡ a ++ b = ap cells_of (sym (take-append-drop i xs)) ∙ cells_append (take i xs) (drop i xs) in
-    cells-three (take i xs) y (drop i xs)
-    ∙ (sym (append_assoc a (cells y) b) ∙ (sym (ins-here a b (cells y)) ∙ ap (λ z. ins z (length a) (cells y)) (sym whole)))
+insert-cells xs i y = rows.insert-members cells xs i y
 
 pub filled-insert : (xs : List Section) (i : ℕ) (y : Section) → AllFilled xs → IsFilled y → AllFilled (insert xs i y)
 filled-insert xs i y h f = filled-append (take i xs) (y ∷ drop i xs) (filled-take xs i h) (f, filled-drop xs i h)
 
 pub before-insert : (xs : List Section) (i : ℕ) (y : Section) → i ≤ length xs → take i (insert xs i y) ≡ take i xs
-before-insert xs i y l = take-first (take i xs) (y ∷ drop i xs) i (length-take-le i xs l)
+before-insert xs i y l = rows.take-first (take i xs) (y ∷ drop i xs) i (length-take-le i xs l)
 
 pub filled-remove : (xs : List Section) (i : ℕ) → AllFilled xs → AllFilled (remove xs i)
 filled-remove xs i h = filled-append (take i xs) (drop (suc i) xs) (filled-take xs i h) (filled-drop xs (suc i) h)
 
 pub remove-del : (xs : List Section) (i : ℕ) (x : Section) (at end : ℕ) → i < length xs → x ≡ get_or xs i x → at ≡ 0 → end ≡ size x
     → cells_of (remove xs i) ≡ del (cells_of xs) (length (cells_of (take i xs)) + at) (length (cells_of (take i xs)) + end)
-remove-del xs i x at end l e z w =
-    let a = cells_of (take i xs) in
-    let b = cells_of (drop (i + 1) xs) in
-    let step : suc i ≡ i + 1 = omega arith in
-    cells_append (take i xs) (drop (suc i) xs)
-    ∙ (ap (λ k. a ++ cells_of (drop k xs)) step
-    ∙ (del-middle a (cells x) b [] (length a + at) (length a + end) at end refl refl (omega (arith, z)) (omega (arith, w, length-cells x))
-    (grind (arith, z, w, (length-cells x), (drop_all end (cells x))))
-    ∙ ap (λ y. del y (length a + at) (length a + end)) (sym (at-index xs i x l e).0)))
+remove-del xs i x at end l e z w = rows.remove-del cells xs i x at end l e z (omega (arith, w, length-cells x))
 
 -- one section in two parts
 pub part-cells : (xs : List Section) (i : ℕ) (x a b : Section) (at : ℕ) → i < length xs → x ≡ get_or xs i x → cells a ≡ take at (cells x) → cells b ≡ drop at (cells x)
     → ins (cells_of (set xs i a)) (length (cells_of (take (i + 1) (set xs i a)))) (cells b) ≡ cells_of xs
-part-cells xs i x a b at l e u w =
-    let before = cells_of (take i xs) in
-    let after = cells_of (drop (i + 1) xs) in
-    let front : cells_of (take (i + 1) (set xs i a)) ≡ before ++ cells a = ap cells_of (take_more_set xs i a l) ∙ cells-push (take i xs) a in
-    let whole : cells_of (set xs i a) ≡ (before ++ cells a) ++ after = cells-set xs i a l ∙ sym (append_assoc before (cells a) after) in
-    let same : cells a ++ cells b ≡ cells x = grind (arith, u, w, (take-append-drop at (cells x))) in
-    ap (λ z. ins z (length (cells_of (take (i + 1) (set xs i a)))) (cells b)) whole
-    ∙ (ap (λ z. ins ((before ++ cells a) ++ after) (length z) (cells b)) front
-    ∙ (ins-here (before ++ cells a) after (cells b)
-    ∙ (ap (λ z. z ++ after) (append_assoc before (cells a) (cells b) ∙ ap (λ z. before ++ z) same)
-    ∙ (append_assoc before (cells x) after ∙ sym (at-index xs i x l e).0))))
+part-cells xs i x a b at l e u w = rows.halved cells xs i x a b l e (grind (arith, u, w, (take-append-drop at (cells x))))
 
 pub before-part : (xs zs : List Section) (i : ℕ) (y : Section) → take (i + 1) zs ≡ take (i + 1) (set xs i y) → take i zs ≡ take i xs
 before-part xs zs i y e =
@@ -164,9 +112,6 @@ before-part xs zs i y e =
 del-three : (a b c : PartialText) (i j : ℕ) → i ≤ j → j ≤ length b → del (a ++ (b ++ c)) (length a + i) (length a + j) ≡ a ++ (del b i j ++ c)
 del-three a b c i j o l = sym (del-middle a b c (del b i j) (length a + i) (length a + j) i j refl refl o l refl)
 
-gaps-three : (a b c : PartialText) → gaps_of (a ++ (b ++ c)) ≡ gaps_of a + (gaps_of b + gaps_of c)
-gaps-three a b c = omega (arith, gaps-append a (b ++ c), gaps-append b c)
-
 pub del-gaps : (xs : List Section) (i : ℕ) (x : Section) (at end g : ℕ) → i < length xs → x ≡ get_or xs i x → at ≤ end → end ≤ size x
     → gaps_of (del (cells x) at end) + g ≡ gaps_of (cells x)
     → gaps_of (del (cells_of xs) (length (cells_of (take i xs)) + at) (length (cells_of (take i xs)) + end)) + g ≡ gaps_of (cells_of xs)
@@ -176,7 +121,7 @@ del-gaps xs i x at end g l e o w h =
     let whole = (at-index xs i x l e).0 in
     let left : del (cells_of xs) (length a + at) (length a + end) ≡ a ++ (del (cells x) at end ++ c) =
     ap (λ z. del z (length a + at) (length a + end)) whole ∙ del-three a (cells x) c at end o (omega (arith, w, length-cells x)) in
-    omega (arith, ap gaps_of left, gaps-three a (del (cells x) at end) c, ap gaps_of whole, gaps-three a (cells x) c, h)
+    omega (arith, ap gaps_of left, rows.gaps-three a (del (cells x) at end) c, ap gaps_of whole, rows.gaps-three a (cells x) c, h)
 
 -- what comes in has gaps of its own
 gaps-put : (r m : PartialText) (p q : ℕ) → gaps_of (put_cells r p q m) ≡ gaps_of (del r p q) + gaps_of m
@@ -194,13 +139,13 @@ put-gaps xs i x at end g new m l e o w h n =
 -- ## Halves
 
 pub half-cells : (xs : List Section) (h : ℕ) → cells_of (take h xs) ++ cells_of (drop h xs) ≡ cells_of xs
-half-cells xs h = sym (cells_append (take h xs) (drop h xs)) ∙ ap cells_of (take-append-drop h xs)
+half-cells xs h = rows.half-members cells xs h
 
 pub half-length : (xs : List Section) (h : ℕ) → length (cells_of (take h xs)) + length (cells_of (drop h xs)) ≡ length (cells_of xs)
-half-length xs h = sym (length-append (cells_of (take h xs)) (cells_of (drop h xs))) ∙ ap length (half-cells xs h)
+half-length xs h = rows.half-length cells xs h
 
 pub half-gaps : (xs : List Section) (h : ℕ) → gaps_of (cells_of (take h xs)) + gaps_of (cells_of (drop h xs)) ≡ gaps_of (cells_of xs)
-half-gaps xs h = sym (gaps-append (cells_of (take h xs)) (cells_of (drop h xs))) ∙ ap gaps_of (half-cells xs h)
+half-gaps xs h = rows.half-gaps cells xs h
 
 -- ## Two sections that become one
 
@@ -283,13 +228,13 @@ length-pair xs i y l =
 
 pub agrees-first : (a : Section) (xs : List Section) (t : List ℕ) (n : ℕ) → size a ≡ n
     → Agrees (cells_of (a ∷ xs)) t ↔ (Agrees (cells a) (take n t) × Agrees (cells_of xs) (drop n t))
-agrees-first a xs t n e = grind (arith, (length-cells a), (stretch (cells a) (cells_of xs) (cells_of (a ∷ xs)) t (take n t) 0 n))
+agrees-first a xs t n e = rows.agrees-first cells a xs t n (length-cells a ∙ e)
 
 pub agrees-short : (a : Section) (xs : List Section) (t : List ℕ) → length t < size a → Agrees (cells_of (a ∷ xs)) t → ⊥
-agrees-short a xs t l h = grind (arith, (length-first a xs), (length_agrees (cells_of (a ∷ xs)) t h))
+agrees-short a xs t l h = rows.agrees-short cells a xs t (omega (arith, l, length-cells a)) h
 
 pub from-past : (b : Bool) (a : Section) (xs : List Section) (p k : ℕ) → size a + k ≡ p → sort_from b (cells_of (a ∷ xs)) p ≡ sort_from b (cells_of xs) k
-from-past b a xs p k e = ap (prefix_len (is_sort b)) (drop-past (cells a) (cells_of xs) k p (omega (arith, e, length-cells a)))
+from-past b a xs p k e = rows.from-past cells b a xs p k (omega (arith, e, length-cells a))
 
 pub from-here : (b : Bool) (a : Section) (xs : List Section) (p : ℕ) → p < size a → is_loaded a ≡ b
     → sort_from b (cells_of (a ∷ xs)) p ≡ (size a - p) + sort_from b (cells_of xs) 0
@@ -305,12 +250,10 @@ section-cells xs i x start l e s =
     let a = cells_of (take i xs) in
     let c = cells_of (drop (i + 1) xs) in
     ap (λ z. take (size x) (drop start z)) (at-index xs i x l e).0
-    ∙ (ap (take (size x)) (drop-past a (cells x ++ c) 0 start (omega (arith, s))) ∙ take-first (cells x) c (size x) (length-cells x))
+    ∙ (ap (take (size x)) (drop-past a (cells x ++ c) 0 start (omega (arith, s))) ∙ rows.take-first (cells x) c (size x) (length-cells x))
 
 pub taken-short : (xs : List Section) (n : ℕ) → length (cells_of (take n xs)) ≤ length (cells_of xs)
-taken-short xs zero = omega arith
-taken-short [] (suc n) = omega arith
-taken-short (a ∷ xs) (suc n) = omega (arith, length-first a xs, length-first a (take n xs), taken-short xs n)
+taken-short xs n = rows.taken-short cells xs n
 
 pub taken-more : (xs : List Section) (n : ℕ) → length (cells_of (take n xs)) ≤ length (cells_of (take (n + 1) xs))
 taken-more xs n = subst (λ z. length (cells_of z) ≤ length (cells_of (take (n + 1) xs))) (take-take n (n + 1) xs (omega arith)) (taken-short (take (n + 1) xs) n)

@@ -1,7 +1,5 @@
 -- Cutting and putting in, part by part.
-use Rattle.sam_rasp.proofs.Common.{◌≡◌, ap, ℕ, zero, suc, ◌+◌, ◌-◌, ◌≤◌, List, [], ◌∷◌, ◌++◌, take, drop, length, min, arith, append_assoc, take-append-le, drop-append-le, length-append, length-take, length-drop, take-append-drop, append-nil, PartialText, del, ins, ◌∙◌, ◌<◌, ◌⊎◌, inl, inr, drop_all, drop-drop, drop-take, take-take, map, Some, Option, refl, map-append}
-use Rattle.std.proofs.lemmas.Bool.{cases_lt}
-use Rattle.std.proofs.lemmas.List.{take_all}
+use Rattle.sam_rasp.proofs.Common.{◌≡◌, ap, ℕ, zero, suc, ◌+◌, ◌-◌, ◌≤◌, List, [], ◌∷◌, ◌++◌, take, drop, length, arith, append_assoc, take-append-le, drop-append-le, length-append, length-take, length-drop, take-append-drop, append-nil, PartialText, del, ins, ◌∙◌, drop_all, drop-drop, drop-take, take-take, map, Some, Option, refl, map-append}
 use Rattle.sam_rasp.specs.Rasp.{put_cells}
 
 pub take-past : {X : Type 0} (a y : List X) (k n : ℕ) → length a + k ≡ n → take n (a ++ y) ≡ a ++ take k y
@@ -32,32 +30,13 @@ del-past a b p q i j e u = grind (arith, (take-past a b i p e), (drop-past a b j
 
 -- ## A change in one of three parts
 
-pub put-left : (a b c a' m : PartialText) (p q : ℕ) → p ≤ q → q ≤ length a → a' ≡ put_cells a p q m → a' ++ (b ++ c) ≡ put_cells (a ++ (b ++ c)) p q m
-put-left a b c a' m p q o l e = ap (λ x. x ++ (b ++ c)) e ∙ put-first a (b ++ c) m p q o l
-
 pub put-middle : (a b c b' m : PartialText) (p q i j : ℕ) → length a + i ≡ p → length a + j ≡ q → i ≤ j → j ≤ length b → b' ≡ put_cells b i j m
     → a ++ (b' ++ c) ≡ put_cells (a ++ (b ++ c)) p q m
 put-middle a b c b' m p q i j le lu o l e = ap (λ x. a ++ (x ++ c)) e ∙ (ap (λ x. a ++ x) (put-first b c m i j o l) ∙ put-past a (b ++ c) m p q i j le lu)
 
-pub put-right : (a b c c' m : PartialText) (p q i j : ℕ) → (length a + length b) + i ≡ p → (length a + length b) + j ≡ q → c' ≡ put_cells c i j m
-    → a ++ (b ++ c') ≡ put_cells (a ++ (b ++ c)) p q m
-put-right a b c c' m p q i j le lu e =
-    ap (λ x. a ++ (b ++ x)) e ∙ (ap (λ x. a ++ x) (put-past b c m (length b + i) (length b + j) i j (omega arith) (omega arith))
-    ∙ put-past a (b ++ c) m p q (length b + i) (length b + j) (omega (arith, le)) (omega (arith, lu)))
-
 pub del-middle : (a b c b' : PartialText) (p q i j : ℕ) → length a + i ≡ p → length a + j ≡ q → i ≤ j → j ≤ length b → b' ≡ del b i j
     → a ++ (b' ++ c) ≡ del (a ++ (b ++ c)) p q
 del-middle a b c b' p q i j le lu o l e = ap (λ x. a ++ (x ++ c)) e ∙ (ap (λ x. a ++ x) (del-first b c i j o l) ∙ del-past a (b ++ c) p q i j le lu)
-
--- a cut of each of two parts
-pub del-both : (a b : PartialText) (p q : ℕ) → p ≤ q → del (a ++ b) p q ≡ del a (min p (length a)) (min q (length a)) ++ del b (p - length a) (q - length a)
-del-both a b p q o = go (cases_lt p (length a)) (cases_lt q (length a))
-  where
-    go : ((p < length a) ⊎ (length a ≤ p)) → ((q < length a) ⊎ (length a ≤ q)) → del (a ++ b) p q ≡ del a (min p (length a)) (min q (length a)) ++ del b (p - length a) (q - length a)
-    go (inl u) (inl v) = grind (arith, (del-first a b p q), (append-nil (del a p q)))
-    go (inl u) (inr v) = grind (arith, (take-append-le p a b), (drop-past a b (q - length a) q), (drop_all (length a) a), append-nil)
-    go (inr u) (inl v) = absurd (omega (arith, o))
-    go (inr u) (inr v) = grind (arith, (take-past a b (p - length a) p), (drop-past a b (q - length a) q), (drop_all (length a) a), (take_all (length a) a), append_assoc, append-nil)
 
 -- what comes in where something went
 pub put-is : (t m : PartialText) (p q : ℕ) → p ≤ q → q ≤ length t → ins (del t p q) p m ≡ put_cells t p q m
@@ -152,7 +131,7 @@ none-left old r p at t l w e =
       (take-append-drop p old),
     )
 
-nil-of : (r : PartialText) → length r ≡ 0 → r ≡ []
+pub nil-of : (r : PartialText) → length r ≡ 0 → r ≡ []
 nil-of [] e = refl
 nil-of (x ∷ r) e = absurd (omega (arith, e))
 

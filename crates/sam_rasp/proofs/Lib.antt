@@ -4,9 +4,8 @@ pub mod Changes
 pub mod Runs
 pub mod RaspLaws
 pub mod Agreeing
-pub mod Blocks
-pub mod Trees
 pub mod Rows
+pub mod Blocks
 pub mod Tallies
 pub mod Readings
 pub mod Crossing

@@ -1,5 +1,5 @@
 -- Lists of parts: what one of them stands for, between those before it and those after it.
-use Rattle.sam_rasp.proofs.Common.{◌≡◌, refl, sym, ap, ◌∙◌, subst, ℕ, zero, suc, ◌+◌, ◌-◌, ◌≤◌, ◌<◌, List, [], ◌∷◌, ◌++◌, take, drop, length, get_or, set, insert, arith, take-append-drop, take-take, drop_all, length-set, length-take, length-drop, append-nil, append_assoc, length-append, flat_map-append, Bool, ◌↔◌, Agrees, PartialText, gaps_of, del, ins, size, cells, Section, drop-drop, is_sort, prefix_len, max, min, length-replicate, Option, Some, None}
+use Rattle.sam_rasp.proofs.Common.{◌≡◌, refl, sym, ap, ◌∙◌, subst, ℕ, zero, suc, ◌+◌, ◌-◌, ◌≤◌, ◌<◌, List, [], ◌∷◌, ◌++◌, take, drop, length, get_or, set, insert, arith, take-append-drop, take-take, drop_all, length-set, length-take, length-drop, append-nil, append_assoc, length-append, flat_map-append, Bool, ◌↔◌, Agrees, PartialText, gaps_of, del, ins, size, cells, Section, drop-drop, is_sort, prefix_len, max, min, length-replicate, Option, Some, None, ◌⊎◌, inl, inr, drop-append-le, take-append-le}
 use Rattle.std.specs.Prelude.{remove}
 use Rattle.std.proofs.lemmas.List.{take_all, take-set, take_more, take_more_set, set_split}
 use Rattle.std.proofs.Common.{length-take-le}
@@ -8,12 +8,12 @@ use Rattle.sam_rasp.specs.Blocks.{incoming_cells, CanComeIn}
 use Rattle.sam_rasp.specs.Rows.{members_of, NoneEmpty}
 use Rattle.sam_rasp.specs.declared.section.Incoming.{Incoming}
 use Rattle.sam_rasp.specs.declared.section.Incoming.TheVariants.{Runes, Gaps}
-use Rattle.sam_rasp.proofs.SectionLaws.{gaps-append, gaps-most}
+use Rattle.std.proofs.lemmas.Bool.{cases_lt}
+use Rattle.sam_rasp.proofs.SectionLaws.{gaps-append, gaps-most, length-cells}
 use Rattle.sam_rasp.proofs.Agreeing.{stretch}
 use Rattle.sam_rasp.proofs.RaspLaws.{length_agrees}
-use Rattle.sam_rasp.proofs.Runs.{before-most, before-runes}
-use Rattle.sam_rasp.proofs.Trees.{from-ends, from-goes-on, before-ends, before-goes-on, section-middle}
-use Rattle.sam_rasp.proofs.Changes.{put-middle, del-middle, take-past, drop-past, length-put, length-del, length-some, del-twice}
+use Rattle.sam_rasp.proofs.Runs.{before-ends, before-goes-on, before-most, before-runes, from-ends, from-goes-on}
+use Rattle.sam_rasp.proofs.Changes.{nil-of, put-middle, del-middle, take-past, drop-past, length-put, length-del, length-some, del-twice}
 
 pub members_append : {P : Type 0} (f : P → PartialText) (xs ys : List P) → members_of f (xs ++ ys) ≡ members_of f xs ++ members_of f ys
 members_append f xs ys = flat_map-append f xs ys
@@ -24,10 +24,10 @@ length-first f a xs = length-append (f a) (members_of f xs)
 pub gaps-first : {P : Type 0} (f : P → PartialText) (a : P) (xs : List P) → gaps_of (members_of f (a ∷ xs)) ≡ gaps_of (f a) + gaps_of (members_of f xs)
 gaps-first f a xs = gaps-append (f a) (members_of f xs)
 
-take-first : {X : Type 0} (a b : List X) (n : ℕ) → length a ≡ n → take n (a ++ b) ≡ a
+pub take-first : {X : Type 0} (a b : List X) (n : ℕ) → length a ≡ n → take n (a ++ b) ≡ a
 take-first a b n e = grind (arith, (take-past a b 0 n), append-nil, e)
 
-ins-here : (a b m : PartialText) → ins (a ++ b) (length a) m ≡ (a ++ m) ++ b
+pub ins-here : (a b m : PartialText) → ins (a ++ b) (length a) m ≡ (a ++ m) ++ b
 ins-here a b m = grind (arith, (take-past a b 0 (length a)), (drop-past a b 0 (length a)), append-nil)
 
 -- ## No part is empty
@@ -58,7 +58,7 @@ parted xs i x l e =
     sym (take-append-drop (i + 1) xs)
     ∙ (ap (λ y. y ++ drop (i + 1) xs) (take_more xs i x l) ∙ grind (arith, e, append_assoc))
 
-put-set : {P : Type 0} (xs : List P) (i : ℕ) (y : P) → i < length xs → set xs i y ≡ take i xs ++ y ∷ drop (i + 1) xs
+pub put-set : {P : Type 0} (xs : List P) (i : ℕ) (y : P) → i < length xs → set xs i y ≡ take i xs ++ y ∷ drop (i + 1) xs
 put-set xs i y l = let step : suc i ≡ i + 1 = omega arith in set_split xs i y l ∙ ap (λ k. take i xs ++ y ∷ drop k xs) step
 
 pub members-three : {P : Type 0} (f : P → PartialText) (l : List P) (x : P) (r : List P) → members_of f (l ++ x ∷ r) ≡ members_of f l ++ (f x ++ members_of f r)
@@ -90,7 +90,7 @@ pub ruleset count_facts = (length-first, gaps-first, gaps-most)
 
 -- ## A change of one part
 
-set-members : {P : Type 0} (f : P → PartialText) (xs : List P) (i : ℕ) (y : P) → i < length xs → members_of f (set xs i y) ≡ members_of f (take i xs) ++ (f y ++ members_of f (drop (i + 1) xs))
+pub set-members : {P : Type 0} (f : P → PartialText) (xs : List P) (i : ℕ) (y : P) → i < length xs → members_of f (set xs i y) ≡ members_of f (take i xs) ++ (f y ++ members_of f (drop (i + 1) xs))
 set-members f xs i y l = ap (members_of f) (put-set xs i y l) ∙ members-three f (take i xs) y (drop (i + 1) xs)
 
 pub some-set : {P : Type 0} (f : P → PartialText) (xs : List P) (i : ℕ) (y : P) → i < length xs → NoneEmpty f xs → 0 < length (f y) → NoneEmpty f (set xs i y)
@@ -119,7 +119,7 @@ set-put f xs i x y at end m l e o w c =
     ∙ ap (λ z. put_cells z (length (members_of f (take i xs)) + at) (length (members_of f (take i xs)) + end) m) (sym (at-index f xs i x l e).0))
 
 -- gaps before and after
-gaps-three : (a b c : PartialText) → gaps_of (a ++ (b ++ c)) ≡ gaps_of a + (gaps_of b + gaps_of c)
+pub gaps-three : (a b c : PartialText) → gaps_of (a ++ (b ++ c)) ≡ gaps_of a + (gaps_of b + gaps_of c)
 gaps-three a b c = omega (arith, gaps-append a (b ++ c), gaps-append b c)
 
 pub set-gaps : {P : Type 0} (f : P → PartialText) (xs : List P) (i : ℕ) (x y : P) → i < length xs → x ≡ get_or xs i x
@@ -281,6 +281,22 @@ before-others f b xs l x p len last found rest e n w u v h r =
     let within : p ≤ length a + length (f x) = omega (arith, start, w, u, n, ap (λ z. length (members_of f z)) e, length-push f l x) in
     let goes = before-goes-on b a (f x) p (max p (length a) - length a) within refl (omega (arith, h, start, here)) in
     omega (arith, here, there, goes, ap (λ z. sort_before b z p) (sym (members-push f l x) ∙ ap (members_of f) (sym e)))
+
+-- ## The section at a place
+
+section-within : (b c : PartialText) (x : Section) (place : ℕ) → take (size x) (drop place b) ≡ cells x → take (size x) (drop place (b ++ c)) ≡ cells x
+section-within b c x place e = go (cases_lt (length b) place)
+  where
+    fits : size x ≤ length b - place
+    fits = omega (arith, ap length e, length-take (size x) (drop place b), length-drop place b, length-cells x)
+
+    go : ((length b < place) ⊎ (place ≤ length b)) → take (size x) (drop place (b ++ c)) ≡ cells x
+    go (inl u) = grind (arith, fits, u, e, (length-cells x), (nil-of (cells x)))
+    go (inr u) = grind (arith, fits, e, (drop-append-le place b c), (take-append-le (size x) (drop place b) c), (length-drop place b))
+
+pub section-middle : (a b c : PartialText) (x : Section) (start place : ℕ) → length a ≡ start → take (size x) (drop place b) ≡ cells x
+    → take (size x) (drop (start + place) (a ++ (b ++ c))) ≡ cells x
+section-middle a b c x start place e u = ap (take (size x)) (drop-past a (b ++ c) place (start + place) (omega (arith, e))) ∙ section-within b c x place u
 
 -- the section x begins at the place start of part i, at the place `place` of it
 pub section-in : {P : Type 0} (f : P → PartialText) (xs : List P) (i : ℕ) (a : P) (x : Section) (start place : ℕ) → i < length xs → a ≡ get_or xs i a

@@ -1,5 +1,5 @@
--- Words of this crate's private calls alone: what a tree of blocks keeps, what comes into it, and how sections are counted.
-use Rattle.std.specs.Prelude.{◌≡◌, ℕ, ◌+◌, ◌<◌, ◌≤◌, Bool, List, [], ◌∷◌, ◌++◌, map, replicate, length, Option, Some, None, ⊤}
+-- Words of this crate's private calls alone: what blocks keep, what comes into them, and how sections are counted.
+use Rattle.std.specs.Prelude.{◌≡◌, ℕ, ◌+◌, ◌<◌, ◌≤◌, Bool, List, [], ◌∷◌, ◌++◌, map, replicate, length, Some, None, ⊤}
 use Rattle.sam_runes.specs.Texts.{max_runes, most_in_message}
 use Rattle.sam_rasp.specs.Rasp.{PartialText}
 use Rattle.sam_rasp.specs.Sections.{cells_of, is_loaded, size, IsFilled, IsNormal}
@@ -31,20 +31,6 @@ incoming_cells (Gaps n) = replicate n None
 abbrev pub CanComeIn : Incoming → Type 0
 CanComeIn (Runes s) = (0 < length s.now) × (length s.now ≤ most_in_message)
 CanComeIn (Gaps n) = (0 < n) × (n ≤ max_runes)
-
--- what stands below a fork, and nothing if there is none
-abbrev pub cells_below : {F : Type 0} → (F → PartialText) → Option F → PartialText
-cells_below f None = []
-cells_below f (Some x) = f x
-
--- where there is a fork, its block is not empty
-abbrev pub IsParted : {F : Type 0} → (F → PartialText) → Option F → Type 0
-IsParted f None = ⊤
-IsParted f (Some x) = 0 < length (f x)
-
--- the partial text has this length of at most most_kept, so many gaps, and at least one member for each of so many blocks
-abbrev pub IsCounted : PartialText → ℕ → ℕ → ℕ → Type 0
-IsCounted r len gaps blocks = (len ≡ length r) × (len ≤ most_kept) × (gaps ≡ gaps_of r) × (blocks ≤ len)
 
 -- the section is the last of the list
 abbrev pub IsLast : List Section → Section → Type 0

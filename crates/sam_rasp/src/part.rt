@@ -40,7 +40,13 @@ pub trait Part: Drop {
 
     /// Puts what comes in in the place of `n` runes or gaps from place `p` on, if they stand in one section, and that is a hole or has room.
     /// Returns whether it did, which it always does where `n` is 0. The only error is out of memory. If it didn't, nothing is changed.
-    fn put(&mut self, alloc: Global, p: u32, n: u32, incoming: Incoming<'_>) -> Result<bool, AllocError>
+    fn put(
+        &mut self,
+        alloc: Global,
+        p: u32,
+        n: u32,
+        incoming: Incoming<'_>,
+    ) -> Result<bool, AllocError>
         requires some { 0 < length (members self.old) }
         requires within { p + n ≤ length (members self.old) }
         requires incoming { CanComeIn incoming }
