@@ -12,4 +12,3 @@ pub mod TermEndpointCalls
 pub mod HostEndpointRuns
 pub mod TermEndpointRuns
 pub mod Members
-pub mod Crossing

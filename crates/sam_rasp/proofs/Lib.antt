@@ -8,4 +8,3 @@ pub mod Rows
 pub mod Blocks
 pub mod Tallies
 pub mod Readings
-pub mod Crossing

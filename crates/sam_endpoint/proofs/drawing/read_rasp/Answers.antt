@@ -1,4 +1,3 @@
-use Rattle.sam_endpoint.proofs.Crossing.{term_endpoint_send}
 use Rattle.sam_endpoint.proofs.Common.{arith, inr}
 use Rattle.sam_endpoint.proofs.Members.{shown_more}
 use Rattle.sam_rasp.proofs.Readings.{rest_at}

@@ -12,7 +12,7 @@ use Rattle.std.proofs.Crossing as heap
 use Rattle.std_alloc.proofs.SendSync.{lies, quiet}
 use Rattle.std_heap.proofs.Global.TheSendSync as handle
 use Rattle.sam_endpoint.specs.contracts.term_endpoint.TermEndpoint.{the_row as TermEndpoint}
-use Rattle.sam_endpoint.proofs.Crossing.{term_endpoint_send as term_endpoint}
+use Rattle.sam_endpoint.proofs.term_endpoint.TermEndpoint.TheSendSync.{the_send as term_endpoint}
 use Rattle.sam_c.specs.Handles.{holds_term}
 use Rattle.sam_c.specs.contracts.handle.HeldTerm.{the_row, the_type}
 

@@ -1,4 +1,3 @@
-use Rattle.sam_term.proofs.Crossing.{terminal_send}
 use Rattle.sam_term.proofs.Common.{arith, refl}
 use Rattle.sam_term.proofs.Edits.{refused_count}
 use Rattle.sam_term.proofs.TypedMade.{behind_count}
