@@ -1,11 +1,12 @@
 -- What is typed, what is printed and what a line leaves do not meet: a line never works on the command file.
-use Rattle.sam_host.proofs.Common.{common_steps, ◌≡◌, ℕ, zero, suc, ◌+◌, ◌<◌, ◌≤◌, List, [], ◌∷◌, ◌++◌, length, take, get_or, Option, Some, None, refl, sym, ap, ◌∙◌, subst, arith, rules, unwrap_or, option_map, option_and_then, IfSome, if◌then◌else◌, flat_map, reverse, max_runes, either, Edit, slot, put_slot, slot-put_same, meaning, work_on, line_outcome, PlainFile, PlainFiles, PlainOutcome, IsOutcomeOf, IsOutcomeFor, blank_file, file_at, put_file, typed_file, after_print, put_outcome, committed, AreFit, IsFit, Hmesg, Hexit, Hunlock, HFrame, PlainHost, stamped, printed, grown, told_edit, told_outcome, reply_line}
+use Rattle.sam_host.proofs.Common.{common_steps, ◌≡◌, ℕ, zero, suc, ◌+◌, ◌<◌, ◌≤◌, List, [], ◌∷◌, ◌++◌, length, take, get_or, Option, Some, None, Bool, not, ◌||◌, is_empty, refl, sym, ap, ◌∙◌, subst, arith, rules, unwrap_or, option_map, option_and_then, IfSome, if◌then◌else◌, flat_map, reverse, max_runes, either, Edit, slot, put_slot, slot-put_same, meaning, work_on, line_outcome, PlainFile, PlainFiles, PlainOutcome, IsOutcomeOf, IsOutcomeFor, blank_file, file_at, put_file, typed_file, after_print, put_outcome, committed, AreFit, IsFit, Hmesg, Hexit, Hunlock, HFrame, PlainHost, stamped, printed, grown, told_edit, told_outcome, reply_line}
+use Rattle.std.proofs.lemmas.List.{get_or-set_other}
 use Rattle.sam_runes.specs.Edits.{inserted}
 use Rattle.sam_runes.proofs.EditLaws.{length-ins}
-use Rattle.sam_text.specs.Files.{IsWork}
+use Rattle.sam_text.specs.Files.{IsWork, file_after}
 use Rattle.sam_text.proofs.MeaningLaws.{line_fits, without_work}
 use Rattle.sam_host.specs.Host.{reply_outcome}
-use Rattle.sam_host.specs.Typing.{typed_files, typed, printed_at, told_line}
+use Rattle.sam_host.specs.Typing.{typed_files, typed, printed_at, told_line, IsSameButEdits}
 use Rattle.sam_host.proofs.FrameLaws.{told_both}
 
 -- a line works on another file than the command file
@@ -142,6 +143,45 @@ line_put fs gs p s o h e =
     subst (λ gs. IsOutcomeOf gs o × (committed gs o ≡ after_print (committed (typed_files fs p s) o) o.printed)) (sym e)
     (outcome_after_print (put_file fs 0 x) o o.printed (outcome-put fs x o h), commit_print (put_file fs 0 x) o o.printed (elsewhere fs o h))
 
+-- ## An outcome that has lost the texts of its edits
+
+same-empty : (es fs : List Edit) → length es ≡ length fs → is_empty es ≡ is_empty fs
+same-empty [] [] e = refl
+same-empty [] (x ∷ fs) e = absurd (omega arith)
+same-empty (x ∷ es) [] e = absurd (omega arith)
+same-empty (x ∷ es) (y ∷ fs) e = refl
+
+-- it can be put in as before
+pub same_fits : (fs : PlainFiles) (o left : PlainOutcome) → IsSameButEdits o left → IsOutcomeOf fs o → IsOutcomeOf fs left
+same_fits fs o left same fits = subst (λ (l : PlainOutcome). IsOutcomeOf fs l) (sym same.0) fits
+
+-- it leads to the same files
+same-commits : (fs : PlainFiles) (o left : PlainOutcome) → IsSameButEdits o left → committed fs left ≡ committed fs o
+same-commits fs o left same =
+    subst (λ (l : PlainOutcome). committed fs l ≡ committed fs o) (sym same.0)
+    (ap (λ (gs : PlainFiles). record gs { pattern = either o.pattern fs.pattern }) (go o.file))
+  where
+    empty : is_empty left.edits ≡ is_empty o.edits
+    empty = same-empty left.edits o.edits same.1
+
+    go : (x : Option ℕ) → put_outcome x fs (record o { edits = left.edits }) ≡ put_outcome x fs o
+    go None = refl
+    go (Some f) = ap (λ (b : Bool). put_file fs f (record (file_after (file_at fs f) o) { dirty = (file_at fs f).dirty || not b })) empty
+
+-- the reply to a line after its typing, by what is left of its outcome once its frames are made
+pub line_left : (h : PlainHost) (p : ℕ) (s line : List ℕ) (o left : PlainOutcome) → IsSameButEdits o left → o ≡ meaning h.files line → IsOutcomeOf h.files o
+    → IfSome h.files.work (IsWork h.files) → p ≤ length (file_at h.files 0).text
+    → reply_line (typed h p s) [] line ≡ (
+      record (typed h p s) { files = after_print (committed (typed_files h.files p s) left) left.printed; is_done = left.quit },
+      told_line h.files (length (file_at h.files 0).text + length s) o,
+    )
+line_left h p s line o left same is fits work place =
+    let commits = sym (same-commits (typed_files h.files p s) o left same) in
+    let out : o.printed ≡ left.printed = sym (ap (λ (l : PlainOutcome). l.printed) same.0) in
+    let end : o.quit ≡ left.quit = sym (ap (λ (l : PlainOutcome). l.quit) same.0) in
+    line_replied h p s line o is fits work place
+    ∙ (λ i. (record (typed h p s) { files = after_print (commits i) (out i); is_done = end i }, told_line h.files (length (file_at h.files 0).text + length s) o))
+
 -- what is typed is there
 pub typed_length : (fs : PlainFiles) (p : ℕ) (s : List ℕ) → p ≤ length (file_at fs 0).text
     → length (file_at (typed_files fs p s) 0).text ≡ length (file_at fs 0).text + length s
@@ -174,6 +214,9 @@ text_below_inserted es i d e = grind arith
 pub edit_told : (tell : Edit → List Hmesg) (before : List HFrame) (seen : ℕ) (es : List Edit) (i : ℕ) (e : Edit) → i < length es → e ≡ get_or es i e
     → (before ++ stamped seen (tell e)) ++ stamped seen (flat_map tell (reverse (take i es))) ≡ before ++ stamped seen (flat_map tell (reverse (take (suc i) es)))
 edit_told tell before seen es i e l is = search (rules, common_steps, told_both)
+
+-- what telling the edits from the last to the first rests on
+pub ruleset edits_facts = (edit_told, text_below_inserted, get_or-set_other)
 
 -- the frames after six parts, each told after those before it
 pub six_told : (before x1 x2 x3 x4 x5 x6 : List HFrame) (seen : ℕ) (a b c d e f : List Hmesg) → x1 ≡ before ++ stamped seen a → x2 ≡ x1 ++ stamped seen b

@@ -1,5 +1,5 @@
 -- What is typed into the command file, or put at its end, with a line of it that is run.
-use Rattle.std.specs.Prelude.{ℕ, ◌+◌, ◌-◌, List, [], ◌∷◌, ◌++◌, length, not, ◌&&◌, nat_le, if◌then◌else◌}
+use Rattle.std.specs.Prelude.{◌≡◌, ℕ, ◌+◌, ◌-◌, List, [], ◌∷◌, ◌++◌, length, not, ◌&&◌, nat_le, if◌then◌else◌}
 use Rattle.sam_runes.specs.Texts.{is_empty, ins, max_runes}
 use Rattle.sam_text.specs.Files.{PlainFiles, PlainOutcome, file_at, put_file, typed_file}
 use Rattle.sam_mesg.specs.declared.hmesg.Hmesg.{Hmesg}
@@ -30,6 +30,10 @@ unfoldable pub printed_at : PlainFiles → ℕ → List ℕ → List Hmesg
 printed_at fs n s =
     when ((not (is_empty s) && nat_le (n + length s) max_runes) && (file_at fs 0).opened)
     (grown fs 0 n s ++ Hsetdot 0 (n + length s) (n + length s) ∷ Hcheck 0 ∷ [])
+
+-- the second outcome is the first but for its edits, which are others, though as many
+abbrev pub IsSameButEdits : PlainOutcome → PlainOutcome → Type 0
+IsSameButEdits o left = (left ≡ record o { edits = left.edits }) × (length left.edits ≡ length o.edits)
 
 -- the frames for a line with this outcome, where the text of tag 0 has n runes before what it prints
 abbrev pub told_line : PlainFiles → ℕ → PlainOutcome → List Hmesg

@@ -5,9 +5,9 @@
 //! unchanged.
 
 ghost use Rattle.std.specs.Prelude.{◌≡◌, ◌==◌, ◌<◌, ◌≤◌, ◌+◌, ◌-◌, ◌++◌, ◌∷◌, [], ◌^◌, IfOk, IsTrue, OnOk, OnErr, Err, None, Some, true, not, ◌&&◌, nat_lt, if◌then◌else◌, length};
-ghost use Rattle.sam_host.specs.Typing.{typed_files, typed, sent, typed_line, reply_typed_line, told_line};
+ghost use Rattle.sam_host.specs.Typing.{typed_files, typed, sent, typed_line, reply_typed_line, told_line, IsSameButEdits};
 ghost use Rattle.sam_host.specs.Host.{host_checks, Refuses, Appends, stamped, when, when_given, printed, told_edit, told_edits, told_outcome, with_file, line_to, reply_line, reply_type, reply_send};
-ghost use Rattle.sam_runes.specs.Texts.{max_runes, is_empty, part, as_lines, last_line, ends_line};
+ghost use Rattle.sam_runes.specs.Texts.{max_runes, part, as_lines, last_line, ends_line};
 ghost use Rattle.sam_runes.specs.Edits.{inserted};
 ghost use Rattle.sam_runes.specs.Checks.{first_of_checks};
 ghost use Rattle.sam_text.specs.Files.{has_file, file_at, typed_file, after_print, committed, IsOutcomeOf};
@@ -21,6 +21,11 @@ use sam_mesg::{HFrame, Hmesg, Tmesg};
 use sam_runes::places::start_of_line;
 use sam_runes::{Edit, MAX_RUNES, Runes};
 use sam_text::{Files, Outcome};
+use std::mem;
+
+/// How many frames an answer to a line has at most beside the two of each edit: the mark, the name, the pattern, the dot and the check of
+/// the work file, the growth, the dot and the check of the command file, and the end.
+const MOST_BESIDE_EDITS: usize = 9;
 
 impl Host {
     /// Adds `Hcut` for what an edit takes out; nothing if the range is empty.
@@ -36,35 +41,44 @@ impl Host {
         Ok(())
     }
 
-    /// Adds the frames for one edit of a file: what goes, and then what comes.
+    /// Adds the frames for one edit of a file: what goes, and then what comes. The text of the edit goes into the frame, and leaves none.
     #[tactic(auto, using(crate::proofs::FrameLaws::told_both), unfolding(crate::specs::Host::told_edit))]
-    fn tell_edit(&self, frames: &mut Vec<HFrame>, tag: u16, edit: &Edit) -> Result<(), HostFault>
+    fn tell_edit(
+        &self,
+        frames: &mut Vec<HFrame>,
+        tag: u16,
+        edit: &mut Edit,
+    ) -> Result<(), HostFault>
         requires count { self.now.taken + 1 < 2 ^ 64 }
-        requires limit { length edit.now.text ≤ max_runes }
-        ensures ok { OnOk result (Appends self.now frames.old.items frames.new.items (told_edit self.now.files tag edit.now)) }
+        requires limit { length edit.old.text ≤ max_runes }
+        ensures ok { OnOk result (Appends self.now frames.old.items frames.new.items (told_edit self.now.files tag edit.old)) }
         ensures memory { OnErr result (result ≡ Err HostFault.OutOfMemory) }
     {
+        let none = Runes::from_vec(Vec::new(self.alloc));
+        let runes = mem::replace(&mut edit.text, none);
         self.tell_cut(frames, tag, edit.p, edit.q)?;
-        self.grown(frames, tag, edit.p, edit.text.as_slice())
+        self.grown_with(frames, tag, edit.p, runes)
     }
 
-    /// Adds the frames for the edits of a file, from the last to the first, so that each place is still true.
-    #[tactic(auto, using(crate::proofs::RunLaws::edit_told, crate::proofs::RunLaws::text_below_inserted))]
+    /// Adds the frames for the edits of a file, from the last to the first, so that each place is still true. The texts of the edits go
+    /// into the frames: there are as many edits as before.
+    #[tactic(auto, using(crate::proofs::RunLaws::edits_facts))]
     fn tell_edits(
         &self,
         frames: &mut Vec<HFrame>,
         tag: u16,
-        edits: &[Edit],
+        edits: &mut [Edit],
     ) -> Result<(), HostFault>
         requires count { self.now.taken + 1 < 2 ^ 64 }
-        requires limit { inserted edits.now ≤ max_runes }
-        ensures ok { OnOk result (Appends self.now frames.old.items frames.new.items (told_edits self.now.files tag edits.now)) }
+        requires limit { inserted edits.old ≤ max_runes }
+        ensures count { length edits.new ≡ length edits.old }
+        ensures ok { OnOk result (Appends self.now frames.old.items frames.new.items (told_edits self.now.files tag edits.old)) }
         ensures memory { OnErr result (result ≡ Err HostFault.OutOfMemory) }
     {
         let mut left = edits.len();
         while left > 0 {
             left -= 1;
-            self.tell_edit(frames, tag, &edits[left])?;
+            self.tell_edit(frames, tag, &mut edits[left])?;
         }
         Ok(())
     }
@@ -130,18 +144,13 @@ impl Host {
 
     /// Adds `Hdirty` if there is an edit and the file was clean.
     #[tactic(auto, unfolding(crate::specs::Host::when))]
-    fn tell_edited(
-        &self,
-        frames: &mut Vec<HFrame>,
-        tag: u16,
-        edits: &[Edit],
-    ) -> Result<(), HostFault>
+    fn tell_edited(&self, frames: &mut Vec<HFrame>, tag: u16, edited: bool) -> Result<(), HostFault>
         requires count { self.now.taken + 1 < 2 ^ 64 }
         ensures ok { OnOk result (Appends self.now frames.old.items frames.new.items
-            (when (not (is_empty edits.now) && not (file_at self.now.files tag).dirty) (Hmesg.Hdirty tag ∷ []))) }
+            (when (edited && not (file_at self.now.files tag).dirty) (Hmesg.Hdirty tag ∷ []))) }
         ensures memory { OnErr result (result ≡ Err HostFault.OutOfMemory) }
     {
-        if edits.is_empty() || self.files.is_dirty(tag) {
+        if !edited || self.files.is_dirty(tag) {
             return Ok(());
         }
         self.say(frames, Hmesg::Hdirty(tag))
@@ -149,82 +158,81 @@ impl Host {
 
     /// Adds `Hcheck` if there is an edit: the terminal is to look for gaps.
     #[tactic(auto, unfolding(crate::specs::Host::when))]
-    fn tell_check(
-        &self,
-        frames: &mut Vec<HFrame>,
-        tag: u16,
-        edits: &[Edit],
-    ) -> Result<(), HostFault>
+    fn tell_check(&self, frames: &mut Vec<HFrame>, tag: u16, edited: bool) -> Result<(), HostFault>
         requires count { self.now.taken + 1 < 2 ^ 64 }
-        ensures ok { OnOk result (Appends self.now frames.old.items frames.new.items
-            (when (not (is_empty edits.now)) (Hmesg.Hcheck tag ∷ []))) }
+        ensures ok { OnOk result (Appends self.now frames.old.items frames.new.items (when edited (Hmesg.Hcheck tag ∷ []))) }
         ensures memory { OnErr result (result ≡ Err HostFault.OutOfMemory) }
     {
-        if edits.is_empty() {
+        if !edited {
             return Ok(());
         }
         self.say(frames, Hmesg::Hcheck(tag))
     }
 
-    /// Adds what a line did to a file: its edits, the mark, the name, the pattern and the dot, in this order, and `Hcheck` last.
+    /// Adds what a line did to a file: its edits, the mark, the name, the pattern and the dot, in this order, and `Hcheck` last. The texts
+    /// of the edits go into the frames.
     fn tell_parts(
         &self,
         frames: &mut Vec<HFrame>,
         tag: u16,
-        edits: &[Edit],
+        edits: &mut [Edit],
         name: &Option<Runes>,
         pattern: &Option<Runes>,
         dot: Option<(u32, u32)>,
     ) -> Result<(), HostFault>
         requires count { self.now.taken + 1 < 2 ^ 64 }
-        requires limit { inserted edits.now ≤ max_runes }
+        requires limit { inserted edits.old ≤ max_runes }
+        ensures count { length edits.new ≡ length edits.old }
         ensures ok { OnOk result (Appends self.now frames.old.items frames.new.items
             (told_outcome (Some tag) self.now.files
-            (record nothing { edits = edits.now; name = name.now; pattern = pattern.now; dot = dot }))) }
+            (record nothing { edits = edits.old; name = name.now; pattern = pattern.now; dot = dot }))) }
         ensures memory { OnErr result (result ≡ Err HostFault.OutOfMemory) }
     {
+        let edited = !edits.is_empty();
         self.tell_edits(frames, tag, edits)?;
-        self.tell_edited(frames, tag, edits)?;
+        self.tell_edited(frames, tag, edited)?;
         self.tell_new_name(frames, tag, name)?;
         self.tell_pattern(frames, pattern)?;
         self.tell_dot(frames, tag, dot)?;
-        self.tell_check(frames, tag, edits)?;
+        self.tell_check(frames, tag, edited)?;
         Ok(())
     }
 
-    /// Adds what a line did to its file. It hands the parts of the outcome to `tell_parts`.
+    /// Adds what a line did to its file. It hands the parts of the outcome to `tell_parts`; the outcome is left without the texts of its
+    /// edits.
     #[tactic(auto, unfolding(crate::specs::Host::told_outcome))]
     fn tell_changed(
         &self,
         frames: &mut Vec<HFrame>,
         tag: u16,
-        outcome: &Outcome,
+        outcome: &mut Outcome,
     ) -> Result<(), HostFault>
         requires count { self.now.taken + 1 < 2 ^ 64 }
-        requires limit { inserted (effect outcome.now).edits ≤ max_runes }
+        requires limit { inserted (effect outcome.old).edits ≤ max_runes }
         ensures ok { OnOk result (Appends self.now frames.old.items frames.new.items
-            (told_outcome (Some tag) self.now.files (effect outcome.now))) }
+            (told_outcome (Some tag) self.now.files (effect outcome.old))) }
         ensures memory { OnErr result (result ≡ Err HostFault.OutOfMemory) }
+        ensures same { IsSameButEdits (effect outcome.old) (effect outcome.new) }
     {
-        let edits = outcome.edits.items.as_slice();
         self.tell_parts(
             frames,
             tag,
-            edits,
+            outcome.edits.items.as_mut_slice(),
             &outcome.name,
             &outcome.pattern,
             outcome.dot,
         )
     }
 
-    /// Adds what a line did. An outcome that names no file has at most a pattern.
+    /// Adds what a line did. An outcome that names no file has at most a pattern. The outcome is left without the texts of its edits.
     #[tactic(auto, unfolding(crate::specs::Host::told_outcome))]
-    fn tell_outcome(&self, frames: &mut Vec<HFrame>, outcome: &Outcome) -> Result<(), HostFault>
+    fn tell_outcome(&self, frames: &mut Vec<HFrame>, outcome: &mut Outcome) -> Result<(), HostFault>
         requires count { self.now.taken + 1 < 2 ^ 64 }
-        requires limit { inserted (effect outcome.now).edits ≤ max_runes }
+        requires limit { inserted (effect outcome.old).edits ≤ max_runes }
         ensures ok { OnOk result (Appends self.now frames.old.items frames.new.items
-            (told_outcome outcome.now.file self.now.files (effect outcome.now))) }
+            (told_outcome outcome.old.file self.now.files (effect outcome.old))) }
         ensures memory { OnErr result (result ≡ Err HostFault.OutOfMemory) }
+        ensures same { IsSameButEdits (effect outcome.old) (effect outcome.new) }
     {
         match outcome.file {
             Some(tag) => self.tell_changed(frames, tag, outcome),
@@ -246,20 +254,22 @@ impl Host {
     }
 
     /// Adds what a line does, what it prints, and its end. The files are still as they were before the typing: `len` is the length of the
-    /// command file after it.
+    /// command file after it. The texts of the edits go into the frames: the outcome is left without them, and can still be put in.
     #[tactic(auto, using(crate::proofs::FrameLaws::told_both))]
     fn tell_line(
         &self,
         frames: &mut Vec<HFrame>,
         len: u32,
-        outcome: &Outcome,
+        outcome: &mut Outcome,
     ) -> Result<(), HostFault>
         requires count { self.now.taken + 1 < 2 ^ 64 }
-        requires limit { inserted (effect outcome.now).edits ≤ max_runes }
+        requires limit { inserted (effect outcome.old).edits ≤ max_runes }
         requires len { len ≤ max_runes }
-        ensures ok { OnOk result (Appends self.now frames.old.items frames.new.items (told_line self.now.files len (effect outcome.now))) }
+        ensures ok { OnOk result (Appends self.now frames.old.items frames.new.items (told_line self.now.files len (effect outcome.old))) }
         ensures memory { OnErr result (result ≡ Err HostFault.OutOfMemory) }
+        ensures same { IsSameButEdits (effect outcome.old) (effect outcome.new) }
     {
+        frames.reserve(2 * outcome.edits.items.len() + MOST_BESIDE_EDITS)?;
         self.tell_outcome(frames, outcome)?;
         self.tell_print_at(frames, len, outcome.printed.as_slice())?;
         self.tell_end(frames, outcome.quit)
@@ -278,7 +288,7 @@ impl Host {
 
     /// Types `runes` into the command file at `p`, runs `line`, which is the line that they end without its newline, and adds its frames.
     /// All memory is had before the first change. The only error is `OutOfMemory`, and the host is then unchanged.
-    #[tactic(auto, using(crate::proofs::RunLaws::line_replied))]
+    #[tactic(auto, using(crate::proofs::RunLaws::same_fits))]
     fn run(
         &mut self,
         frames: &mut Vec<HFrame>,
@@ -296,9 +306,9 @@ impl Host {
         ensures unchanged { OnErr result (self.new ≡ self.old) }
     {
         self.files.facts();
-        let outcome = self.outcome(line)?;
+        let mut outcome = self.outcome(line)?;
         let len = self.text_len(0) + runes.len() as u32;
-        self.tell_line(frames, len, &outcome)?;
+        self.tell_line(frames, len, &mut outcome)?;
         make_room(&mut self.files, runes.len(), outcome.printed.len())?;
         self.done = outcome.quit;
         put_line(&mut self.files, p, runes, outcome);

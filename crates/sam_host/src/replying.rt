@@ -64,6 +64,31 @@ impl Host {
         self.say(frames, Hmesg::Hgrowdata(tag, p, copy))
     }
 
+    /// Adds what `grown` adds, and puts the runes themselves in the frame, so that no memory is asked for a copy of them. They are dropped
+    /// if the frame doesn't carry them.
+    #[tactic(auto, unfolding(crate::specs::Host::grown, crate::specs::Host::when))]
+    pub(crate) fn grown_with(
+        &self,
+        frames: &mut Vec<HFrame>,
+        tag: u16,
+        p: u32,
+        runes: Runes,
+    ) -> Result<(), HostFault>
+        requires count { self.now.taken + 1 < 2 ^ 64 }
+        requires limit { length runes ≤ max_runes }
+        ensures ok { OnOk result (Appends self.now frames.old.items frames.new.items (grown self.now.files tag p runes)) }
+        ensures memory { OnErr result (result ≡ Err HostFault.OutOfMemory) }
+    {
+        let len = runes.len();
+        if !self.files.is_open(tag) || len == 0 {
+            return Ok(());
+        }
+        if len > MOST_IN_MESSAGE {
+            return self.say(frames, Hmesg::Hgrow(tag, p, len as u32));
+        }
+        self.say(frames, Hmesg::Hgrowdata(tag, p, runes))
+    }
+
     /// Adds `Hdirty` if the file was clean and is not the command file.
     #[tactic(auto, unfolding(crate::specs::Host::when))]
     pub(crate) fn tell_dirty(&self, frames: &mut Vec<HFrame>, tag: u16) -> Result<(), HostFault>
