@@ -41,7 +41,7 @@ impl Host {
         Ok(())
     }
 
-    /// Adds the frames for one edit of a file: what goes, and then what comes. The text of the edit goes into the frame, and leaves none.
+    /// Adds the frames for one edit of a file: what goes, and then what comes. The text is taken out of the edit.
     #[tactic(auto, using(crate::proofs::FrameLaws::told_both), unfolding(crate::specs::Host::told_edit))]
     fn tell_edit(
         &self,
@@ -60,8 +60,8 @@ impl Host {
         self.grown_with(frames, tag, edit.p, runes)
     }
 
-    /// Adds the frames for the edits of a file, from the last to the first, so that each place is still true. The texts of the edits go
-    /// into the frames: there are as many edits as before.
+    /// Adds the frames for the edits of a file, from the last to the first, so that each place is still true. The texts are taken
+    /// out of the edits.
     #[tactic(auto, using(crate::proofs::RunLaws::edits_facts))]
     fn tell_edits(
         &self,
