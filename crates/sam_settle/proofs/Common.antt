@@ -23,7 +23,7 @@ pub use Rattle.sam_queue.specs.declared.rule.Entry.{Entry}
 pub use Rattle.sam_settle.specs.Apart.{Apart, Joined, Understood}
 pub use Rattle.sam_settle.specs.Headline.{Gives, Headline}
 pub use Rattle.sam_settle.specs.Settled.{AreFull, HasStreams, HasUsers, IsDrained, IsFull, IsWhole, MissesHost, count_gone, counts_left, left_in, left_of, as_list, stops_of}
-pub use Rattle.sam_settle.specs.Settling.{ComesTo, IsScheduled, IsSource, LinesGive, world_from}
+pub use Rattle.sam_settle.specs.Settling.{ComesTo, IsReady, IsScheduled, IsSource, LinesGive, schedule_from, world_from}
 pub use Rattle.sam_settle.specs.declared.settled.Settled.{Settled}
 pub use Rattle.sam_term.specs.Term.{Made, PlainTerminal, act_on, decided, event_checks, event_outcome, gaps_shown, has_long_text, new_terminal, request_for, requests_for, sends, sends_all, sends_if, unchanged, unsent_message}
 unfoldable pub use Rattle.sam_term.specs.Term.{act_of, all_wanted, flush_of, flushed, made_by_cut, made_by_edit, made_by_load, made_by_paste, made_by_snarf, made_by_type, made_by_view, requested, take_of}

@@ -2,13 +2,12 @@
 ghost use Rattle.std.specs.Prelude.{◌≡◌, ◌+◌, ◌^◌, ◌<◌, ◌≤◌, [], ◌∷◌, ◌++◌, length, All, IfOk, IfErr, Some, vec_capacity, sum_by};
 ghost use Rattle.sam_runes.specs.Texts.{most_files};
 ghost use Rattle.sam_world.specs.Given.{IsFile};
-ghost use Rattle.sam_world.specs.Reached.{IsSoundWorld};
 ghost use Rattle.sam_crossing.specs.World.{new_world, run_of};
 ghost use Rattle.sam_world.specs.Merging.{merged};
 ghost use Rattle.sam_workers.specs.WorkerEnds.{AreEnds};
 ghost use Rattle.sam_settle.specs.Headline.{Gives, Headline};
 ghost use Rattle.sam_settle.specs.Settled.{left_in, counts_left, as_list, stops_of, AreFull, HasStreams, HasUsers, IsDrained, IsWhole, MissesHost};
-ghost use Rattle.sam_settle.specs.Settling.{IsRoomFor, IsScheduled, IsPrepared, ComesTo, world_from};
+ghost use Rattle.sam_settle.specs.Settling.{IsRoomFor, IsScheduled, IsPrepared, IsReady, ComesTo, schedule_from, world_from};
 
 use crate::settled::{SettleFault, Settled};
 use sam_host::host::Host;
@@ -18,7 +17,7 @@ use sam_term::term::Terminal;
 use sam_workers::{Ends, Input, Stop};
 use sam_world::event::{Event, StepFault, TermLog};
 use sam_world::world::World;
-use sam_world::{MergeFault, first_world, merge};
+use sam_world::{MergeFault, MergeRoom, first_world, merge, merge_within};
 use std::alloc::{AllocError, Global};
 use std::sync::Wait;
 
@@ -31,22 +30,13 @@ struct LineRoom<'q, T> {
     posts: Vec<Post<'q, T>>,
 }
 
-/// How the world of a session is had.
+/// How the merged schedule and the world where it leads are had.
 #[derive(Drop)]
 enum Source {
-    /// No worker stopped: nothing is under way, and the two sides are the world.
-    Sides,
-    /// The world where the merged schedule leads from the host's first files.
-    Run(World),
-}
-
-/// The merged schedule, and the world where it leads.
-#[derive(Drop)]
-struct Replay {
-    /// The terminal's log, merged with the messages that the host took.
-    schedule: Vec<Event>,
-    /// How the world is had where the schedule leads.
-    source: Source,
+    /// No worker stopped: nothing is under way, and the two sides are the world. There is room to merge the log.
+    Sides(MergeRoom),
+    /// A worker stopped: the merged schedule, and the world where it leads from the host's first files.
+    Run(Vec<Event>, World),
 }
 
 /// All memory for settling, had before anything is taken from a line.
@@ -62,8 +52,8 @@ struct Prepared<'q> {
     left: Vec<usize>,
     /// Why workers stopped, as in `Settled::stops`.
     stops: Vec<Stop>,
-    /// The merged schedule with its world; `None` if the schedule is no run, which no session leads to.
-    replay: Option<Replay>,
+    /// How the schedule and the world are had; `None` if the schedule is no run, which no session leads to.
+    source: Option<Source>,
 }
 
 /// Puts the five ends of a session together. Returns one schedule of all its events, which leads one world of the host's first files to
@@ -112,7 +102,7 @@ fn prepare<'q>(alloc: Global, ends: &Ends<'q>) -> Result<Prepared<'q>, AllocErro
     let events = room_for(alloc, &ends.term.take, 3)?;
     let left = Vec::with_capacity(alloc, 3)?;
     let stops = noted(Vec::with_capacity(alloc, 5)?, ends);
-    let replay = replay_of(
+    let source = source_of(
         alloc,
         ends.host.files.as_slice(),
         ends.term.log.as_slice(),
@@ -125,7 +115,7 @@ fn prepare<'q>(alloc: Global, ends: &Ends<'q>) -> Result<Prepared<'q>, AllocErro
         events,
         left,
         stops,
-        replay,
+        source,
     })
 }
 
@@ -142,34 +132,36 @@ fn room_for<'q, T: Drop>(
     Ok(LineRoom { audit, posts })
 }
 
-/// Merges the schedule of a session with these stops. Where there is one, the schedule is also run, from a world of the files. Returns
-/// `None` if the schedule is no run.
+/// Makes what the merged schedule of a session with these stops takes: only room for it where there is no stop. Where there is one, the
+/// schedule is made, and run from a world of the files. Returns `None` if the schedule is no run.
 #[tactic(auto, using(crate::proofs::SettlingLists::nothing_counted))]
-fn replay_of(
+fn source_of(
     alloc: Global,
     files: &[(Runes, Runes)],
     log: &[TermLog],
     taken: u64,
     stops: &[Stop],
-) -> Result<Option<Replay>, AllocError>
+) -> Result<Option<Source>, AllocError>
     requires many { length files.now ≤ most_files }
     requires files { All IsFile files.now }
     ensures { IfOk result (IsScheduled files.now log.now taken stops.now) }
 {
+    if stops.is_empty() {
+        return match MergeRoom::new(alloc, log, taken) {
+            Ok(room) => Ok(Some(Source::Sides(room))),
+            Err(MergeFault::OutOfMemory) => Err(AllocError),
+            Err(MergeFault::BadLog) => Ok(None),
+        };
+    }
     let schedule = match merge(alloc, log, taken) {
         Ok(schedule) => schedule,
         Err(MergeFault::OutOfMemory) => return Err(AllocError),
         Err(MergeFault::BadLog) => return Ok(None),
     };
-    if stops.is_empty() {
-        let source = Source::Sides;
-        return Ok(Some(Replay { schedule, source }));
-    }
     let Some(world) = world_after(alloc, files, schedule.as_slice())? else {
         return Ok(None);
     };
-    let source = Source::Run(world);
-    Ok(Some(Replay { schedule, source }))
+    Ok(Some(Source::Run(schedule, world)))
 }
 
 /// Returns the world where the events lead from the first world of the files, or `None` if they are no run.
@@ -196,7 +188,7 @@ fn world_after(
     }
 }
 
-/// Audits the three lines in the room that was made. A session's schedule always is a run, so there is a replay.
+/// Audits the three lines in the room that was made, and merges the log. A session's schedule always is a run, so there is a source.
 #[tactic(auto, using(crate::proofs::SettlingLaws::source_kept))]
 fn finish<'q, R: Wait>(rt: &R, alloc: Global, prepared: Prepared<'q>, ends: Ends<'q>) -> Settled
     requires ends { AreEnds ends }
@@ -209,7 +201,7 @@ fn finish<'q, R: Wait>(rt: &R, alloc: Global, prepared: Prepared<'q>, ends: Ends
         events,
         mut left,
         stops,
-        replay,
+        source,
     } = prepared;
     let Ends {
         host,
@@ -228,28 +220,39 @@ fn finish<'q, R: Wait>(rt: &R, alloc: Global, prepared: Prepared<'q>, ends: Ends
         mouse.post,
         reader.post,
     ));
-    let Some(Replay { schedule, source }) = replay else {
-        unreachable!()
-    };
+    let Some(source) = source else { unreachable!() };
+    let (schedule, world) = schedule_and_world(alloc, source, host.host, term.term, term.log);
     Settled {
         schedule,
-        world: world_of(alloc, source, host.host, term.term),
+        world,
         left,
         stops,
     }
 }
 
-/// Returns the world of a session with these sides: the sides themselves, or the world that was run.
-fn world_of(alloc: Global, source: Source, host: Host, term: Terminal) -> World
-    requires { source ≡ Source.Sides → IsSoundWorld (record { host = host; term = term; up = []; down = [] }) }
-    ensures { result ≡ world_from source host term }
+/// Returns the schedule and the world of a session with these sides and this log: the log is merged and the sides are the world, or both
+/// are those of the run.
+fn schedule_and_world(
+    alloc: Global,
+    source: Source,
+    host: Host,
+    term: Terminal,
+    log: Vec<TermLog>,
+) -> (Vec<Event>, World)
+    requires { IsReady host term log.items source }
+    ensures schedule { result.0.items ≡ schedule_from source log.items host.taken }
+    ensures world { result.1 ≡ world_from source host term }
 {
     match source {
-        Source::Sides => World::of_sides(alloc, host, term),
-        Source::Run(world) => {
+        Source::Sides(room) => {
+            let schedule = merge_within(room, log, host.taken());
+            (schedule, World::of_sides(alloc, host, term))
+        }
+        Source::Run(schedule, world) => {
             drop(host);
             drop(term);
-            world
+            drop(log);
+            (schedule, world)
         }
     }
 }

@@ -1,8 +1,9 @@
 -- What the proofs of this crate cite most from its definitions and from the crates below.
-pub use Rattle.std.proofs.Common.{All, Bool, Err, IsTrue, List, None, Ok, Option, Result, Some, [], ap, append-nil, append_assoc, arith, codes, drop, eqb-true, false, flat_map, if◌then◌else◌, inl, inr, is_some, length, length-append, map, max, min, nat_lt, not, option_and_then, option_copied, refl, replicate, reverse, slice_index_or, subst, suc, sym, take, take-append-drop, take_all, true, unwrap_or, zero, ℕ, ◌++◌, ◌+◌, ◌-◌, ◌<◌, ◌==◌, ◌∙◌, ◌∷◌, ◌≡◌, ◌≤◌, ◌⊎◌}
+pub use Rattle.std.proofs.Common.{All, Bool, Err, IsTrue, List, None, Ok, Option, Result, Some, [], ap, append-nil, append_assoc, arith, codes, drop, eqb-true, false, flat_map, if◌then◌else◌, inl, inr, is_some, length, length-append, map, max, min, nat_lt, not, option_and_then, option_copied, refl, replicate, reverse, slice_index_or, subst, suc, sym, take, take-append-drop, take_all, true, unwrap_or, vec_capacity, zero, ℕ, ◌++◌, ◌+◌, ◌-◌, ◌<◌, ◌==◌, ◌∙◌, ◌∷◌, ◌≡◌, ◌≤◌, ◌⊎◌}
 pub use Rattle.std.proofs.lemmas.List.{append_cancel_left, drop_all, nil_from_length}
 pub use Rattle.std.proofs.lemmas.List.Elements.{All-append, All-head, All-tail}
 pub use Rattle.std.proofs.lemmas.Option.{same_Some}
+pub use Rattle.std.specs.Vec.Iter.{into_iter_items}
 pub use Rattle.sam_host.proofs.EachFrame.{Command, EachFrame, File, Freed, IsTold, Nothing, end_frames, lock_freed, reply_ends}
 unfoldable pub use Rattle.sam_host.proofs.EachFrame.{replies_opened}
 pub use Rattle.sam_host.proofs.SoundLaws.{answer_is, frames_fit, of_answer, starts_sound, stays_sound}

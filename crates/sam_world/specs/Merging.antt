@@ -1,5 +1,5 @@
 -- How a terminal's log becomes a schedule of both sides.
-use Rattle.std.specs.Prelude.{ℕ, ◌-◌, max, Bool, false, ◌||◌, nat_lt, List, [], ◌∷◌, ◌++◌, replicate}
+use Rattle.std.specs.Prelude.{◌≡◌, ◌≤◌, ℕ, ◌-◌, max, Bool, false, ◌||◌, nat_lt, List, [], ◌∷◌, ◌++◌, length, replicate}
 use Rattle.sam_crossing.specs.declared.event.Event.{Event}
 use Rattle.sam_crossing.specs.declared.event.Event.TheVariants.{User, Act, Flush, HostTake, TermTake}
 use Rattle.sam_world.specs.declared.event.TermLog.{TermLog}
@@ -40,3 +40,9 @@ merged entries n = merged_from 0 entries n
 abbrev pub is_bad_log : List TermLog → ℕ → Bool
 is_bad_log [] n = false
 is_bad_log (entry ∷ entries) n = is_bad_entry entry n || is_bad_log entries n
+
+-- ## The room for it
+
+-- room for so many events is enough for the schedule of a log that is not bad
+abbrev pub IsRoomForMerge : List TermLog → ℕ → ℕ → Type 0
+IsRoomForMerge entries n room = (is_bad_log entries n ≡ false) × (length (merged entries n) ≤ room)
