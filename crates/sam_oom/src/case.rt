@@ -40,6 +40,7 @@ pub enum Case {
     Audit,
     Settle,
     RunThreads,
+    RunThreadsOnce,
     InsertLong,
     FilesRefuse,
     RaspRefuses,
@@ -51,7 +52,7 @@ pub enum Case {
 
 impl Case {
     /// All cases, in the order in which they run.
-    pub const ALL: [Case; 37] = [
+    pub const ALL: [Case; 38] = [
         Case::EncodeT,
         Case::EncodeH,
         Case::EncodeAll,
@@ -82,6 +83,7 @@ impl Case {
         Case::Audit,
         Case::Settle,
         Case::RunThreads,
+        Case::RunThreadsOnce,
         Case::InsertLong,
         Case::FilesRefuse,
         Case::RaspRefuses,
@@ -124,6 +126,7 @@ impl Case {
             Case::Audit => "audit",
             Case::Settle => "settle",
             Case::RunThreads => "run_threads",
+            Case::RunThreadsOnce => "run_threads_once",
             Case::InsertLong => "insert_long",
             Case::FilesRefuse => "files_refuse",
             Case::RaspRefuses => "rasp_refuses",
@@ -167,6 +170,7 @@ impl Case {
             Case::Audit => queue::audit_one(rt, alloc),
             Case::Settle => sessions::settle_ends(rt, alloc),
             Case::RunThreads => sessions::run_session(rt, alloc),
+            Case::RunThreadsOnce => sessions::use_up_script(rt, alloc),
             Case::InsertLong => refusals::insert_long(alloc),
             Case::FilesRefuse => refusals::files_refuse(alloc),
             Case::RaspRefuses => refusals::rasp_refuses(alloc),

@@ -12,7 +12,7 @@ use sam_oom_cases::setup::{SetUp, Tried, prepared};
 use sam_runes::Runes;
 use sam_script::{Script, run_lines, show};
 use sam_settle::{SettleFault, Settled, settle};
-use sam_spawn::{Plan, RunFault, run_ends, run_threads};
+use sam_spawn::{Plan, RunFault, run_ends, run_threads, run_threads_once};
 use sam_test_support::told_of;
 use sam_workers::{Ends, Lines, OpenGate, Starts, Stop};
 use sam_world::{Event, World, first_world, merge};
@@ -278,13 +278,13 @@ fn judge(alloc: Global, script: &Script, settled: &Settled) -> Result<Outcome, S
     Ok(Outcome::Wrong)
 }
 
-/// What the session comes to.
-fn run_once<R: Threads + Wait + Sync>(
-    rt: &R,
+/// What the session came to.
+fn outcome(
     alloc: Global,
     script: &Script,
+    run: Result<Settled, RunFault>,
 ) -> Result<Outcome, SetUp> {
-    told_of(run_script(rt, alloc, script), |run| match run {
+    told_of(run, |run| match run {
         Ok(settled) => judge(alloc, script, settled),
         Err(RunFault::NoThread | RunFault::OutOfMemory) => Ok(Outcome::Short),
         Err(RunFault::GateTimedOut) => Ok(Outcome::Wrong),
@@ -295,9 +295,34 @@ fn run_once<R: Threads + Wait + Sync>(
 /// came.
 pub fn run_session<R: Threads + Wait + Sync>(rt: &R, alloc: Global) -> Tried {
     let script = Script::read(alloc, SCRIPT.as_bytes())?;
-    match run_once(rt, alloc, &script)? {
+    match outcome(alloc, &script, run_script(rt, alloc, &script))? {
         Outcome::Whole => Ok(true),
         Outcome::Short => runs_whole(rt, alloc, &script),
         Outcome::Wrong => Ok(false),
     }
+}
+
+/// What the session of a script comes to that it uses up.
+fn use_up<R: Threads + Wait + Sync>(
+    rt: &R,
+    alloc: Global,
+    script: &mut Script,
+) -> Result<Outcome, SetUp> {
+    let run = run_threads_once(rt, alloc, script, PIECE, CAPACITY, &OpenGate);
+    outcome(alloc, script, run)
+}
+
+/// A session that uses its script up comes to its end. Where memory is refused, the call says so with the script as it was, and can be made
+/// again; or the lines of the script are gone, and what settled replays as far as it came.
+pub fn use_up_script<R: Threads + Wait + Sync>(rt: &R, alloc: Global) -> Tried {
+    let mut script = Script::read(alloc, SCRIPT.as_bytes())?;
+    let whole = script.lines().len();
+    let came_to = use_up(rt, alloc, &mut script)?;
+    let left = script.lines().len();
+    Ok(match came_to {
+        Outcome::Whole => left == 0,
+        Outcome::Short if left == 0 => true,
+        Outcome::Short => left == whole && use_up(rt, alloc, &mut script)? == Outcome::Whole,
+        Outcome::Wrong => false,
+    })
 }

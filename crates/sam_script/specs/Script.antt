@@ -32,3 +32,7 @@ mouse_of_line numbered = elim numbered.line [ Mouse event ↦ event ∷ [] | _ �
 
 abbrev pub mouse_of : List Numbered → List UserEvent
 mouse_of = flat_map mouse_of_line
+
+-- the files, and no line
+abbrev pub without_lines : PlainScript → PlainScript
+without_lines script = record { files = script.files; lines = [] }

@@ -12,6 +12,9 @@ use sam_term::event::UserEvent;
 use sam_world::event::Event;
 use std::alloc::{AllocError, Global};
 
+/// As many bytes as the line of an event has as a rule: more for an event of the user, fewer for another.
+const EVENT_LINE: usize = 8;
+
 /// Returns the script that makes just these events happen, as bytes: a `file` line for each file of `script`, a line for each event,
 /// and a line `show`. Each event of the user is a `k` line, also where it was the mouse's. If the events are a run from these files, a
 /// replay of the bytes shows the world to which they lead. The only error is `OutOfMemory`.
@@ -19,7 +22,9 @@ pub fn run_lines(alloc: Global, script: &Script, events: &[Event]) -> Result<Vec
     ensures lines { IfOk result (λ out. out.items ≡ run_lines_of script.now.files events.now) }
     ensures memory { IfErr result (λ why. why ≡ ScriptFault.OutOfMemory) }
 {
-    let mut out = String::new(alloc);
+    let Ok(mut out) = String::with_capacity(alloc, events.len().saturating_mul(EVENT_LINE)) else {
+        return Err(ScriptFault::OutOfMemory);
+    };
     match push_run(&mut out, script.files(), events) {
         Ok(()) => Ok(out.into_bytes()),
         Err(_) => Err(ScriptFault::OutOfMemory),

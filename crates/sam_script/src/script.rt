@@ -4,7 +4,7 @@ ghost use Rattle.std.specs.Prelude.{◌≡◌, ◌≤◌, IfErr, IfOk, OnOk, len
 ghost use Rattle.sam_runes.specs.Texts.{most_files};
 ghost use Rattle.sam_script.specs.Reading.{Adds, AddsNone};
 ghost use Rattle.sam_world.specs.Given.{IsFile};
-ghost use Rattle.sam_script.specs.Script.{PlainScript, keys_of, mouse_of};
+ghost use Rattle.sam_script.specs.Script.{PlainScript, keys_of, mouse_of, without_lines};
 ghost use Rattle.sam_script.specs.Spelling.{Spells, IsReadFault};
 
 use crate::fault::{LineFault, ScriptFault};
@@ -13,6 +13,7 @@ use sam_runes::{MOST_FILES, Runes};
 use sam_term::event::UserEvent;
 use std::alloc::{AllocError, Global};
 use std::marker::Model;
+use std::mem;
 
 /// A script that was read: the names and texts of the host's files, and the lines that follow them. It has at most `MOST_FILES` files,
 /// with names of 1 to `MOST_IN_NAME` runes and texts of at most `MAX_RUNES`. Every script comes from [`Script::read`]:
@@ -112,6 +113,15 @@ impl Script {
         ensures { result.items ≡ self.lines }
     {
         self.lines
+    }
+
+    /// Takes its other lines out, and hands them out with their numbers, in order. Its files stay. It takes no memory.
+    pub fn take_lines(&mut self) -> Vec<Numbered>
+        ensures lines { result.items ≡ self.old.lines }
+        ensures left { self.new ≡ without_lines self.old }
+    {
+        let none = Vec::new(*self.lines.allocator());
+        mem::replace(&mut self.lines, none)
     }
 
     /// Returns copies of the events of its `k` lines, in order. The only error is out of memory.

@@ -155,6 +155,7 @@ pub(crate) fn push(out: &mut String, text: &str) -> Result<(), AllocError>
 pub(crate) fn push_text(out: &mut String, text: &[char]) -> Result<(), AllocError>
     ensures { OnOk result (string_bytes out.new ≡ string_bytes out.old ++ text_shown text.now) }
 {
+    out.reserve(text.len())?;
     for rune in text {
         push_rune(out, *rune)?;
     }

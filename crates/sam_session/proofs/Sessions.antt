@@ -8,6 +8,7 @@ use Rattle.sam_world.specs.Sides.{Each}
 use Rattle.sam_crossing.specs.World.{user_events}
 use Rattle.sam_local.specs.Local.{carried_all}
 use Rattle.sam_script.specs.RunLines.{run_lines_of}
+use Rattle.sam_script.specs.Script.{without_lines}
 use Rattle.sam_script.specs.Show.{show_lines}
 use Rattle.sam_queue.specs.declared.rule.Entry.{Entry}
 use Rattle.sam_queue.specs.History.{items_of}
@@ -128,17 +129,18 @@ all_users script refuses must s session none =
 
 -- ---- what a session prints, and why it does not
 
-pub printed : (script : PlainScript) (refuses : ℕ → Type 0) (must : ℕ → Option ℕ → Type 0) (s : Settled) (lines : List ℕ) → IsSession script refuses must s → of_stops s.stops.items ≡ None
-    → lines ≡ run_lines_of script.files s.schedule.items ++ show_lines s.world → PrintsSession lines script
-printed script refuses must s lines session unstopped is =
+-- `left` is what the session left of the script
+pub printed : (script left : PlainScript) (s : Settled) (lines : List ℕ) → IsSession script (λ _. ⊥) (λ _ _. ⊥) s → left ≡ without_lines script → of_stops s.stops.items ≡ None
+    → lines ≡ run_lines_of left.files s.schedule.items ++ show_lines s.world → PrintsSession lines script
+printed script left s lines session used unstopped is =
     let none = none_stopped s.stops.items unstopped in
     let whole = session.whole none in (
       s.schedule.items,
       s.world,
-      is,
+      subst (λ (l : PlainScript). lines ≡ run_lines_of l.files s.schedule.items ++ show_lines s.world) used is,
       record {
         run = session.run;
-        users = all_users script refuses must s session none;
+        users = all_users script (λ _. ⊥) (λ _ _. ⊥) s session none;
         exited = whole.exited;
         settled = session.headline.quiet s.schedule.items [] s.world (sym (append-nil s.schedule.items)) session.headline.run whole.quiet;
         local = whole.local ∙ ap (λ files. carried_all files (user_events s.schedule.items)) session.files;

@@ -14,7 +14,7 @@ use crate::input::{read_all, write_or_tell};
 use crate::replaying::of_script;
 use sam_script::{Script, run_lines, show};
 use sam_settle::Settled;
-use sam_spawn::{RunFault, run_threads};
+use sam_spawn::{RunFault, run_threads_once};
 use sam_workers::{OpenGate, Stop};
 use std::alloc::Global;
 use std::io::{Read, Write};
@@ -61,7 +61,7 @@ fn threads_lines<T: Threads + Wait + Sync, R: Read>(
         Ok(script) => script,
         Err(fault) => return Err(fault),
     };
-    match session_lines(rt, alloc, &script, piece, capacity) {
+    match session_lines(rt, alloc, script, piece, capacity) {
         Ok(lines) => Ok(lines),
         Err(fault) => Err(fault),
     }
@@ -84,25 +84,25 @@ fn script_in<R: Read>(alloc: Global, reader: &mut R) -> Result<Script, PlayFault
     }
 }
 
-/// Runs the session of a script on five threads, and returns what is written of it.
-#[tactic(auto, using(crate::proofs::Sessions::not_run, crate::proofs::Sessions::not_printed))]
+/// Runs the session of a script on five threads, and returns what is written of it. The script's events are moved to the threads.
+#[tactic(auto, using(crate::proofs::Sessions::printed, crate::proofs::Sessions::not_run, crate::proofs::Sessions::not_printed))]
 fn session_lines<T: Threads + Wait + Sync>(
     rt: &T,
     alloc: Global,
-    script: &Script,
+    mut script: Script,
     piece: usize,
     capacity: usize,
 ) -> Result<Vec<u8>, PlayFault>
     requires piece { 0 < piece }
     requires capacity { 0 < capacity }
-    ensures ok { IfOk result (λ lines. PrintsSession lines.items script.now) }
-    ensures fault { IfErr result (IsSessionFault script.now) }
+    ensures ok { IfOk result (λ lines. PrintsSession lines.items script) }
+    ensures fault { IfErr result (IsSessionFault script) }
 {
-    let settled = match run_threads(rt, alloc, script, piece, capacity, &OpenGate) {
+    let settled = match run_threads_once(rt, alloc, &mut script, piece, capacity, &OpenGate) {
         Ok(settled) => settled,
         Err(fault) => return Err(of_run(fault)),
     };
-    let lines = match lines_of(alloc, script, &settled) {
+    let lines = match lines_of(alloc, &script, &settled) {
         Ok(lines) => lines,
         Err(fault) => return Err(fault),
     };

@@ -1,8 +1,10 @@
 -- What the five threads begin with.
-use Rattle.std.specs.Prelude.{◌≡◌, ℕ, ◌≤◌, length, All}
+use Rattle.std.specs.Prelude.{◌≡◌, ℕ, ◌≤◌, List, [], length, All, vec_capacity}
 use Rattle.sam_runes.specs.Texts.{most_files}
 use Rattle.sam_host.specs.Host.{new_host}
 use Rattle.sam_world.specs.Given.{IsFile}
+use Rattle.sam_script.specs.Script.{keys_of, mouse_of}
+use Rattle.sam_script.specs.declared.line.Numbered.{Numbered}
 use Rattle.sam_queue.specs.Views.{LineView, new_post, new_take}
 use Rattle.sam_workers.specs.Lines.{LinesView}
 use Rattle.sam_workers.specs.declared.host_side.HostTask.{HostTask}
@@ -12,6 +14,7 @@ use Rattle.sam_spawn.specs.declared.tasks.UserTask.{UserTask}
 use Rattle.sam_spawn.specs.declared.tasks.ReaderTask.{ReaderTask}
 use Rattle.sam_spawn.specs.declared.tasks.TermTask.{TermTask}
 use Rattle.sam_spawn.specs.declared.tasks.Tasks.{Tasks}
+use Rattle.sam_spawn.specs.declared.users.Users.{Users}
 
 -- nothing was put, taken or handled
 
@@ -56,6 +59,11 @@ pub record AreNewSides (lines : LinesView) (s : LineSides) : Type 0 where
   pub mouse : s.mouse ≡ new_post lines.events 1
   pub reader : s.reader ≡ new_post lines.events 2
   pub events_take : s.events_take ≡ new_take lines.events
+
+-- empty, with room for what the user does by the lines
+pub record HasRoomFor (lines : List Numbered) (room : Users) : Type 0 where
+  pub keys : (room.keys.items ≡ []) × (length (keys_of lines) ≤ vec_capacity room.keys)
+  pub clicks : (room.clicks.items ≡ []) × (length (mouse_of lines) ≤ vec_capacity room.clicks)
 
 -- a new host of the files
 pub record IsHostRole (r : Roles) : Type 0 where

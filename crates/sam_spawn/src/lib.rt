@@ -5,6 +5,7 @@ mod run;
 mod session;
 mod spawning;
 mod tasks;
+mod users;
 
 pub use run::{Plan, RunFault, run_ends};
-pub use session::run_threads;
+pub use session::{run_threads, run_threads_once};

@@ -58,7 +58,6 @@ impl<'s, G> Drop for Plan<'s, G> {
 ///
 /// Errors, in this order: `OutOfMemory` if there is no memory for what the workers begin with; `NoThread` if a thread could not be
 /// started; `GateTimedOut` if the gate did not let a worker begin. A worker that stops on its way is no error: its end says why.
-#[tactic(auto, using(crate::proofs::Kept::kept_let_in))]
 pub fn run_ends<'q, R: Threads + Wait + Sync, G: Gate>(
     rt: &R,
     alloc: Global,
@@ -79,13 +78,35 @@ pub fn run_ends<'q, R: Threads + Wait + Sync, G: Gate>(
     let Ok(tasks) = ready_tasks(alloc, lines, starts, plan.script) else {
         return Err(RunFault::OutOfMemory);
     };
+    run_tasks(rt, alloc, tasks, plan.piece, plan.gate)
+}
+
+/// Runs the five workers that begin with these tasks, and returns their ends. The errors are those of [`run_ends`], but for the first.
+#[tactic(auto, using(crate::proofs::Kept::kept_let_in))]
+pub fn run_tasks<'q, R: Threads + Wait + Sync, G: Gate>(
+    rt: &R,
+    alloc: Global,
+    tasks: Tasks<'q>,
+    piece: usize,
+    gate: &G,
+) -> Result<Ends<'q>, RunFault>
+    requires piece { 0 < piece }
+    requires ready { AreReady tasks.lines.now tasks }
+    ensures ends { IfOk result (Told tasks.entry.keyboard.events.items tasks.entry.mouse.events.items tasks.entry.lines.now) }
+    ensures files { IfOk result (λ e. e.host.files.items ≡ tasks.entry.host.files.items) }
+    ensures begun { IfOk result AllPassed }
+    ensures gates { IfOk result (GatesTold (G.may_refuse gate.now)) }
+    ensures let_in { IfOk result (λ _. GatesLetIn (G.must_refuse gate.now)) }
+    ensures let_on { IfOk result (GatesLetOn (G.must_refuse gate.now)) }
+    ensures timed { result ≡ Err RunFault.GateTimedOut → RefusesSome (G.may_refuse gate.now) }
+{
     let start = OnceLock::new();
     let shared = Shared {
         rt,
         alloc,
         start: &start,
-        gate: plan.gate,
-        piece: plan.piece,
+        gate,
+        piece,
     };
     let shared = &shared;
     thread::scope(

@@ -1,16 +1,17 @@
 //! What the five workers begin with. All their memory is had before a thread is started.
-ghost use Rattle.std.specs.Prelude.{◌≡◌, ◌≤◌, length, All, IfOk};
+ghost use Rattle.std.specs.Prelude.{◌≡◌, ◌≤◌, length, All, IfOk, OnErr, OnOk};
 ghost use Rattle.sam_runes.specs.Texts.{most_files};
 ghost use Rattle.sam_host.specs.Host.{new_host};
 ghost use Rattle.sam_queue.specs.Views.{new_post, new_take};
 ghost use Rattle.sam_world.specs.Given.{IsFile};
-ghost use Rattle.sam_script.specs.Script.{keys_of, mouse_of};
-ghost use Rattle.sam_spawn.specs.Tasks.{AreNewSides, AreReady, IsHostRole};
+ghost use Rattle.sam_script.specs.Script.{keys_of, mouse_of, without_lines};
+ghost use Rattle.sam_spawn.specs.Tasks.{AreNewSides, AreReady, HasRoomFor, IsHostRole};
 
+use crate::users::{Users, room_for, users_of};
 use sam_host::host::Host;
 use sam_queue::{Line, Post, Start, Take};
 use sam_runes::Runes;
-use sam_script::Script;
+use sam_script::{Numbered, Script};
 use sam_term::event::UserEvent;
 use sam_workers::{HostTask, Input, Lines, Starts};
 use sam_world::given_files;
@@ -87,18 +88,16 @@ struct LineSides<'q> {
 /// What the user is to do, and what the host begins with.
 #[derive(Drop)]
 struct Roles {
-    /// What the user does at the keyboard, in order.
-    keys: Vec<UserEvent>,
-    /// What the user does with the mouse, in order.
-    clicks: Vec<UserEvent>,
+    /// What the user does at the keyboard and with the mouse.
+    users: Users,
     /// The names and texts of the host's files, by tags from 1.
     files: Vec<(Runes, Runes)>,
     /// A new host of these files.
     host: Host,
 }
 
-/// Makes the tasks of a session: the ends of the lines, and what the script says that each worker does. `starts` came with `lines`, and
-/// is spent. Its only error is out of memory.
+/// Makes the tasks of a session: the ends of the lines, and copies of what the script says that each worker does. `starts` came with
+/// `lines`, and is spent. Its only error is out of memory.
 pub fn ready_tasks<'q>(
     alloc: Global,
     lines: &'q Lines,
@@ -117,26 +116,48 @@ pub fn ready_tasks<'q>(
     Ok(tasks_of(lines, sides, roles))
 }
 
+/// Makes what [`ready_tasks`] makes, but moves the events out of the script, which is left without lines. Its files are copied, and stay.
+/// At an error the script is unchanged.
+pub fn moved_tasks<'q>(
+    alloc: Global,
+    lines: &'q Lines,
+    starts: Starts,
+    script: &mut Script,
+) -> Result<Tasks<'q>, AllocError>
+    requires together { starts ≡ lines.now }
+    ensures lines { IfOk result (λ s. s.lines.now ≡ lines.now) }
+    ensures ready { IfOk result (AreReady lines.now) }
+    ensures keys { IfOk result (λ s. s.keyboard.events.items ≡ keys_of script.old.lines) }
+    ensures clicks { IfOk result (λ s. s.mouse.events.items ≡ mouse_of script.old.lines) }
+    ensures files { IfOk result (λ s. s.host.files.items ≡ script.old.files) }
+    ensures moved { OnOk result (script.new ≡ without_lines script.old) }
+    ensures kept { OnErr result (script.new ≡ script.old) }
+{
+    let roles = room_of(alloc, script)?;
+    let sides = split_lines(alloc, lines, starts)?;
+    Ok(tasks_of(lines, sides, with_users(roles, script.take_lines())))
+}
+
 /// Gives each worker its ends of the lines and its role.
 fn tasks_of<'q>(lines: &'q Lines, sides: LineSides<'q>, roles: Roles) -> Tasks<'q>
     requires sides { AreNewSides lines.now sides }
     requires host { IsHostRole roles }
     ensures lines { result.lines.now ≡ lines.now }
     ensures ready { AreReady lines.now result }
-    ensures keys { result.keyboard.events.items ≡ roles.keys.items }
-    ensures clicks { result.mouse.events.items ≡ roles.clicks.items }
+    ensures keys { result.keyboard.events.items ≡ roles.users.keys.items }
+    ensures clicks { result.mouse.events.items ≡ roles.users.clicks.items }
     ensures files { result.host.files.items ≡ roles.files.items }
 {
     Tasks {
         lines,
         keyboard: UserTask {
             post: sides.keyboard,
-            events: roles.keys,
+            events: roles.users.keys,
             held: PhantomData,
         },
         mouse: UserTask {
             post: sides.mouse,
-            events: roles.clicks,
+            events: roles.users.clicks,
             held: PhantomData,
         },
         host: HostTask {
@@ -161,8 +182,8 @@ fn tasks_of<'q>(lines: &'q Lines, sides: LineSides<'q>, roles: Roles) -> Tasks<'
 
 /// Copies out of the script what the workers do, and makes the host.
 fn roles_of(alloc: Global, script: &Script) -> Result<Roles, AllocError>
-    ensures keys { IfOk result (λ r. r.keys.items ≡ keys_of script.now.lines) }
-    ensures clicks { IfOk result (λ r. r.clicks.items ≡ mouse_of script.now.lines) }
+    ensures keys { IfOk result (λ r. r.users.keys.items ≡ keys_of script.now.lines) }
+    ensures clicks { IfOk result (λ r. r.users.clicks.items ≡ mouse_of script.now.lines) }
     ensures files { IfOk result (λ r. r.files.items ≡ script.now.files) }
     ensures host { IfOk result IsHostRole }
 {
@@ -170,11 +191,38 @@ fn roles_of(alloc: Global, script: &Script) -> Result<Roles, AllocError>
     let clicks = script.mouse(alloc)?;
     let (files, host) = first_host(alloc, script)?;
     Ok(Roles {
-        keys,
-        clicks,
+        users: Users { keys, clicks },
         files,
         host,
     })
+}
+
+/// Makes the host, and room for what the user does by the script.
+fn room_of(alloc: Global, script: &Script) -> Result<Roles, AllocError>
+    ensures room { IfOk result (λ r. HasRoomFor script.now.lines r.users) }
+    ensures files { IfOk result (λ r. r.files.items ≡ script.now.files) }
+    ensures host { IfOk result IsHostRole }
+{
+    let users = room_for(alloc, script.lines())?;
+    let (files, host) = first_host(alloc, script)?;
+    Ok(Roles { users, files, host })
+}
+
+/// Moves the events of these lines into the room that was made for them.
+fn with_users(roles: Roles, lines: Vec<Numbered>) -> Roles
+    requires room { HasRoomFor lines.items roles.users }
+    requires host { IsHostRole roles }
+    ensures keys { result.users.keys.items ≡ keys_of lines.items }
+    ensures clicks { result.users.clicks.items ≡ mouse_of lines.items }
+    ensures files { result.files.items ≡ roles.files.items }
+    ensures host { IsHostRole result }
+{
+    let Roles { users, files, host } = roles;
+    Roles {
+        users: users_of(lines, users),
+        files,
+        host,
+    }
 }
 
 /// Makes the ends of the three lines, with nothing put and nothing taken.

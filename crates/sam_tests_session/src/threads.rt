@@ -4,6 +4,7 @@ ghost use Rattle.std.specs.Prelude.{◌<◌};
 use sam_script::{Script, show};
 use sam_session::{
     FlagGate, Gate, Mode, OpenGate, PlayFault, RunFault, Settled, Stop, play, run_threads,
+    run_threads_once,
 };
 use sam_test_support::{lent, told_of};
 use sam_world::{Event, World, first_world};
@@ -303,4 +304,26 @@ fn an_open_gate_stops_nobody(rt: HostRuntime) {
         _ => false,
     });
     assert!(rt; is_quiet);
+}
+
+/// Whether a session that nobody stops replays from the files of what is left of its script.
+fn replays_once<T: Threads + Wait + Sync>(rt: &T, alloc: Global, script: &mut Script) -> bool {
+    let came_to = run_threads_once(rt, alloc, script, 1, 1, &OpenGate);
+    let left: &Script = script;
+    told_of(came_to, |came_to| match came_to {
+        Ok(settled) => settled.stops.is_empty() && replays(alloc, left, settled),
+        Err(_) => false,
+    })
+}
+
+/// The same of a session of `HELLO`, and how many files and lines its script is left with.
+fn left_of_hello<T: Threads + Wait + Sync>(rt: &T, alloc: Global) -> Option<(bool, usize, usize)> {
+    let mut script = Script::read(alloc, HELLO.as_bytes()).ok()?;
+    let has_replayed = replays_once(rt, alloc, &mut script);
+    Some((has_replayed, script.files().len(), script.lines().len()))
+}
+
+#[test]
+fn a_script_that_is_used_up_keeps_its_files(rt: HostRuntime) {
+    assert_eq!(rt; left_of_hello(&rt, rt.alloc()), Some((true, 1, 0)));
 }
