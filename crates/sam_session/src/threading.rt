@@ -85,7 +85,7 @@ fn script_in<R: Read>(alloc: Global, reader: &mut R) -> Result<Script, PlayFault
 }
 
 /// Runs the session of a script on five threads, and returns what is written of it. The script's events are moved to the threads.
-#[tactic(auto, using(crate::proofs::Sessions::printed, crate::proofs::Sessions::not_run, crate::proofs::Sessions::not_printed))]
+#[tactic(auto, using(crate::proofs::Sessions::not_run, crate::proofs::Sessions::not_printed))]
 fn session_lines<T: Threads + Wait + Sync>(
     rt: &T,
     alloc: Global,
