@@ -3,6 +3,7 @@ use Rattle.sam_session.proofs.Common.{◌≡◌, ◌⊎◌, ℕ, ◌≤◌, List
 use Rattle.std.specs.Global.{Vec}
 use Rattle.sam_script.specs.Replay as replay
 use Rattle.sam_script.specs.declared.fault.ScriptFault.{ScriptFault}
+use Rattle.sam_script.specs.declared.fault.ScriptFault.TheVariants as fault
 use Rattle.sam_session.specs.Replaying.{of_script, IsReplay, IsReplayFault}
 use Rattle.sam_session.specs.Status.{fault_line, IsTold}
 use Rattle.sam_session.specs.Limits.{most_input}

@@ -20,6 +20,7 @@ use Rattle.sam_workers.specs.WorkerEnds.{IsOwnExit}
 use Rattle.sam_workers.specs.declared.ends.Ends.{Ends}
 use Rattle.sam_workers.specs.declared.input.Input.{Input}
 use Rattle.sam_settle.specs.declared.settled.Settled.{Settled}
+use Rattle.sam_workers.specs.declared.stop.Stop.TheVariants as stop
 use Rattle.sam_spawn.specs.declared.run.RunFault.{RunFault}
 use Rattle.sam_session.specs.Threading.{of_run}
 use Rattle.sam_settle.proofs.SettlingLists.{loaded, items_mine, items_other, nothing_joined, split_map, parts_of, senders_within}
