@@ -279,7 +279,7 @@ fn judge(alloc: Global, script: &Script, settled: &Settled) -> Result<Outcome, S
 }
 
 /// What the session came to.
-fn outcome(
+fn run_outcome(
     alloc: Global,
     script: &Script,
     run: Result<Settled, RunFault>,
@@ -295,7 +295,7 @@ fn outcome(
 /// came.
 pub fn run_session<R: Threads + Wait + Sync>(rt: &R, alloc: Global) -> Tried {
     let script = Script::read(alloc, SCRIPT.as_bytes())?;
-    match outcome(alloc, &script, run_script(rt, alloc, &script))? {
+    match run_outcome(alloc, &script, run_script(rt, alloc, &script))? {
         Outcome::Whole => Ok(true),
         Outcome::Short => runs_whole(rt, alloc, &script),
         Outcome::Wrong => Ok(false),
@@ -309,7 +309,7 @@ fn use_up<R: Threads + Wait + Sync>(
     script: &mut Script,
 ) -> Result<Outcome, SetUp> {
     let run = run_threads_once(rt, alloc, script, PIECE, CAPACITY, &OpenGate);
-    outcome(alloc, script, run)
+    run_outcome(alloc, script, run)
 }
 
 /// A session that uses its script up comes to its end. Where memory is refused, the call says so with the script as it was, and can be made
