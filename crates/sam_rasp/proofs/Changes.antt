@@ -114,23 +114,6 @@ one-more old r new p at end t o l w e u =
       (append_assoc (take p old) (map Some (take at t)) m),
     )
 
--- what came in so far goes again
-pub none-left : (old r : PartialText) (p at : ℕ) (t : List ℕ) → at ≤ length t → p ≤ length old → r ≡ ins old p (map Some (take at t)) → del r p (p + at) ≡ old
-none-left old r p at t l w e =
-    let m = map Some (take at t) in
-    let front : length (take p old) + 0 ≡ p = omega (arith, length-take p old, w) in
-    let back : length (take p old ++ m) + 0 ≡ p + at =
-    omega (arith, length-append (take p old) m, length-take p old, length-some (take at t), length-take at t, l, w) in
-    grind (
-      arith,
-      e,
-      (append_assoc (take p old) m (drop p old)),
-      (take-past (take p old) (m ++ drop p old) 0 p front),
-      (drop-past (take p old ++ m) (drop p old) 0 (p + at) back),
-      (append-nil (take p old)),
-      (take-append-drop p old),
-    )
-
 pub nil-of : (r : PartialText) → length r ≡ 0 → r ≡ []
 nil-of [] e = refl
 nil-of (x ∷ r) e = absurd (omega (arith, e))
@@ -146,8 +129,5 @@ del-all r s p n l e z =
     let last : p + n ≡ length r = omega (arith, first, e) in
     nil-of s z ∙ grind (arith, first, last, (drop_all (length r) r))
 
--- what a tree's `put` rests on
-pub ruleset put_facts = (put-alone)
-
--- what a tree's `cut` rests on
-pub ruleset cut_facts = (del-all)
+-- what a row's `remove` rests on
+pub ruleset del_facts = (del-all)

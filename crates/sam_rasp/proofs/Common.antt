@@ -5,7 +5,7 @@ pub use Rattle.std.proofs.lemmas.List.{drop-append-le, drop-map, drop-replicate,
 pub use Rattle.std.proofs.lemmas.List.Concat.{flat_map-append}
 pub use Rattle.std.specs.List.{AllWithin, prefix_len}
 pub use Rattle.sam_rasp.specs.Rasp.{Agrees, PartialText, del_cells, first_gaps, gaps_in_front, has_rune, hole_within, ins_cells, is_sort, load_cells, range_from, run_of}
-pub use Rattle.sam_rasp.specs.Blocks.{AllFilled, gaps_of, most_kept}
+pub use Rattle.sam_rasp.specs.Rows.{NoneEmpty, gaps_of, members_of, most_kept}
 pub use Rattle.sam_rasp.specs.Sections.{IsFilled, IsNormal, IsShort, StaysApart, cells, cells_of, is_loaded, may_join, size}
 pub use Rattle.sam_rasp.specs.declared.section.Section.{Section}
 pub use Rattle.sam_rasp.specs.declared.section.Section.TheVariants.{Hole, Loaded}

@@ -5,6 +5,6 @@ pub mod Runs
 pub mod RaspLaws
 pub mod Agreeing
 pub mod Rows
-pub mod Blocks
+pub mod SectionLists
 pub mod Tallies
 pub mod Readings

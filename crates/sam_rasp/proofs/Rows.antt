@@ -1,10 +1,9 @@
 -- Lists of parts: what one of them stands for, between those before it and those after it.
-use Rattle.sam_rasp.proofs.Common.{◌≡◌, refl, sym, ap, ◌∙◌, subst, ℕ, zero, suc, ◌+◌, ◌-◌, ◌≤◌, ◌<◌, List, [], ◌∷◌, ◌++◌, take, drop, length, get_or, set, insert, arith, take-append-drop, take-take, drop_all, length-set, length-take, length-drop, append-nil, append_assoc, length-append, flat_map-append, Bool, ◌↔◌, Agrees, PartialText, gaps_of, del, ins, size, cells, Section, drop-drop, is_sort, prefix_len, max, min, length-replicate, Option, Some, None, ◌⊎◌, inl, inr, drop-append-le, take-append-le}
+use Rattle.sam_rasp.proofs.Common.{◌≡◌, refl, sym, ap, ◌∙◌, subst, ℕ, zero, suc, ◌+◌, ◌-◌, ◌≤◌, ◌<◌, List, [], ◌∷◌, ◌++◌, take, drop, length, get_or, set, insert, arith, take-append-drop, drop_all, length-take, length-drop, append-nil, append_assoc, length-append, flat_map-append, Bool, ◌↔◌, Agrees, PartialText, gaps_of, del, ins, size, cells, Section, drop-drop, is_sort, prefix_len, max, min, length-replicate, Option, None, ◌⊎◌, inl, inr, true, false, drop-append-le, take-append-le}
 use Rattle.std.specs.Prelude.{remove}
-use Rattle.std.proofs.lemmas.List.{take_all, take-set, take_more, take_more_set, set_split}
-use Rattle.std.proofs.Common.{length-take-le}
+use Rattle.std.proofs.lemmas.List.{take_all, take_rest, take_more, take_more_set, set_split}
 use Rattle.sam_rasp.specs.Rasp.{put_cells, sort_from, sort_before}
-use Rattle.sam_rasp.specs.Blocks.{incoming_cells, CanComeIn}
+use Rattle.sam_rasp.specs.Rows.{incoming_cells, CanComeIn}
 use Rattle.sam_rasp.specs.Rows.{members_of, NoneEmpty}
 use Rattle.sam_rasp.specs.declared.section.Incoming.{Incoming}
 use Rattle.sam_rasp.specs.declared.section.Incoming.TheVariants.{Runes, Gaps}
@@ -12,8 +11,8 @@ use Rattle.std.proofs.lemmas.Bool.{cases_lt}
 use Rattle.sam_rasp.proofs.SectionLaws.{gaps-append, gaps-most, length-cells}
 use Rattle.sam_rasp.proofs.Agreeing.{stretch}
 use Rattle.sam_rasp.proofs.RaspLaws.{length_agrees}
-use Rattle.sam_rasp.proofs.Runs.{before-ends, before-goes-on, before-most, before-runes, from-ends, from-goes-on}
-use Rattle.sam_rasp.proofs.Changes.{nil-of, put-middle, del-middle, take-past, drop-past, length-put, length-del, length-some, del-twice}
+use Rattle.sam_rasp.proofs.Runs.{before-ends, before-goes-on, before-most, before-runes, from-end, from-ends, from-goes-on, from-most, from-runes}
+use Rattle.sam_rasp.proofs.Changes.{nil-of, put-middle, del-middle, take-past, drop-past, length-put, length-del, length-some, del-twice, put-alone}
 
 pub members_append : {P : Type 0} (f : P → PartialText) (xs ys : List P) → members_of f (xs ++ ys) ≡ members_of f xs ++ members_of f ys
 members_append f xs ys = flat_map-append f xs ys
@@ -254,6 +253,46 @@ from-on f b a xs p w l =
     let none : p - length (f a) ≡ 0 = omega (arith, w) in
     from-goes-on b (f a) (members_of f xs) p l ∙ ap (λ k. sort_from b (f a) p + sort_from b (members_of f xs) k) none
 
+-- a stretch that begins in part i, where s and t are the slices that were asked
+pub from-part : {P : Type 0} (f : P → PartialText) (b : Bool) (xs s t : List P) (now : PartialText) (i q k start found : ℕ) → s ≡ xs → t ≡ xs → now ≡ members_of f xs
+    → start ≡ length (members_of f (take i s)) → start + k ≡ q → found ≡ sort_from b (members_of f (take (length t - i) (drop i t))) k → found ≡ sort_from b now q
+from-part f b xs s t now i q k start found es et en st e h =
+    let begins : length (members_of f (take i xs)) + k ≡ q = omega (arith, st, ap (λ z. length (members_of f (take i z))) es, e) in
+    let rest : take (length t - i) (drop i t) ≡ drop i xs = grind (arith, et, (take_rest t i)) in
+    h
+    ∙ (ap (λ z. sort_from b (members_of f z) k) rest
+    ∙ (ap (prefix_len (is_sort b)) (sym (drop-past (members_of f (take i xs)) (members_of f (drop i xs)) k q begins))
+    ∙ ap (λ z. sort_from b z q) (half-members f xs i ∙ sym en)))
+
+-- the first gaps from the place p on, where the first part has r runes and g gaps there: both end in it, or what follows counts
+pub hole-here : {P : Type 0} (f : P → PartialText) (a : P) (xs : List P) (p r g : ℕ) → r ≡ sort_from true (f a) p → g ≡ sort_from false (f a) (p + r)
+    → p + r + g < length (f a) → (r ≡ sort_from true (members_of f (a ∷ xs)) p) × (g ≡ sort_from false (members_of f (a ∷ xs)) (p + r))
+hole-here f a xs p r g e u l = (
+  e ∙ sym (from-here f true a xs p (omega (arith, e, l))),
+  u ∙ sym (from-here f false a xs (p + r) (omega (arith, u, l))),
+)
+
+pub hole-on : {P : Type 0} (f : P → PartialText) (a : P) (xs : List P) (p r g : ℕ) → r ≡ sort_from true (f a) p → g ≡ sort_from false (f a) (p + r)
+    → 0 < g → length (f a) ≤ p + r + g
+    → (r ≡ sort_from true (members_of f (a ∷ xs)) p) × (g + sort_from false (members_of f xs) 0 ≡ sort_from false (members_of f (a ∷ xs)) (p + r))
+hole-on f a xs p r g e u z l =
+    let most = from-most false (f a) (p + r) in
+    let inside : p + r < length (f a) = omega (arith, u, z, most) in (
+      e ∙ sym (from-here f true a xs p (omega (arith, e, inside))),
+      ap (λ k. k + sort_from false (members_of f xs) 0) u ∙ sym (from-on f false a xs (p + r) inside (omega (arith, u, l))),
+    )
+
+pub hole-after : {P : Type 0} (f : P → PartialText) (a : P) (xs : List P) (p k r m g : ℕ) → k ≡ p - length (f a) → r ≡ sort_from true (f a) p
+    → length (f a) ≤ p + r → m ≡ sort_from true (members_of f xs) k → g ≡ sort_from false (members_of f xs) (k + m)
+    → (r + m ≡ sort_from true (members_of f (a ∷ xs)) p) × (g ≡ sort_from false (members_of f (a ∷ xs)) (p + (r + m)))
+hole-after f a xs p k r m g w e l u v =
+    let most = from-most true (f a) p in
+    let on = from-goes-on true (f a) (members_of f xs) p (omega (arith, e, l)) in
+    let next : m ≡ sort_from true (members_of f xs) (p - length (f a)) = u ∙ ap (sort_from true (members_of f xs)) w in (
+      omega (arith, e, next, on),
+      v ∙ sym (from-past f false a xs (p + (r + m)) (k + m) (omega (arith, e, l, w, most))),
+    )
+
 pub length-push : {P : Type 0} (f : P → PartialText) (l : List P) (x : P) → length (members_of f (l ++ x ∷ [])) ≡ length (members_of f l) + length (f x)
 length-push f l x = ap length (members-push f l x) ∙ length-append (members_of f l) (f x)
 
@@ -329,7 +368,7 @@ pub ruleset one_facts = (members_append, append-nil)
 pub ruleset half_facts = (half-members, half-length, half-gaps, some-take, some-drop, some-length)
 
 -- what the row's `put` rests on
-pub ruleset row_put_facts = (length-put)
+pub ruleset row_put_facts = (length-put, put-alone)
 
 -- what the row's `cut` rests on
 pub ruleset row_cut_facts = (some-parts, del-twice, length-del)
@@ -342,6 +381,12 @@ pub ruleset agrees_facts = (agrees-first, agrees-short)
 
 -- what `sort_from` rests on
 pub ruleset from_facts = (from-past, from-here, from-on, length-first)
+
+-- what `hole_from` rests on
+pub ruleset hole_facts = (length-first)
+
+-- what the row's `hole_from` rests on
+pub ruleset row_hole_facts = (from-end, from-runes, some-parts, half-length)
 
 -- what `sort_before` rests on
 pub ruleset before_facts = (length-push)

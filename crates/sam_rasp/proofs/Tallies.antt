@@ -1,8 +1,7 @@
 -- In how few sections a partial text may be kept.
 use Rattle.sam_rasp.proofs.Common.{◌≡◌, refl, sym, ap, ◌∙◌, subst, ℕ, zero, suc, ◌+◌, ◌-◌, ◌≤◌, ◌<◌, List, [], ◌∷◌, ◌++◌, map, replicate, drop, length, Some, None, Bool, true, false, arith, append_assoc, length-append, drop_at, drop-replicate, length-replicate, map-append, PartialText, cells, cells_of, size, is_loaded, may_join, IsFilled, IsNormal, Section, Loaded, Hole}
-use Rattle.sam_rasp.specs.Blocks.{EndsIn, IsLast, IsTallied}
+use Rattle.sam_rasp.specs.Rows.{EndsIn, IsLast, IsTallied}
 use Rattle.sam_rasp.specs.Sections.{IsKeptIn}
-use Rattle.sam_rasp.proofs.Blocks.{length-first}
 use Rattle.sam_rasp.proofs.SectionLaws.{absorbed_gaps, cells-push, filled, length-cells}
 
 -- the section that two such neighbours make
@@ -137,6 +136,3 @@ kept-empty r count k e = sym k.3 ∙ empty-none k.0 k.1 (k.2 ∙ e)
 pub kept-gaps : (r : PartialText) (count : ℕ) → IsKeptIn r count → 0 < length r → r ≡ replicate (length r) None → count ≡ 1
 kept-gaps r count k l e =
     sym k.3 ∙ gaps-exactly-one k.0 k.1 (subst (λ y. 0 < length y) (sym k.2) l) (subst (λ y. y ≡ replicate (length y) None) (sym k.2) e)
-
--- what `tally` rests on
-pub ruleset tally_facts = (filled, length-first)

@@ -1,18 +1,22 @@
 //! `Part`: what a row is made of.
 
-ghost use Rattle.std.specs.Prelude.{◌≡◌, ◌≢◌, ◌<◌, ◌≤◌, ◌+◌, ◌++◌, ◌↔◌, IsTrue, IfOk, OnErr, MatchOption, Ok, Some, length, take, drop, true, false};
+ghost use Rattle.std.specs.Prelude.{◌≡◌, ◌≢◌, ◌<◌, ◌≤◌, ◌+◌, ◌++◌, ◌↔◌, IsTrue, IfOk, OnErr, MatchOption, length, take, drop, vec_len, true, false};
 ghost use Rattle.sam_runes.specs.Texts.{del};
 ghost use Rattle.sam_rasp.specs.Rasp.{Agrees, PartialText, put_cells, sort_before, sort_from};
-ghost use Rattle.sam_rasp.specs.Blocks.{gaps_of, incoming_cells, most_kept, CanComeIn, IsTallied};
+ghost use Rattle.sam_rasp.specs.Rows.{gaps_of, incoming_cells, members_of, most_kept, CanComeIn, IsTallied, NoneEmpty};
 ghost use Rattle.sam_rasp.specs.Sections.{cells, size};
 
 use crate::section::{Incoming, Section};
 use crate::tally::Tally;
 use std::alloc::{AllocError, Global};
 
-/// Some sections in order, which stand for a stretch of a partial text.
+/// A section, or a row of parts, which stands for a part of a partial text.
 pub trait Part: Drop {
     ghost members: { Self → PartialText };
+
+    /// How many such parts a row has at most when a change comes to it. With more of them a change moves more, with fewer a place is found
+    /// through more rows.
+    const MOST_IN_ROW: usize;
 
     /// Returns a part with what comes in alone. The only error is out of memory.
     fn of(alloc: Global, incoming: Incoming<'_>) -> Result<Self, AllocError>
@@ -21,45 +25,66 @@ pub trait Part: Drop {
 
     /// Returns how many runes and gaps it has.
     fn len(&self) -> u32
-        ensures len { result ≡ length (members self.now) }
-        ensures limit { length (members self.now) ≤ most_kept };
+        ensures { result ≡ length (members self.now) };
 
     /// Returns how many gaps it has.
     fn gaps(&self) -> u32
         ensures { result ≡ gaps_of (members self.now) };
 
-    /// Returns whether it has so many sections or parts that it is to be parted.
+    /// Returns whether it has so many parts that it is to be cut in two.
     fn is_full(&self) -> bool;
 
-    /// Leaves the first half of its sections or parts, and returns the others, or `None` if it has one at most. The only error is out of
-    /// memory. If it returns none, it is unchanged.
-    fn split_off(&mut self) -> Result<Option<Self>, AllocError>
+    /// Leaves some of its parts, and returns those after them, or `None` if it has one at most. The next change comes at place `p`. The
+    /// only error is out of memory. If it returns none, it is unchanged.
+    fn split_off(&mut self, p: u32) -> Result<Option<Self>, AllocError>
+        requires { p ≤ length (members self.old) }
         ensures ok { IfOk result (λ r. MatchOption r (members self.new ≡ members self.old)
-            (λ back. (members self.new ++ members back ≡ members self.old) × (0 < length (members self.new)) × (0 < length (members back)))) }
+            (λ back. (members self.new ++ members back ≡ members self.old)
+            × (0 < length (members self.new)) × (0 < length (members back)))) }
         ensures err { OnErr result (members self.new ≡ members self.old) };
 
-    /// Puts what comes in in the place of `n` runes or gaps from place `p` on, if they stand in one section, and that is a hole or has room.
-    /// Returns whether it did, which it always does where `n` is 0. The only error is out of memory. If it didn't, nothing is changed.
-    fn put(
-        &mut self,
+    /// Puts what comes in in the place of what stands from place `at` to place `end` of the part of this index: there, where it can be, or
+    /// in parts next to it. Returns how many gaps went, or `None` if it put nothing in, as it may only where something was to go. The only
+    /// error is out of memory. If it put nothing in, what the parts stand for is unchanged.
+    fn put_in(
         alloc: Global,
-        p: u32,
-        n: u32,
+        parts: &mut Vec<Self>,
+        index: usize,
+        at: u32,
+        end: u32,
         incoming: Incoming<'_>,
-    ) -> Result<bool, AllocError>
-        requires some { 0 < length (members self.old) }
-        requires within { p + n ≤ length (members self.old) }
+    ) -> Result<Option<u32>, AllocError>
+        requires index { index < vec_len parts.old }
+        requires ascending { at ≤ end }
+        requires within { length (members_of members (take index parts.old.items)) + end
+            ≤ length (members_of members (take (index + 1) parts.old.items)) }
         requires incoming { CanComeIn incoming }
-        requires limit { length (members self.old) + length (incoming_cells incoming) ≤ most_kept }
-        ensures done { result ≡ Ok true → members self.new ≡ put_cells (members self.old) p (p + n) (incoming_cells incoming.entry) }
-        ensures refused { result ≢ Ok true → members self.new ≡ members self.old }
-        ensures always { n ≡ 0 → result ≢ Ok false };
+        requires some { NoneEmpty members parts.old.items }
+        requires limit { length (members_of members parts.old.items) + length (incoming_cells incoming) ≤ most_kept }
+        ensures ok { IfOk result (λ r. MatchOption r (members_of members parts.new.items ≡ members_of members parts.old.items)
+            (λ gaps. (members_of members parts.new.items ≡ put_cells (members_of members parts.old.items)
+            (length (members_of members (take index parts.old.items)) + at)
+            (length (members_of members (take index parts.old.items)) + end)
+            (incoming_cells incoming.entry))
+            × (gaps_of (members_of members parts.new.items) + gaps
+            ≡ gaps_of (members_of members parts.old.items) + gaps_of (incoming_cells incoming.entry))
+            × (gaps ≤ gaps_of (members_of members parts.old.items)))) }
+        ensures always { at ≡ end → IfOk result (λ r. r ≢ None) }
+        ensures err { OnErr result (members_of members parts.new.items ≡ members_of members parts.old.items) }
+        ensures some { NoneEmpty members parts.new.items };
 
     /// Takes `n` runes and gaps out from place `p` on, but not all. No memory is asked for.
     fn cut(&mut self, p: u32, n: u32)
         requires within { p + n ≤ length (members self.old) }
         requires some { n < length (members self.old) }
         ensures { members self.new ≡ del (members self.old) p (p + n) };
+
+    /// Joins the part of this index with those beside it where they can be one.
+    fn join(parts: &mut Vec<Self>, index: usize)
+        requires some { NoneEmpty members parts.old.items }
+        requires limit { length (members_of members parts.old.items) ≤ most_kept }
+        ensures members { members_of members parts.new.items ≡ members_of members parts.old.items }
+        ensures some { NoneEmpty members parts.new.items };
 
     /// Returns the section in which place `p` stands, and the place at which it begins.
     fn section_at(&self, p: u32) -> (&Section, u32)
@@ -76,6 +101,12 @@ pub trait Part: Drop {
         ensures count { result ≡ sort_from loaded (members self.now) p }
         ensures limit { result ≤ length (members self.now) };
 
+    /// Returns how many runes stand from place `p` on before the first gap, and how many gaps stand there before the next rune.
+    fn hole_from(&self, p: u32) -> (u32, u32)
+        ensures runes { result.0 ≡ sort_from true (members self.now) p }
+        ensures gaps { result.1 ≡ sort_from false (members self.now) (p + result.0) }
+        ensures limit { result.0 + result.1 ≤ length (members self.now) };
+
     /// Returns how many runes (if `loaded`) or gaps stand at once before place `p` after the last of the other sort.
     fn sort_before(&self, loaded: bool, p: u32) -> u32
         requires { p ≤ length (members self.now) }
@@ -84,6 +115,7 @@ pub trait Part: Drop {
 
     /// Returns the tally of `before` with all its sections added.
     fn tally(&self, before: Tally) -> Tally
+        requires some { 0 < length (members self.now) }
         requires count { before.count + length (members self.now) ≤ most_kept }
         requires len { before.len + length (members self.now) ≤ most_kept }
         ensures tallied { (r : PartialText) → IsTallied r before.count before.loaded before.len

@@ -78,8 +78,8 @@ impl Piece {
         self.runes.as_slice() == runes
     }
 
-    /// Puts `runes` at the end if there is room for them, and it has at most `MOST_IN_MESSAGE` then. Returns whether it did; if not, nothing
-    /// is changed. No memory is asked for.
+    /// Puts `runes` at the end if there is room for them, and it has at most `MOST_IN_MESSAGE` then. Returns whether it did; if not,
+    /// nothing is changed. No memory is asked for.
     pub fn append(&mut self, runes: &[char]) -> bool
         ensures done { result ≡ true → self.new ≡ self.old ++ runes.now }
         ensures refused { result ≡ false → self.new ≡ self.old }
@@ -93,8 +93,8 @@ impl Piece {
         true
     }
 
-    /// Puts `runes` in the place of those from place `p` to place `q`. The caller makes sure that it has at most `MOST_IN_MESSAGE` then. The
-    /// only error is out of memory; the piece is then unchanged.
+    /// Puts `runes` in the place of those from place `p` to place `q`. The caller makes sure that it has at most `MOST_IN_MESSAGE` then.
+    /// The only error is out of memory; the piece is then unchanged.
     pub fn replace(&mut self, p: usize, q: usize, runes: &[char]) -> Result<(), AllocError>
         requires ascending { p ≤ q }
         requires within { q ≤ length self.old }

@@ -1,11 +1,10 @@
 //! `Row`: parts in order, next to each other in memory.
 
-ghost use Rattle.std.specs.Prelude.{◌≡◌, ◌≢◌, ◌<◌, ◌≤◌, ◌+◌, ◌++◌, ◌↔◌, IsTrue, IfOk, OnErr, MatchOption, Ok, Some, length, take, drop, true, false};
+ghost use Rattle.std.specs.Prelude.{◌≡◌, ◌≢◌, ◌<◌, ◌≤◌, ◌+◌, MatchOption, Ok, length, take, drop, true, false};
 ghost use Rattle.sam_runes.specs.Texts.{del};
-ghost use Rattle.sam_rasp.specs.Rasp.{Agrees, PartialText, put_cells, sort_before, sort_from};
-ghost use Rattle.sam_rasp.specs.Blocks.{gaps_of, incoming_cells, most_kept, CanComeIn, IsTallied};
-ghost use Rattle.sam_rasp.specs.Rows.{members_of};
-ghost use Rattle.sam_rasp.specs.Sections.{cells, size};
+ghost use Rattle.sam_rasp.specs.Rasp.{put_cells};
+ghost use Rattle.sam_rasp.specs.Rows.{incoming_cells, most_kept, CanComeIn};
+ghost use Rattle.sam_rasp.specs.Sections.{cells, size, IsKeptIn};
 
 mod list;
 mod reading;
@@ -16,13 +15,10 @@ use crate::tally::Tally;
 use std::alloc::{AllocError, Global};
 use std::marker::Model;
 
-/// How many parts a row has at most when a change comes to it.
-const MOST_PARTS: usize = 32;
-
 /// Parts in order, none of them empty, in one piece of memory.
 #[derive(Drop)]
 pub struct Row<P: Part> {
-    /// The parts.
+    /// The parts. Where they are more than `P::MOST_IN_ROW`, the next change that comes by cuts the row in two.
     parts: Vec<P>,
     /// How many runes and gaps they have together.
     len: u32,
@@ -33,8 +29,7 @@ pub struct Row<P: Part> {
 impl<P: Part> Model for Row<P> {
     ghost use Rattle.std.specs.Prelude.{◌≡◌, ◌≤◌, length};
     ghost use Rattle.sam_rasp.specs.Rasp.{PartialText};
-    ghost use Rattle.sam_rasp.specs.Blocks.{gaps_of, most_kept};
-    ghost use Rattle.sam_rasp.specs.Rows.{members_of, NoneEmpty};
+    ghost use Rattle.sam_rasp.specs.Rows.{gaps_of, members_of, most_kept, NoneEmpty};
 
     ghost Value = { PartialText };
 
@@ -42,6 +37,18 @@ impl<P: Part> Model for Row<P> {
 
     ghost invariant = { λ r. NoneEmpty P.members r.parts.items × (r.len ≡ length (members_of P.members r.parts.items))
         × (r.len ≤ most_kept) × (r.gaps ≡ gaps_of (members_of P.members r.parts.items)) };
+}
+
+/// Returns how many of `count` parts stay where they are cut in two, and the next change comes in the part of this index: half of them. Of
+/// those before which more changes may come a quarter stays: the edits of a command line come from the last to the first.
+fn kept_of(count: usize, index: usize) -> usize
+    requires { 2 ≤ count }
+    ensures { (0 < result) × (result < count) }
+{
+    if index > 0 {
+        return count / 2;
+    }
+    (count / 4).max(1)
 }
 
 impl<P: Part> Row<P> {
@@ -56,18 +63,90 @@ impl<P: Part> Row<P> {
         }
     }
 
-    /// Takes out all.
-    pub fn clear(&mut self)
-        ensures { length self.new ≡ 0 }
+    /// Returns how many runes and gaps it has.
+    pub fn len(&self) -> u32
+        ensures len { result ≡ length self.now }
+        ensures limit { length self.now ≤ most_kept }
     {
+        self.len
+    }
+
+    /// Puts what comes in in the place of `n` runes or gaps from place `p` on, if they stand in one section, and that is a hole or has
+    /// room. Returns whether it did, which it always does where `n` is 0. The only error is out of memory. If it didn't, nothing is changed.
+    #[tactic(auto, using(crate::proofs::Rows::row_put_facts))]
+    pub fn put(
+        &mut self,
+        alloc: Global,
+        p: u32,
+        n: u32,
+        incoming: Incoming<'_>,
+    ) -> Result<bool, AllocError>
+        requires within { p + n ≤ length self.old }
+        requires incoming { CanComeIn incoming }
+        requires limit { length self.old + length (incoming_cells incoming) ≤ most_kept }
+        ensures done { result ≡ Ok true → self.new ≡ put_cells self.old p (p + n) (incoming_cells incoming.entry) }
+        ensures refused { result ≢ Ok true → self.new ≡ self.old }
+        ensures always { n ≡ 0 → result ≢ Ok false }
+    {
+        if self.len == 0 {
+            *self = Row::of(alloc, incoming)?;
+            return Ok(true);
+        }
+        let (index, start) = list::find_room(&mut self.parts, self.len, p + n)?;
+        if p < start {
+            return Ok(false);
+        }
+        let at = p - start;
+        let Some(gaps) = P::put_in(alloc, &mut self.parts, index, at, at + n, incoming)? else {
+            return Ok(false);
+        };
+        self.len = self.len - n + incoming.len();
+        self.gaps = self.gaps - gaps + incoming.gaps();
+        Ok(true)
+    }
+
+    /// Takes `n` runes and gaps out from place `p` on. No memory is asked for.
+    #[tactic(auto, using(crate::proofs::Changes::del_facts))]
+    pub fn remove(&mut self, p: u32, n: u32)
+        requires { p + n ≤ length self.old }
+        ensures { self.new ≡ del self.old p (p + n) }
+    {
+        if n < self.len {
+            self.cut(p, n);
+            return;
+        }
         self.parts.clear();
         self.len = 0;
         self.gaps = 0;
+    }
+
+    /// Returns the section in which place `p` stands, and the place at which it begins, or `None` from the end on.
+    pub fn section(&self, p: u32) -> Option<(&Section, u32)>
+        ensures limit { length self.now ≤ most_kept }
+        ensures section { MatchOption result (length self.now ≤ p) (λ r. (r.1 ≤ p) × (p < r.1 + size r.0.now)
+            × (take (size r.0.now) (drop r.1 self.now) ≡ cells r.0.now)) }
+    {
+        if p >= self.len {
+            return None;
+        }
+        Some(self.section_at(p))
+    }
+
+    /// Returns how many sections there are if each is joined with the one before it where the two may be one.
+    pub fn joined_count(&self) -> usize
+        ensures { IsKeptIn self.now result }
+    {
+        if self.len == 0 {
+            return 0;
+        }
+        self.tally(Tally::new()).count
     }
 }
 
 impl<P: Part> Part for Row<P> {
     ghost members = { λ r. r };
+
+    const MOST_IN_ROW: usize = 32;
 
     #[tactic(auto, using(crate::proofs::Rows::one_facts))]
     fn of(alloc: Global, incoming: Incoming<'_>) -> Result<Row<P>, AllocError> {
@@ -90,41 +169,38 @@ impl<P: Part> Part for Row<P> {
     }
 
     fn is_full(&self) -> bool {
-        self.parts.len() > MOST_PARTS
+        self.parts.len() > P::MOST_IN_ROW
     }
 
     #[tactic(auto, using(crate::proofs::Rows::half_facts))]
-    fn split_off(&mut self) -> Result<Option<Row<P>>, AllocError> {
+    fn split_off(&mut self, p: u32) -> Result<Option<Row<P>>, AllocError> {
         let count = self.parts.len();
         if count < 2 {
             return Ok(None);
         }
-        let parts = self.parts.split_off(count / 2)?;
+        let (index, _) = list::find(self.parts.as_slice(), self.len, p);
+        let parts = self.parts.split_off(kept_of(count, index))?;
         let (len, gaps) = list::counts(parts.as_slice());
         self.len -= len;
         self.gaps -= gaps;
         Ok(Some(Row { parts, len, gaps }))
     }
 
-    #[tactic(auto, using(crate::proofs::Rows::row_put_facts))]
-    fn put(
-        &mut self,
+    #[tactic(auto, using(crate::proofs::Rows::put_facts))]
+    fn put_in(
         alloc: Global,
-        p: u32,
-        n: u32,
+        parts: &mut Vec<Row<P>>,
+        index: usize,
+        at: u32,
+        end: u32,
         incoming: Incoming<'_>,
-    ) -> Result<bool, AllocError> {
-        let (index, start) = list::find_room(&mut self.parts, p + n)?;
-        if p < start {
-            return Ok(false);
+    ) -> Result<Option<u32>, AllocError> {
+        let part = &mut parts[index];
+        let gaps = part.gaps();
+        if !part.put(alloc, at, end - at, incoming)? {
+            return Ok(None);
         }
-        let at = p - start;
-        let Some(gaps) = list::put(alloc, &mut self.parts, index, at, at + n, incoming)? else {
-            return Ok(false);
-        };
-        self.len = self.len - n + incoming.len();
-        self.gaps = self.gaps - gaps + incoming.gaps();
-        Ok(true)
+        Ok(Some(gaps + incoming.gaps() - part.gaps()))
     }
 
     #[tactic(auto, using(crate::proofs::Rows::row_cut_facts))]
@@ -132,18 +208,25 @@ impl<P: Part> Part for Row<P> {
         if n == 0 {
             return;
         }
-        let (index, start) = list::find(self.parts.as_slice(), p + 1);
+        let (index, start) = list::find(self.parts.as_slice(), self.len, p + 1);
         let at = p - start;
-        let count = n.min(self.parts[index].len() - at);
+        let len = self.parts[index].len();
+        let count = n.min(len - at);
         let gaps = list::take_out(&mut self.parts, index, at, at + count);
         self.len -= count;
         self.gaps -= gaps;
+        if at == 0 || at + count == len {
+            P::join(&mut self.parts, index);
+        }
         self.cut(p, n - count);
     }
 
+    /// Two rows are never one.
+    fn join(_parts: &mut Vec<Row<P>>, _index: usize) {}
+
     #[tactic(auto, using(crate::proofs::Rows::section_at_facts))]
     fn section_at(&self, p: u32) -> (&Section, u32) {
-        let (index, start) = list::find(self.parts.as_slice(), p + 1);
+        let (index, start) = list::find(self.parts.as_slice(), self.len, p + 1);
         let (section, place) = self.parts[index].section_at(p - start);
         (section, start + place)
     }
@@ -161,6 +244,18 @@ impl<P: Part> Part for Row<P> {
             return self.len - p;
         }
         reading::sort_from(self.parts.as_slice(), loaded, p)
+    }
+
+    #[tactic(auto, using(crate::proofs::Rows::row_hole_facts))]
+    fn hole_from(&self, p: u32) -> (u32, u32) {
+        if p >= self.len {
+            return (0, 0);
+        }
+        if self.gaps == 0 {
+            return (self.len - p, 0);
+        }
+        let (index, start) = list::find(self.parts.as_slice(), self.len, p + 1);
+        reading::hole_from(&self.parts.as_slice()[index..], p - start)
     }
 
     #[tactic(auto, using(crate::proofs::Rows::row_before_facts))]

@@ -1,13 +1,16 @@
 //! `Section`: a stretch of a rasp, either a loaded text or a hole.
 
-ghost use Rattle.std.specs.Prelude.{◌≡◌, ◌≢◌, ◌<◌, ◌≤◌, ◌+◌, ◌-◌, ◌++◌, ◌↔◌, IsTrue, IfOk, OnErr, Ok, length, map, reverse, slice_get, take, drop, true, false, Some};
-ghost use Rattle.std.specs.List.{prefix_len};
-ghost use Rattle.sam_runes.specs.Texts.{del, max_runes, most_in_message};
-ghost use Rattle.sam_rasp.specs.Rasp.{is_sort, put_cells, Agrees, PartialText};
-ghost use Rattle.sam_rasp.specs.Blocks.{gaps_of, incoming_cells, most_kept, CanComeIn};
-ghost use Rattle.sam_rasp.specs.Sections.{cells, size, is_loaded, IsFilled, IsShort};
+ghost use Rattle.std.specs.Prelude.{◌≡◌, ◌≢◌, ◌<◌, ◌≤◌, ◌+◌, ◌-◌, ◌++◌, ◌↔◌, IsTrue, IfOk, OnErr, Ok, length, slice_get, take, drop, true, false, Some};
+ghost use Rattle.sam_runes.specs.Texts.{del, max_runes};
+ghost use Rattle.sam_rasp.specs.Rasp.{put_cells, Agrees};
+ghost use Rattle.sam_rasp.specs.Rows.{gaps_of, incoming_cells, most_kept, CanComeIn};
+ghost use Rattle.sam_rasp.specs.Sections.{cells, size, is_loaded, IsShort};
 
+mod list;
+
+use crate::part::Part;
 use crate::piece::Piece;
+use crate::tally::Tally;
 use sam_runes::MOST_IN_MESSAGE;
 use std::alloc::{AllocError, Global};
 
@@ -71,7 +74,7 @@ impl<'a> Incoming<'a> {
     /// Returns what comes in as a section. The only error is out of memory.
     pub fn section(self, alloc: Global) -> Result<Section, AllocError>
         requires { CanComeIn self }
-        ensures { IfOk result (λ s. (cells s ≡ incoming_cells self.entry) × IsFilled s) }
+        ensures { IfOk result (λ s. cells s ≡ incoming_cells self.entry) }
     {
         match self {
             Incoming::Runes(runes) => Ok(Section::Loaded(Piece::of(alloc, runes)?)),
@@ -127,17 +130,6 @@ impl Section {
         }
     }
 
-    /// Returns how many gaps it has.
-    #[tactic(auto, using(crate::proofs::SectionLaws::gaps))]
-    pub(crate) fn gaps(&self) -> u32
-        ensures { result ≡ gaps_of (cells self.now) }
-    {
-        match self {
-            Section::Loaded(_) => 0,
-            Section::Hole(count) => *count,
-        }
-    }
-
     /// Returns how many of what stands from place `p` to place `q` are gaps.
     #[tactic(auto, using(crate::proofs::SectionLaws::gaps_gone))]
     pub(crate) fn gaps_within(&self, p: u32, q: u32) -> u32
@@ -151,31 +143,12 @@ impl Section {
         }
     }
 
-    /// Returns how many runes (if `loaded`) or gaps stand at once before place `p` of it after the last of the other sort, if `found` of them
-    /// stand at once before the section. `p` is not its start.
-    #[tactic(auto, using(crate::proofs::Runs::before_facts))]
-    pub(crate) fn sort_before(&self, loaded: bool, p: u32, found: u32) -> u32
-        requires within { (0 < p) × (p ≤ size self.now) }
-        requires limit { found + p ≤ most_kept }
-        ensures count { (r : PartialText) → prefix_len (is_sort loaded) (reverse r) ≡ found
-            → prefix_len (is_sort loaded) (reverse (r ++ take p (cells self.now))) ≡ result }
-        ensures limit { result ≤ found + p }
-    {
-        if self.is_loaded() == loaded {
-            found + p
-        } else {
-            0
-        }
-    }
-
     /// Puts the runes or gaps of `next` at its end if both are of one sort and memory is at hand. A loaded section has at most
     /// `MOST_IN_MESSAGE` runes then. Returns whether it did; if not, nothing is changed. The caller makes sure that the two have at most
     /// `MOST_KEPT` runes or gaps together.
     #[tactic(auto, using(crate::proofs::SectionLaws::absorbed))]
     pub(crate) fn absorb(&mut self, next: &Section) -> bool
-        requires filled { IsFilled self.old }
-        requires limit { size self.old + size next.now ≤ most_kept }
-        ensures filled { IsFilled self.new }
+        requires { size self.old + size next.now ≤ most_kept }
         ensures done { result ≡ true → cells self.new ≡ cells self.old ++ cells next.now }
         ensures refused { result ≡ false → self.new ≡ self.old }
     {
@@ -194,8 +167,8 @@ impl Section {
         }
     }
 
-    /// Puts what comes in in the place of what stands from place `p` to place `q`, if it is of the sort of the section, and a loaded one has
-    /// at most `MOST_IN_MESSAGE` runes then. Returns whether it did. The only error is out of memory. If it didn't, nothing is changed.
+    /// Puts what comes in in the place of what stands from place `p` to place `q`, if it is of the sort of the section, and a loaded one
+    /// has at most `MOST_IN_MESSAGE` runes then. Returns whether it did. The only error is out of memory. If it didn't, nothing is changed.
     #[tactic(auto, using(crate::proofs::SectionLaws::takes))]
     pub(crate) fn take_in(
         &mut self,
@@ -206,10 +179,10 @@ impl Section {
         requires ascending { p ≤ q }
         requires within { q ≤ size self.old }
         requires incoming { CanComeIn incoming }
+        requires some { 0 < size self.old }
         requires limit { size self.old + length (incoming_cells incoming) ≤ most_kept }
-        requires filled { IsFilled self.old }
         ensures done { result ≡ Ok true → cells self.new ≡ put_cells (cells self.old) p q (incoming_cells incoming.entry) }
-        ensures filled { IsFilled self.new }
+        ensures some { 0 < size self.new }
         ensures refused { result ≢ Ok true → self.new ≡ self.old }
     {
         match self {
@@ -233,31 +206,12 @@ impl Section {
         }
     }
 
-    /// Takes out the runes or gaps from place `p` to place `q`, but not all.
-    #[tactic(auto, using(crate::proofs::SectionLaws::cuts))]
-    pub(crate) fn cut(&mut self, p: u32, q: u32)
-        requires ascending { p ≤ q }
-        requires within { q ≤ size self.old }
-        requires some { q - p < size self.old }
-        requires filled { IsFilled self.old }
-        ensures cells { cells self.new ≡ del (cells self.old) p q }
-        ensures size { size self.new + (q - p) ≡ size self.old }
-        ensures filled { IsFilled self.new }
-    {
-        match self {
-            Section::Loaded(text) => text.cut(p as usize, q as usize),
-            Section::Hole(count) => *count -= q - p,
-        }
-    }
-
     /// Cuts the section in two at place `p`, which stands inside: it keeps what stands before `p`, and what stands from `p` on is returned.
     /// The only error is out of memory; the section is then unchanged.
     #[tactic(auto, using(crate::proofs::SectionLaws::halves))]
-    pub(crate) fn split_off(&mut self, alloc: Global, p: u32) -> Result<Section, AllocError>
-        requires inside { (0 < p) × (p < size self.old) }
-        requires filled { IsFilled self.old }
-        ensures ok { IfOk result (λ s. (cells self.new ≡ take p (cells self.old)) × (cells s ≡ drop p (cells self.old))
-            × IsFilled self.new × IsFilled s) }
+    pub(crate) fn split(&mut self, alloc: Global, p: u32) -> Result<Section, AllocError>
+        requires { (0 < p) × (p < size self.old) }
+        ensures ok { IfOk result (λ s. (cells self.new ≡ take p (cells self.old)) × (cells s ≡ drop p (cells self.old))) }
         ensures err { OnErr result (self.new ≡ self.old) }
     {
         match self {
@@ -268,5 +222,99 @@ impl Section {
                 Ok(Section::Hole(back))
             }
         }
+    }
+}
+
+impl Part for Section {
+    ghost members = { cells };
+
+    const MOST_IN_ROW: usize = 16;
+
+    fn of(alloc: Global, incoming: Incoming<'_>) -> Result<Section, AllocError> {
+        incoming.section(alloc)
+    }
+
+    #[tactic(auto, using(crate::proofs::SectionLaws::part_facts))]
+    fn len(&self) -> u32 {
+        self.len()
+    }
+
+    #[tactic(auto, using(crate::proofs::SectionLaws::gaps))]
+    fn gaps(&self) -> u32 {
+        match self {
+            Section::Loaded(_) => 0,
+            Section::Hole(count) => *count,
+        }
+    }
+
+    fn is_full(&self) -> bool {
+        false
+    }
+
+    fn split_off(&mut self, _p: u32) -> Result<Option<Section>, AllocError> {
+        Ok(None)
+    }
+
+    fn put_in(
+        alloc: Global,
+        sections: &mut Vec<Section>,
+        index: usize,
+        at: u32,
+        end: u32,
+        incoming: Incoming<'_>,
+    ) -> Result<Option<u32>, AllocError> {
+        list::put(alloc, sections, index, at, end, incoming)
+    }
+
+    #[tactic(auto, using(crate::proofs::SectionLaws::cuts))]
+    fn cut(&mut self, p: u32, n: u32) {
+        match self {
+            Section::Loaded(text) => text.cut(p as usize, p as usize + n as usize),
+            Section::Hole(count) => *count -= n,
+        }
+    }
+
+    fn join(sections: &mut Vec<Section>, index: usize) {
+        list::join(sections, index)
+    }
+
+    #[tactic(auto, using(crate::proofs::SectionLaws::part_facts))]
+    fn section_at(&self, _p: u32) -> (&Section, u32) {
+        (self, 0)
+    }
+
+    #[tactic(auto, using(crate::proofs::SectionLaws::part_facts))]
+    fn agrees(&self, text: &[char]) -> bool {
+        text.len() == self.len() as usize && self.agrees(text)
+    }
+
+    #[tactic(auto, using(crate::proofs::Runs::section_from_facts))]
+    fn sort_from(&self, loaded: bool, p: u32) -> u32 {
+        if p >= self.len() || self.is_loaded() != loaded {
+            return 0;
+        }
+        self.len() - p
+    }
+
+    #[tactic(auto, using(crate::proofs::Runs::section_from_facts))]
+    fn hole_from(&self, p: u32) -> (u32, u32) {
+        if p >= self.len() {
+            return (0, 0);
+        }
+        let left = self.len() - p;
+        if self.is_loaded() {
+            (left, 0)
+        } else {
+            (0, left)
+        }
+    }
+
+    #[tactic(auto, using(crate::proofs::Runs::section_before_facts))]
+    fn sort_before(&self, loaded: bool, p: u32) -> u32 {
+        if self.is_loaded() == loaded { p } else { 0 }
+    }
+
+    fn tally(&self, before: Tally) -> Tally {
+        before.add(self)
     }
 }

@@ -1,9 +1,9 @@
 //! In how few sections a list may be kept.
 
-ghost use Rattle.std.specs.Prelude.{◌≡◌, ◌<◌, ◌≤◌, ◌+◌, ◌++◌, [], length, true, false};
+ghost use Rattle.std.specs.Prelude.{◌≡◌, ◌<◌, ◌≤◌, ◌+◌, ◌++◌, [], true, false};
 ghost use Rattle.sam_rasp.specs.Rasp.{PartialText};
-ghost use Rattle.sam_rasp.specs.Blocks.{most_kept, AllFilled, IsTallied};
-ghost use Rattle.sam_rasp.specs.Sections.{cells, cells_of, is_loaded, may_join, size, IsFilled};
+ghost use Rattle.sam_rasp.specs.Rows.{most_kept, IsTallied};
+ghost use Rattle.sam_rasp.specs.Sections.{cells, is_loaded, may_join, size};
 ghost use Rattle.sam_rasp.specs.declared.section.Section.{Section};
 
 use crate::section::Section;
@@ -48,8 +48,8 @@ impl Tally {
     }
 
     /// Returns the tally with one more section.
-    fn add(self, section: &Section) -> Tally
-        requires filled { IsFilled section.now }
+    pub fn add(self, section: &Section) -> Tally
+        requires some { 0 < size section.now }
         requires len { self.len + size section.now ≤ most_kept }
         requires count { self.count + 1 ≤ most_kept }
         ensures tallied { (r : PartialText) → IsTallied r self.count self.loaded self.len
@@ -70,21 +70,4 @@ impl Tally {
             len: section.len(),
         }
     }
-}
-
-/// Returns the tally of `before` with all of these sections added.
-#[tactic(auto, using(crate::proofs::Tallies::tally_facts))]
-pub fn of_sections(sections: &[Section], before: Tally) -> Tally
-    requires filled { AllFilled sections.now }
-    requires count { before.count + length (cells_of sections.now) ≤ most_kept }
-    requires len { before.len + length (cells_of sections.now) ≤ most_kept }
-    ensures tallied { (r : PartialText) → IsTallied r before.count before.loaded before.len
-        → IsTallied (r ++ cells_of sections.now) result.count result.loaded result.len }
-    ensures count { result.count ≤ before.count + length (cells_of sections.now) }
-    ensures len { result.len ≤ before.len + length (cells_of sections.now) }
-{
-    let Some((first, others)) = sections.split_first() else {
-        return before;
-    };
-    of_sections(others, before.add(first))
 }

@@ -1,24 +1,22 @@
-//! `Tree`: sections in order, in blocks that stand in rows of rows, so that a place is found in few steps.
+//! `Tree`: sections in order, in rows that stand in rows, so that a place is found in few steps.
 
 ghost use Rattle.std.specs.Prelude.{◌≡◌, ◌≢◌, ◌<◌, ◌≤◌, ◌+◌, ◌↔◌, [], IsTrue, MatchOption, Ok, length, take, drop, true, false};
 ghost use Rattle.sam_runes.specs.Texts.{del};
 ghost use Rattle.sam_rasp.specs.Rasp.{put_cells, sort_before, sort_from, Agrees};
-ghost use Rattle.sam_rasp.specs.Blocks.{incoming_cells, most_kept, CanComeIn};
+ghost use Rattle.sam_rasp.specs.Rows.{incoming_cells, most_kept, CanComeIn};
 ghost use Rattle.sam_rasp.specs.Sections.{cells, size, IsKeptIn};
 
-use crate::block::Block;
 use crate::part::Part;
 use crate::row::Row;
 use crate::section::{Incoming, Section};
-use crate::tally::Tally;
 use std::alloc::{AllocError, Global};
 use std::marker::Model;
 
 /// Sections in order. The outermost row alone has no limit: as many parts as `MAX_RUNES` sections make there are few.
 #[derive(Drop)]
 pub struct Tree {
-    /// The blocks, in three rows.
-    rows: Row<Row<Row<Block>>>,
+    /// The sections, in four rows one in the other.
+    rows: Row<Row<Row<Row<Section>>>>,
 }
 
 impl Model for Tree {
@@ -47,9 +45,8 @@ impl Tree {
         self.rows.len()
     }
 
-    /// Puts what comes in in the place of `n` runes or gaps from place `p` on, if they stand in one section, and that is a hole or has room.
-    /// Returns whether it did, which it always does where `n` is 0. The only error is out of memory. If it didn't, nothing is changed.
-    #[tactic(auto, using(crate::proofs::Changes::put_facts))]
+    /// Puts what comes in in the place of `n` runes or gaps from place `p` on, if they stand in one section, and that is a hole or has
+    /// room. Returns whether it did, which it always does where `n` is 0. The only error is out of memory. If it didn't, nothing is changed.
     pub fn put(
         &mut self,
         alloc: Global,
@@ -64,24 +61,15 @@ impl Tree {
         ensures refused { result ≢ Ok true → self.new ≡ self.old }
         ensures always { n ≡ 0 → result ≢ Ok false }
     {
-        if self.rows.len() == 0 {
-            self.rows = Row::of(alloc, incoming)?;
-            return Ok(true);
-        }
         self.rows.put(alloc, p, n, incoming)
     }
 
     /// Takes `n` runes and gaps out from place `p` on. No memory is asked for.
-    #[tactic(auto, using(crate::proofs::Changes::cut_facts))]
     pub fn cut(&mut self, p: u32, n: u32)
         requires { p + n ≤ length self.old }
         ensures { self.new ≡ del self.old p (p + n) }
     {
-        if n == self.rows.len() {
-            self.rows.clear();
-            return;
-        }
-        self.rows.cut(p, n);
+        self.rows.remove(p, n);
     }
 
     /// Returns the section in which place `p` stands, and the place at which it begins, or `None` from the end on.
@@ -90,10 +78,7 @@ impl Tree {
         ensures section { MatchOption result (length self.now ≤ p) (λ r. (r.1 ≤ p) × (p < r.1 + size r.0.now)
             × (take (size r.0.now) (drop r.1 self.now) ≡ cells r.0.now)) }
     {
-        if p >= self.rows.len() {
-            return None;
-        }
-        Some(self.rows.section_at(p))
+        self.rows.section(p)
     }
 
     /// Returns whether the sections have the length of `text`, and each of their runes is the rune of `text` at the same place.
@@ -104,15 +89,20 @@ impl Tree {
     }
 
     /// Returns how many runes (if `loaded`) or gaps stand from place `p` on before the other sort begins.
-    #[tactic(auto, using(crate::proofs::Runs::from_facts))]
     pub fn sort_from(&self, loaded: bool, p: u32) -> u32
         ensures count { result ≡ sort_from loaded self.now p }
-        ensures limit { (result ≤ length self.now) × (length self.now ≤ most_kept) }
+        ensures limit { result ≤ length self.now }
     {
-        if p >= self.rows.len() {
-            return 0;
-        }
         self.rows.sort_from(loaded, p)
+    }
+
+    /// Returns how many runes stand from place `p` on before the first gap, and how many gaps stand there before the next rune.
+    pub fn hole_from(&self, p: u32) -> (u32, u32)
+        ensures runes { result.0 ≡ sort_from true self.now p }
+        ensures gaps { result.1 ≡ sort_from false self.now (p + result.0) }
+        ensures limit { result.0 + result.1 ≤ length self.now }
+    {
+        self.rows.hole_from(p)
     }
 
     /// Returns how many runes (if `loaded`) or gaps stand at once before place `p` after the last of the other sort.
@@ -128,9 +118,6 @@ impl Tree {
     pub fn joined_count(&self) -> usize
         ensures { IsKeptIn self.now result }
     {
-        if self.rows.len() == 0 {
-            return 0;
-        }
-        self.rows.tally(Tally::new()).count
+        self.rows.joined_count()
     }
 }

@@ -25,7 +25,8 @@ pub record IsRoomFor {T : Type 0} (line : LineView) (posts : ℕ) (room : LineRo
   pub none : room.posts.items ≡ []
   pub space : posts ≤ vec_capacity room.posts
 
--- the sides only where no worker stopped, with room to merge the log; else the merged schedule, and the world where it leads from these files
+-- the sides only where no worker stopped, with room to merge the log; else the merged schedule, and the world where it leads from these
+-- files
 abbrev pub IsSource : List (List ℕ × List ℕ) → List TermLog → ℕ → List Stop → Source → Type 0
 IsSource files entries taken stops (Sides room) = (stops ≡ []) × IsRoomForMerge entries taken room
 IsSource files entries taken stops (Run schedule world) =

@@ -1,34 +1,43 @@
 //! Changes of a list of parts. `index` is the number of a part, counted from 0, and `at` a place in it.
 
-ghost use Rattle.std.specs.Prelude.{◌≡◌, ◌≢◌, ◌<◌, ◌≤◌, ◌+◌, ◌-◌, ◌++◌, IfOk, OnOk, OnErr, MatchOption, Ok, length, take, vec_capacity, vec_len, true, false};
+ghost use Rattle.std.specs.Prelude.{◌≡◌, ◌<◌, ◌≤◌, ◌+◌, ◌-◌, IfOk, Ok, length, take, vec_capacity, vec_len};
 ghost use Rattle.sam_runes.specs.Texts.{del, ins};
-ghost use Rattle.sam_rasp.specs.Rasp.{put_cells};
-ghost use Rattle.sam_rasp.specs.Blocks.{gaps_of, incoming_cells, most_kept, CanComeIn};
-ghost use Rattle.sam_rasp.specs.Rows.{members_of, NoneEmpty};
+ghost use Rattle.sam_rasp.specs.Rows.{gaps_of, members_of, most_kept, NoneEmpty};
 
 use crate::part::Part;
-use crate::section::Incoming;
-use std::alloc::{AllocError, Global};
+use std::alloc::AllocError;
 
-/// Returns the number of the first part that ends at or after place `q`, and the place at which it begins.
+/// Returns the number of the first part that ends at or after place `q`, and the place at which it begins. The parts have `len` runes and
+/// gaps together. It looks from both ends, since the next change is often near one.
 #[tactic(auto, using(crate::proofs::Rows::find_facts))]
-pub fn find<P: Part>(parts: &[P], q: u32) -> (usize, u32)
+pub fn find<P: Part>(parts: &[P], len: u32, q: u32) -> (usize, u32)
     requires some { 0 < length parts.now }
-    requires within { q ≤ length (members_of P.members parts.now) }
-    requires limit { length (members_of P.members parts.now) ≤ most_kept }
+    requires len { len ≡ length (members_of P.members parts.now) }
+    requires within { q ≤ len }
+    requires limit { len ≤ most_kept }
     ensures index { result.0 < length parts.now }
     ensures start { result.1 ≡ length (members_of P.members (take result.0 parts.now)) }
     ensures place { (result.1 ≤ q - 1) × (q ≤ length (members_of P.members (take (result.0 + 1) parts.now))) }
 {
     let mut index = 0;
     let mut start = 0;
-    while index + 1 < parts.len() {
-        let end = start + parts[index].len();
-        if q <= end {
+    let mut last = parts.len() - 1;
+    let mut end = len;
+    while index < last {
+        let next = start + parts[index].len();
+        if q <= next {
             return (index, start);
         }
         index += 1;
-        start = end;
+        start = next;
+        let back = end - parts[last].len();
+        if q > back {
+            return (last, back);
+        }
+        if index < last {
+            last -= 1;
+            end = back;
+        }
     }
     (index, start)
 }
@@ -61,17 +70,19 @@ fn insert<P: Part>(parts: &mut Vec<P>, index: usize, part: P)
     }
 }
 
-/// Cuts part `index` in two, if it has two sections or parts at least. The only error is out of memory; what the parts stand for is then
-/// unchanged.
+/// Cuts part `index` in two, if it has two sections or parts at least. The next change comes at place `at` of it. The only error is out of
+/// memory; what the parts stand for is then unchanged.
 #[tactic(auto, using(crate::proofs::Rows::halve_facts))]
-fn halve<P: Part>(parts: &mut Vec<P>, index: usize) -> Result<(), AllocError>
+fn halve<P: Part>(parts: &mut Vec<P>, index: usize, at: u32) -> Result<(), AllocError>
     requires index { index < vec_len parts.old }
+    requires within { length (members_of P.members (take index parts.old.items)) + at
+        ≤ length (members_of P.members (take (index + 1) parts.old.items)) }
     requires some { NoneEmpty P.members parts.old.items }
     ensures members { members_of P.members parts.new.items ≡ members_of P.members parts.old.items }
     ensures some { NoneEmpty P.members parts.new.items }
 {
     parts.reserve(1)?;
-    if let Some(back) = parts[index].split_off()? {
+    if let Some(back) = parts[index].split_off(at)? {
         insert(parts, index + 1, back);
     }
     Ok(())
@@ -79,59 +90,23 @@ fn halve<P: Part>(parts: &mut Vec<P>, index: usize) -> Result<(), AllocError>
 
 /// As `find`, but cuts that part in two first if it is full. The only error is out of memory; what the parts stand for is unchanged.
 #[tactic(auto, using(crate::proofs::Rows::find_room_facts))]
-pub fn find_room<P: Part>(parts: &mut Vec<P>, q: u32) -> Result<(usize, u32), AllocError>
+pub fn find_room<P: Part>(parts: &mut Vec<P>, len: u32, q: u32) -> Result<(usize, u32), AllocError>
     requires some { 0 < length (members_of P.members parts.old.items) }
     requires parts { NoneEmpty P.members parts.old.items }
-    requires within { q ≤ length (members_of P.members parts.old.items) }
-    requires limit { length (members_of P.members parts.old.items) ≤ most_kept }
+    requires len { len ≡ length (members_of P.members parts.old.items) }
+    requires within { q ≤ len }
+    requires limit { len ≤ most_kept }
     ensures members { members_of P.members parts.new.items ≡ members_of P.members parts.old.items }
     ensures parts { NoneEmpty P.members parts.new.items }
     ensures ok { IfOk result (λ r. (r.0 < vec_len parts.new) × (r.1 ≡ length (members_of P.members (take r.0 parts.new.items)))
         × (r.1 ≤ q - 1) × (q ≤ length (members_of P.members (take (r.0 + 1) parts.new.items)))) }
 {
-    let (index, start) = find(parts.as_slice(), q);
+    let (index, start) = find(parts.as_slice(), len, q);
     if !parts[index].is_full() {
         return Ok((index, start));
     }
-    halve(parts, index)?;
-    Ok(find(parts.as_slice(), q))
-}
-
-/// Puts what comes in in part `index`, in the place of what stands there from place `at` to place `end` of it. Returns how many gaps went, or
-/// `None` if it put nothing in. The only error is out of memory. If it put nothing in, what the parts stand for is unchanged.
-#[tactic(auto, using(crate::proofs::Rows::put_facts))]
-pub fn put<P: Part>(
-    alloc: Global,
-    parts: &mut Vec<P>,
-    index: usize,
-    at: u32,
-    end: u32,
-    incoming: Incoming<'_>,
-) -> Result<Option<u32>, AllocError>
-    requires index { index < vec_len parts.old }
-    requires ascending { at ≤ end }
-    requires within { length (members_of P.members (take index parts.old.items)) + end
-        ≤ length (members_of P.members (take (index + 1) parts.old.items)) }
-    requires incoming { CanComeIn incoming }
-    requires some { NoneEmpty P.members parts.old.items }
-    requires limit { length (members_of P.members parts.old.items) + length (incoming_cells incoming) ≤ most_kept }
-    ensures ok { IfOk result (λ r. MatchOption r (members_of P.members parts.new.items ≡ members_of P.members parts.old.items)
-        (λ gaps. (members_of P.members parts.new.items ≡ put_cells (members_of P.members parts.old.items)
-        (length (members_of P.members (take index parts.old.items)) + at) (length (members_of P.members (take index parts.old.items)) + end)
-        (incoming_cells incoming.entry))
-        × (gaps_of (members_of P.members parts.new.items) + gaps
-        ≡ gaps_of (members_of P.members parts.old.items) + gaps_of (incoming_cells incoming.entry))
-        × (gaps ≤ gaps_of (members_of P.members parts.old.items)))) }
-    ensures always { at ≡ end → IfOk result (λ r. r ≢ None) }
-    ensures err { OnErr result (members_of P.members parts.new.items ≡ members_of P.members parts.old.items) }
-    ensures some { NoneEmpty P.members parts.new.items }
-{
-    let part = &mut parts[index];
-    let gaps = part.gaps();
-    if !part.put(alloc, at, end - at, incoming)? {
-        return Ok(None);
-    }
-    Ok(Some(gaps + incoming.gaps() - part.gaps()))
+    halve(parts, index, q - start)?;
+    Ok(find(parts.as_slice(), len, q))
 }
 
 /// Takes out what stands in part `index` from place `at` to place `end` of it, but not all of the part. Returns how many gaps went.
@@ -145,7 +120,8 @@ fn cut_in<P: Part>(parts: &mut Vec<P>, index: usize, at: u32, end: u32) -> u32
         < length (members_of P.members (take (index + 1) parts.old.items)) }
     requires some { NoneEmpty P.members parts.old.items }
     ensures members { members_of P.members parts.new.items ≡ del (members_of P.members parts.old.items)
-        (length (members_of P.members (take index parts.old.items)) + at) (length (members_of P.members (take index parts.old.items)) + end) }
+        (length (members_of P.members (take index parts.old.items)) + at)
+        (length (members_of P.members (take index parts.old.items)) + end) }
     ensures gaps { gaps_of (members_of P.members parts.new.items) + result ≡ gaps_of (members_of P.members parts.old.items) }
     ensures some { NoneEmpty P.members parts.new.items }
 {
@@ -164,7 +140,8 @@ pub fn take_out<P: Part>(parts: &mut Vec<P>, index: usize, at: u32, end: u32) ->
         ≤ length (members_of P.members (take (index + 1) parts.old.items)) }
     requires some { NoneEmpty P.members parts.old.items }
     ensures members { members_of P.members parts.new.items ≡ del (members_of P.members parts.old.items)
-        (length (members_of P.members (take index parts.old.items)) + at) (length (members_of P.members (take index parts.old.items)) + end) }
+        (length (members_of P.members (take index parts.old.items)) + at)
+        (length (members_of P.members (take index parts.old.items)) + end) }
     ensures gaps { gaps_of (members_of P.members parts.new.items) + result ≡ gaps_of (members_of P.members parts.old.items) }
     ensures some { NoneEmpty P.members parts.new.items }
 {

@@ -1,9 +1,8 @@
 //! What is read off a list of parts.
 
-ghost use Rattle.std.specs.Prelude.{◌≡◌, ◌≤◌, ◌+◌, ◌++◌, ◌↔◌, IsTrue, length};
+ghost use Rattle.std.specs.Prelude.{◌≡◌, ◌≤◌, ◌+◌, ◌++◌, ◌↔◌, IsTrue, length, true, false};
 ghost use Rattle.sam_rasp.specs.Rasp.{sort_before, sort_from, Agrees, PartialText};
-ghost use Rattle.sam_rasp.specs.Blocks.{most_kept, IsTallied};
-ghost use Rattle.sam_rasp.specs.Rows.{members_of};
+ghost use Rattle.sam_rasp.specs.Rows.{members_of, most_kept, IsTallied, NoneEmpty};
 
 use crate::part::Part;
 use crate::tally::Tally;
@@ -44,6 +43,29 @@ pub fn sort_from<P: Part>(parts: &[P], loaded: bool, p: u32) -> u32
     found + sort_from(others, loaded, 0)
 }
 
+/// Returns how many runes stand from place `p` on before the first gap, and how many gaps stand there before the next rune.
+#[tactic(auto, using(crate::proofs::Rows::hole_facts))]
+pub fn hole_from<P: Part>(parts: &[P], p: u32) -> (u32, u32)
+    requires { length (members_of P.members parts.now) ≤ most_kept }
+    ensures runes { result.0 ≡ sort_from true (members_of P.members parts.now) p }
+    ensures gaps { result.1 ≡ sort_from false (members_of P.members parts.now) (p + result.0) }
+    ensures limit { result.0 + result.1 ≤ length (members_of P.members parts.now) }
+{
+    let Some((first, others)) = parts.split_first() else {
+        return (0, 0);
+    };
+    let len = first.len();
+    let (runes, gaps) = first.hole_from(p);
+    if p + runes + gaps < len {
+        return (runes, gaps);
+    }
+    if gaps > 0 {
+        return (runes, gaps + sort_from(others, false, 0));
+    }
+    let (more, gaps) = hole_from(others, p.saturating_sub(len));
+    (runes + more, gaps)
+}
+
 /// Returns how many runes (if `loaded`) or gaps stand at once before place `p` after the last of the other sort. The parts have `len` runes
 /// and gaps together.
 #[tactic(auto, using(crate::proofs::Rows::before_facts))]
@@ -67,6 +89,7 @@ pub fn sort_before<P: Part>(parts: &[P], len: u32, loaded: bool, p: u32) -> u32
 /// Returns the tally of `before` with all sections of the parts added.
 #[tactic(auto, using(crate::proofs::Rows::tally_facts))]
 pub fn tally<P: Part>(parts: &[P], before: Tally) -> Tally
+    requires some { NoneEmpty P.members parts.now }
     requires count { before.count + length (members_of P.members parts.now) ≤ most_kept }
     requires len { before.len + length (members_of P.members parts.now) ≤ most_kept }
     ensures tallied { (r : PartialText) → IsTallied r before.count before.loaded before.len

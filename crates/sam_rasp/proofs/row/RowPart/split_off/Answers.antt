@@ -1,28 +1,27 @@
 use Rattle.sam_rasp.proofs.Common.{arith, drop, length-drop, length-take, take}
-use Rattle.std.proofs.Common.{◌/◌}
 use Rattle.sam_rasp.proofs.Rows.{half-members, half-gaps, half-length, some-drop, some-length, some-take}
 use Rattle.sam_rasp.proofs.row.RowPart.split_off.Goals as goal
 
 pub counts-len-requires : goal.counts-len-requires
-counts-len-requires g c = grind (arith, (half-length g.P.Part.members c.self.inside.parts.items (c.len-count.result / 2)))
+counts-len-requires g c = grind (arith, (half-length g.P.Part.members c.self.inside.parts.items c.kept_of.result))
 
 pub overflow_sub-self : goal.overflow_sub-self
-overflow_sub-self g c = grind (arith, (half-length g.P.Part.members c.self.inside.parts.items (c.len-count.result / 2)))
+overflow_sub-self g c = grind (arith, (half-length g.P.Part.members c.self.inside.parts.items c.kept_of.result))
 
 pub overflow_sub-self-2 : goal.overflow_sub-self-2
-overflow_sub-self-2 g c = grind (arith, (half-gaps g.P.Part.members c.self.inside.parts.items (c.len-count.result / 2)))
+overflow_sub-self-2 g c = grind (arith, (half-gaps g.P.Part.members c.self.inside.parts.items c.kept_of.result))
 
 pub invariant_of-result : goal.invariant_of-result
 invariant_of-result g c =
     let xs = c.self.inside.parts.items in
-    let h = c.len-count.result / 2 in
+    let h = c.kept_of.result in
     grind (arith, (half-length g.P.Part.members xs h), (some-drop g.P.Part.members xs h))
 
 pub returns-clause-ok : goal.returns-clause-ok
 returns-clause-ok g c =
     let f = g.P.Part.members in
     let xs = c.self.inside.parts.items in
-    let h = c.len-count.result / 2 in
+    let h = c.kept_of.result in
     grind (
       arith,
       (half-members f xs h),

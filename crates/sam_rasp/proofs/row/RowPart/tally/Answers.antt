@@ -1,5 +1,5 @@
 use Rattle.sam_rasp.proofs.Common.{subst, arith, ◌++◌}
-use Rattle.sam_rasp.specs.Blocks.{IsTallied}
+use Rattle.sam_rasp.specs.Rows.{IsTallied}
 use Rattle.sam_rasp.proofs.row.RowPart.tally.Goals as goal
 
 pub returns-clause-tallied : goal.returns-clause-tallied

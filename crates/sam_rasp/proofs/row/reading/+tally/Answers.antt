@@ -1,5 +1,5 @@
 use Rattle.sam_rasp.proofs.Common.{subst, arith, append_assoc}
-use Rattle.sam_rasp.specs.Blocks.{IsTallied}
+use Rattle.sam_rasp.specs.Rows.{IsTallied}
 use Rattle.sam_rasp.specs.Rows.{members_of}
 use Rattle.sam_rasp.proofs.row.reading.+tally.Goals as goal
 

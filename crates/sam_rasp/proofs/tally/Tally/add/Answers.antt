@@ -1,5 +1,6 @@
 use Rattle.sam_rasp.proofs.Common.{◌+◌, ◌++◌, sym, subst, cells, size}
-use Rattle.sam_rasp.specs.Blocks.{IsTallied}
+use Rattle.sam_rasp.specs.Rows.{IsTallied}
+use Rattle.sam_rasp.proofs.SectionLaws.{fills}
 use Rattle.sam_rasp.proofs.Tallies.{one-longer, one-more}
 use Rattle.sam_rasp.proofs.tally.Tally.add.Goals as goal
 
@@ -17,4 +18,4 @@ returns-clause-tallied c r t =
     let b = c.args.section.now in
     subst (λ k. IsTallied (r ++ cells b) (a.count + 1) c.is_loaded.result k) (sym c.len-2.ensures.len)
     (subst (λ l. IsTallied (r ++ cells b) (a.count + 1) l (size b)) (sym c.is_loaded.ensures)
-    (one-more r a.count a.len a.loaded b c.requires.filled (c.joins.ensures.apart c.if-joins.false) t))
+    (one-more r a.count a.len a.loaded b (fills b c.requires.some c.len-2.ensures.limit) (c.joins.ensures.apart c.if-joins.false) t))
