@@ -244,7 +244,7 @@ class Actions(Commands, Moves):
         """Whether there is a step, and all of its text is known."""
         self.focus.anchor = None
         if step is None:
-            self.message = nothing
+            self.message = f"{nothing} in the command window: Esc goes to the text" if self.focus is self.command else nothing
         elif lacks:
             self.message = f"that can't be taken back: {lacks} characters of what went were not loaded"
         return step is not None and not lacks

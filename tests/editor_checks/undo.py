@@ -58,6 +58,20 @@ def check_undo_steps(folder):
     expect("nothing was taken back" in editor.message, "it makes again what was done before something else")
 
 
+def check_undo_in_the_command_window(folder):
+    """There it takes back what was typed there, and then tells how to take back in the text."""
+    pair, editor, key, text = opened("one two\n")
+    pair.press(key("Esc"), text(",x/o/c/0/\n"))
+    for _ in range(20):
+        pair.press(key("^Z"))
+        if "nothing more" in editor.message:
+            break
+    expect("Esc goes to the text" in editor.message, f"it tells {editor.message!r}")
+    expect(pair.host.text(1) == "0ne tw0\n", "the text is changed")
+    pair.press(key("Esc"), key("^Z"))
+    expect(pair.host.text(1) == "one two\n", "the command line is not taken back")
+
+
 def check_undo_without_vault(folder):
     """Text that is not loaded, and a host that keeps none: what is the pattern of a command line can be brought back; what can't be is
     told before."""
