@@ -84,7 +84,7 @@ def check_crossing(folder):
         session.wait_for_quiet()
         session.keys("S-Right", "S-Right", "C-x", "C-v", "C-v")
         session.type("typed")
-        expect(session.shows("held"), "no event is held")
+        session.wait_for("held")
         session.wait_for_quiet()
         session.keys("C-w")
         wait_for_text(path, "typedc\n")
