@@ -25,7 +25,7 @@ BINDINGS = (
     Binding(("^W",), "write", "writes the file"),
     Binding(("^K",), "close", "closes the file for good; asks if it was not written"),
     Binding(("^Q",), "leave", "leaves; asks if a file was not written"),
-    Binding(("^Z",), "undo", "takes back the last change"),
+    Binding(("^Z",), "undo", "takes back the last change of this window"),
     Binding(("^R",), "redo", "makes again what was taken back"),
     Binding(("^X",), "cut", "cuts the selection"),
     Binding(("^C",), "snarf", "copies the selection"),
