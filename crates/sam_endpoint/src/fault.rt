@@ -1,6 +1,7 @@
 //! Why a file is not added, why a call is not done, and why an endpoint has stopped.
 
 ghost use Rattle.std.specs.Prelude.{◌≡◌, ◌≢◌};
+ghost use Rattle.sam_mesg.specs.Faults.{mesg_fault_number};
 ghost use Rattle.sam_mesg.specs.declared.fault.MesgFault.TheVariants.{OutOfMemory};
 ghost use Rattle.sam_endpoint.specs.Streams.{mesg_fault, not_taken};
 
@@ -57,6 +58,13 @@ impl StreamFault {
             MesgFault::BadText => StreamFault::BadText,
             MesgFault::OutOfMemory => unreachable!(),
         }
+    }
+
+    /// Returns the number of the fault: 1, 2 or 3.
+    pub fn number(&self) -> u8
+        ensures { result ≡ mesg_fault_number (mesg_fault self.now) }
+    {
+        *self as u8
     }
 }
 

@@ -122,8 +122,7 @@ impl Host {
     {
         let mut frames = Vec::new(self.alloc);
         self.say(&mut frames, Hmesg::Hsnarflen(runes.len() as u32))?;
-        let copy = runes.copy(self.alloc)?;
-        self.files.put_snarf(copy);
+        self.files.set_snarf(runes.as_slice())?;
         Ok(frames)
     }
 

@@ -3,7 +3,7 @@
 ghost use Rattle.std.specs.Prelude.{◌≡◌, ◌≤◌, ◌+◌, ◌-◌, ◌++◌, ◌↔◌, length, IsTrue, IfOk, OnOk, OnErr, slice_get, take, drop, vec_capacity, vec_len, true, false};
 ghost use Rattle.sam_runes.specs.Texts.{del, most_in_message};
 
-use sam_runes::MOST_IN_MESSAGE;
+use sam_runes::{MOST_IN_MESSAGE, insert_runes, remove_runes};
 use std::alloc::{AllocError, Global};
 use std::marker::Model;
 
@@ -102,12 +102,8 @@ impl Piece {
         ensures ok { OnOk result (self.new ≡ take p self.old ++ runes.now ++ drop q self.old) }
         ensures err { OnErr result (self.new ≡ self.old) }
     {
-        self.runes.extend_from_slice(runes)?;
-        let tail = &mut self.runes[q..];
-        tail.rotate_right(runes.len());
-        if p < q {
-            self.runes.drain(p..q);
-        }
+        insert_runes(&mut self.runes, q, runes)?;
+        remove_runes(&mut self.runes, p, q);
         Ok(())
     }
 
@@ -117,7 +113,7 @@ impl Piece {
         requires within { q ≤ length self.old }
         ensures { self.new ≡ del self.old p q }
     {
-        self.runes.drain(p..q);
+        remove_runes(&mut self.runes, p, q);
     }
 
     /// Takes out the runes from place `p` on, and returns them. The only error is out of memory; the piece is then unchanged.

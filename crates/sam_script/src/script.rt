@@ -124,26 +124,28 @@ impl Script {
         mem::replace(&mut self.lines, none)
     }
 
-    /// Returns copies of the events of its `k` lines, in order. The only error is out of memory.
+    /// Returns copies of the events of its `k` lines, in order. The only error is out of memory. `lines` and [`Line::key`](crate::Line::key)
+    /// read them without memory.
     pub fn keys(&self, alloc: Global) -> Result<Vec<UserEvent>, AllocError>
         ensures { IfOk result (λ events. events.items ≡ keys_of self.now.lines) }
     {
         let mut out = Vec::new(alloc);
         for numbered in self.lines() {
-            if let Line::Key(event) = &numbered.line {
+            if let Some(event) = numbered.line.key() {
                 out.push(event.copy(alloc)?)?;
             }
         }
         Ok(out)
     }
 
-    /// Returns copies of the events of its `m` lines, in order. The only error is out of memory.
+    /// Returns copies of the events of its `m` lines, in order. The only error is out of memory. `lines` and
+    /// [`Line::click`](crate::Line::click) read them without memory.
     pub fn mouse(&self, alloc: Global) -> Result<Vec<UserEvent>, AllocError>
         ensures { IfOk result (λ events. events.items ≡ mouse_of self.now.lines) }
     {
         let mut out = Vec::new(alloc);
         for numbered in self.lines() {
-            if let Line::Mouse(event) = &numbered.line {
+            if let Some(event) = numbered.line.click() {
                 out.push(event.copy(alloc)?)?;
             }
         }

@@ -13,7 +13,8 @@ pub use Rattle.sam_mesg.specs.declared.hmesg.HFrame.{HFrame}
 pub use Rattle.sam_mesg.specs.declared.tmesg.Tmesg.{Tmesg}
 pub use Rattle.sam_script.specs.Script.{PlainScript, keys_of, mouse_of}
 pub use Rattle.sam_script.specs.Spelling.{IsReadFault, Spells}
-pub use Rattle.sam_session.specs.Outcome.{OnSide, Plays, Stops, Written, refusal_number, stop_at}
+pub use Rattle.sam_host.specs.Faults.{host_fault_number}
+pub use Rattle.sam_session.specs.Outcome.{OnSide, Plays, Stops, Written, stop_at}
 pub use Rattle.sam_session.specs.Pieces.{Answers, MayEnd, StopsAt, of_host_stop}
 pub use Rattle.sam_session.specs.Serving.{Served, after_output, serve, served_on}
 pub use Rattle.sam_session.specs.Threading.{HasAllUsers, IsSessionFault, IsThreaded, IsThreadsFault, IsUnread, IsWoven, PrintsSession, first_cause, of_cause, of_stops}

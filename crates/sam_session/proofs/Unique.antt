@@ -1,5 +1,5 @@
 -- An input has one outcome.
-use Rattle.sam_session.proofs.Common.{◌≡◌, ◌∙◌, ℕ, List, inl, inr, Option, None, Some, Result, Ok, Err, refl, sym, ap, ap₂, terminal, version_after, PlainHost, HostFault, Served, serve, Plays, Stops, stop_at, refusal_number, Stop}
+use Rattle.sam_session.proofs.Common.{◌≡◌, ◌∙◌, ℕ, List, inl, inr, Option, None, Some, Result, Ok, Err, refl, sym, ap, ap₂, terminal, version_after, PlainHost, HostFault, Served, serve, Plays, Stops, stop_at, host_fault_number, Stop}
 use Rattle.sam_frame.specs.Reading.{IsSound}
 use Rattle.sam_frame.proofs.Unique.{one_split, reads_on, two_fronts}
 use Rattle.sam_workers.specs.declared.stop.Stop.TheVariants.{Host}
@@ -8,7 +8,7 @@ use Rattle.sam_session.proofs.Serving.{serve-refused}
 -- the stop of a refusal
 abbrev refused_stop : Result PlainHost HostFault → Option Stop
 refused_stop (Ok h) = None
-refused_stop (Err why) = Some (Host (refusal_number why))
+refused_stop (Err why) = Some (Host (host_fault_number why))
 
 pub one_outcome_of : IsSound terminal → (h : PlainHost) (input w x : List ℕ) (s t : Option Stop) → Plays h input w s → Plays h input x t → (w ≡ x) × (s ≡ t)
 one_outcome_of sound h input w x s t p q = go (serve h p.messages).end refl (serve h q.messages).end refl p.stops q.stops

@@ -2,15 +2,16 @@
 use Rattle.std.specs.Prelude.{◌≡◌, ℕ, List, [], ◌∷◌, Option, Some, None, IfSome, Result, Ok, Err}
 use Rattle.std.specs.Io.KnownBytes.{Appends}
 use Rattle.sam_mesg.specs.declared.tmesg.Tmesg.{Tmesg}
+use Rattle.sam_mesg.specs.Faults.{mesg_fault_number}
 use Rattle.sam_mesg.specs.declared.fault.MesgFault.{MesgFault}
 use Rattle.sam_mesg.specs.declared.fault.MesgFault.TheVariants as wrong
 use Rattle.sam_host.specs.Host.{PlainHost}
+use Rattle.sam_host.specs.Faults.{host_fault_number}
 use Rattle.sam_host.specs.declared.fault.HostFault.{HostFault}
 use Rattle.sam_host.specs.declared.fault.HostFault.TheVariants as refusal
 use Rattle.sam_frame.specs.Direction.{terminal}
 use Rattle.sam_frame.specs.Stream.{Splits, version_after}
 use Rattle.sam_frame.specs.Splitting.{Ends}
-pub use Rattle.sam_workers.specs.Numbers.{refusal_number, frame_number}
 use Rattle.sam_session.specs.Serving.{serve}
 use Rattle.sam_workers.specs.declared.stop.Stop.{Stop}
 use Rattle.sam_workers.specs.declared.stop.Stop.TheVariants.{Frame}
@@ -20,13 +21,13 @@ use Rattle.sam_session.specs.declared.fault.PlayFault.TheVariants.{Script, Side,
 
 -- what stops the program after the last message: the fault that the rest shows, or half a frame at the end of the input
 abbrev pub stop_at : Option MesgFault → List ℕ → Option Stop
-stop_at (Some fault) rest = Some (Frame (frame_number fault))
+stop_at (Some fault) rest = Some (Frame (mesg_fault_number fault))
 stop_at None [] = None
 stop_at None (byte ∷ rest) = Some (Frame 4)
 
 -- a refusal stops the program, whatever comes after its message; else the rest of the input decides
 abbrev pub Stops : Result PlainHost HostFault → ℕ → List ℕ → Option Stop → Type 0
-Stops (Err why) version rest stopped = stopped ≡ Some (Host (refusal_number why))
+Stops (Err why) version rest stopped = stopped ≡ Some (Host (host_fault_number why))
 Stops (Ok h) version rest stopped = (fault : Option MesgFault) × Ends terminal version rest fault × (stopped ≡ stop_at fault rest)
 
 -- The input is the frames of messages and a rest; what is written is the frames of this host's answers to them, to the end or to

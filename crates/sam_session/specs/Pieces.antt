@@ -1,14 +1,15 @@
 -- What is done with one piece of the input.
 use Rattle.std.specs.Prelude.{◌≡◌, ℕ, List, [], Option, Result, Ok, Err}
 use Rattle.std.specs.Io.KnownBytes.{Appends}
+use Rattle.sam_mesg.specs.Faults.{mesg_fault_number}
 use Rattle.sam_frame.specs.Framing.{Held}
+use Rattle.sam_host.specs.Faults.{host_fault_number}
 use Rattle.sam_endpoint.specs.declared.fault.EndpointFault.TheVariants.{Stopped}
 use Rattle.sam_endpoint.specs.declared.fault.HostStop.{HostStop}
 use Rattle.sam_endpoint.specs.declared.fault.HostStop.TheVariants.{Stream, Refused}
 use Rattle.sam_endpoint.specs.Streams.{mesg_fault}
 use Rattle.sam_endpoint.specs.HostEndpoints.{PlainHostEndpoint, Feeds}
 use Rattle.sam_endpoint.specs.HostSteps.{Answer}
-use Rattle.sam_session.specs.Outcome.{refusal_number, frame_number}
 use Rattle.sam_workers.specs.declared.stop.Stop.{Stop}
 use Rattle.sam_workers.specs.declared.stop.Stop.TheVariants.{Frame, Host}
 use Rattle.sam_session.specs.declared.fault.PlayFault.{PlayFault}
@@ -16,8 +17,8 @@ use Rattle.sam_session.specs.declared.fault.PlayFault.TheVariants.{Side}
 
 -- what the stop of the host's end is for the program
 abbrev pub of_host_stop : HostStop → Stop
-of_host_stop (Stream why) = Frame (frame_number (mesg_fault why))
-of_host_stop (Refused why) = Host (refusal_number why)
+of_host_stop (Stream why) = Frame (mesg_fault_number (mesg_fault why))
+of_host_stop (Refused why) = Host (host_fault_number why)
 
 -- the end was fed the piece, and the bytes that were pending then are written
 abbrev pub Answers : {W : Type 0} → (W → Option (List ℕ)) → PlainHostEndpoint → PlainHostEndpoint → W → W → List ℕ → Answer → Type 0

@@ -133,7 +133,7 @@ fn stop_of(why: HostStop) -> Stop
     ensures { result ≡ of_host_stop why }
 {
     match why {
-        HostStop::Stream(fault) => Stop::Frame(fault as u8),
-        HostStop::Refused(fault) => Stop::Host(fault as u8),
+        HostStop::Stream(fault) => Stop::Frame(fault.number()),
+        HostStop::Refused(fault) => Stop::Host(fault.number()),
     }
 }

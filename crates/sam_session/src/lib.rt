@@ -21,7 +21,7 @@ pub use sam_host::host::Host;
 pub use sam_mesg::{HFrame, Tmesg};
 pub use sam_queue::{OutOfMemory, Post, Take};
 pub use sam_runes::Runes;
-pub use sam_script::{Script, ScriptFault};
+pub use sam_script::{Line, Numbered, Script, ScriptFault};
 pub use sam_settle::{SettleFault, Settled, settle};
 pub use sam_spawn::{Plan, RunFault, run_ends, run_threads, run_threads_once};
 pub use sam_term::event::UserEvent;

@@ -8,7 +8,7 @@ use Rattle.sam_crossing.specs.World.{is_quiet, user_events}
 use Rattle.sam_local.specs.Worlds.{IsAsIfLocal}
 use Rattle.sam_local.proofs.Runs.{runs_are_as_if_local, rests}
 use Rattle.sam_queue.proofs.Sorts.{items_of-append}
-use Rattle.sam_workers.specs.Numbers.{fault_number}
+use Rattle.sam_term.specs.Faults.{term_fault_number}
 use Rattle.sam_workers.specs.declared.stop.Stop.{Stop}
 use Rattle.sam_workers.specs.declared.stop.Stop.TheVariants as stop
 use Rattle.sam_settle.proofs.SettlingLists.{Parts, parts_of, senders_within, nothing_joined, split_map, frames_taken, all_before_mark, none_left, items_mine}
@@ -192,7 +192,7 @@ module _ (e : Ends) (ends : AreEnds e) (given : LinesGive e) where
   eight n (inr f) =
       let rest = frames_in f.2 ++ passing.0 in
       let begins : passed ≡ (frames ++ f.1 ∷ []) ++ rest = passing.1 ∙ (ap (λ l. frames ++ (frames_in l ++ passing.0)) f.4 ∙ sym (append_assoc frames (f.1 ∷ []) rest)) in
-      f.6 ∙ ap fault_number (read.terminal_stops_for_a_count f.1 f.3 (record { rest = rest; is = begins }) f.5)
+      f.6 ∙ ap term_fault_number (read.terminal_stops_for_a_count f.1 f.3 (record { rest = rest; is = begins }) f.5)
 
   term_fine : (o : Option Stop) → TermStopped e.term told.term.handled told.term.dropped told.term.to_send o → IsFine 1 o × (0 < count_gone (as_list o) → e.term.term.has_exited ≡ false)
   term_fine (Some (stop.Term n)) s = (record { full = (eight n s, tt); gone = omega arith }, λ l. absurd (omega arith))

@@ -1,6 +1,6 @@
 //! Composing messages: each is counted and takes its lock, and the unsent runes go first. It also finds the request that a file wants.
 
-ghost use Rattle.std.specs.Prelude.{◌≡◌, ◌⊎◌, ◌++◌, ◌∷◌, ◌+◌, ◌<◌, ◌≤◌, [], length, min, IfOk, IfErr, OnOk, IsTrue};
+ghost use Rattle.std.specs.Prelude.{◌≡◌, ◌⊎◌, ◌++◌, ◌∷◌, ◌+◌, ◌<◌, ◌≤◌, [], length, min, IfOk, IfErr, IsOk, OnOk, IsTrue};
 ghost use Rattle.sam_rasp.specs.Rasp.{hole_within};
 ghost use Rattle.sam_runes.specs.Texts.{most_count};
 ghost use Rattle.sam_term.specs.Editing.{shown_from};
@@ -115,6 +115,7 @@ impl Terminal {
         ensures counts { OnOk result (self.now.sent + count ≤ most_count) }
         ensures full { IfErr result (λ why. ((why ≡ TermFault.OutOfMemory) × (self.now.sent + count ≤ most_count))
             ⊎ ((why ≡ TermFault.CountFull) × (most_count < self.now.sent + count))) }
+        ensures nothing { count ≡ 0 → IsOk result }
     {
         if u64::MAX - self.sent < count as u64 {
             return Err(TermFault::CountFull);

@@ -2,7 +2,7 @@
 //! composes a message, by `send_for_event` in `acting`.) A `make_` method does the oldest held event and drops it. Its errors, in this
 //! order: `CountFull`; `OutOfMemory`. The terminal is then unchanged.
 
-ghost use Rattle.std.specs.Prelude.{◌≡◌, ◌+◌, ◌<◌, ◌≤◌, ◌++◌, ◌∷◌, [], length, IsTrue, None, drop};
+ghost use Rattle.std.specs.Prelude.{◌≡◌, ◌+◌, ◌<◌, ◌≤◌, ◌++◌, ◌∷◌, [], length, IsOk, IsTrue, None, drop};
 ghost use Rattle.sam_runes.specs.Texts.{most_count};
 ghost use Rattle.sam_term.specs.Acting.{made_first, free_first, first_event, is_snarfing};
 ghost use Rattle.sam_term.specs.Editing.{shown_from};
@@ -22,7 +22,8 @@ impl Terminal {
     pub(crate) fn make_select(&mut self, tag: u16, p: u32, q: u32) -> Result<Acted, TermFault>
         requires free { free_first self.old ≡ None }
         requires first { first_event self.old.held ≡ UserEvent.Select tag p q }
-        ensures { IsAnswer self.old self.new result (done (made_first self.old)) }
+        ensures answer { IsAnswer self.old self.new result (done (made_first self.old)) }
+        ensures no_error { IsOk result }
     {
         self.drop_first();
         self.set_dot(tag, p, q);

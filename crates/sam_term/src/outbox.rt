@@ -1,6 +1,6 @@
 //! The messages that one call composes, in memory that was had before the first change.
 
-ghost use Rattle.std.specs.Prelude.{◌≡◌, ◌++◌, ◌∷◌, ◌+◌, ◌<◌, ◌≤◌, [], IfOk};
+ghost use Rattle.std.specs.Prelude.{◌≡◌, ◌++◌, ◌∷◌, ◌+◌, ◌<◌, ◌≤◌, [], IfOk, IsOk};
 
 use sam_mesg::{Batch, Tmesg};
 use std::alloc::{AllocError, Global};
@@ -24,9 +24,10 @@ impl Model for Outbox {
 }
 
 impl Outbox {
-    /// Returns an outbox with no messages and room for `n`. The only error is out of memory.
+    /// Returns an outbox with no messages and room for `n`. The only error is out of memory. If `n` is 0 no memory is asked for.
     pub fn with_room(alloc: Global, n: usize) -> Result<Outbox, AllocError>
-        ensures { IfOk result (λ out. out ≡ record { messages = []; room = n }) }
+        ensures ok { IfOk result (λ out. out ≡ record { messages = []; room = n }) }
+        ensures nothing { n ≡ 0 → IsOk result }
     {
         Ok(Outbox {
             messages: Vec::with_capacity(alloc, n)?,

@@ -32,9 +32,9 @@ pub use Rattle.sam_term.specs.declared.event.UserEvent.TheVariants.{Exit}
 pub use Rattle.sam_term.specs.declared.fault.TermFault.{TermFault}
 pub use Rattle.sam_workers.specs.Cutting.{IsPiece, PutSome}
 pub use Rattle.sam_workers.specs.Feeding.{FeedsTerminal, Gives, TakesAll, TakesOne, TakesUpTo}
-pub use Rattle.sam_workers.specs.Handling.{Ends, StopsAtRest, Handled, HandledFront, HandledSome, Leaves, Serves, TakesPiece, of_refusal}
+pub use Rattle.sam_workers.specs.Handling.{Ends, StopsAtRest, Handled, HandledFront, HandledSome, Leaves, Serves, TakesPiece}
 pub use Rattle.sam_workers.specs.Inputs.{bytes_of, frame_of_load, frames_in, user_of_load, users_in}
-pub use Rattle.sam_workers.specs.Numbers.{frame_number, of_fault, of_unfed}
+pub use Rattle.sam_workers.specs.Numbers.{of_fault, of_refusal, of_unfed}
 pub use Rattle.sam_workers.specs.Passing.{Passes, PassesPiece, Sends, sent_on}
 pub use Rattle.sam_workers.specs.RealSides.{acted, at_work, worked, sides, unless_refused}
 pub use Rattle.sam_workers.specs.TermMoments.{Did, Goes, IsDone, IsFound, IsOfUser, IsQuiet, LoggedView, MayExit, Ran, SideView, SoFar, WasNotHandled}

@@ -1,5 +1,5 @@
 -- What a terminal composes for frames, and what stops it.
-use Rattle.sam_workers.proofs.Common.{◌≡◌, ℕ, ◌≤◌, option_map, List, [], ◌∷◌, ◌++◌, length, Option, None, Some, Ok, Err, append-nil, append_assoc, length-append, arith, All, IsTrue, All-nil, Tmesg, Tack, MesgFault, fits_h, HFrame, host, FitInTurn, Feeds, FeedRefusal, GaveUpTo, Held, fault_of, PlainTerminal, Made, flushed, sends, sends_if, unchanged, requested, frame_outcome, made_unless, take_of, TermFault, TakesAll, Gives, FeedsTerminal, TakesOne, TakesUpTo, frame_number, of_fault, of_unfed, Stop}
+use Rattle.sam_workers.proofs.Common.{◌≡◌, ℕ, ◌≤◌, option_map, List, [], ◌∷◌, ◌++◌, length, Option, None, Some, Ok, Err, append-nil, append_assoc, length-append, arith, All, IsTrue, All-nil, Tmesg, Tack, MesgFault, fits_h, HFrame, host, FitInTurn, Feeds, FeedRefusal, GaveUpTo, Held, fault_of, PlainTerminal, Made, flushed, sends, sends_if, unchanged, requested, frame_outcome, made_unless, take_of, TermFault, TakesAll, Gives, FeedsTerminal, TakesOne, TakesUpTo, mesg_fault_number, of_fault, of_unfed, Stop}
 use Rattle.sam_mesg.specs.declared.fault.MesgFault.TheVariants as wrong
 use Rattle.sam_mesg.specs.declared.hmesg.Hmesg.{Hmesg}
 use Rattle.sam_workers.specs.declared.stop.Stop.TheVariants as stop
@@ -45,7 +45,7 @@ one_more t u v frames frame before after took one = grind (arith, takes_more)
 -- ---- what a piece came to
 
 fed_by : (h : Held) (piece : List ℕ) (k : Held) (t u : PlainTerminal) (ms : List Tmesg) (frames : List HFrame) (o : Option MesgFault) (stopped : Option Stop)
-    → Gives h piece k frames o → TakesUpTo frames (option_map (λ fault. stop.Frame (frame_number fault)) o) t u ms stopped → FeedsTerminal h piece k t u ms stopped
+    → Gives h piece k frames o → TakesUpTo frames (option_map (λ fault. stop.Frame (mesg_fault_number fault)) o) t u ms stopped → FeedsTerminal h piece k t u ms stopped
 fed_by h piece k t u ms frames o stopped gives takes = grind arith
 
 pub fed : (h : Held) (piece : List ℕ) (k : Held) (t u : PlainTerminal) (ms : List Tmesg) (frames : List HFrame) (o : Option MesgFault) (place : ℕ) (stopped : Option Stop)

@@ -7,7 +7,8 @@ use Rattle.sam_frame.specs.Direction.{host}
 use Rattle.sam_frame.specs.Framing.{Held, HasRoom, GaveAll, GaveUp}
 use Rattle.sam_term.specs.Term.{PlainTerminal, take_of}
 use Rattle.sam_term.specs.declared.fault.TermFault.{TermFault}
-use Rattle.sam_workers.specs.Numbers.{frame_number, fault_number}
+use Rattle.sam_mesg.specs.Faults.{mesg_fault_number}
+use Rattle.sam_term.specs.Faults.{term_fault_number}
 use Rattle.sam_workers.specs.declared.stop.Stop.{Stop}
 use Rattle.sam_workers.specs.declared.stop.Stop.TheVariants as stop
 
@@ -36,7 +37,7 @@ NothingTaken h k t u composed = (k ≡ h) × (u ≡ t) × (composed ≡ [])
 abbrev pub FrameStops : Held → List ℕ → Held → PlainTerminal → PlainTerminal → List Tmesg → ℕ → Type 0
 FrameStops h piece k t u composed n =
     ((frames : List HFrame) × (fault : MesgFault)
-    × Gives h piece k frames (Some fault) × (n ≡ frame_number fault) × TakesAll t frames composed u)
+    × Gives h piece k frames (Some fault) × (n ≡ mesg_fault_number fault) × TakesAll t frames composed u)
     ⊎ (((n ≡ 5) × (h.failed ≡ true) × NothingTaken h k t u composed)
     ⊎ ((n ≡ 7) × (h.failed ≡ false) × (2 ^ 64 ≤ h.offset + length h.bytes + length piece) × NothingTaken h k t u composed))
 
@@ -44,7 +45,7 @@ FrameStops h piece k t u composed n =
 abbrev pub TermStops : Held → List ℕ → Held → PlainTerminal → PlainTerminal → List Tmesg → ℕ → Type 0
 TermStops h piece k t u composed n =
     (frames : List HFrame) × (frame : HFrame) × (later : List HFrame) × (why : TermFault)
-    × TakesSome h piece k t u composed frames (frame ∷ later) × (take_of u frame ≡ Err why) × (n ≡ fault_number why)
+    × TakesSome h piece k t u composed frames (frame ∷ later) × (take_of u frame ≡ Err why) × (n ≡ term_fault_number why)
 
 -- memory was wanted for the piece, or for the next frame
 abbrev pub MemoryStops : Held → List ℕ → Held → PlainTerminal → PlainTerminal → List Tmesg → Type 0
@@ -69,7 +70,7 @@ FeedsTerminal h piece k t u composed (Some stop.Memory) = MemoryStops h piece k 
 abbrev pub StopsAt : PlainTerminal → HFrame → Stop → Type 0
 StopsAt t frame (stop.Frame n) = ⊥
 StopsAt t frame (stop.Host n) = ⊥
-StopsAt t frame (stop.Term n) = (why : TermFault) × (take_of t frame ≡ Err why) × (n ≡ fault_number why)
+StopsAt t frame (stop.Term n) = (why : TermFault) × (take_of t frame ≡ Err why) × (n ≡ term_fault_number why)
 StopsAt t frame stop.PeerGone = ⊥
 StopsAt t frame stop.Gate = ⊥
 StopsAt t frame stop.Memory = Unit {0}

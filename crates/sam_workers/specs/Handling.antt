@@ -8,14 +8,14 @@ use Rattle.sam_frame.specs.Direction.{terminal, host}
 use Rattle.sam_frame.specs.Stream.{FitInTurn, Splits, IsOpen, version_after, stream_of}
 use Rattle.sam_frame.specs.Framing.{Held, GaveAll}
 use Rattle.sam_host.specs.Host.{PlainHost, answer}
+use Rattle.sam_host.specs.Faults.{host_fault_number}
 use Rattle.sam_host.specs.declared.fault.HostFault.{HostFault}
-use Rattle.sam_host.specs.declared.fault.HostFault.TheVariants as refusal
 use Rattle.sam_queue.specs.declared.rule.Entry.{Entry}
 use Rattle.sam_queue.specs.History.{items_of, IsEnded}
 use Rattle.sam_queue.specs.Views.{PostView}
 use Rattle.sam_world.specs.Sides.{Each, HostRuns}
 use Rattle.sam_workers.specs.RealSides.{sides}
-use Rattle.sam_workers.specs.Numbers.{refusal_number, StopsWith}
+use Rattle.sam_workers.specs.Numbers.{StopsWith}
 use Rattle.sam_workers.specs.Inputs.{bytes_of}
 use Rattle.sam_workers.specs.WorkerEnds.{RefusesNext}
 use Rattle.sam_workers.specs.declared.stop.Stop.{Stop}
@@ -37,12 +37,7 @@ pub record Handled (h k : PlainHost) (before after : PostView (Vec ℕ))
 abbrev pub RefusesFirst : PlainHost → List Tmesg → ℕ → Type 0
 RefusesFirst h left n =
     (m : Tmesg) × (more : List Tmesg) × (why : HostFault)
-    × (left ≡ m ∷ more) × (answer h m ≡ Err why) × (n ≡ refusal_number why)
-
--- what a refusal of the host is for its worker
-abbrev pub of_refusal : HostFault → Stop
-of_refusal refusal.OutOfMemory = stop.Memory
-of_refusal why = stop.Host (refusal_number why)
+    × (left ≡ m ∷ more) × (answer h m ≡ Err why) × (n ≡ host_fault_number why)
 
 -- why the host's worker leaves messages
 abbrev pub Leaves : Type 0 → PlainHost → List Tmesg → Stop → Type 0

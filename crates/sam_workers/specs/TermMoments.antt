@@ -11,7 +11,6 @@ use Rattle.sam_term.specs.Term.{PlainTerminal, new_terminal, take_of}
 use Rattle.sam_term.specs.declared.event.UserEvent.{UserEvent}
 use Rattle.sam_term.specs.declared.event.UserEvent.TheVariants.{Exit}
 use Rattle.sam_term.specs.declared.fault.TermFault.{TermFault}
-use Rattle.sam_term.specs.declared.fault.TermFault.TheVariants as fault
 use Rattle.sam_world.specs.declared.event.TermLog.{TermLog}
 use Rattle.sam_world.specs.Logs.{logged_users}
 use Rattle.sam_world.specs.Sides.{Each, TermRuns}
@@ -20,7 +19,7 @@ use Rattle.sam_queue.specs.History.{has_left, IsEnded}
 use Rattle.sam_queue.specs.Views.{TakeView, PostView}
 use Rattle.sam_workers.specs.RealSides.{at_work}
 use Rattle.sam_workers.specs.Gates.{IsCount}
-use Rattle.sam_workers.specs.Numbers.{fault_number}
+use Rattle.sam_term.specs.Faults.{term_fault_number}
 use Rattle.sam_workers.specs.Inputs.{bytes_of, frames_in, users_in}
 use Rattle.sam_workers.specs.WorkerEnds.{RefusesFrame, IsForeign, IsFullUp}
 use Rattle.sam_workers.specs.declared.input.Input.{Input}
@@ -44,14 +43,9 @@ pub record Did (a b : LoggedView) (events : List UserEvent) (frames : List HFram
   pub runs : TermRuns at_work a.term entries frames composed b.term
   pub fit : All (λ m. IsTrue (fits_t 2 m)) composed
 
--- what a fault of the terminal is for its worker
-abbrev pub of_fault : TermFault → Stop
-of_fault fault.OutOfMemory = stop.Memory
-of_fault why = stop.Term (fault_number why)
-
 -- memory was wanted, or the terminal refuses the frame
 abbrev pub IsRefusedWith : PlainTerminal → HFrame → Stop → Type 0
-IsRefusedWith t frame s = (s ≡ stop.Memory) ⊎ ((why : TermFault) × (take_of t frame ≡ Err why) × (s ≡ stop.Term (fault_number why)))
+IsRefusedWith t frame s = (s ≡ stop.Memory) ⊎ ((why : TermFault) × (take_of t frame ≡ Err why) × (s ≡ stop.Term (term_fault_number why)))
 
 -- events of the user come from keyboard and mouse
 abbrev pub IsOfUser : ℕ → List UserEvent → Type 0

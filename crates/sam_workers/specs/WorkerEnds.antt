@@ -24,7 +24,9 @@ use Rattle.sam_queue.specs.declared.rule.Entry.{Entry}
 use Rattle.sam_queue.specs.History.{items_of, has_left, IsEnded}
 use Rattle.sam_queue.specs.Views.{LineView}
 use Rattle.sam_workers.specs.Lines.{LinesView}
-use Rattle.sam_workers.specs.Numbers.{refusal_number, frame_number, fault_number}
+use Rattle.sam_mesg.specs.Faults.{mesg_fault_number}
+use Rattle.sam_host.specs.Faults.{host_fault_number}
+use Rattle.sam_term.specs.Faults.{term_fault_number}
 use Rattle.sam_workers.specs.Inputs.{bytes_of, frames_in, users_in}
 use Rattle.sam_workers.specs.declared.input.Input.{Input}
 use Rattle.sam_workers.specs.declared.input.Input.TheVariants.{User, Host}
@@ -62,13 +64,13 @@ IsPastCount taken = 2 ^ 64 ≤ length (bytes_of (items_of 0 taken))
 abbrev pub ShowsFault : {M : Type 0} → Direction M → List M → List ℕ → ℕ → Type 0
 ShowsFault d messages rest n =
     (shown : List ℕ) × (dropped : List ℕ) × (fault : MesgFault)
-    × (rest ≡ shown ++ dropped) × Shows d (version_after d 1 messages) shown fault × (n ≡ frame_number fault)
+    × (rest ≡ shown ++ dropped) × Shows d (version_after d 1 messages) shown fault × (n ≡ mesg_fault_number fault)
 
 -- the host refused the next message of the stream
 abbrev pub RefusesNext : PlainHost → List ℕ → ℕ → Type 0
 RefusesNext h rest n =
     (m : Tmesg) × (more : List ℕ) × (why : HostFault)
-    × FitsT 2 m × (rest ≡ frame_of terminal m ++ more) × (answer h m ≡ Err why) × (n ≡ refusal_number why)
+    × FitsT 2 m × (rest ≡ frame_of terminal m ++ more) × (answer h m ≡ Err why) × (n ≡ host_fault_number why)
 
 -- Where nothing stopped it, it handled all whole messages, and put all its answers
 abbrev pub HostStopped : HostEnd → List Tmesg → List ℕ → List ℕ → Option Stop → Type 0
@@ -129,7 +131,7 @@ pub record ReaderTold (down events : LineView) (e : ReaderEnd) : Type 0 where
 abbrev pub RefusesFrame : PlainTerminal → List (Entry Input) → ℕ → Type 0
 RefusesFrame t dropped n =
     (sender : ℕ) × (frame : HFrame) × (more : List (Entry Input)) × (why : TermFault)
-    × (dropped ≡ record { sender = sender; load = Some (Host frame) } ∷ more) × (take_of t frame ≡ Err why) × (n ≡ fault_number why)
+    × (dropped ≡ record { sender = sender; load = Some (Host frame) } ∷ more) × (take_of t frame ≡ Err why) × (n ≡ term_fault_number why)
 
 -- what it took next is no item of a session: a frame beyond the limits, or a user's event of the host reader
 abbrev pub IsForeign : List (Entry Input) → ℕ → Type 0

@@ -7,7 +7,6 @@ ghost use Rattle.sam_workers.specs.Feeding.{FeedsTerminal, TakesOne, TakesUpTo};
 use crate::stop::{Stop, stop_for};
 use sam_frame::FramerH;
 use sam_mesg::{HFrame, Tmesg};
-use sam_term::fault::TermFault;
 use sam_term::term::Terminal;
 use std::alloc::Global;
 
@@ -102,7 +101,6 @@ fn take_one(terminal: &mut Terminal, frame: HFrame, composed: &mut Vec<Tmesg>) -
             }
             None
         }
-        Err(TermFault::OutOfMemory) => Some(Stop::Memory),
-        Err(why) => Some(Stop::Term(why as u8)),
+        Err(why) => Some(Stop::from(why)),
     }
 }

@@ -16,7 +16,7 @@ ghost use Rattle.sam_world.specs.Given.{IsFile};
 ghost use Rattle.sam_world.specs.Sides.{Each};
 ghost use Rattle.sam_workers.specs.Cutting.{Puts};
 ghost use Rattle.sam_workers.specs.Gates.{LetOn};
-ghost use Rattle.sam_workers.specs.Handling.{HandlesAll, TakesPiece, Serves, of_refusal};
+ghost use Rattle.sam_workers.specs.Handling.{HandlesAll, TakesPiece, Serves};
 ghost use Rattle.sam_workers.specs.WorkerEnds.{HostTold};
 ghost use Rattle.sam_workers.specs.declared.stop.Stop.TheVariants.{Gate as GateStop};
 
@@ -27,7 +27,6 @@ use crate::pieces::send_pieces;
 use crate::session_lines::Lines;
 use crate::stop::Stop;
 use sam_frame::{FramerT, encode_all};
-use sam_host::fault::HostFault;
 use sam_host::host::Host;
 use sam_mesg::{HFrame, Tmesg};
 use sam_queue::{Got, Post, Take};
@@ -42,16 +41,6 @@ fn frames_are_known(frames: &[HFrame])
 {
     for frame in frames {
         frame.facts();
-    }
-}
-
-/// Returns what a refusal of the host is for its worker.
-fn refusal(why: HostFault) -> Stop
-    ensures { result ≡ of_refusal why }
-{
-    match why {
-        HostFault::OutOfMemory => Stop::Memory,
-        refused => Stop::Host(refused as u8),
     }
 }
 
@@ -105,7 +94,7 @@ impl HostSide<'_> {
     {
         let frames = match self.host.handle(message) {
             Ok(frames) => frames,
-            Err(why) => return Err(refusal(why)),
+            Err(why) => return Err(Stop::from(why)),
         };
         let slice = frames.as_slice();
         frames_are_known(slice);

@@ -5,15 +5,13 @@ ghost use Rattle.sam_mesg.specs.HostKinds.{fits_h};
 ghost use Rattle.sam_term.specs.Term.{new_terminal, act_of, take_of};
 ghost use Rattle.sam_crossing.specs.World.{composed_by};
 ghost use Rattle.sam_workers.specs.Inputs.{frame_of_load, user_of_load};
-ghost use Rattle.sam_workers.specs.Numbers.{fault_number};
 ghost use Rattle.sam_workers.specs.WorkerEnds.{IsFullUp};
-ghost use Rattle.sam_workers.specs.TermMoments.{of_fault, Did, WasNotHandled, IsRefusedWith, IsOfUser};
+ghost use Rattle.sam_workers.specs.TermMoments.{Did, WasNotHandled, IsRefusedWith, IsOfUser};
 
 use crate::input::Input;
 use crate::stop::Stop;
 use sam_mesg::{Batch, HFrame, fits_h};
 use sam_term::event::{Acted, UserEvent};
-use sam_term::fault::TermFault;
 use sam_term::term::Terminal;
 use sam_world::TermLog;
 use std::alloc::Global;
@@ -36,23 +34,6 @@ impl Model for LoggedTerminal {
     ghost Value = { LoggedView };
 
     ghost view = { λ d. record { term = d.term; log = d.log.items } };
-}
-
-/// Returns what a fault of the terminal is for the worker.
-fn terminal_stop(fault: TermFault) -> Stop
-    ensures { result ≡ of_fault fault }
-{
-    match fault {
-        TermFault::OutOfMemory => Stop::Memory,
-        fault => Stop::Term(fault as u8),
-    }
-}
-
-/// Returns the number of a fault.
-fn number_of(fault: TermFault) -> u8
-    ensures { result ≡ fault_number fault }
-{
-    fault as u8
 }
 
 impl LoggedTerminal {
@@ -117,8 +98,7 @@ impl LoggedTerminal {
                 self.log.push_reserved(TermLog::Take(seen));
                 Ok(batch)
             }
-            Err(TermFault::OutOfMemory) => Err(Stop::Memory),
-            Err(fault) => Err(Stop::Term(number_of(fault))),
+            Err(fault) => Err(Stop::from(fault)),
         }
     }
 
@@ -146,7 +126,7 @@ impl LoggedTerminal {
             }
             Ok(Acted::Idle) => Ok(Acted::Idle),
             Ok(Acted::Locked) => Ok(Acted::Locked),
-            Err(fault) => Err(terminal_stop(fault)),
+            Err(fault) => Err(Stop::from(fault)),
         }
     }
 
@@ -168,7 +148,7 @@ impl LoggedTerminal {
                 self.log.push_reserved(TermLog::Flush);
                 Ok(batch)
             }
-            Err(fault) => Err(terminal_stop(fault)),
+            Err(fault) => Err(Stop::from(fault)),
         }
     }
 

@@ -1,10 +1,12 @@
 //! Why a worker of a session stops before its time.
 
 ghost use Rattle.std.specs.Prelude.{◌≡◌, option_map};
-ghost use Rattle.sam_workers.specs.Numbers.{of_fault, of_unfed};
+ghost use Rattle.sam_workers.specs.Numbers.{of_fault, of_refusal, of_term_fault, of_unfed};
 
 use sam_frame::FeedRefusal;
+use sam_host::HostFault;
 use sam_mesg::MesgFault;
+use sam_term::TermFault;
 use thiserror::Error;
 
 /// Why a worker of a session stopped before its time. A number is that of the fault in the type that the variant names, so `Host(1)` is
@@ -19,7 +21,7 @@ pub enum Stop {
     /// The host refused a message, by a number of `HostFault`. Out of memory is `Memory`.
     #[error("refused by the host ({0})")]
     Host(u8),
-    /// The terminal refused a frame, or it could not count the messages that it would compose (8), by a number of `TermFault`. Want of
+    /// The terminal refused a frame, or it could not count the messages that it would compose (8), by a number of `TermFault`. Out of
     /// memory is `Memory`.
     #[error("refused by the terminal ({0})")]
     Term(u8),
@@ -40,7 +42,7 @@ impl From<MesgFault> for Stop {
     fn from(why: MesgFault) -> Stop {
         match why {
             MesgFault::OutOfMemory => Stop::Memory,
-            wrong => Stop::Frame(wrong as u8),
+            wrong => Stop::Frame(wrong.number()),
         }
     }
 }
@@ -52,6 +54,28 @@ impl From<FeedRefusal> for Stop {
         match why {
             FeedRefusal::OutOfMemory => Stop::Memory,
             refused => Stop::Frame(refused.number()),
+        }
+    }
+}
+
+impl From<HostFault> for Stop {
+    ghost from_gives = { λ why e. e ≡ of_refusal why };
+
+    fn from(why: HostFault) -> Stop {
+        match why {
+            HostFault::OutOfMemory => Stop::Memory,
+            refused => Stop::Host(refused.number()),
+        }
+    }
+}
+
+impl From<TermFault> for Stop {
+    ghost from_gives = { λ why e. e ≡ of_term_fault why };
+
+    fn from(why: TermFault) -> Stop {
+        match why {
+            TermFault::OutOfMemory => Stop::Memory,
+            refused => Stop::Term(refused.number()),
         }
     }
 }
