@@ -14,6 +14,7 @@ pub use Rattle.sam_frame.specs.Framing.{Feeds, GaveUpTo, Held, fresh}
 pub use Rattle.sam_frame.specs.Stream.{CanEncode, FitInTurn, Splits, stream_of, version_after}
 pub use Rattle.sam_frame.specs.declared.fault.FeedRefusal.{FeedRefusal}
 pub use Rattle.sam_host.specs.Host.{PlainHost, answer, new_host}
+pub use Rattle.sam_mesg.specs.Faults.{mesg_fault_number}
 pub use Rattle.sam_mesg.specs.HostKinds.{FitsH, IsHFrame, after_h, fits_h}
 pub use Rattle.sam_mesg.specs.TerminalKinds.{FitsT, after_t, fits_t}
 pub use Rattle.sam_mesg.specs.declared.fault.MesgFault.{MesgFault}
