@@ -124,8 +124,8 @@ impl Script {
         mem::replace(&mut self.lines, none)
     }
 
-    /// Returns copies of the events of its `k` lines, in order. The only error is out of memory. `lines` and [`Line::key`](crate::Line::key)
-    /// read them without memory.
+    /// Returns copies of the events of its `k` lines, in order. The only error is out of memory. `lines` and
+    /// [`Line::key`](crate::Line::key) read them without memory.
     pub fn keys(&self, alloc: Global) -> Result<Vec<UserEvent>, AllocError>
         ensures { IfOk result (λ events. events.items ≡ keys_of self.now.lines) }
     {
