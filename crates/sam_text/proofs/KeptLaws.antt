@@ -1,5 +1,5 @@
 -- What holds of all files stays so under each change.
-use Rattle.sam_text.proofs.Common.{◌≡◌, ◌==◌, ◌∙◌, refl, ap, false, Range, changed, ℕ, zero, suc, ◌<◌, ◌≤◌, List, [], ◌∷◌, length, true, sym, subst, arith, length-append, ◌-◌, unwrap_or, is_some, Result, Ok, Err, OnOk, OnErr, length-drop, length-take-le, ⊤, all_tags, part, Slots, slot, put_slot, free_slot, slot-put_same, slot-put_other, slot-free_same, slot-free_other, slot-map, slot_given, length-put_slot, length-free_slot, length-map_slots, put_slot-push, PlainFile, PlainFiles, blank_file, file_at, has_file, put_file, with_new, without_file, announced_file, announce_all, IsFit, HasShortName, AreSoundFiles}
+use Rattle.sam_text.proofs.Common.{◌≡◌, ◌==◌, ◌∙◌, refl, ap, false, Range, changed, ℕ, zero, suc, ◌<◌, ◌≤◌, List, [], ◌∷◌, length, true, sym, subst, arith, length-append, unwrap_or, is_some, Result, Ok, Err, OnOk, OnErr, length-drop, length-take-le, ⊤, all_tags, part, Slots, slot, put_slot, free_slot, slot-put_same, slot-put_other, slot-free_same, slot-free_other, slot-map, slot_given, length-put_slot, length-free_slot, length-map_slots, put_slot-push, PlainFile, PlainFiles, blank_file, file_at, has_file, put_file, with_new, without_file, announced_file, announce_all, IsFit, HasShortName, AreSoundFiles}
 use Rattle.sam_text.proofs.FitLaws.{all-put, fit-put}
 use Rattle.sam_text.specs.Files.{IsCommandFileClean, IsSoundFile}
 use Rattle.sam_text.specs.Views.{KeepsClean, inserted_file}

@@ -1,6 +1,5 @@
 -- What each line does can be put in: its file can be the work file, dot is a range of its text, name and pattern are within their limits.
 use Rattle.sam_text.proofs.Common.{◌≡◌, ℕ, ◌≤◌, List, length, Option, Some, Result, arith, IfOk, IfSome, unwrap_or, most_in_name, Word, Command, ◌>>=◌, command_of, PlainFiles, PlainOutcome, file_at, file_after, IsFit, IsPattern, IsOutcomeFor, IsOutcomeOf, AreSoundFiles, WorkFile, meaning, work_file, line_outcome, effect_of, effect_on, effect_of_line, or_wrong}
-use Rattle.sam_text.specs.declared.command.Command.TheVariants as command
 use Rattle.sam_text.proofs.ReadLaws.{CommandOk, command-read}
 use Rattle.sam_text.proofs.FitLaws.{fit-meaning}
 

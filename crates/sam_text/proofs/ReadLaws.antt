@@ -1,7 +1,6 @@
 -- What is read of a line is within the limits: each pattern has 1 to most_in_pattern runes, and a name at most most_in_name.
 use Rattle.sam_text.proofs.Common.{ℕ, zero, suc, ◌+◌, ◌≤◌, List, [], ◌∷◌, length, Bool, true, false, cond, ◌||◌, ◌==◌, Option, Some, None, Result, Ok, Err, nat_lt, arith, IfOk, IfSome, ltb-false, ⊤, most_in_name, most_in_pattern, Word, Side, Address, Step, Last, Command, Read, IsPattern, side_pattern, address_pattern, steps_pattern, later, ◌>>=◌, skip, quoted, pattern_at, behind_slash, side_of, side_at, second_side, address_at, kind_of, last_of, at_head, at_option, chain_at, name_of, ended, behind_address, command_of}
 use Rattle.sam_text.specs.declared.word.Word.TheVariants as word
-use Rattle.sam_text.specs.declared.command.Address.TheVariants as address
 use Rattle.sam_text.specs.declared.command.Command.TheVariants as command
 
 -- ## Ways to read
