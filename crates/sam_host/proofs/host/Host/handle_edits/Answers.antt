@@ -1,0 +1,12 @@
+use Rattle.std.proofs.Common.{◌≡◌, ◌≤◌, ◌+◌, length, take, map, sym, subst, arith, List, length-take-le}
+use Rattle.sam_host.specs.Edits.{message_of, TakesInSilence}
+use Rattle.sam_host.proofs.EditLaws.{takes_all, told_first}
+use Rattle.sam_mesg.specs.declared.tmesg.Tmesg.{Tmesg}
+use Rattle.sam_host.proofs.host.Host.handle_edits.Goals as goal
+
+pub returns-clause-taken : goal.returns-clause-taken
+returns-clause-taken c =
+    let n = c.change_text-count.result in
+    let cs = take n c.in-Ok.changes.items in
+    let told = told_first c.in-Some.tag c.in-Ok.changes.items c.args.messages.now.items n c.in-Ok.ensures.told (grind arith) in
+    grind (arith, told, length-take-le, (takes_all c.args.self.now c.in-Some.tag cs))
