@@ -1,8 +1,11 @@
 -- Going on with what waits, step by step.
-use Rattle.sam_endpoint.proofs.Common.{◌≡◌, refl, sym, subst, ◌∙◌, ℕ, List, [], ◌∷◌, ◌++◌, true, Option, None, Ok, Err, inl, inr, append_assoc, append-nil, arith, Tmesg, HFrame, host, terminal, stream_of, Held, stream_of-append, PlainHost, answer, StreamFault, HostStop, EndpointFault, Gives, PlainHostEndpoint, Answers, Feeds, GoesOn, Serves, TakesIn, writes_of, Answer, AnswersFirst, Ends, Writes}
+use Rattle.sam_endpoint.proofs.Common.{◌≡◌, refl, sym, ap, if◌then◌else◌, subst, ◌∙◌, ℕ, List, [], ◌∷◌, ◌++◌, true, Option, None, Ok, Err, inl, inr, append_assoc, append-nil, arith, Tmesg, HFrame, host, terminal, stream_of, Held, stream_of-append, PlainHost, answer, StreamFault, HostStop, EndpointFault, Gives, PlainHostEndpoint, Answers, Feeds, GoesOn, Serves, TakesIn, writes_of, Answer, AnswersFirst, Ends, Writes}
 use Rattle.sam_endpoint.specs.declared.fault.HostStop.TheVariants as stop
 use Rattle.sam_endpoint.specs.declared.fault.EndpointFault.TheVariants as fault
-use Rattle.sam_endpoint.specs.HostSteps.{written}
+use Rattle.sam_host.specs.Edits.{TakesInSilence}
+use Rattle.sam_host.proofs.EditLaws.{silent_write}
+use Rattle.sam_mesg.specs.declared.tmesg.Tmesg.TheVariants.{Twrite}
+use Rattle.sam_endpoint.specs.HostSteps.{TakesEdits, written}
 
 -- ## Answers one after another
 
@@ -47,6 +50,21 @@ starts e g goes is = then_written e e g [] (grind (arith, append-nil)) goes is
 
 pub goes_further : (e l k g : PlainHostEndpoint) → HasGone e l → AnswersFirst l k → g ≡ written k → HasGone e g
 goes_further e l k g gone first is = grind (arith, (first_gone e l k gone first), (then_written e k g (gone.messages ++ first.message ∷ [])))
+
+-- a message that needs no answer tells the host to write nothing
+no_write : (h k : PlainHost) (m : Tmesg) → answer h m ≡ Ok (k, []) → writes_of h m ≡ []
+no_write h k (Twrite f) e = ap (λ b. if b then [] else f ∷ []) (silent_write h k f e)
+no_write h k m e = refl
+
+-- to take messages in silence is to answer them
+silent : (h : PlainHost) (ms : List Tmesg) (g : PlainHost) → TakesInSilence h ms g → Serves h ms [] [] g
+silent h [] g is = (refl, refl, is)
+silent h (m ∷ ms) g (k, answered, rest) = (k, [], [], [], answered, refl, grind (arith, (no_write h k m answered)), silent k ms g rest)
+
+pub edits_gone : (e l k : PlainHostEndpoint) → HasGone e l → TakesEdits l k → HasGone e k
+edits_gone e l k gone took =
+    let answers : Answers l took.messages k = grind (arith, append-nil, (silent l.host took.messages took.host took.taken)) in
+    grind (arith, (answers_more e l k gone.messages took.messages gone.answers answers))
 
 -- ## Where it ends
 

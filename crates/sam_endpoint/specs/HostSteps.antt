@@ -4,6 +4,7 @@ use Rattle.sam_mesg.specs.declared.tmesg.Tmesg.{Tmesg}
 use Rattle.sam_mesg.specs.declared.hmesg.HFrame.{HFrame}
 use Rattle.sam_frame.specs.Direction.{host}
 use Rattle.sam_frame.specs.Stream.{stream_of}
+use Rattle.sam_host.specs.Edits.{TakesInSilence}
 use Rattle.sam_host.specs.Host.{PlainHost, answer}
 use Rattle.sam_endpoint.specs.declared.fault.HostStop.{HostStop}
 use Rattle.sam_endpoint.specs.declared.fault.HostStop.TheVariants as stop
@@ -55,6 +56,15 @@ Handles e (Err (fault.Stopped (stop.Refused why))) g =
 Handles e (Err (fault.Stopped (stop.Stream why))) g = ⊥
 Handles e (Err fault.OutOfMemory) g = ⊥
 Handles e (Err fault.CountFull) g = ⊥
+
+-- the host took the messages that waited first, and answered none of them with a frame
+pub record TakesEdits (e : PlainHostEndpoint) (g : PlainHostEndpoint) : Type 0 where
+  pub messages : List Tmesg
+  pub rest : List Tmesg
+  pub host : PlainHost
+  pub waited : e.waiting ≡ messages ++ rest
+  pub taken : TakesInSilence e.host messages host
+  pub after : g ≡ record e { host = host; waiting = rest }
 
 -- all is answered and written: it stops where the stream shows a fault after that, else it stays
 abbrev pub Ends : PlainHostEndpoint → Answer → PlainHostEndpoint → Type 0

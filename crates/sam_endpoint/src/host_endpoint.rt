@@ -7,10 +7,10 @@ ghost use Rattle.sam_runes.specs.Checks.{first_of_checks};
 ghost use Rattle.sam_term.specs.Fitting.{FitsLast};
 ghost use Rattle.sam_endpoint.specs.HostEndpoints.{Feeds, Finishes, GoesOn, IsIdle, IsAddFault, new_host_endpoint, add_checks, with_file, writes_of};
 ghost use Rattle.sam_endpoint.specs.HostRuns.{begun_with};
-ghost use Rattle.sam_endpoint.specs.HostSteps.{Brings, Ends, Handles, Writes};
+ghost use Rattle.sam_endpoint.specs.HostSteps.{Brings, Ends, Handles, TakesEdits, Writes};
 
 use crate::fault::{AddFault, EndpointFault, FinishFault, HostStop, StreamFault};
-use crate::incoming::{drop_first, feed_framer};
+use crate::incoming::{drop_first, drop_oldest, feed_framer};
 use sam_frame::{FramerT, PendingBytes};
 use sam_host::{Host, HostFault};
 use sam_mesg::{HFrame, Tmesg};
@@ -359,6 +359,14 @@ impl HostEndpoint {
         }
     }
 
+    /// Has the host take edits of one file that wait first, if it can take them at once. They need no answer.
+    fn take_edits(&mut self)
+        ensures { TakesEdits self.old self.new }
+    {
+        let count = self.host.handle_edits(&self.waiting);
+        drop_oldest(&mut self.waiting, count);
+    }
+
     /// Writes the frames of the last answer into the pending bytes, all or none. Its only error is `Unfinished`.
     fn write_answer(&mut self) -> Result<(), EndpointFault<HostStop>>
         ensures { Writes self.old result self.new }
@@ -384,15 +392,19 @@ impl HostEndpoint {
         }
     }
 
-    /// Goes on with what waits: it writes the last answer, and then answers and writes one message after another.
+    /// Goes on with what waits: it writes the last answer, and then answers and writes one message after another. Edits of one file that
+    /// follow each other cost the text once.
     fn go_on(&mut self) -> Result<(), EndpointFault<HostStop>>
         requires { self.old.stop ≡ None }
         ensures { GoesOn self.old result self.new }
     {
         self.write_answer()?;
         while self.is_waiting() {
-            self.answer_first()?;
-            self.write_answer()?;
+            self.take_edits();
+            if self.is_waiting() {
+                self.answer_first()?;
+                self.write_answer()?;
+            }
         }
         self.end()
     }

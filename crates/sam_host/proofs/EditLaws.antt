@@ -1,10 +1,9 @@
 -- Edits in a row are taken as one after another.
-use Rattle.sam_host.proofs.Common.{◌≡◌, ◌==◌, ◌&&◌, ◌||◌, ℕ, suc, ◌+◌, ◌<◌, ◌≤◌, Bool, true, false, not, List, [], ◌∷◌, length, take, Ok, Some, None, refl, sym, ap, subst, ◌∙◌, arith, nat_eq, first_of_checks, reply_cut, ◌++◌, ends_line, is_empty, most_count, stamped, zero, Slots, slot, put_slot, PlainHost, answer, counted, host_checks, with_file, PlainFile, file_at, has_file, put_file, typed_file, cut_file, unwrap_or, Tmesg, Ttype, Tcut}
-use Rattle.std.proofs.Common.{map, le-ltb, is_some, slice_get, length-append, length-take}
-use Rattle.std.proofs.lemmas.List.{length-map}
+use Rattle.sam_host.proofs.Common.{◌≡◌, ◌&&◌, ◌||◌, ℕ, suc, ◌+◌, ◌<◌, ◌≤◌, Bool, true, false, List, [], ◌∷◌, length, take, Ok, Some, refl, sym, ap, subst, ◌∙◌, arith, nat_eq, reply_cut, ◌++◌, ends_line, most_count, stamped, zero, Slots, slot, put_slot, PlainHost, answer, counted, with_file, PlainFile, file_at, has_file, typed_file, cut_file, unwrap_or, Tmesg, Ttype, Tcut}
+use Rattle.std.proofs.Common.{map, le-ltb, is_some, slice_get}
 use Rattle.sam_runes.proofs.SlotLaws.{put_slot-put_slot, slot-put_same}
-use Rattle.sam_text.specs.Files.{change_file, blank_file, is_changed}
-use Rattle.sam_text.specs.Changes.{AllowsAll, IsAllowed, after_change, after_changes, changed_by, dot_after, last_dot}
+use Rattle.sam_text.specs.Files.{blank_file, is_changed}
+use Rattle.sam_text.specs.Changes.{AllowsAll, IsAllowed, after_change, changed_by}
 use Rattle.sam_text.specs.declared.text_change.TextChange.{TextChange}
 use Rattle.sam_text.specs.declared.text_change.TextChange.TheVariants.{Insert, Delete}
 use Rattle.sam_host.specs.Edits.{TakesInSilence, message_of}

@@ -1,5 +1,4 @@
 use Rattle.std.proofs.Common.{arith, length-append}
-use Rattle.sam_host.specs.Edits.{message_of}
 use Rattle.sam_host.proofs.EditLaws.{is_there, told_more}
 use Rattle.sam_host.proofs.editing.changes_of.Goals as goal
 

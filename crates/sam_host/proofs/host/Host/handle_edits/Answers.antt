@@ -1,7 +1,5 @@
-use Rattle.std.proofs.Common.{◌≡◌, ◌≤◌, ◌+◌, length, take, map, sym, subst, arith, List, length-take-le}
-use Rattle.sam_host.specs.Edits.{message_of, TakesInSilence}
+use Rattle.std.proofs.Common.{take, arith, length-take-le}
 use Rattle.sam_host.proofs.EditLaws.{takes_all, told_first}
-use Rattle.sam_mesg.specs.declared.tmesg.Tmesg.{Tmesg}
 use Rattle.sam_host.proofs.host.Host.handle_edits.Goals as goal
 
 pub returns-clause-taken : goal.returns-clause-taken
