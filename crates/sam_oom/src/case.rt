@@ -31,6 +31,7 @@ pub enum Case {
     HandleLine,
     HandlePaste,
     HandleSend,
+    HandleEdits,
     ActPaste,
     ActType,
     ActEdit,
@@ -52,7 +53,7 @@ pub enum Case {
 
 impl Case {
     /// All cases, in the order in which they run.
-    pub const ALL: [Case; 38] = [
+    pub const ALL: [Case; 39] = [
         Case::EncodeT,
         Case::EncodeH,
         Case::EncodeAll,
@@ -74,6 +75,7 @@ impl Case {
         Case::HandleLine,
         Case::HandlePaste,
         Case::HandleSend,
+        Case::HandleEdits,
         Case::ActPaste,
         Case::ActType,
         Case::ActEdit,
@@ -117,6 +119,7 @@ impl Case {
             Case::HandleLine => "handle_line",
             Case::HandlePaste => "handle_paste",
             Case::HandleSend => "handle_send",
+            Case::HandleEdits => "handle_edits",
             Case::ActPaste => "act_paste",
             Case::ActType => "act_type",
             Case::ActEdit => "act_edit",
@@ -161,6 +164,7 @@ impl Case {
             Case::HandleLine => answers::handle_line(alloc),
             Case::HandlePaste => answers::handle_paste(alloc),
             Case::HandleSend => answers::handle_send(alloc),
+            Case::HandleEdits => answers::handle_edits(alloc),
             Case::ActPaste => events::act_paste(alloc),
             Case::ActType => events::act_type(alloc),
             Case::ActEdit => events::act_edit(alloc),

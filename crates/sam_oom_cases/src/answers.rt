@@ -7,6 +7,7 @@ use sam_host::host::Host;
 use sam_mesg::{Frames, HFrame, Hmesg, Tmesg, fits_t};
 use sam_runes::{Runes, Text};
 use std::alloc::Global;
+use std::collections::VecDeque;
 
 /// Whether the readers say the same of both hosts.
 pub fn is_same_host(host: &Host, other: &Host) -> bool {
@@ -206,4 +207,44 @@ fn are_of_send(frames: &[HFrame]) -> bool {
         && matches!(&dot.msg, Hmesg::Hsetdot(1, 0, 0))
         && matches!(&check.msg, Hmesg::Hcheck(1))
         && matches!(&unlock.msg, Hmesg::Hunlock)
+}
+
+/// Edits that put an `X` in the place of each `a`.
+fn edits(alloc: Global) -> Result<VecDeque<Tmesg>, SetUp> {
+    let mut messages = Vec::new(alloc);
+    messages.push(Tmesg::Tcut(1, 0, 1))?;
+    messages.push(Tmesg::Ttype(1, 0, Runes::from_str(alloc, "X")?))?;
+    messages.push(Tmesg::Tcut(1, 2, 3))?;
+    messages.push(Tmesg::Ttype(1, 2, Runes::from_str(alloc, "X")?))?;
+    Ok(VecDeque::from_vec(messages))
+}
+
+/// Whether the host takes the message, if need be when it is handed over again.
+fn takes(host: &mut Host, message: &Tmesg) -> bool {
+    if !fits_t(2, message) {
+        return false;
+    }
+    match host.handle_lent(message) {
+        Err(HostFault::OutOfMemory) => host.handle_lent(message).is_ok(),
+        answered => answered.is_ok(),
+    }
+}
+
+/// Hands over what is left of the edits, one after another. Whether the host takes them all.
+fn takes_rest(host: &mut Host, edits: &VecDeque<Tmesg>, taken: usize) -> bool {
+    for index in taken..edits.len() {
+        match edits.get(index) {
+            Some(message) if takes(host, message) => {}
+            _ => return false,
+        }
+    }
+    true
+}
+
+/// Edits that are handed over all at once. Where memory is refused the host has taken some of them, and is handed the others.
+pub fn handle_edits(alloc: Global) -> Tried {
+    let edits = edits(alloc)?;
+    let mut host = at_work(alloc, "abab\n")?;
+    let taken = host.handle_edits(&edits);
+    Ok(takes_rest(&mut host, &edits, taken) && has_text(&host, "XbXb\n") && host.taken() == 7)
 }

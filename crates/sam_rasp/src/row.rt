@@ -39,16 +39,13 @@ impl<P: Part> Model for Row<P> {
         × (r.len ≤ most_kept) × (r.gaps ≡ gaps_of (members_of P.members r.parts.items)) };
 }
 
-/// Returns how many of `count` parts stay where they are cut in two, and the next change comes in the part of this index: half of them. Of
-/// those before which more changes may come a quarter stays: the edits of a command line come from the last to the first.
+/// Returns how many of `count` parts stay where they are cut in two, and the next change comes in the part of this index: half of them, but
+/// the first alone where that is to change, since the edits of a command line come from the last to the first.
 fn kept_of(count: usize, index: usize) -> usize
     requires { 2 ≤ count }
     ensures { (0 < result) × (result < count) }
 {
-    if index > 0 {
-        return count / 2;
-    }
-    (count / 4).max(1)
+    if index == 0 { 1 } else { count / 2 }
 }
 
 impl<P: Part> Row<P> {

@@ -2,7 +2,9 @@
 ghost use Rattle.std.specs.Prelude.{◌≡◌};
 
 use sam_runes::places::prefix_in_bytes;
-use sam_runes::{Edit, MAX_RUNES, Runes, Text, TextFault, read_utf8, utf8_len, write_utf8};
+use sam_runes::{
+    Edit, GapBuffer, MAX_RUNES, Runes, Text, TextFault, read_utf8, utf8_len, write_utf8,
+};
 use sam_test_support::lent;
 use std::alloc::{AllocError, Global};
 
@@ -206,4 +208,64 @@ fn kanji(rt: HostRuntime) {
     let bytes = [0xE6, 0x97, 0xA5, 0xE6, 0x9C, 0xAC, 0xE8, 0xAA, 0x9E];
     let told = is_spelled(rt.alloc(), &bytes, "\u{65E5}\u{672C}\u{8A9E}");
     assert_eq!(rt; told, Some((true, true)));
+}
+
+/// Whether the runes could be put in.
+fn puts_in(buffer: &mut GapBuffer, p: u32, runes: &[char]) -> bool {
+    p <= buffer.len() && buffer.insert(p, runes).is_ok()
+}
+
+/// Whether there was such a range, which is then taken out.
+fn takes_out(buffer: &mut GapBuffer, p: u32, q: u32) -> bool {
+    let is_there = p <= q && q <= buffer.len();
+    if is_there {
+        buffer.delete(p, q);
+    }
+    is_there
+}
+
+/// Changes `one two` at its end, at its start, inside, and where the gap is.
+fn change_in_turn(buffer: &mut GapBuffer) -> bool {
+    puts_in(buffer, 7, &['!'])
+        && takes_out(buffer, 0, 4)
+        && puts_in(buffer, 0, &['1', ' '])
+        && takes_out(buffer, 2, 4)
+        && puts_in(buffer, 3, &['k'])
+        && takes_out(buffer, 0, 0)
+}
+
+/// What the changes make of `one two`. `None` where memory for it is refused, or a change is not made.
+fn changed_in_turn(alloc: Global) -> Option<Text> {
+    let letters = ['o', 'n', 'e', ' ', 't', 'w', 'o'];
+    let mut buffer = GapBuffer::of(Text::from_runes(alloc, &letters).ok()?);
+    if change_in_turn(&mut buffer) {
+        Some(buffer.into_text())
+    } else {
+        None
+    }
+}
+
+#[test]
+fn changes_one_after_another(rt: HostRuntime) {
+    let is_right = match changed_in_turn(rt.alloc()) {
+        Some(text) => spells(&text, "1 ok!"),
+        None => false,
+    };
+    assert!(rt; is_right);
+}
+
+/// What putting one rune more into a buffer of a full text returns, and the length after it.
+fn one_more(alloc: Global) -> Option<(Result<(), TextFault>, u32)> {
+    let runes: Vec<char> = vec![in alloc; 'a'; MAX_RUNES as usize].ok()?;
+    let mut buffer = GapBuffer::of(Text::from_runes(alloc, runes.as_slice()).ok()?);
+    let told = buffer.insert(0, &['b']);
+    Some((told, buffer.len()))
+}
+
+#[test]
+fn a_full_buffer_takes_no_more(rt: HostRuntime) {
+    assert_eq!(rt;
+        one_more(rt.alloc()),
+        Some((Err(TextFault::TooLong), MAX_RUNES))
+    );
 }

@@ -1,7 +1,7 @@
 //! Files and command lines.
 use sam_runes::Runes;
 use sam_test_support::lent;
-use sam_text::{Files, FilesFault};
+use sam_text::{Files, FilesFault, TextChange};
 use std::alloc::{AllocError, Global};
 
 fn runes(alloc: Global, s: &str) -> Result<Vec<char>, AllocError> {
@@ -254,6 +254,41 @@ fn changes_of_a_new_file(rt: HostRuntime) {
     });
     let bad_position = Err(FilesFault::BadPosition);
     assert_eq!(rt; told, Some((bad_position, Ok(()), Ok(()), true)));
+}
+
+/// Makes the changes of file 1, and returns how many it made.
+fn change(files: &mut Files, changes: &[TextChange<'_>]) -> usize {
+    if files.has(1) {
+        files.change_text(1, changes)
+    } else {
+        0
+    }
+}
+
+#[test]
+fn changes_in_a_row(rt: HostRuntime) {
+    let alloc = rt.alloc();
+    let told = with_file(alloc, &['o', 'l', 'd'], |files| {
+        let none = change(files, &[]);
+        let clean = files.is_dirty(1);
+        // The last change is past the end.
+        let changes = [
+            TextChange::Insert(3, &['e', 'r']),
+            TextChange::Delete(0, 1),
+            TextChange::Insert(0, &['b']),
+            TextChange::Delete(4, 6),
+        ];
+        let made = change(files, &changes);
+        (
+            none,
+            clean,
+            made,
+            spells(files, 1, "blder"),
+            files.dot(1),
+            files.is_dirty(1),
+        )
+    });
+    assert_eq!(rt; told, Some((0, false, 3, true, Some((1, 1)), true)));
 }
 
 #[test]

@@ -120,6 +120,35 @@ fn a_write_is_told_once(rt: HostRuntime) -> Result<(), Fail> {
     Ok(())
 }
 
+/// Tstartfile(1), Ttype(1, 5, `!`), Tcut(1, 0, 1), Ttype(1, 0, `J`), Tcut(1, 0, 99), Tack.
+const EDITED: [u8; 54] = [
+    0x06, 0, 2, 0, 1, 0x08, 0, 7, 0, 1, 0, 0, 0, 5, 0x21, 0x09, 0, 10, 0, 1, 0, 0, 0, 0, 0, 0, 0,
+    1, 0x08, 0, 7, 0, 1, 0, 0, 0, 0, 0x4A, 0x09, 0, 10, 0, 1, 0, 0, 0, 0, 0, 0, 0, 99, 0x15, 0, 0,
+];
+
+/// Whether file 1 has this text.
+fn has_text(end: &HostEndpoint, wanted: &str) -> bool {
+    match end.host().files().text(1) {
+        Some(text) => text.slice(0, text.len()).iter().copied().eq(wanted.chars()),
+        None => false,
+    }
+}
+
+#[test]
+fn edits_in_one_piece_are_made_up_to_a_refusal(rt: HostRuntime) -> Result<(), Fail> {
+    let told = lent(HostEndpoint::new(rt.alloc())?, |end| {
+        (
+            adds_two(end),
+            feeds(end, &EDITED),
+            has_text(end, "Jello!"),
+            end.host().taken(),
+        )
+    });
+    let refused = HostStop::Refused(HostFault::BadPosition);
+    assert_eq!(rt; told, (true, Err(EndpointFault::Stopped(refused)), true, 4));
+    Ok(())
+}
+
 #[test]
 fn a_wrong_stream_stops_the_end(rt: HostRuntime) -> Result<(), Fail> {
     let told = lent(HostEndpoint::new(rt.alloc())?, |end| {

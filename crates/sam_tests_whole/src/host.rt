@@ -5,6 +5,7 @@ use sam_mesg::{Frames, Tmesg, fits_t};
 use sam_runes::{Runes, Text};
 use sam_test_support::lent;
 use std::alloc::{AllocError, Global};
+use std::collections::VecDeque;
 use std::test::Fail;
 
 /// A host with one file of this text, under tag 1.
@@ -81,5 +82,74 @@ fn every_kind_is_answered(rt: HostRuntime) -> Result<(), Fail> {
         (wrong_answers(alloc, host), host.taken(), host.is_done())
     });
     assert_eq!(rt; told, (Ok(None), 24, true));
+    Ok(())
+}
+
+/// `Ttype(1, 0, x)`, `Tcut(1, 1, 3)`, `Ttype(1, 0, yz)` and a message of another kind.
+fn edits(alloc: Global) -> Result<VecDeque<Tmesg>, AllocError> {
+    let mut messages = Vec::new(alloc);
+    messages.push(Tmesg::Ttype(1, 0, Runes::from_str(alloc, "x")?))?;
+    messages.push(Tmesg::Tcut(1, 1, 3))?;
+    messages.push(Tmesg::Ttype(1, 0, Runes::from_str(alloc, "yz")?))?;
+    messages.push(Tmesg::Tcheck(1))?;
+    Ok(VecDeque::from_vec(messages))
+}
+
+/// Two messages, of which the second cuts past the end.
+fn cut_too_far(alloc: Global) -> Result<VecDeque<Tmesg>, AllocError> {
+    let mut messages = Vec::new(alloc);
+    messages.push(Tmesg::Tcut(1, 0, 2))?;
+    messages.push(Tmesg::Tcut(1, 0, 99))?;
+    Ok(VecDeque::from_vec(messages))
+}
+
+/// A newline typed in the command file, twice.
+fn lines(alloc: Global) -> Result<VecDeque<Tmesg>, AllocError> {
+    let mut messages = Vec::new(alloc);
+    messages.push(Tmesg::Ttype(0, 0, Runes::from_str(alloc, "\n")?))?;
+    messages.push(Tmesg::Ttype(0, 0, Runes::from_str(alloc, "\n")?))?;
+    Ok(VecDeque::from_vec(messages))
+}
+
+fn has_text(host: &Host, wanted: &str) -> bool {
+    match host.files().text(1) {
+        Some(text) => text.slice(0, text.len()).iter().copied().eq(wanted.chars()),
+        None => false,
+    }
+}
+
+#[test]
+fn edits_are_taken_at_once(rt: HostRuntime) -> Result<(), Fail> {
+    let alloc = rt.alloc();
+    let edits = edits(alloc)?;
+    let told = lent(host_of(alloc, "abcdefghij")?, |host| {
+        (
+            host.handle_edits(&edits), // The file isn't open.
+            count(host, Tmesg::Tstartfile(1)),
+            host.handle_edits(&edits),
+            has_text(host, "yzxcdefghij"),
+            host.taken(),
+        )
+    });
+    assert_eq!(rt; told, (0, Ok(3), 3, true, 4));
+    Ok(())
+}
+
+#[test]
+fn edits_are_taken_up_to_one_that_is_refused(rt: HostRuntime) -> Result<(), Fail> {
+    let alloc = rt.alloc();
+    let edits = cut_too_far(alloc)?;
+    let lines = lines(alloc)?;
+    let told = lent(host_of(alloc, "abc")?, |host| {
+        (
+            count(host, Tmesg::Tstartcmdfile),
+            count(host, Tmesg::Tstartfile(1)),
+            host.handle_edits(&lines), // In the command file they run lines.
+            host.handle_edits(&edits),
+            has_text(host, "c"),
+            host.taken(),
+        )
+    });
+    assert_eq!(rt; told, (Ok(4), Ok(3), 0, 1, true, 3));
     Ok(())
 }
