@@ -1,11 +1,11 @@
 -- Going on with what waits, step by step.
-use Rattle.sam_endpoint.proofs.Common.{◌≡◌, refl, sym, ap, if◌then◌else◌, subst, ◌∙◌, ℕ, List, [], ◌∷◌, ◌++◌, true, Option, None, Ok, Err, inl, inr, append_assoc, append-nil, arith, Tmesg, HFrame, host, terminal, stream_of, Held, stream_of-append, PlainHost, answer, StreamFault, HostStop, EndpointFault, Gives, PlainHostEndpoint, Answers, Feeds, GoesOn, Serves, TakesIn, writes_of, Answer, AnswersFirst, Ends, Writes}
+use Rattle.sam_endpoint.proofs.Common.{◌≡◌, ◌⊎◌, ◌<◌, length, length-append, refl, sym, ap, if◌then◌else◌, subst, ◌∙◌, ℕ, List, [], ◌∷◌, ◌++◌, true, Option, None, Ok, Err, inl, inr, append_assoc, append-nil, arith, Tmesg, HFrame, host, terminal, stream_of, Held, stream_of-append, PlainHost, answer, StreamFault, HostStop, EndpointFault, Gives, PlainHostEndpoint, Answers, Feeds, GoesOn, Serves, TakesIn, writes_of, Answer, AnswersFirst, Ends, Writes}
 use Rattle.sam_endpoint.specs.declared.fault.HostStop.TheVariants as stop
 use Rattle.sam_endpoint.specs.declared.fault.EndpointFault.TheVariants as fault
 use Rattle.sam_host.specs.Edits.{TakesInSilence}
 use Rattle.sam_host.proofs.EditLaws.{silent_write}
 use Rattle.sam_mesg.specs.declared.tmesg.Tmesg.TheVariants.{Twrite}
-use Rattle.sam_endpoint.specs.HostSteps.{TakesEdits, written}
+use Rattle.sam_endpoint.specs.HostSteps.{Handles, TakesEdits, written}
 
 -- ## Answers one after another
 
@@ -48,9 +48,6 @@ first_gone e l k gone first = grind (arith, answers_more, append-nil)
 pub starts : (e g : PlainHostEndpoint) → e.stop ≡ None → g ≡ written e → HasGone e g
 starts e g goes is = then_written e e g [] (grind (arith, append-nil)) goes is
 
-pub goes_further : (e l k g : PlainHostEndpoint) → HasGone e l → AnswersFirst l k → g ≡ written k → HasGone e g
-goes_further e l k g gone first is = grind (arith, (first_gone e l k gone first), (then_written e k g (gone.messages ++ first.message ∷ [])))
-
 -- a message that needs no answer tells the host to write nothing
 no_write : (h k : PlainHost) (m : Tmesg) → answer h m ≡ Ok (k, []) → writes_of h m ≡ []
 no_write h k (Twrite f) e = ap (λ b. if b then [] else f ∷ []) (silent_write h k f e)
@@ -66,10 +63,34 @@ edits_gone e l k gone took =
     let answers : Answers l took.messages k = grind (arith, append-nil, (silent l.host took.messages took.host took.taken)) in
     grind (arith, (answers_more e l k gone.messages took.messages gone.answers answers))
 
+-- what waited first was answered
+next_gone : (e l k : PlainHostEndpoint) → HasGone e l → AnswersFirst l k ⊎ TakesEdits l k → (ms : List Tmesg) × Answers e ms k × (k.stop ≡ None)
+next_gone e l k gone (inl first) = (gone.messages ++ first.message ∷ [], first_gone e l k gone first)
+next_gone e l k gone (inr took) = let g = edits_gone e l k gone took in (g.messages, g.answers, g.goes)
+
+pub goes_further : (e l k g : PlainHostEndpoint) → HasGone e l → AnswersFirst l k ⊎ TakesEdits l k → g ≡ written k → HasGone e g
+goes_further e l k g gone next is = let n = next_gone e l k gone next in then_written e k g n.0 n.1 n.2 is
+
 -- ## Where it ends
 
-pub not_written : (e l k g : PlainHostEndpoint) (why : EndpointFault HostStop) → HasGone e l → AnswersFirst l k → Writes k (Err why) g → GoesOn e (Err why) g
-not_written e l k g why gone first writes = grind (arith, (first_gone e l k gone first))
+pub not_written : (e l k g : PlainHostEndpoint) (why : EndpointFault HostStop) → HasGone e l → AnswersFirst l k ⊎ TakesEdits l k → Writes k (Err why) g → GoesOn e (Err why) g
+not_written e l k g fault.Unfinished gone next same = let n = next_gone e l k gone next in subst (λ (x : PlainHostEndpoint). GoesOn e (Err fault.Unfinished) x) (sym same) n
+not_written e l k g (fault.Stopped why) gone next writes = absurd writes
+not_written e l k g fault.OutOfMemory gone next writes = absurd writes
+not_written e l k g fault.CountFull gone next writes = absurd writes
+
+-- the host refused the oldest message, or memory was refused
+pub not_answered : (e l g : PlainHostEndpoint) (why : EndpointFault HostStop) → HasGone e l → Handles l (Err why) g → GoesOn e (Err why) g
+not_answered e l g fault.Unfinished gone same = grind arith
+not_answered e l g (fault.Stopped (stop.Refused why)) gone refused = grind arith
+not_answered e l g (fault.Stopped (stop.Stream why)) gone refused = absurd refused
+not_answered e l g fault.OutOfMemory gone refused = absurd refused
+not_answered e l g fault.CountFull gone refused = absurd refused
+
+-- fewer wait than before
+pub fewer : (e g : PlainHostEndpoint) → AnswersFirst e g ⊎ TakesEdits e g → length g.waiting < length e.waiting
+fewer e g (inl first) = grind arith
+fewer e g (inr took) = grind (arith, length-append)
 
 pub ends : (e l g : PlainHostEndpoint) (result : Answer) → HasGone e l → l.waiting ≡ [] → Ends l result g → GoesOn e result g
 ends e l g (Ok done) gone none (broken_by, is) = grind (arith, append-nil)

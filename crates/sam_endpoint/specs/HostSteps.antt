@@ -1,5 +1,5 @@
 -- What the steps of a host end do, of which its calls are made.
-use Rattle.std.specs.Prelude.{◌≡◌, ℕ, ◌+◌, ◌^◌, ◌≤◌, List, [], ◌∷◌, ◌++◌, length, false, Some, None, Result, Ok, Err}
+use Rattle.std.specs.Prelude.{◌≡◌, ◌⊎◌, ℕ, ◌+◌, ◌^◌, ◌<◌, ◌≤◌, List, [], ◌∷◌, ◌++◌, length, false, Some, None, Result, Ok, Err}
 use Rattle.sam_mesg.specs.declared.tmesg.Tmesg.{Tmesg}
 use Rattle.sam_mesg.specs.declared.hmesg.HFrame.{HFrame}
 use Rattle.sam_frame.specs.Direction.{host}
@@ -57,14 +57,20 @@ Handles e (Err (fault.Stopped (stop.Stream why))) g = ⊥
 Handles e (Err fault.OutOfMemory) g = ⊥
 Handles e (Err fault.CountFull) g = ⊥
 
--- the host took the messages that waited first, and answered none of them with a frame
+-- the host took some messages that waited first, and answered none of them with a frame
 pub record TakesEdits (e : PlainHostEndpoint) (g : PlainHostEndpoint) : Type 0 where
   pub messages : List Tmesg
   pub rest : List Tmesg
   pub host : PlainHost
+  pub some : 0 < length messages
   pub waited : e.waiting ≡ messages ++ rest
   pub taken : TakesInSilence e.host messages host
   pub after : g ≡ record e { host = host; waiting = rest }
+
+-- what waited first is answered, or all stays, or the host refuses the oldest message
+abbrev pub HandlesNext : PlainHostEndpoint → Answer → PlainHostEndpoint → Type 0
+HandlesNext e (Ok done) g = AnswersFirst e g ⊎ TakesEdits e g
+HandlesNext e (Err why) g = Handles e (Err why) g
 
 -- all is answered and written: it stops where the stream shows a fault after that, else it stays
 abbrev pub Ends : PlainHostEndpoint → Answer → PlainHostEndpoint → Type 0

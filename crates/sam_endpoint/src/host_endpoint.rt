@@ -7,10 +7,10 @@ ghost use Rattle.sam_runes.specs.Checks.{first_of_checks};
 ghost use Rattle.sam_term.specs.Fitting.{FitsLast};
 ghost use Rattle.sam_endpoint.specs.HostEndpoints.{Feeds, Finishes, GoesOn, IsIdle, IsAddFault, new_host_endpoint, add_checks, with_file, writes_of};
 ghost use Rattle.sam_endpoint.specs.HostRuns.{begun_with};
-ghost use Rattle.sam_endpoint.specs.HostSteps.{Brings, Ends, Handles, TakesEdits, Writes};
+ghost use Rattle.sam_endpoint.specs.HostSteps.{Brings, Ends, Handles, HandlesNext, TakesEdits, Writes};
 
 use crate::fault::{AddFault, EndpointFault, FinishFault, HostStop, StreamFault};
-use crate::incoming::{drop_first, drop_oldest, feed_framer};
+use crate::incoming::{drop_first, feed_framer};
 use sam_frame::{FramerT, PendingBytes};
 use sam_host::{Host, HostFault};
 use sam_mesg::{HFrame, Tmesg};
@@ -56,6 +56,17 @@ fn oldest(messages: &VecDeque<Tmesg>) -> &Tmesg
     match messages.front() {
         Some(message) => message,
         None => unreachable!(),
+    }
+}
+
+/// Drops the oldest messages, so many.
+fn drop_oldest(messages: &mut VecDeque<Tmesg>, count: usize)
+    ensures { messages.new.items ≡ drop count messages.old.items }
+{
+    let mut dropped = 0;
+    while dropped < count {
+        drop_first(messages);
+        dropped += 1;
     }
 }
 
@@ -359,12 +370,25 @@ impl HostEndpoint {
         }
     }
 
-    /// Has the host take edits of one file that wait first, if it can take them at once. They need no answer.
-    fn take_edits(&mut self)
-        ensures { TakesEdits self.old self.new }
+    /// Has the host take edits of one file that wait first, at once. Returns whether it took any; they need no answer, and wait no longer.
+    fn take_edits(&mut self) -> bool
+        ensures took { result ≡ true → TakesEdits self.old self.new }
+        ensures unchanged { result ≡ false → self.new ≡ self.old }
     {
         let count = self.host.handle_edits(&self.waiting);
         drop_oldest(&mut self.waiting, count);
+        count > 0
+    }
+
+    /// Has the host take what waits first: edits of one file at once, else the oldest message.
+    fn answer_next(&mut self) -> Result<(), EndpointFault<HostStop>>
+        requires { 0 < length self.old.waiting }
+        ensures { HandlesNext self.old result self.new }
+    {
+        if self.take_edits() {
+            return Ok(());
+        }
+        self.answer_first()
     }
 
     /// Writes the frames of the last answer into the pending bytes, all or none. Its only error is `Unfinished`.
@@ -400,11 +424,8 @@ impl HostEndpoint {
     {
         self.write_answer()?;
         while self.is_waiting() {
-            self.take_edits();
-            if self.is_waiting() {
-                self.answer_first()?;
-                self.write_answer()?;
-            }
+            self.answer_next()?;
+            self.write_answer()?;
         }
         self.end()
     }

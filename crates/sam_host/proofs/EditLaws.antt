@@ -1,5 +1,5 @@
 -- Edits in a row are taken as one after another.
-use Rattle.sam_host.proofs.Common.{◌≡◌, ◌&&◌, ◌||◌, ℕ, suc, ◌+◌, ◌<◌, ◌≤◌, Bool, true, false, List, [], ◌∷◌, length, take, Ok, Some, refl, sym, ap, subst, ◌∙◌, arith, nat_eq, reply_cut, ◌++◌, ends_line, most_count, stamped, zero, Slots, slot, put_slot, PlainHost, answer, counted, with_file, PlainFile, file_at, has_file, typed_file, cut_file, unwrap_or, Tmesg, Ttype, Tcut}
+use Rattle.sam_host.proofs.Common.{◌≡◌, ◌&&◌, ◌||◌, ℕ, suc, ◌+◌, ◌<◌, ◌≤◌, Bool, true, false, List, [], ◌∷◌, length, take, Ok, Some, refl, sym, ap, subst, ◌∙◌, arith, nat_eq, reply_cut, ◌++◌, ends_line, most_count, stamped, zero, Slots, slot, put_slot, PlainHost, answer, counted, with_file, PlainFile, file_at, has_file, typed_file, cut_file, unwrap_or, reply_write, Tmesg, Ttype, Tcut, Twrite}
 use Rattle.std.proofs.Common.{map, le-ltb, is_some, slice_get}
 use Rattle.sam_runes.proofs.SlotLaws.{put_slot-put_slot, slot-put_same}
 use Rattle.sam_text.specs.Files.{blank_file, is_changed}
@@ -99,3 +99,8 @@ told_first f cs ms n told le = grind arith
 pub is_there : (ms : List Tmesg) (n : ℕ) (m : Tmesg) → slice_get ms n ≡ Some m → n < length ms
 is_there (x ∷ ms) (suc n) m e = grind (arith, (is_there ms n m))
 is_there ms n m e = grind arith
+
+-- a message to write is answered with frames, unless the host is done
+pub silent_write : (h k : PlainHost) (f : ℕ) → answer h (Twrite f) ≡ Ok (k, []) → h.is_done ≡ true
+unfolding answer reply_write
+silent_write h k f e = grind arith

@@ -1,5 +1,5 @@
 -- What holds of all files stays so under each change.
-use Rattle.sam_text.proofs.Common.{◌≡◌, ◌==◌, ◌∙◌, refl, ap, false, Range, changed, ℕ, zero, suc, ◌<◌, ◌≤◌, List, [], ◌∷◌, length, true, sym, subst, arith, length-append, unwrap_or, is_some, Result, Ok, Err, OnOk, OnErr, length-drop, length-take-le, ⊤, all_tags, part, Slots, slot, put_slot, free_slot, slot-put_same, slot-put_other, slot-free_same, slot-free_other, slot-map, slot_given, length-put_slot, length-free_slot, length-map_slots, put_slot-push, PlainFile, PlainFiles, blank_file, file_at, has_file, put_file, with_new, without_file, announced_file, announce_all, IsFit, HasShortName, AreSoundFiles}
+use Rattle.sam_text.proofs.Common.{◌≡◌, ◌∙◌, refl, ap, false, Range, changed, ℕ, zero, suc, ◌<◌, ◌≤◌, List, [], ◌∷◌, length, true, sym, subst, arith, length-append, unwrap_or, is_some, Result, Ok, Err, OnOk, OnErr, length-drop, length-take-le, ⊤, all_tags, part, Slots, slot, put_slot, free_slot, slot-put_same, slot-put_other, slot-free_same, slot-free_other, slot-map, slot_given, length-put_slot, length-free_slot, length-map_slots, put_slot-push, PlainFile, PlainFiles, blank_file, cut_file, file_at, has_file, put_file, with_new, without_file, announced_file, announce_all, IsFit, HasShortName, AreSoundFiles}
 use Rattle.sam_text.proofs.FitLaws.{all-put, fit-put}
 use Rattle.sam_text.specs.Files.{IsCommandFileClean, IsSoundFile}
 use Rattle.sam_text.specs.Views.{KeepsClean, inserted_file}
@@ -57,17 +57,22 @@ pub kept_announce : (fs : PlainFiles) → AreSoundFiles fs → AreSoundFiles (re
 kept_announce fs all = grind (arith, (all-announce IsFit), (all-announce HasShortName), length-map_slots, slot-map, (clean-announce fs fs.slots all.7))
 
 -- what is put in the command file leaves it clean
-clean-inserted : (fs : PlainFiles) (g p : ℕ) (s : List ℕ) (dot : Range) → IsCommandFileClean fs → g ≡ 0 → (inserted_file (file_at fs g) p s dot (g == 0)).dirty ≡ false
+clean-inserted : (fs : PlainFiles) (g p : ℕ) (s : List ℕ) (dot : Range) → IsCommandFileClean fs → g ≡ 0 → (inserted_file g (file_at fs g) p s dot).dirty ≡ false
 clean-inserted fs zero p s dot clean e = clean
 clean-inserted fs (suc g) p s dot clean e = absurd (omega (arith, e))
 
+-- what is cut from the command file leaves it clean
+pub clean-cut : (fs : PlainFiles) (g p q : ℕ) → IsCommandFileClean fs → g ≡ 0 → (cut_file g (file_at fs g) p q).dirty ≡ false
+clean-cut fs zero p q clean e = clean
+clean-cut fs (suc g) p q clean e = absurd (omega (arith, e))
+
 -- runes are put in a file, or nothing is changed
 pub kept_insert_or : {E : Type 0} (fs : PlainFiles) (g p : ℕ) (s : List ℕ) (dot : Range) → AreSoundFiles fs → has_file fs g ≡ true
-    → (r : Result ⊤ E) (after : Slots PlainFile) → OnOk r (after ≡ put_slot fs.slots g (inserted_file (file_at fs g) p s dot (g == 0)))
-    → OnOk r (IsSoundFile (inserted_file (file_at fs g) p s dot (g == 0))) → OnErr r (after ≡ fs.slots) → AreSoundFiles (record fs { slots = after })
+    → (r : Result ⊤ E) (after : Slots PlainFile) → OnOk r (after ≡ put_slot fs.slots g (inserted_file g (file_at fs g) p s dot))
+    → OnOk r (IsSoundFile (inserted_file g (file_at fs g) p s dot)) → OnErr r (after ≡ fs.slots) → AreSoundFiles (record fs { slots = after })
 kept_insert_or fs g p s dot all there (Ok u) after same kept err =
     subst (λ ss. AreSoundFiles (record fs { slots = ss })) (sym same)
-    (kept_put fs g (inserted_file (file_at fs g) p s dot (g == 0)) all there kept.0 kept.1 (clean-inserted fs g p s dot all.7))
+    (kept_put fs g (inserted_file g (file_at fs g) p s dot) all there kept.0 kept.1 (clean-inserted fs g p s dot all.7))
 kept_insert_or fs g p s dot all there (Err e) after same kept err = subst (λ ss. AreSoundFiles (record fs { slots = ss })) (sym err) all
 
 -- a file is added, or nothing is changed

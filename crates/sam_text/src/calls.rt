@@ -182,7 +182,7 @@ impl Files {
         ensures unchanged { OnErr result (self.new ≡ self.old) }
     {
         self.wants_range(tag, p, q)?;
-        self.change(tag, FileChange::Cut(p, q, tag == 0));
+        self.cut_out(tag, p, q);
         Ok(())
     }
 
