@@ -315,20 +315,6 @@ impl Host {
         Ok(())
     }
 
-    /// Puts typed runes in at `p` and runs no line. The dot is then empty, after them, and any file but the command file is dirty.
-    #[tactic(auto, using(crate::proofs::FileLaws::insert_allowed))]
-    fn type_alone(&mut self, tag: u16, p: u32, runes: &[char]) -> Result<(), HostFault>
-        requires there { has_file self.old.files tag ≡ true }
-        requires place { p ≤ length (file_at self.old.files tag).text }
-        requires fits { length (file_at self.old.files tag).text + length runes.now ≤ max_runes }
-        ensures ok { OnOk result (self.new ≡ with_file self.old tag (typed_file tag (file_at self.old.files tag) p runes.now)) }
-        ensures memory { OnErr result (result ≡ Err HostFault.OutOfMemory) }
-        ensures unchanged { OnErr result (self.new ≡ self.old) }
-    {
-        self.files.insert(tag, p, runes)?;
-        Ok(())
-    }
-
     /// Returns what stands before `p` in its line of the command file, if `start` is 0; else nothing.
     fn line_before(&self, p: u32, start: usize) -> &[char]
         requires { p ≤ length (file_at self.now.files 0).text }
@@ -396,11 +382,11 @@ impl Host {
         ensures unchanged { OnErr result (self.new ≡ self.old) }
     {
         self.wants_open(tag)?;
-        self.files.wants_insert(tag, p, runes.len())?;
         if tag == 0 && runes.ends_line() {
+            self.files.wants_insert(tag, p, runes.len())?;
             return self.type_line(p, runes.as_slice());
         }
-        self.type_alone(tag, p, runes.as_slice())?;
+        self.files.insert(tag, p, runes.as_slice())?;
         Ok(Vec::new(self.alloc))
     }
 
