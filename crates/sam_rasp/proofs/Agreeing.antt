@@ -1,5 +1,5 @@
 -- Agreement, stretch by stretch.
-use Rattle.sam_rasp.proofs.Common.{◌≡◌, true, ◌==◌, ℕ, ◌+◌, ◌≤◌, List, [], ◌∷◌, ◌++◌, map, take, drop, length, Some, None, arith, ◌↔◌, drop-drop, length-drop, PartialText, Agrees}
+use Rattle.sam_rasp.proofs.Common.{◌≡◌, ℕ, ◌+◌, ◌≤◌, List, [], ◌∷◌, ◌++◌, map, take, drop, length, Some, None, arith, drop-drop, length-drop, PartialText, Agrees}
 
 -- a front and the rest, against a text
 pub agrees_parted : (c r : PartialText) (t : List ℕ) → Agrees (c ++ r) t → Agrees c (take (length c) t) × Agrees r (drop (length c) t)
@@ -20,7 +20,3 @@ runes_same s t e = grind arith
 pub stretch : (c r whole : PartialText) (t part : List ℕ) (at len : ℕ)
     → whole ≡ c ++ r → length c ≡ len → part ≡ take len (drop at t) → Agrees whole (drop at t) ↔ (Agrees c part × Agrees r (drop (at + len) t))
 stretch c r whole t part at len e l p = grind (arith, drop-drop, agrees_parted, agrees_joined)
-
--- where the sections end
-pub ended : (whole : PartialText) (t : List ℕ) (at : ℕ) → whole ≡ [] → at ≤ length t → (at == length t) ≡ true ↔ Agrees whole (drop at t)
-ended whole t at e within = grind (arith, (length-drop at t))

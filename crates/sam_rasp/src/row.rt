@@ -69,7 +69,7 @@ impl<P: Part> Row<P> {
     }
 
     /// Puts what comes in in the place of `n` runes or gaps from place `p` on, if they stand in one section, and that is a hole or has
-    /// room. Returns whether it did, which it always does where `n` is 0. The only error is out of memory. If it didn't, nothing is changed.
+    /// room. Returns whether it did, which it always does where `n` is 0; if not, nothing is changed. The only error is out of memory.
     #[tactic(auto, using(crate::proofs::Rows::row_put_facts))]
     pub fn put(
         &mut self,

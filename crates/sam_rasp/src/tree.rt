@@ -12,7 +12,8 @@ use crate::section::{Incoming, Section};
 use std::alloc::{AllocError, Global};
 use std::marker::Model;
 
-/// Sections in order. The outermost row alone has no limit: as many parts as `MAX_RUNES` sections make there are few.
+/// Sections in order. The outermost row alone has no limit: `MAX_RUNES` sections make at most 4,000 parts of it. Each call is that of the
+/// outermost row: a call of the nested type itself takes the prover seconds, wherever it stands.
 #[derive(Drop)]
 pub struct Tree {
     /// The sections, in four rows one in the other.
@@ -46,7 +47,7 @@ impl Tree {
     }
 
     /// Puts what comes in in the place of `n` runes or gaps from place `p` on, if they stand in one section, and that is a hole or has
-    /// room. Returns whether it did, which it always does where `n` is 0. The only error is out of memory. If it didn't, nothing is changed.
+    /// room. Returns whether it did, which it always does where `n` is 0; if not, nothing is changed. The only error is out of memory.
     pub fn put(
         &mut self,
         alloc: Global,

@@ -102,15 +102,16 @@ fn widen(items: &mut Vec<char>, end: usize, by: usize) -> Result<(), AllocError>
     Ok(())
 }
 
-/// Makes the gap from `start` to `end` at least `n` places wide, and returns where it ends then. The only error is out of memory; nothing has
-/// changed then.
+/// Makes the gap from `start` to `end` at least `n` places wide, and returns where it ends then. The only error is out of memory; nothing
+/// has changed then.
 fn make_gap(items: &mut Vec<char>, start: usize, end: usize, n: usize) -> Result<usize, AllocError>
     requires ascending { start ≤ end }
     requires within { end ≤ vec_len items.old }
     requires most { n ≤ max_runes }
     ensures wide { IfOk result (λ e. (start + n ≤ e) × (e ≤ vec_len items.new)) }
     ensures len { IfOk result (λ e. vec_len items.new - e ≡ vec_len items.old - end) }
-    ensures text { IfOk result (λ e. take start items.new.items ++ drop e items.new.items ≡ take start items.old.items ++ drop end items.old.items) }
+    ensures text { IfOk result (λ e. take start items.new.items ++ drop e items.new.items
+        ≡ take start items.old.items ++ drop end items.old.items) }
     ensures err { OnErr result (items.new.items ≡ items.old.items) }
 {
     if n <= end - start {
