@@ -1,5 +1,6 @@
 -- Going on with what waits, step by step.
-use Rattle.sam_endpoint.proofs.Common.{◌≡◌, ◌⊎◌, ◌<◌, length, length-append, refl, sym, ap, if◌then◌else◌, subst, ◌∙◌, ℕ, List, [], ◌∷◌, ◌++◌, true, Option, None, Ok, Err, inl, inr, append_assoc, append-nil, arith, Tmesg, HFrame, host, terminal, stream_of, Held, stream_of-append, PlainHost, answer, StreamFault, HostStop, EndpointFault, Gives, PlainHostEndpoint, Answers, Feeds, GoesOn, Serves, TakesIn, writes_of, Answer, AnswersFirst, Ends, Writes}
+use Rattle.sam_endpoint.proofs.Common.{◌≡◌, ◌⊎◌, ◌<◌, ◌≤◌, take, drop, length, length-append, refl, sym, ap, if◌then◌else◌, subst, ◌∙◌, ℕ, List, [], ◌∷◌, ◌++◌, true, Option, None, Ok, Err, inl, inr, append_assoc, append-nil, arith, Tmesg, HFrame, host, terminal, stream_of, Held, stream_of-append, PlainHost, answer, StreamFault, HostStop, EndpointFault, Gives, PlainHostEndpoint, Answers, Feeds, GoesOn, Serves, TakesIn, writes_of, Answer, AnswersFirst, Ends, Writes}
+use Rattle.std.proofs.Common.{length-take-le, take-append-drop}
 use Rattle.sam_endpoint.specs.declared.fault.HostStop.TheVariants as stop
 use Rattle.sam_endpoint.specs.declared.fault.EndpointFault.TheVariants as fault
 use Rattle.sam_host.specs.Edits.{TakesInSilence}
@@ -58,14 +59,43 @@ silent : (h : PlainHost) (ms : List Tmesg) (g : PlainHost) → TakesInSilence h 
 silent h [] g is = (refl, refl, is)
 silent h (m ∷ ms) g (k, answered, rest) = (k, [], [], [], answered, refl, grind (arith, (no_write h k m answered)), silent k ms g rest)
 
-pub edits_gone : (e l k : PlainHostEndpoint) → HasGone e l → TakesEdits l k → HasGone e k
+edits_gone : (e l k : PlainHostEndpoint) → HasGone e l → TakesEdits l k → HasGone e k
 edits_gone e l k gone took =
-    let answers : Answers l took.messages k = grind (arith, append-nil, (silent l.host took.messages took.host took.taken)) in
-    grind (arith, (answers_more e l k gone.messages took.messages gone.answers answers))
+    let after : PlainHostEndpoint = record l { host = took.host; waiting = took.rest } in
+    let answers : Answers l took.messages after = record {
+      frames = [];
+      more = [];
+      serves = silent l.host took.messages took.host took.taken;
+      waiting = took.waited;
+      bytes = grind (arith, append-nil);
+      writes = sym (append-nil l.writes);
+      framer = refl;
+      begun = refl;
+      broken_by = refl;
+    } in
+    subst (λ (x : PlainHostEndpoint). HasGone e x) (sym took.after) (record {
+      messages = gone.messages ++ took.messages;
+      answers = answers_more e l after gone.messages took.messages gone.answers answers;
+      written = gone.written;
+      goes = gone.goes;
+    })
+
+-- the host took the first n messages that waited
+pub took_first : (e g : PlainHostEndpoint) (n : ℕ) (h : PlainHost) → 0 < n → n ≤ length e.waiting → TakesInSilence e.host (take n e.waiting) h
+    → g ≡ record e { host = h; waiting = drop n e.waiting } → TakesEdits e g
+took_first e g n h some there taken is = record {
+  messages = take n e.waiting;
+  rest = drop n e.waiting;
+  host = h;
+  some = grind (arith, length-take-le);
+  waited = sym (take-append-drop n e.waiting);
+  taken = taken;
+  after = is;
+}
 
 -- what waited first was answered
 next_gone : (e l k : PlainHostEndpoint) → HasGone e l → AnswersFirst l k ⊎ TakesEdits l k → (ms : List Tmesg) × Answers e ms k × (k.stop ≡ None)
-next_gone e l k gone (inl first) = (gone.messages ++ first.message ∷ [], first_gone e l k gone first)
+next_gone e l k gone (inl first) = let g = first_gone e l k gone first in (gone.messages ++ first.message ∷ [], g.0, g.1)
 next_gone e l k gone (inr took) = let g = edits_gone e l k gone took in (g.messages, g.answers, g.goes)
 
 pub goes_further : (e l k g : PlainHostEndpoint) → HasGone e l → AnswersFirst l k ⊎ TakesEdits l k → g ≡ written k → HasGone e g

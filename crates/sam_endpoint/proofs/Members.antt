@@ -1,5 +1,5 @@
 -- Members of a partial text that are copied, section by section, into a buffer.
-use Rattle.sam_endpoint.proofs.Common.{◌≡◌, ◌∙◌, sym, ap, ℕ, ◌+◌, ◌-◌, ◌<◌, ◌≤◌, ◌⊎◌, List, [], ◌∷◌, ◌++◌, length, length-append, take, drop, suc, Option, Some, slice_get, append_assoc, arith, rules, map, min, get_or, set, drop-cons, append-nil, take_all, take-append-drop, length-drop, length-take, get_or-drop, drop_of_length-le, cells, Copies, Shows, drawn}
+use Rattle.sam_endpoint.proofs.Common.{◌≡◌, ◌∙◌, sym, ap, ℕ, ◌+◌, ◌-◌, ◌<◌, ◌≤◌, ◌⊎◌, List, [], ◌∷◌, ◌++◌, length, length-append, take, drop, suc, Option, Some, slice_get, append_assoc, arith, map, get_or, set, drop-cons, append-nil, take_all, take-append-drop, length-drop, length-take, get_or-drop, drop_of_length-le, cells, Copies, Shows, drawn}
 use Rattle.std.proofs.Math.Seq.{take-append-add, drop-append-add, set-append_seam}
 use Rattle.std.proofs.lemmas.Option.{get_or_from_slice_get}
 use Rattle.std.proofs.lemmas.List.{take-append-le, drop-append-le, take_more, length-map, map-append}

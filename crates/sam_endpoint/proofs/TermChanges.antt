@@ -1,9 +1,9 @@
 -- What the terminal's frames, events and flushes leave of a text that is kept.
-use Rattle.sam_endpoint.proofs.Common.{◌≡◌, refl, sym, ap, subst, ◌∙◌, ℕ, ◌+◌, ◌-◌, ◌≤◌, ◌⊎◌, inl, inr, List, [], ◌∷◌, ◌++◌, length, length-take, map, take, drop, append-nil, Bool, true, false, if◌then◌else◌, option_map, Option, Some, None, Ok, arith, slice_get, HFrame, Tmesg, PlainTerminal, Made, act_of, act_on, decided, flush_of, take_of, frame_outcome, event_outcome, sends, unchanged, flushed, took_bindname, took_close, took_cut, took_data, took_exit, took_grow, took_growdata, took_unlockfile, Acted, Idle, Locked, Done, Refused, UserEvent, Verdict, acted_in, term_in, act_touch, frame_touch, kept_after, left_by, Err, Result}
+use Rattle.sam_endpoint.proofs.Common.{◌≡◌, refl, sym, ap, subst, ◌∙◌, ℕ, ◌+◌, ◌-◌, ◌≤◌, ◌⊎◌, inl, inr, List, [], ◌∷◌, ◌++◌, length, length-take, map, take, drop, append-nil, Bool, true, false, if◌then◌else◌, Option, Some, None, Ok, arith, slice_get, HFrame, Tmesg, PlainTerminal, Made, act_of, act_on, decided, flush_of, take_of, frame_outcome, event_outcome, sends, unchanged, flushed, took_bindname, took_close, took_cut, took_data, took_exit, took_grow, took_growdata, took_unlockfile, Acted, Idle, Locked, Done, Refused, UserEvent, Verdict, act_touch, frame_touch, kept_after, left_by, Err, Result}
 use Rattle.std.specs.Prelude.{◌≢◌, ◌==◌, nat_eq, replicate, unwrap_or, option_and_then}
 use Rattle.std.proofs.lemmas.List.{length-map, length-replicate}
 use Rattle.sam_mesg.specs.declared.hmesg.Hmesg.{Hmesg}
-use Rattle.std.proofs.Math.Seq.{drop-append-add, take-append-le, take-append_seam}
+use Rattle.std.proofs.Math.Seq.{drop-append-add, take-append_seam}
 use Rattle.std.proofs.lemmas.Bool.Decides.{eqb_tells}
 use Rattle.sam_runes.specs.Checks.{first_of_checks}
 use Rattle.sam_runes.proofs.SlotLaws.{slot-free_same, slot-free_other, slot-map}
@@ -12,19 +12,19 @@ use Rattle.sam_rasp.specs.Rasp.{PartialText, del_cells, ins_cells, load_cells, p
 use Rattle.sam_term.specs.Effect.{changed_by}
 use Rattle.sam_term.specs.Sound.{IsSound}
 use Rattle.sam_term.specs.declared.fault.TermFault.{TermFault}
-use Rattle.sam_term.specs.Term.{frame_checks, if_countable, event_checks, has_bad_place, put_known, put_window, known_at, rasp_at, window_at}
+use Rattle.sam_term.specs.Term.{frame_checks, if_countable, event_checks, has_bad_place, put_known, known_at, rasp_at, window_at}
 use Rattle.sam_term.specs.Windows.{blank_known, blank_window}
 use Rattle.sam_term.specs.declared.records.KnownFile.{KnownFile}
-use Rattle.sam_mesg.specs.declared.hmesg.Hmesg.TheVariants.{Hversion, Hbindname, Hcurrent, Hnewname, Hmovname, Hgrow, Hcheck, Hunlock, Hdata, Horigin, Hunlockfile, Hsetdot, Hgrowdata, Hmoveto, Hclean, Hdirty, Hcut, Hsetpat, Hdelname, Hclose, Hsetsnarf, Hsnarflen, Hack, Hexit}
+use Rattle.sam_mesg.specs.declared.hmesg.Hmesg.TheVariants.{Hbindname, Hnewname, Hmovname, Hgrow, Hcheck, Hdata, Horigin, Hunlockfile, Hsetdot, Hgrowdata, Hmoveto, Hclean, Hdirty, Hcut, Hdelname, Hclose, Hack, Hexit}
 use Rattle.sam_mesg.specs.declared.tmesg.Tmesg.TheVariants.{Tack}
 use Rattle.sam_term.specs.declared.event.UserEvent.TheVariants.{Typed, Select, Cut, Paste, Dclick, View, Load, Edit}
 use Rattle.sam_term.specs.declared.event.Verdict.TheVariants.{Waits, Refuses}
 use Rattle.sam_term.proofs.Acts.{none_holds, test_at}
-use Rattle.sam_term.proofs.TermLaws.{known-put, rasp-put, rasp-stays, rasp-change, rasp-sends, rasp-requested, rasp-flushed, event_changes}
+use Rattle.sam_term.proofs.TermLaws.{known-put, rasp-stays, rasp-change, rasp-sends, rasp-requested, rasp-flushed, event_changes}
 use Rattle.sam_endpoint.specs.Changes.{ActsKeep, FlushesKeep, FramesKeep, IsKept, edit_touch, event_touch, kept_at, narrowed, oldest_touch, whole_touch}
 use Rattle.sam_endpoint.specs.declared.changes.Kept.{Kept}
 use Rattle.sam_endpoint.proofs.ChangeLaws.{edit-keeps, edit-other, kept-set_same, kept-set_other, whole-keeps}
-use Rattle.sam_endpoint.proofs.TermEndpointHeld.{counted, done-term}
+use Rattle.sam_endpoint.proofs.TermEndpointHeld.{counted}
 
 -- ## One file among others
 
