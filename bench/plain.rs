@@ -20,6 +20,7 @@ mod schedule;
 mod session;
 mod terminal;
 mod typing;
+mod undo;
 
 pub struct Report {
     pub took: Duration,
@@ -72,6 +73,7 @@ fn main() {
         "terminal" => typing::typed(size),
         "receive" => receiving::received(size),
         "handle" => handling::handled(size),
+        "undo" => undo::undone(size),
         "schedule" => schedule::replayed(size),
         "channel" => queue::channel(size, number(&rest[0]), number(&rest[1])),
         _ => panic!("no such job"),

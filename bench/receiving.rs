@@ -59,18 +59,18 @@ fn round(out: &mut Vec<u8>, tag: u16) {
 
 /// Cuts a stream into frames.
 #[derive(Default)]
-struct Framer {
+pub struct Framer {
     kept: Vec<u8>,
 }
 
 impl Framer {
-    /// The frames that become whole with the next piece.
-    fn feed(&mut self, piece: &[u8]) -> Option<Vec<HFrame>> {
+    /// What the frames that become whole with the next piece say.
+    pub fn feed<M>(&mut self, piece: &[u8], decode: impl Fn(u8, &[u8]) -> Option<M>) -> Option<Vec<M>> {
         self.kept.extend_from_slice(piece);
         let mut frames = Vec::new();
         let mut rest = self.kept.as_slice();
         while let Some((kind, body, after)) = split(rest) {
-            frames.push(decode_h(kind, body)?);
+            frames.push(decode(kind, body)?);
             rest = after;
         }
         let left = rest.len();
@@ -96,7 +96,7 @@ fn receive(terminal: &mut Terminal, frame: HFrame) -> Option<Vec<Tmesg>> {
 
 fn feed(framer: &mut Framer, terminal: &mut Terminal, piece: &[u8]) -> Option<u64> {
     let mut check = 0;
-    for frame in framer.feed(piece)? {
+    for frame in framer.feed(piece, decode_h)? {
         check = mix(check, weight(&receive(terminal, frame)?));
     }
     Some(check)

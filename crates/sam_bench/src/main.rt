@@ -8,7 +8,7 @@ mod schedule;
 
 use sam_bench_jobs::fault::Fault;
 use sam_bench_jobs::report::Report;
-use sam_bench_jobs::{codec, editing, embedded, loading, receiving, searching, typing};
+use sam_bench_jobs::{codec, editing, embedded, loading, receiving, searching, typing, undo};
 use std::env;
 use std::env::Env;
 use std::process::ExitCode;
@@ -68,6 +68,7 @@ fn report_of<R: AllocGlobal + Clock>(rt: &R, job: &str, size: u32) -> Result<Rep
         "embedded" => embedded::typed(rt, size),
         "receive" => receiving::received(rt, size),
         "handle" => handling::handled(rt, size),
+        "undo" => undo::undone(rt, size),
         "schedule" => schedule::replayed(rt, size),
         _ => Err(Fault::Words),
     }

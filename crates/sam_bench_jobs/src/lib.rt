@@ -1,4 +1,4 @@
-//! Jobs that show what the calls of the codec, of texts, of rasps, of a terminal and of its end cost. Each makes ready what it needs,
+//! Jobs that show what the calls of the codec, of texts, of rasps, of a terminal and of the two ends cost. Each makes ready what it needs,
 //! times its work, and returns a [`report::Report`]. The program sam_bench runs them by name, and has those of a host, of a world and of
 //! lines beside them.
 #![tactic(auto)]
@@ -13,3 +13,4 @@ pub mod report;
 pub mod sample;
 pub mod searching;
 pub mod typing;
+pub mod undo;
