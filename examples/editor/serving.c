@@ -18,8 +18,11 @@ enum {
     PAUSE = 100,             /* milliseconds until memory is asked for again */
     MOST_PIECES_LEFT = 64,   /* pieces of input that are still taken after a signal */
     HEADER = 3,              /* bytes of a message before its body: its kind, and the length of the body */
-    KIND_CLOSE = 14,         /* Tclose, whose body is a tag of two bytes */
-    CLOSE_LEN = HEADER + 2
+    TAG_LEN = 2,             /* bytes of a file's tag, with which the bodies of these begin: */
+    KIND_TYPE = 8,           /* Ttype */
+    KIND_CUT = 9,            /* Tcut */
+    KIND_CLOSE = 14,         /* Tclose, which has no more */
+    CLOSE_LEN = HEADER + TAG_LEN
 };
 
 static volatile sig_atomic_t was_signalled;
@@ -87,7 +90,18 @@ static void send_pending(struct session *session)
     }
 }
 
-/* How many of the bytes that were read are of the next message, or of the rest of one. 0 where too few have come to say. */
+/* The length of the message that begins there, if it is whole and types or cuts in a file other than the command file. Else 0. */
+static size_t edit_len(const uint8_t *bytes, size_t have)
+{
+    if (have < HEADER + TAG_LEN || (bytes[0] != KIND_TYPE && bytes[0] != KIND_CUT))
+        return 0;
+    size_t len = HEADER + ((size_t)bytes[1] << 8 | bytes[2]);
+    bool is_command = bytes[HEADER] == 0 && bytes[HEADER + 1] == 0;
+    return is_command || len > have ? 0 : len;
+}
+
+/* How many of the bytes that were read are of the next message, or of the rest of one. Edits go together, since the host takes many as
+ * quickly as one. 0 where too few have come to say. */
 static size_t next_piece(struct wire *wire, bool *is_close)
 {
     const uint8_t *bytes = wire->input + wire->taken;
@@ -101,6 +115,9 @@ static size_t next_piece(struct wire *wire, bool *is_close)
         *is_close = bytes[0] == KIND_CLOSE && len == CLOSE_LEN;
         if (*is_close && have < CLOSE_LEN)
             return 0;
+        if (edit_len(bytes, have) > 0)
+            for (size_t more; (more = edit_len(bytes + len, have - len)) > 0; len += more)
+                ;
         wire->left = len;
     }
     return wire->left < have ? wire->left : have;
@@ -141,7 +158,7 @@ static enum ending feed_close(struct session *session)
     return feed(session, CLOSE_LEN);
 }
 
-/* Has the host take what was read, one message after the other, until too little is left or memory is out. */
+/* Has the host take what was read, piece by piece, until too little is left or memory is out. */
 static enum ending take_input(struct session *session)
 {
     struct wire *wire = &session->wire;
