@@ -187,8 +187,9 @@ SAM_MUST_USE sam_status sam_host_add_file(sam_host *host, const uint8_t *name, s
 /* ---- The host: bytes in and out ---- */
 
 /* Takes bytes of the terminal's messages, in whatever pieces they come, and answers each message that is whole. The answers are
- * then pending. SAM_OK, SAM_NO_MEMORY, SAM_UNFINISHED, SAM_COUNT_FULL, SAM_NO_HANDLE, or why the host has stopped, at this call
- * or before: SAM_STREAM.., SAM_HOST_REFUSED... What stood before the fault is answered. */
+ * then pending. Edits of one file that follow each other in one call move its text once, and else each of them does. SAM_OK,
+ * SAM_NO_MEMORY, SAM_UNFINISHED, SAM_COUNT_FULL, SAM_NO_HANDLE, or why the host has stopped, at this call or before:
+ * SAM_STREAM.., SAM_HOST_REFUSED... What stood before the fault is answered. */
 SAM_MUST_USE sam_status sam_host_feed(sam_host *host, const uint8_t *bytes, size_t len);
 
 /* Whether the terminal's stream may end here: to be asked once the host's input has ended. It changes nothing. SAM_OK,
