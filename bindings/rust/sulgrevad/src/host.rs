@@ -34,7 +34,8 @@ impl Host {
         Ok(tag)
     }
 
-    /// Takes bytes of the terminal's messages, in whatever pieces they come, and answers each that is whole.
+    /// Takes bytes of the terminal's messages, in whatever pieces they come, and answers each that is whole. Edits of one file that
+    /// follow each other in one call move its text once, and else each of them does.
     pub fn feed(&mut self, bytes: &[u8]) -> Result<(), Error> {
         done(unsafe { sys::sam_host_feed(self.at(), bytes.as_ptr(), bytes.len()) })
     }
