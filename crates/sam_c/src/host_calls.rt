@@ -57,18 +57,15 @@ pub extern "C" fn sam_host_add_file(
 ) -> u32
     ensures { HostAdded host.old.held.end name.now text.now tag.old result tag.new host.new.held.end }
 {
-    let Some(mut end) = host.take(alloc) else {
-        return NO_HANDLE;
-    };
-    let status = match end.add_file(name, text) {
-        Ok(given) => {
-            *tag = given;
-            OK
+    with_end!(host alloc mut end {
+        match end.add_file(name, text) {
+            Ok(given) => {
+                *tag = given;
+                OK
+            }
+            Err(why) => add_status(why),
         }
-        Err(why) => add_status(why),
-    };
-    host.put(end);
-    status
+    })
 }
 
 /// Takes bytes of the terminal's messages, in whatever pieces they come, and answers each message that is whole. The answers are then
@@ -81,12 +78,7 @@ pub extern "C" fn sam_host_add_file(
 pub extern "C" fn sam_host_feed(host: &mut SamHost, bytes: &[u8], alloc: Global) -> u32
     ensures { HostFed host.old.held.end bytes.now result host.new.held.end }
 {
-    let Some(mut end) = host.take(alloc) else {
-        return NO_HANDLE;
-    };
-    let status = host_status(end.feed(bytes));
-    host.put(end);
-    status
+    with_end!(host alloc mut end { host_status(end.feed(bytes)) })
 }
 
 /// Says whether the terminal's stream may end here: to be asked where the input of the host has ended. It changes nothing.
@@ -108,12 +100,7 @@ pub extern "C" fn sam_host_pending(host: &mut SamHost, len: &mut usize, alloc: G
     ensures told { Reports host.old.held.end result len.old len.new (λ e. length e.pending_bytes) }
     ensures kept { host.new.held.end ≡ host.old.held.end }
 {
-    let Some(end) = host.take(alloc) else {
-        return NO_HANDLE;
-    };
-    *len = end.pending();
-    host.put(end);
-    OK
+    with_end!(host alloc end { *len = end.pending(); OK })
 }
 
 /// Moves the first pending bytes into the buffer, as many as it has room for, and hands out how many. `SAM_NO_HANDLE` if the handle is
@@ -127,12 +114,7 @@ pub extern "C" fn sam_host_take_out(
 ) -> u32
     ensures { HostTaken host.old.held.end into.old into.new count.old result count.new host.new.held.end }
 {
-    let Some(mut end) = host.take(alloc) else {
-        return NO_HANDLE;
-    };
-    *count = end.take_out(into);
-    host.put(end);
-    OK
+    with_end!(host alloc mut end { *count = end.take_out(into); OK })
 }
 
 /// Hands out the tag of the next file that the terminal had the host write (Twrite) and that this call has not handed out yet: now is
@@ -141,16 +123,13 @@ pub extern "C" fn sam_host_take_out(
 pub extern "C" fn sam_host_next_written(host: &mut SamHost, tag: &mut u16, alloc: Global) -> u32
     ensures { HostNextWritten host.old.held.end tag.old result tag.new host.new.held.end }
 {
-    let Some(mut end) = host.take(alloc) else {
-        return NO_HANDLE;
-    };
-    let status = match end.next_written() {
-        Some(written) => {
-            *tag = written;
-            OK
+    with_end!(host alloc mut end {
+        match end.next_written() {
+            Some(written) => {
+                *tag = written;
+                OK
+            }
+            None => NONE,
         }
-        None => NONE,
-    };
-    host.put(end);
-    status
+    })
 }

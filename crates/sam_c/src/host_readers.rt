@@ -133,19 +133,16 @@ pub extern "C" fn sam_host_dot(
     ensures told { ReportsSome host.old.held.end result (start.old, end.old) (start.new, end.new) (λ e. dot_of e tag) }
     ensures kept { host.new.held.end ≡ host.old.held.end }
 {
-    let Some(held) = host.take(alloc) else {
-        return NO_HANDLE;
-    };
-    let status = match held.host().files().dot(tag) {
-        Some(dot) => {
-            *start = dot.0;
-            *end = dot.1;
-            OK
+    with_end!(host alloc held {
+        match held.host().files().dot(tag) {
+            Some(dot) => {
+                *start = dot.0;
+                *end = dot.1;
+                OK
+            }
+            None => NONE,
         }
-        None => NONE,
-    };
-    host.put(held);
-    status
+    })
 }
 
 /// Puts a file's text from a place on into the buffer in UTF-8, as many whole runes as have room. Hands out how many bytes and how many

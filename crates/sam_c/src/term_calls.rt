@@ -48,12 +48,7 @@ pub extern "C" fn sam_term_free(term: &mut SamTerm, alloc: Global) -> u32
 pub extern "C" fn sam_term_feed(term: &mut SamTerm, bytes: &[u8], alloc: Global) -> u32
     ensures { TermFed term.old.held.end bytes.now result term.new.held.end }
 {
-    let Some(mut end) = term.take(alloc) else {
-        return NO_HANDLE;
-    };
-    let status = term_status(end.feed(bytes));
-    term.put(end);
-    status
+    with_end!(term alloc mut end { term_status(end.feed(bytes)) })
 }
 
 /// Says whether the host's stream may end here: to be asked where the input of the terminal has ended. It changes nothing.
@@ -77,12 +72,7 @@ pub extern "C" fn sam_term_finish(term: &mut SamTerm, alloc: Global) -> u32
 pub extern "C" fn sam_term_flush_now(term: &mut SamTerm, alloc: Global) -> u32
     ensures { TermIdled term.old.held.end result term.new.held.end }
 {
-    let Some(mut end) = term.take(alloc) else {
-        return NO_HANDLE;
-    };
-    let status = term_status(end.flush_now());
-    term.put(end);
-    status
+    with_end!(term alloc mut end { term_status(end.flush_now()) })
 }
 
 /// Hands out how many bytes are pending. `SAM_NO_HANDLE` if the handle is empty.
@@ -91,12 +81,7 @@ pub extern "C" fn sam_term_pending(term: &mut SamTerm, len: &mut usize, alloc: G
     ensures told { Reports term.old.held.end result len.old len.new (λ e. length e.pending_bytes) }
     ensures kept { term.new.held.end ≡ term.old.held.end }
 {
-    let Some(end) = term.take(alloc) else {
-        return NO_HANDLE;
-    };
-    *len = end.pending();
-    term.put(end);
-    OK
+    with_end!(term alloc end { *len = end.pending(); OK })
 }
 
 /// Moves the first pending bytes into the buffer, as many as it has room for, and hands out how many. `SAM_NO_HANDLE` if the handle is
@@ -110,12 +95,7 @@ pub extern "C" fn sam_term_take_out(
 ) -> u32
     ensures { TermTaken term.old.held.end into.old into.new count.old result count.new term.new.held.end }
 {
-    let Some(mut end) = term.take(alloc) else {
-        return NO_HANDLE;
-    };
-    *count = end.take_out(into);
-    term.put(end);
-    OK
+    with_end!(term alloc mut end { *count = end.take_out(into); OK })
 }
 
 /// Hands out the oldest refused event that was not handed out yet: which one, counted from 1 over all event calls that were taken, and why
@@ -129,19 +109,16 @@ pub extern "C" fn sam_term_next_refusal(
 ) -> u32
     ensures { TermNextRefusal term.old.held.end (event.old, why.old) result (event.new, why.new) term.new.held.end }
 {
-    let Some(mut end) = term.take(alloc) else {
-        return NO_HANDLE;
-    };
-    let status = match end.next_refusal() {
-        Some(refused) => {
-            *event = refused.0;
-            *why = refusal_status(refused.1);
-            OK
+    with_end!(term alloc mut end {
+        match end.next_refusal() {
+            Some(refused) => {
+                *event = refused.0;
+                *why = refusal_status(refused.1);
+                OK
+            }
+            None => NONE,
         }
-        None => NONE,
-    };
-    term.put(end);
-    status
+    })
 }
 
 /// Hands out what changed in the text of an open file since this was asked of it last: in the old text `gone` runes or gaps from the place
@@ -160,19 +137,16 @@ pub extern "C" fn sam_term_changed(
 ) -> u32
     ensures { TermChanged term.old.held.end tag (start.old, gone.old, came.old) result (start.new, gone.new, came.new) term.new.held.end }
 {
-    let Some(mut end) = term.take(alloc) else {
-        return NO_HANDLE;
-    };
-    let status = match end.changed(tag) {
-        Ok(Some(change)) => {
-            *start = change.start;
-            *gone = change.gone;
-            *came = change.came;
-            OK
+    with_end!(term alloc mut end {
+        match end.changed(tag) {
+            Ok(Some(change)) => {
+                *start = change.start;
+                *gone = change.gone;
+                *came = change.came;
+                OK
+            }
+            Ok(None) => NONE,
+            Err(_) => NO_MEMORY,
         }
-        Ok(None) => NONE,
-        Err(_) => NO_MEMORY,
-    };
-    term.put(end);
-    status
+    })
 }

@@ -12,7 +12,7 @@ ghost use Rattle.sam_c.specs.Status.{read_status};
 ghost use Rattle.sam_c.specs.Terms.{TermPut, TermPutText};
 ghost use Rattle.sam_term.specs.declared.event.UserEvent.TheVariants.{Check, Close, Cut, Dclick, Edit, Exit, Flush, GetSnarf, Load, Look, New, Open, OpenCmd, Paste, Scroll, Search, Select, Send, SetSnarf, Snarf, Typed, Version, View, Work, Write};
 
-use crate::handle::SamTerm;
+use crate::handle::{SamTerm, with_end};
 use crate::status::{NO_HANDLE, NO_MEMORY, NOT_TEXT, term_status};
 use sam_runes::{ReadFault, read_utf8};
 use sam_term::UserEvent;
@@ -22,12 +22,7 @@ use std::alloc::Global;
 fn put(term: &mut SamTerm, event: UserEvent, alloc: Global) -> u32
     ensures { TermPut term.old.held.end event result term.new.held.end }
 {
-    let Some(mut end) = term.take(alloc) else {
-        return NO_HANDLE;
-    };
-    let status = term_status(end.put(event));
-    term.put(end);
-    status
+    with_end!(term alloc mut end { term_status(end.put(event)) })
 }
 
 /// Returns the number of why a text is not read.
@@ -40,7 +35,7 @@ fn read_status(why: ReadFault) -> u32
     }
 }
 
-/// Types a text in the place of the dot: at most 512 runes, in UTF-8; a longer one is an event that is refused. Behind `SAM_NO_HANDLE`, and
+/// Types a text in the place of the dot: at most 512 runes, in UTF-8; a longer one is an event that is refused. After `SAM_NO_HANDLE`, and
 /// before all else, come `SAM_NOT_TEXT` if the text is not UTF-8, and `SAM_NO_MEMORY` if there is no memory for its runes. After these
 /// two the terminal is as it was.
 #[unsafe(no_mangle)]
@@ -81,7 +76,7 @@ pub extern "C" fn sam_term_edit(
 }
 
 /// Gives the host another snarf buffer, in UTF-8: at most 4,096 bytes, or 32,000 in version 2; a longer one is an event that is refused.
-/// Behind `SAM_NO_HANDLE`, and before all else, come `SAM_NOT_TEXT` if the text is not UTF-8, and `SAM_NO_MEMORY` if there is no memory
+/// After `SAM_NO_HANDLE`, and before all else, come `SAM_NOT_TEXT` if the text is not UTF-8, and `SAM_NO_MEMORY` if there is no memory
 /// for its runes. After these two the terminal is as it was.
 #[unsafe(no_mangle)]
 pub extern "C" fn sam_term_set_snarf(term: &mut SamTerm, text: &[u8], alloc: Global) -> u32
@@ -104,7 +99,7 @@ pub extern "C" fn sam_term_cut(term: &mut SamTerm, tag: u16, alloc: Global) -> u
     put(term, UserEvent::Cut(tag), alloc)
 }
 
-/// Puts the snarf buffer in the place of the dot.
+/// Puts the snarf buffer in the place of the dot. If it is empty, or the file would have more than 1,000,000 runes, only the dot goes.
 #[unsafe(no_mangle)]
 pub extern "C" fn sam_term_paste(term: &mut SamTerm, tag: u16, alloc: Global) -> u32
     ensures { TermPut term.old.held.end (Paste tag) result term.new.held.end }

@@ -255,19 +255,16 @@ pub extern "C" fn sam_term_dot(
     ensures told { ReportsSome term.old.held.end result (start.old, end.old) (start.new, end.new) (λ e. dot_of e tag) }
     ensures kept { term.new.held.end ≡ term.old.held.end }
 {
-    let Some(held) = term.take(alloc) else {
-        return NO_HANDLE;
-    };
-    let status = match held.term().dot(tag) {
-        Some(range) => {
-            *start = range.0;
-            *end = range.1;
-            OK
+    with_end!(term alloc held {
+        match held.term().dot(tag) {
+            Some(range) => {
+                *start = range.0;
+                *end = range.1;
+                OK
+            }
+            None => NONE,
         }
-        None => NONE,
-    };
-    term.put(held);
-    status
+    })
 }
 
 /// Hands out what an open file shows: the places where its view begins and ends. `SAM_NONE` if it is not open.
@@ -283,19 +280,16 @@ pub extern "C" fn sam_term_view_of(
         (λ e. option_map shown_of (open_of e tag)) }
     ensures kept { term.new.held.end ≡ term.old.held.end }
 {
-    let Some(held) = term.take(alloc) else {
-        return NO_HANDLE;
-    };
-    let status = match held.term().view(tag) {
-        Some(range) => {
-            *start = range.0;
-            *end = range.1;
-            OK
+    with_end!(term alloc held {
+        match held.term().view(tag) {
+            Some(range) => {
+                *start = range.0;
+                *end = range.1;
+                OK
+            }
+            None => NONE,
         }
-        None => NONE,
-    };
-    term.put(held);
-    status
+    })
 }
 
 /// Hands out how many tags the terminal has room for: each file that it knows has a tag below this.
@@ -423,20 +417,17 @@ pub extern "C" fn sam_term_first_gap(
     ensures told { ReportsSome term.old.held.end result gap.old gap.new (λ e. option_and_then (gap_from place) (open_of e tag)) }
     ensures kept { term.new.held.end ≡ term.old.held.end }
 {
-    let Some(end) = term.take(alloc) else {
-        return NO_HANDLE;
-    };
-    let found = match end.term().rasp(tag) {
-        Some(rasp) => gap_in(rasp, place),
-        None => None,
-    };
-    let status = match found {
-        Some(first) => {
-            *gap = first;
-            OK
+    with_end!(term alloc end {
+        let found = match end.term().rasp(tag) {
+            Some(rasp) => gap_in(rasp, place),
+            None => None,
+        };
+        match found {
+            Some(first) => {
+                *gap = first;
+                OK
+            }
+            None => NONE,
         }
-        None => NONE,
-    };
-    term.put(end);
-    status
+    })
 }

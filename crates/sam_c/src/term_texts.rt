@@ -52,20 +52,17 @@ pub extern "C" fn sam_term_bytes(
         (λ e. option_map (λ text. sizes text start end) (rasp_of e tag)) }
     ensures kept { term.new.held.end ≡ term.old.held.end }
 {
-    let Some(held) = term.take(alloc) else {
-        return NO_HANDLE;
-    };
-    let status = match held.term().rasp(tag) {
-        Some(rasp) => {
-            let all = size_of_range(rasp, start, end);
-            *bytes = all.bytes;
-            *gaps = all.gaps;
-            OK
+    with_end!(term alloc held {
+        match held.term().rasp(tag) {
+            Some(rasp) => {
+                let all = size_of_range(rasp, start, end);
+                *bytes = all.bytes;
+                *gaps = all.gaps;
+                OK
+            }
+            None => NONE,
         }
-        None => NONE,
-    };
-    term.put(held);
-    status
+    })
 }
 
 /// Hands out the place after the loaded runes of an open file from the place `start` on that so many bytes hold whole in UTF-8: it is at a
@@ -109,20 +106,17 @@ pub extern "C" fn sam_term_line(
         (λ e. option_and_then (λ text. line_after text start lines) (rasp_of e tag)) }
     ensures kept { term.new.held.end ≡ term.old.held.end }
 {
-    let Some(end) = term.take(alloc) else {
-        return NO_HANDLE;
-    };
-    let found = match end.term().rasp(tag) {
-        Some(rasp) => line_after(rasp, start, lines),
-        None => None,
-    };
-    let status = match found {
-        Some(behind) => {
-            *place = behind;
-            OK
+    with_end!(term alloc end {
+        let found = match end.term().rasp(tag) {
+            Some(rasp) => line_after(rasp, start, lines),
+            None => None,
+        };
+        match found {
+            Some(behind) => {
+                *place = behind;
+                OK
+            }
+            None => NONE,
         }
-        None => NONE,
-    };
-    term.put(end);
-    status
+    })
 }

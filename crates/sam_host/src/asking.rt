@@ -1,17 +1,16 @@
 //! The answers to what the terminal asks of a file: a check, a stretch of its text, the start of a line, a word, an occurrence. A method
 //! for a kind leaves the count of messages to its caller, and after an error the host is unchanged.
 
-ghost use Rattle.std.specs.Prelude.{◌≡◌, ◌<◌, ◌≤◌, ◌+◌, ◌^◌, IfOk, OnOk, OnErr, Err, None, length, vec_len, vec_capacity};
+ghost use Rattle.std.specs.Prelude.{◌≡◌, ◌<◌, ◌≤◌, ◌+◌, ◌-◌, ◌^◌, [], true, min, is_some, IfOk, IfSome, OnOk, OnErr, Err, None, Some, length, vec_len, vec_capacity};
 ghost use Rattle.sam_host.specs.Host.{host_checks, Refuses, Appends, stamped, told_found, reply_check, reply_request, reply_origin, reply_look, reply_search, reply_dclick};
-ghost use Rattle.sam_runes.specs.Texts.{lines_before};
+ghost use Rattle.sam_runes.specs.Texts.{lines_before, most_in_pattern};
 ghost use Rattle.sam_runes.specs.Checks.{first_of_checks};
 ghost use Rattle.sam_text.specs.Files.{file_at};
 
 use crate::fault::HostFault;
 use crate::host::Host;
 use sam_mesg::{HFrame, Hmesg, Tmesg};
-use sam_runes::MOST_IN_MESSAGE;
-use sam_text::may_be_pattern;
+use sam_runes::{MOST_IN_MESSAGE, MOST_IN_PATTERN, Runes};
 
 impl Host {
     /// Answers `Tcheck` with `Hcheck`, which reaches the terminal after all that the host has said of the file. Errors, in this order:
@@ -108,8 +107,10 @@ impl Host {
         ensures count { self.new.taken ≡ self.old.taken }
         ensures unchanged { OnErr result (self.new ≡ self.old) }
     {
-        self.wants_place(tag, p)?;
-        let mut frames = Vec::with_capacity(self.alloc, 2)?;
+        self.wants_open(tag)?;
+        let Ok(mut frames) = Vec::with_capacity(self.alloc, 2) else {
+            return Err(self.without_memory(tag, p, p));
+        };
         let (start, end) = self.files.double_click(tag, p)?;
         self.put(&mut frames, Hmesg::Hsetdot(tag, start, end));
         self.put(&mut frames, Hmesg::Hunlockfile(tag));
@@ -129,6 +130,36 @@ impl Host {
         self.put(frames, Hmesg::Hunlockfile(tag));
     }
 
+    /// Returns room for the frames of an answer to `Tlook`, and for the pattern in one of them: what stands from `p` to `q`, if a pattern
+    /// may be as long.
+    fn room_for_look(&self, p: u32, q: u32) -> Result<(Vec<HFrame>, Vec<char>), HostFault>
+        ensures frames { IfOk result (λ r. (r.0.items ≡ []) × (5 ≤ vec_capacity r.0)) }
+        ensures pattern { IfOk result (λ r. (r.1.items ≡ []) × (min (q - p) most_in_pattern ≤ vec_capacity r.1)) }
+        ensures memory { OnErr result (result ≡ Err HostFault.OutOfMemory) }
+    {
+        let frames = Vec::with_capacity(self.alloc, 5)?;
+        let len = q.saturating_sub(p) as usize;
+        let pattern = Vec::with_capacity(self.alloc, len.min(MOST_IN_PATTERN))?;
+        Ok((frames, pattern))
+    }
+
+    /// Copies the pattern, for which there is room in `room`.
+    fn pattern_within(&self, room: Vec<char>) -> Runes
+        requires empty { room.items ≡ [] }
+        requires room { IfSome self.now.files.pattern (λ lit. length lit ≤ vec_capacity room) }
+        requires some { is_some self.now.files.pattern ≡ true }
+        ensures { Some result ≡ self.now.files.pattern }
+    {
+        let mut runes = room;
+        let Some(pattern) = self.files.pattern() else {
+            unreachable!()
+        };
+        if runes.extend_from_slice(pattern.as_slice()).is_err() {
+            unreachable!()
+        }
+        Runes::from_vec(runes)
+    }
+
     /// Answers `Tlook`: what stands from `p` to `q` becomes the pattern, and its first occurrence from `q` on, else from the start,
     /// becomes the dot. The selected text itself counts, so there always is one. If the range is empty or has more than `MOST_IN_PATTERN`
     /// runes, nothing changes, and `Hunlockfile` is the one frame. Errors, in this order: `NoFile`; `NotOpen`; `BadPosition` if the text
@@ -143,17 +174,14 @@ impl Host {
         ensures count { self.new.taken ≡ self.old.taken }
         ensures unchanged { OnErr result (self.new ≡ self.old) }
     {
-        self.wants_range(tag, p, q)?;
-        let mut frames = Vec::with_capacity(self.alloc, 5)?;
-        if !may_be_pattern(self.files.part(tag, p, q)) {
-            self.put(&mut frames, Hmesg::Hunlockfile(tag));
-            return Ok(frames);
-        }
-        let pattern = self.part(tag, p, q)?;
+        self.wants_open(tag)?;
+        let Ok((mut frames, pattern)) = self.room_for_look(p, q) else {
+            return Err(self.without_memory(tag, p, q));
+        };
         match self.files.look(tag, p, q)? {
             None => self.put(&mut frames, Hmesg::Hunlockfile(tag)),
             Some((start, end)) => {
-                self.put(&mut frames, Hmesg::Hsetpat(pattern));
+                self.put(&mut frames, Hmesg::Hsetpat(self.pattern_within(pattern)));
                 self.put_found(&mut frames, tag, start, end);
             }
         }
@@ -173,8 +201,10 @@ impl Host {
         ensures count { self.new.taken ≡ self.old.taken }
         ensures unchanged { OnErr result (self.new ≡ self.old) }
     {
-        self.wants_range(tag, p, q)?;
-        let mut frames = Vec::with_capacity(self.alloc, 4)?;
+        self.wants_open(tag)?;
+        let Ok(mut frames) = Vec::with_capacity(self.alloc, 4) else {
+            return Err(self.without_memory(tag, p, q));
+        };
         match self.files.search(tag, p, q)? {
             None => self.put(&mut frames, Hmesg::Hunlockfile(tag)),
             Some((start, end)) => self.put_found(&mut frames, tag, start, end),

@@ -47,20 +47,20 @@ impl Host {
         self.say(frames, Hmesg::Hunlockfile(tag))
     }
 
-    /// Returns the frames for a paste of these runes at `p`. They are made before the paste, since it changes the dirty mark that they go
-    /// by.
+    /// Returns the frames for a paste of these runes at `p`, if the text has that place. They are made before the paste, since it changes
+    /// the dirty mark that they go by.
     #[tactic(auto, using(crate::proofs::FrameLaws::stamped_append))]
     fn paste_frames(&self, tag: u16, p: u32, runes: &[char]) -> Result<Vec<HFrame>, HostFault>
         requires count { self.now.taken + 1 < 2 ^ 64 }
-        requires place { p ≤ max_runes }
         requires limit { length runes.now ≤ max_runes }
-        ensures ok { IfOk result (λ frames. frames.items ≡ stamped (self.now.taken + 1) (told_paste self.now.files tag p runes.now)) }
+        ensures ok { p ≤ max_runes → IfOk result
+            (λ frames. frames.items ≡ stamped (self.now.taken + 1) (told_paste self.now.files tag p runes.now)) }
         ensures memory { OnErr result (result ≡ Err HostFault.OutOfMemory) }
     {
         let mut frames = Vec::new(self.alloc);
         self.grown(&mut frames, tag, p, runes)?;
         self.tell_dirty(&mut frames, tag)?;
-        self.end_paste(&mut frames, tag, p, p + runes.len() as u32)?;
+        self.end_paste(&mut frames, tag, p, p.saturating_add(runes.len() as u32))?;
         Ok(frames)
     }
 
@@ -77,14 +77,17 @@ impl Host {
         ensures count { self.new.taken ≡ self.old.taken }
         ensures unchanged { OnErr result (self.new ≡ self.old) }
     {
-        self.wants_place(tag, p)?;
+        self.wants_open(tag)?;
         let len = self.files.snarf_text().len();
         if len == 0 || self.files.passes_limit(tag, len) {
+            self.files.wants_place(tag, p)?;
             let mut frames = Vec::new(self.alloc);
             self.say(&mut frames, Hmesg::Hunlockfile(tag))?;
             return Ok(frames);
         }
-        let frames = self.paste_frames(tag, p, self.files.snarf_text().as_slice())?;
+        let Ok(frames) = self.paste_frames(tag, p, self.files.snarf_text().as_slice()) else {
+            return Err(self.without_memory(tag, p, p));
+        };
         self.files.paste(tag, p)?;
         Ok(frames)
     }
@@ -101,10 +104,12 @@ impl Host {
         ensures count { self.new.taken ≡ self.old.taken }
         ensures unchanged { OnErr result (self.new ≡ self.old) }
     {
-        self.wants_range(tag, p, q)?;
-        let mut frames = Vec::new(self.alloc);
-        self.say(&mut frames, Hmesg::Hsnarflen(q - p))?;
-        self.files.snarf(tag, p, q)?;
+        self.wants_open(tag)?;
+        let Ok(mut frames) = Vec::with_capacity(self.alloc, 1) else {
+            return Err(self.without_memory(tag, p, q));
+        };
+        let len = self.files.snarf(tag, p, q)?;
+        self.put(&mut frames, Hmesg::Hsnarflen(len));
         Ok(frames)
     }
 

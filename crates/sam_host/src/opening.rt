@@ -185,10 +185,12 @@ impl Host {
         ensures unchanged { OnErr result (self.new ≡ self.old) }
     {
         self.wants_other(tag)?;
-        self.wants_range(tag, p, q)?;
-        let mut frames = Vec::new(self.alloc);
-        self.say(&mut frames, Hmesg::Hcurrent(tag))?;
+        self.wants_open(tag)?;
+        let Ok(mut frames) = Vec::with_capacity(self.alloc, 1) else {
+            return Err(self.without_memory(tag, p, q));
+        };
         self.files.set_work(tag, p, q)?;
+        self.put(&mut frames, Hmesg::Hcurrent(tag));
         Ok(frames)
     }
 

@@ -1,7 +1,7 @@
 //! What the host reads of its files, and the tests of a message's tag and places that several kinds share.
 
 ghost use Rattle.std.specs.Prelude.{◌≡◌, ◌≤◌, ◌∷◌, [], ◌==◌, IfOk, OnOk, OnErr, Err, true, false, length};
-ghost use Rattle.sam_host.specs.Host.{unknown, is_command, not_opened, past_end, no_range};
+ghost use Rattle.sam_host.specs.Host.{unknown, is_command, not_opened, past_end, no_range, IsRefusal};
 ghost use Rattle.sam_runes.specs.Texts.{max_runes, part};
 ghost use Rattle.sam_runes.specs.Checks.{first_of_checks, unless};
 ghost use Rattle.sam_text.specs.Files.{has_file, file_at};
@@ -80,5 +80,17 @@ impl Host {
         self.files.file_facts(tag);
         self.files.wants_range(tag, p, q)?;
         Ok(())
+    }
+
+    /// Returns why a message about the range from `p` to `q` of an open file is refused where memory is refused: `BadPosition` if the text
+    /// has no such range, since that comes first; else `OutOfMemory`. Where memory is had, the call of `Files` tests the range.
+    pub(crate) fn without_memory(&self, tag: u16, p: u32, q: u32) -> HostFault
+        requires there { has_file self.now.files tag ≡ true }
+        ensures { IsRefusal (first_of_checks (no_range self.now tag p q ∷ [])) result }
+    {
+        match self.files.wants_range(tag, p, q) {
+            Ok(()) => HostFault::OutOfMemory,
+            Err(fault) => fault.into(),
+        }
     }
 }

@@ -10,6 +10,9 @@ use std::sync::Wait;
 use std::thread::Threads;
 use std::{env, io};
 
+/// The exit status for wrong words. `status_of` has those of the modes.
+const WRONG_WORDS: u8 = 2;
+
 /// Why the program did not come to its end.
 #[derive(Clone, Copy, Debug, PartialEq, Eq)]
 enum Fault {
@@ -92,9 +95,9 @@ fn say<R: Print + Eprint + Env + AllocGlobal>(rt: &R, fault: Fault) -> u8 {
     let (status, line) = match fault {
         Fault::Arguments => {
             say_usage(rt);
-            (2, "= fault arguments")
+            (WRONG_WORDS, "= fault arguments")
         }
-        Fault::Memory => (4, "= fault memory"),
+        Fault::Memory => (status_of(&Err(PlayFault::OutOfMemory)), "= fault memory"),
         Fault::Play(fault) => return status_of(&Err(fault)),
     };
     match rt.println(line) {

@@ -1,5 +1,5 @@
 -- Agreement, stretch by stretch.
-use Rattle.sam_rasp.proofs.Common.{◌≡◌, ℕ, ◌+◌, ◌≤◌, List, [], ◌∷◌, ◌++◌, map, take, drop, length, Some, None, arith, ◌↔◌, drop-drop, length-drop, PartialText, Agrees}
+use Rattle.sam_rasp.proofs.Common.{◌≡◌, ℕ, ◌+◌, List, ◌∷◌, ◌++◌, map, take, drop, length, Some, None, arith, ◌↔◌, drop-drop, PartialText, Agrees}
 
 -- a front and the rest, against a text
 pub agrees_parted : (c r : PartialText) (t : List ℕ) → Agrees (c ++ r) t → Agrees c (take (length c) t) × Agrees r (drop (length c) t)

@@ -22,10 +22,7 @@ pub(crate) fn read_all<R: Read>(alloc: Global, reader: &mut R) -> Result<Vec<u8>
     let mut buffer = [0u8; PIECE];
     let mut left = MOST_INPUT;
     while left > 0 {
-        let count = match read_piece(reader, &mut buffer, left) {
-            Ok(count) => count,
-            Err(fault) => return Err(fault),
-        };
+        let count = read_piece(reader, &mut buffer, left)?;
         if count == 0 {
             return Ok(bytes);
         }

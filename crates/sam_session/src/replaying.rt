@@ -7,6 +7,7 @@ ghost use Rattle.sam_session.specs.Status.{IsTold};
 
 use crate::fault::PlayFault;
 use crate::input::{read_all, write_or_tell};
+use sam_host::HostFault;
 use sam_script::{ScriptFault, replay_bytes};
 use sam_workers::Stop;
 use std::alloc::Global;
@@ -35,10 +36,7 @@ fn replay_lines<R: Read>(alloc: Global, reader: &mut R) -> Result<Vec<u8>, PlayF
     ensures ok { IfOk result (λ lines. IfSome (R.remaining reader.old) (λ input. IsReplay input lines.items)) }
     ensures fault { IfErr result (λ fault. IfSome (R.remaining reader.old) (λ input. IsReplayFault input fault)) }
 {
-    let input = match read_all(alloc, reader) {
-        Ok(input) => input,
-        Err(fault) => return Err(fault),
-    };
+    let input = read_all(alloc, reader)?;
     match replay_bytes(alloc, input.as_slice()) {
         Ok(lines) => Ok(lines),
         Err(fault) => Err(of_script(fault)),
@@ -51,7 +49,7 @@ pub(crate) fn of_script(fault: ScriptFault) -> PlayFault
 {
     match fault {
         ScriptFault::Line(line) => PlayFault::Script(line),
-        ScriptFault::CountFull => PlayFault::Side(Stop::Host(6)),
+        ScriptFault::CountFull => PlayFault::Side(Stop::from(HostFault::CountFull)),
         ScriptFault::OutOfMemory => PlayFault::OutOfMemory,
     }
 }

@@ -57,14 +57,8 @@ fn threads_lines<T: Threads + Wait + Sync, R: Read>(
     ensures ok { IfOk result (λ lines. IfSome (R.remaining reader.old) (λ input. IsThreaded input lines.items)) }
     ensures fault { IfErr result (λ fault. IfSome (R.remaining reader.old) (λ input. IsThreadsFault input fault)) }
 {
-    let script = match script_in(alloc, reader) {
-        Ok(script) => script,
-        Err(fault) => return Err(fault),
-    };
-    match session_lines(rt, alloc, script, piece, capacity) {
-        Ok(lines) => Ok(lines),
-        Err(fault) => Err(fault),
-    }
+    let script = script_in(alloc, reader)?;
+    session_lines(rt, alloc, script, piece, capacity)
 }
 
 /// Reads the script that the reader gives. The input is read whole before it is parsed, so the errors are those of the reading, and then
@@ -74,10 +68,7 @@ fn script_in<R: Read>(alloc: Global, reader: &mut R) -> Result<Script, PlayFault
     ensures ok { IfOk result (λ script. IfSome (R.remaining reader.old) (λ input. (length input ≤ most_input) × Spells input script)) }
     ensures fault { IfErr result (λ fault. IfSome (R.remaining reader.old) (λ input. IsUnread input fault)) }
 {
-    let input = match read_all(alloc, reader) {
-        Ok(input) => input,
-        Err(fault) => return Err(fault),
-    };
+    let input = read_all(alloc, reader)?;
     match Script::read(alloc, input.as_slice()) {
         Ok(script) => Ok(script),
         Err(fault) => Err(of_script(fault)),
@@ -102,11 +93,7 @@ fn session_lines<T: Threads + Wait + Sync>(
         Ok(settled) => settled,
         Err(fault) => return Err(of_run(fault)),
     };
-    let lines = match lines_of(alloc, &script, &settled) {
-        Ok(lines) => lines,
-        Err(fault) => return Err(fault),
-    };
-    Ok(lines)
+    lines_of(alloc, &script, &settled)
 }
 
 /// Returns what is written of a session that was settled. The errors are the fault of its stops, and then `OutOfMemory`.

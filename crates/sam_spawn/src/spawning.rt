@@ -9,8 +9,8 @@ use sam_queue::Line;
 use sam_runes::Runes;
 use sam_term::event::UserEvent;
 use sam_workers::{
-    Ends, Gate, HostEnd, HostTask, Input, ReaderEnd, TermEnd, UserEnd, pass_frames, run_terminal,
-    send_events, serve_host,
+    Ends, Gate, HostEnd, HostTask, Input, KEYBOARD, MOUSE, ReaderEnd, TermEnd, UserEnd,
+    pass_frames, run_terminal, send_events, serve_host,
 };
 use std::alloc::Global;
 use std::snapshot::Snapshot;
@@ -395,8 +395,8 @@ pub fn spawn_all<'s, 'e: 's, 'q: 's, R: Wait + Sync, G: Gate>(
     } = tasks;
     let (up, down, events) = (lines.up(), lines.down(), lines.events());
     let users = both(
-        spawn_user(scope, shared, 0, events, keyboard),
-        spawn_user(scope, shared, 1, events, mouse),
+        spawn_user(scope, shared, KEYBOARD, events, keyboard),
+        spawn_user(scope, shared, MOUSE, events, mouse),
     );
     let sides = both(
         spawn_host(scope, shared, up, down, host),

@@ -234,12 +234,8 @@ impl Terminal {
         ensures { IsAnswer self.old self.new result
             (done (sends (record self.old { held = drop 1 self.old.held }) unchanged (message ∷ []))) }
     {
-        match self.send(message) {
-            Ok(batch) => {
-                self.drop_first();
-                Ok(Acted::Done(batch))
-            }
-            Err(why) => Err(why),
-        }
+        let batch = self.send(message)?;
+        self.drop_first();
+        Ok(Acted::Done(batch))
     }
 }

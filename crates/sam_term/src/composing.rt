@@ -11,12 +11,12 @@ ghost use Rattle.sam_term.specs.Term.{flush_of, is_open, window_at, composed, un
 
 use crate::event::lock_of;
 use crate::fault::TermFault;
+use crate::loading::first_stretch;
 use crate::lock::{Lock, is_request};
 use crate::outbox::Outbox;
 use crate::records::Window;
 use crate::term::Terminal;
 use sam_mesg::{Batch, Tmesg};
-use sam_runes::MOST_IN_MESSAGE;
 
 impl Terminal {
     /// Composes the unsent runes, if there are any. Errors, in this order: `CountFull`; `OutOfMemory`. The terminal is then unchanged.
@@ -120,9 +120,7 @@ impl Terminal {
         if u64::MAX - self.sent < count as u64 {
             return Err(TermFault::CountFull);
         }
-        let Ok(out) = Outbox::with_room(self.alloc, count) else {
-            return Err(TermFault::OutOfMemory);
-        };
+        let out = Outbox::with_room(self.alloc, count)?;
         Ok(out)
     }
 
@@ -177,13 +175,8 @@ fn request_from(window: &Window, tag: u16, p: u32, n: u32) -> Option<Tmesg>
     ensures { result ≡ request_for tag (hole_within window.now.rasp p (min (p + n) (length window.now.rasp))) }
 {
     let end = p + n.min(window.rasp.len() - p);
-    match window.rasp.first_hole(p, end) {
-        Some(hole) => {
-            let count = (hole.1 - hole.0).min(MOST_IN_MESSAGE as u32) as u16;
-            Some(Tmesg::Trequest(tag, hole.0, count))
-        }
-        None => None,
-    }
+    let (start, asked) = first_stretch(&window.rasp, p, end)?;
+    Some(Tmesg::Trequest(tag, start, asked))
 }
 
 /// Returns the place where the view of a window ends: its start plus the wished length, or the end of the rasp if that comes first.

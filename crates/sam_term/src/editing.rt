@@ -100,15 +100,11 @@ impl Terminal {
             return Ok(self.done_quietly());
         };
         let count = 1 + self.unsent_count();
-        match self.prepare(count) {
-            Ok(mut out) => {
-                self.drop_first();
-                self.set_view(tag, p, n);
-                self.send_prepared(message, &mut out);
-                Ok(self.done_with(out))
-            }
-            Err(why) => Err(why),
-        }
+        let mut out = self.prepare(count)?;
+        self.drop_first();
+        self.set_view(tag, p, n);
+        self.send_prepared(message, &mut out);
+        Ok(self.done_with(out))
     }
 
     /// Does a `SetSnarf`: composes its runes as `Tsetsnarf`.

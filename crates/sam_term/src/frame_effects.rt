@@ -119,9 +119,7 @@ impl Terminal {
     fn take_setpat(&mut self, pattern: &Runes) -> Result<Batch, TermFault>
         ensures { IsAnswer self.old self.new result (countable (frame_outcome self.old (Hmesg.Hsetpat pattern.now))) }
     {
-        let Ok(copy) = pattern.copy(self.alloc) else {
-            return Err(TermFault::OutOfMemory);
-        };
+        let copy = pattern.copy(self.alloc)?;
         self.pattern = copy;
         Ok(self.nothing())
     }
@@ -131,9 +129,7 @@ impl Terminal {
     fn take_setsnarf(&mut self, text: &Runes) -> Result<Batch, TermFault>
         ensures { IsAnswer self.old self.new result (countable (frame_outcome self.old (Hmesg.Hsetsnarf text.now))) }
     {
-        let Ok(copy) = text.copy(self.alloc) else {
-            return Err(TermFault::OutOfMemory);
-        };
+        let copy = text.copy(self.alloc)?;
         self.snarf = copy;
         Ok(self.nothing())
     }
@@ -180,14 +176,10 @@ impl Terminal {
             return Ok(self.nothing());
         };
         let count = 1 + self.unsent_count();
-        match self.prepare(count) {
-            Err(why) => Err(why),
-            Ok(mut out) => {
-                self.free_lock(tag);
-                self.send_prepared(message, &mut out);
-                Ok(out.into_batch())
-            }
-        }
+        let mut out = self.prepare(count)?;
+        self.free_lock(tag);
+        self.send_prepared(message, &mut out);
+        Ok(out.into_batch())
     }
 
     /// Frees one lock of a file, which is open and has one.
@@ -230,9 +222,7 @@ impl Terminal {
             changed: false,
             window: None,
         };
-        if self.files.put_new(tag, file).is_err() {
-            return Err(TermFault::OutOfMemory);
-        }
+        self.files.put_new(tag, file)?;
         Ok(self.nothing())
     }
 
@@ -242,9 +232,7 @@ impl Terminal {
         requires { IsTrue (is_known self.old tag) }
         ensures { IsAnswer self.old self.new result (countable (frame_outcome self.old (Hmesg.Hmovname tag name.now))) }
     {
-        let Ok(copy) = name.copy(self.alloc) else {
-            return Err(TermFault::OutOfMemory);
-        };
+        let copy = name.copy(self.alloc)?;
         self.files.file_mut(tag).name = copy;
         Ok(self.nothing())
     }

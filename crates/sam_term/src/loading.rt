@@ -38,16 +38,12 @@ impl Terminal {
             self.set_view(tag, p, n);
             return Ok(self.done_quietly());
         }
-        match self.prepare(requests + self.unsent_count()) {
-            Ok(mut out) => {
-                self.drop_first();
-                self.set_view(tag, p, n);
-                self.compose_unsent(&mut out);
-                self.compose_requests(tag, requests, &mut out);
-                Ok(self.done_with(out))
-            }
-            Err(why) => Err(why),
-        }
+        let mut out = self.prepare(requests + self.unsent_count())?;
+        self.drop_first();
+        self.set_view(tag, p, n);
+        self.compose_unsent(&mut out);
+        self.compose_requests(tag, requests, &mut out);
+        Ok(self.done_with(out))
     }
 
     /// Returns how many requests an open file will want once it is shown from `p` on, `n` runes and gaps at most. Its view is still the
@@ -153,7 +149,7 @@ fn put_stretches(rasp: &Rasp, tag: u16, range: (u32, u32), out: &mut Outbox)
 
 /// Returns the first stretch of at most `MOST_IN_MESSAGE` gaps from `p` to `q`, by its start and its length, if there is one.
 #[tactic(auto, using(crate::proofs::Loads::stretch_facts))]
-fn first_stretch(rasp: &Rasp, p: u32, q: u32) -> Option<(u32, u16)>
+pub fn first_stretch(rasp: &Rasp, p: u32, q: u32) -> Option<(u32, u16)>
     requires ascending { p ≤ q }
     requires within { q ≤ length rasp.now }
     ensures stretch { result ≡ option_map front_of (hole_within rasp.now p q) }

@@ -13,7 +13,7 @@ pub struct Window {
     pub dot: (u32, u32),
     /// The place where the view begins. It is never past the end of the rasp.
     pub view_start: u32,
-    /// How many runes and gaps the view may show, as the last `View` wished: 0 before that. The rasp may end sooner.
+    /// How many runes and gaps the view may show, as the last `View` or `Load` wished: 0 before that. The rasp may end sooner.
     pub view_length: u32,
     /// How many locks of the file are held, the command lock aside. No event on the file acts unless it is 0, and it is never more than
     /// the number of messages that the terminal has composed.

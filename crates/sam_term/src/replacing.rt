@@ -143,23 +143,15 @@ impl Terminal {
         ensures { IsAnswer self.old self.new result (done (made_first self.old)) }
     {
         let composed = self.unsent_count() + cut_count(range) + count;
-        match self.prepare(composed) {
-            Ok(mut out) => {
-                let Ok(cut) = self.cut_first(range.0, count) else {
-                    return Err(TermFault::OutOfMemory);
-                };
-                let Ok(before) = self.replace_first(tag, range) else {
-                    return Err(TermFault::OutOfMemory);
-                };
-                self.mark_changed(tag);
-                self.drop_first();
-                self.compose_runes(before, &mut out);
-                self.compose_cut(tag, range, &mut out);
-                self.compose_pieces(tag, cut, &mut out);
-                Ok(self.done_with(out))
-            }
-            Err(why) => Err(why),
-        }
+        let mut out = self.prepare(composed)?;
+        let cut = self.cut_first(range.0, count)?;
+        let before = self.replace_first(tag, range)?;
+        self.mark_changed(tag);
+        self.drop_first();
+        self.compose_runes(before, &mut out);
+        self.compose_cut(tag, range, &mut out);
+        self.compose_pieces(tag, cut, &mut out);
+        Ok(self.done_with(out))
     }
 
     /// Returns the pieces of the text of the oldest event, an `Edit`. The only error is out of memory.

@@ -242,18 +242,12 @@ impl Terminal {
         requires joins { IsTrue (joins self.old.unsent tag dot.0 (typed_runes (first_event self.old.held))) }
         ensures { IsAnswer self.old self.new result (done (made_first self.old)) }
     {
-        match self.prepare(line_count(line)) {
-            Ok(mut out) => {
-                let Ok(_) = self.join_first(tag) else {
-                    return Err(TermFault::OutOfMemory);
-                };
-                self.mark_changed(tag);
-                self.drop_first();
-                self.compose_line(line, &mut out);
-                Ok(self.done_with(out))
-            }
-            Err(why) => Err(why),
-        }
+        let mut out = self.prepare(line_count(line))?;
+        self.join_first(tag)?;
+        self.mark_changed(tag);
+        self.drop_first();
+        self.compose_line(line, &mut out);
+        Ok(self.done_with(out))
     }
 
     /// Does a `Typed` whose runes join no unsent ones: these are composed first, and then the cut of the dot. The new runes are then
@@ -270,25 +264,19 @@ impl Terminal {
     {
         self.window_facts(tag);
         let count = self.unsent_count() + cut_count(dot) + line_count(line);
-        match self.prepare(count) {
-            Ok(mut out) => {
-                let Ok(before) = self.type_first(tag) else {
-                    return Err(TermFault::OutOfMemory);
-                };
-                self.mark_changed(tag);
-                let runes = self.take_typed();
-                self.compose_runes(before, &mut out);
-                self.compose_cut(tag, dot, &mut out);
-                let unsent = Unsent {
-                    file: tag,
-                    place: dot.0,
-                    runes,
-                };
-                self.keep_typed(unsent, line, &mut out);
-                Ok(self.done_with(out))
-            }
-            Err(why) => Err(why),
-        }
+        let mut out = self.prepare(count)?;
+        let before = self.type_first(tag)?;
+        self.mark_changed(tag);
+        let runes = self.take_typed();
+        self.compose_runes(before, &mut out);
+        self.compose_cut(tag, dot, &mut out);
+        let unsent = Unsent {
+            file: tag,
+            place: dot.0,
+            runes,
+        };
+        self.keep_typed(unsent, line, &mut out);
+        Ok(self.done_with(out))
     }
 
     /// Puts the runes of the oldest event in the place of the dot of their file, which is empty, and after the unsent ones, which they

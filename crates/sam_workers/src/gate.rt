@@ -3,6 +3,19 @@ ghost use Rattle.std.specs.Prelude.{ℕ, ◌<◌, IsFalse, IsTrue, Option, None,
 
 use std::sync::atomic::{AtomicU64, Ordering};
 
+/// The keyboard's number among the workers.
+pub const KEYBOARD: usize = 0;
+/// The mouse's number among the workers.
+pub const MOUSE: usize = 1;
+/// The host's number among the workers.
+pub(crate) const HOST: usize = 2;
+/// The host reader's number among the workers.
+pub(crate) const READER: usize = 3;
+/// The terminal's number among the workers.
+pub(crate) const TERMINAL: usize = 4;
+/// How many workers a session has.
+const WORKERS: usize = 5;
+
 /// Lets the workers of a session begin and go on, or stops them. All five ask the same gate, each from its own thread: keyboard 0, mouse
 /// 1, host 2, host reader 3, terminal 4. A test can use a gate of its own to stop a worker where it likes.
 pub trait Gate: Sync {
@@ -51,7 +64,7 @@ impl Gate for OpenGate {
 #[derive(Drop)]
 pub struct FlagGate {
     /// A flag for each worker, by its number: 0 until the worker has come to the gate, and 1 from then on.
-    flags: [AtomicU64; 5],
+    flags: [AtomicU64; WORKERS],
     /// How often a worker looks at the flags before it is refused.
     turns: u64,
 }

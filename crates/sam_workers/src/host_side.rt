@@ -22,7 +22,7 @@ ghost use Rattle.sam_workers.specs.declared.stop.Stop.TheVariants.{Gate as GateS
 
 use crate::drain::drop_rest;
 use crate::ends::HostEnd;
-use crate::gate::Gate;
+use crate::gate::{Gate, HOST};
 use crate::pieces::send_pieces;
 use crate::session_lines::Lines;
 use crate::stop::Stop;
@@ -92,10 +92,7 @@ impl HostSide<'_> {
         ensures handles { HandlesAll ⊥ self.old.host self.new.host self.old.post self.new.post (message ∷ []) result }
         ensures counted { self.new.host.taken ≤ self.old.host.taken + 1 }
     {
-        let frames = match self.host.handle(message) {
-            Ok(frames) => frames,
-            Err(why) => return Err(Stop::from(why)),
-        };
+        let frames = self.host.handle(message)?;
         let slice = frames.as_slice();
         frames_are_known(slice);
         match self.send(rt, slice) {
@@ -122,13 +119,10 @@ impl HostSide<'_> {
         ensures let_on { LetOn (G.must_refuse gate.now 2) self.old.host.taken self.new.host.taken }
     {
         for message in messages {
-            if !gate.go_on(2, self.host.taken()) {
+            if !gate.go_on(HOST, self.host.taken()) {
                 return Err(Stop::Gate);
             }
-            match self.answer(rt, message) {
-                Ok(()) => {}
-                Err(stop) => return Err(stop),
-            }
+            self.answer(rt, message)?;
         }
         Ok(())
     }
@@ -202,7 +196,7 @@ impl HostSide<'_> {
         ensures let_in { result.0 ≡ true → G.must_refuse gate.now 2 None → ⊥ }
         ensures let_on { LetOn (G.must_refuse gate.now 2) self.old.host.taken self.new.host.taken }
     {
-        if !gate.pass(2) {
+        if !gate.pass(HOST) {
             return (false, Some(Stop::Gate));
         }
         (true, self.serve(rt, gate, take))

@@ -19,7 +19,7 @@ mod users;
 
 pub use ends::{Ends, HostEnd, ReaderEnd, TermEnd, UserEnd};
 pub use feeding::{Fed, feed_terminal};
-pub use gate::{FlagGate, Gate, OpenGate};
+pub use gate::{FlagGate, Gate, KEYBOARD, MOUSE, OpenGate};
 pub use host_side::{HostTask, serve_host};
 pub use input::Input;
 pub use reader::pass_frames;

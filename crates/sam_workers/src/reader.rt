@@ -8,7 +8,7 @@ ghost use Rattle.sam_workers.specs.WorkerEnds.{ReaderTold};
 
 use crate::drain::drop_rest;
 use crate::ends::ReaderEnd;
-use crate::gate::Gate;
+use crate::gate::{Gate, READER};
 use crate::input::Input;
 use crate::stop::{Stop, stop_for};
 use sam_frame::FramerH;
@@ -16,9 +16,6 @@ use sam_mesg::HFrame;
 use sam_queue::{Got, Post, Take};
 use std::alloc::Global;
 use std::sync::Wait;
-
-/// The host reader's number among the workers.
-const WORKER: usize = 3;
 
 /// Takes the pieces of the host's stream, sends each frame on to the terminal, and returns the worker's end. It is worker 3, the host
 /// reader. It waits while the line down is empty or the line of events is full.
@@ -43,7 +40,7 @@ pub fn pass_frames<'q, R: Wait, G: Gate>(
     ensures let_in { result.passed ≡ true → G.must_refuse gate.now 3 None → ⊥ }
     ensures let_on { LetOn (G.must_refuse gate.now 3) 0 (length result.post.put) }
 {
-    if !gate.pass(WORKER) {
+    if !gate.pass(READER) {
         return leave(rt, take, post, false, Stop::Gate);
     }
     match pass_pieces(rt, alloc, gate, &mut take, &mut post) {
@@ -157,7 +154,7 @@ fn send_on<R: Wait, G: Gate>(
     ensures let_on { LetOn (G.must_refuse gate.now 3) (length post.old.put) (length post.new.put) }
 {
     for frame in frames {
-        if !gate.go_on(WORKER, *handled) {
+        if !gate.go_on(READER, *handled) {
             return Some(Stop::Gate);
         }
         if post.send(rt, Input::Host(frame)).is_err() {

@@ -9,7 +9,7 @@ ghost use Rattle.sam_workers.specs.WorkerEnds.{TermTold};
 ghost use Rattle.sam_workers.specs.TermMoments.{Goes, IsDone, IsFound, IsTried, IsQuiet, MayExit, new_side};
 
 use crate::ends::TermEnd;
-use crate::gate::Gate;
+use crate::gate::{Gate, TERMINAL};
 use crate::input::Input;
 use crate::logged_terminal::LoggedTerminal;
 use crate::stop::Stop;
@@ -280,7 +280,7 @@ impl<'q> Side<'q> {
                 Found::Entry
             }
             Got::Item(sender, input) => {
-                if !gate.go_on(4, self.handled) {
+                if !gate.go_on(TERMINAL, self.handled) {
                     self.stop = Some(Stop::Gate);
                     return Found::Entry;
                 }
@@ -517,7 +517,7 @@ pub fn run_terminal<'q, R: Wait, G: Gate>(
     ensures let_in { result.passed ≡ true → G.must_refuse gate.now 4 None → ⊥ }
     ensures let_on { TermLetOn (G.must_refuse gate.now 4) result }
 {
-    let passed = gate.pass(4);
+    let passed = gate.pass(TERMINAL);
     let stop = if passed { None } else { Some(Stop::Gate) };
     let term = Terminal::new(alloc);
     let mut side = Side::new(alloc, piece, take, post, term, stop);

@@ -3,6 +3,7 @@ use Rattle.sam_world.proofs.Common.{◌≡◌, refl, ap, ◌∙◌, ℕ, suc, tr
 use Rattle.sam_term.specs.Sound.{IsSound}
 use Rattle.sam_mesg.specs.TerminalKinds.{fits_t}
 use Rattle.sam_term.proofs.Fits.{act_fits, flushed_fits, taken_fits}
+use Rattle.sam_crossing.proofs.OrderLaws.{refused_act}
 use Rattle.sam_world.proofs.Within.{reached_step, answered_fits}
 
 fit_rest : {X : Type 0} (P : X → Type 0) (xs : List X) → All P xs → All P (drop 1 xs)
@@ -28,6 +29,9 @@ kept_done w t ms up k s a same = rw same (record {
 pub kept_silent : (w : PlainWorld) (t : PlainTerminal) (acted : Acted) (up : List Tmesg)
     → IsSoundWorld w → act_of w.term ≡ Ok (t, acted) → composed_by acted ≡ [] → up ≡ w.up → IsSoundWorld (record { host = w.host; term = t; up = up; down = w.down })
 kept_silent w t acted up k a none same = grind (arith, append-nil, (reached_step w _ Act k.reached (ap (λ x. after_act w x) a)))
+
+-- what an act of the oldest held event keeps, and how one is refused
+pub ruleset act_facts = (kept_done, kept_silent, refused_act)
 
 pub kept_flush : (w : PlainWorld) (t : PlainTerminal) (ms up : List Tmesg)
     → IsSoundWorld w → IsSound w.term → flush_of w.term ≡ Ok (t, ms) → up ≡ w.up ++ ms → IsSoundWorld (record { host = w.host; term = t; up = up; down = w.down })

@@ -4,9 +4,9 @@ use Rattle.sam_term.proofs.Composes.{sends-sent}
 use Rattle.sam_term.proofs.Edits.{later, made-view}
 use Rattle.sam_term.proofs.term.Terminal.make_view.Goals as goal
 
-pub returns-in-Err : goal.returns-in-Err
+pub returns-in_err-out : goal.returns-in_err-out
 unfolding done
-returns-in-Err c =
+returns-in_err-out c =
     let t = shown_from (later c.args.self.now) c.args.tag c.args.p c.args.n in
     let e = View c.args.tag c.args.p c.args.n in
     grind (arith, (made_of c.args.self.now e c.requires.first), (made-view (later c.args.self.now) c.args.tag c.args.p c.args.n c.in-Some.message), (sends-sent t c.in-Some.message))

@@ -3,9 +3,9 @@ use Rattle.sam_term.proofs.Composes.{sends-sent}
 use Rattle.sam_term.proofs.Requests.{wanted-unlocked, requested_some, sent-unlocked, unsent-unlocked}
 use Rattle.sam_term.proofs.term.Terminal.take_unlockfile.Goals as goal
 
-pub returns-in-Err : goal.returns-in-Err
+pub returns-in_err-out : goal.returns-in_err-out
 unfolding countable
-returns-in-Err c =
+returns-in_err-out c =
     let t = c.args.self.now in
     let u = took_unlockfile t c.args.tag in
     let m = c.in-Some.message in
