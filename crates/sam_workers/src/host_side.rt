@@ -92,7 +92,10 @@ impl HostSide<'_> {
         ensures handles { HandlesAll ⊥ self.old.host self.new.host self.old.post self.new.post (message ∷ []) result }
         ensures counted { self.new.host.taken ≤ self.old.host.taken + 1 }
     {
-        let frames = self.host.handle(message)?;
+        let frames = match self.host.handle(message) {
+            Ok(frames) => frames,
+            Err(why) => return Err(Stop::from(why)),
+        };
         let slice = frames.as_slice();
         frames_are_known(slice);
         match self.send(rt, slice) {
@@ -122,7 +125,10 @@ impl HostSide<'_> {
             if !gate.go_on(HOST, self.host.taken()) {
                 return Err(Stop::Gate);
             }
-            self.answer(rt, message)?;
+            match self.answer(rt, message) {
+                Ok(()) => {}
+                Err(stop) => return Err(stop),
+            }
         }
         Ok(())
     }
