@@ -93,7 +93,11 @@ fn session_lines<T: Threads + Wait + Sync>(
         Ok(settled) => settled,
         Err(fault) => return Err(of_run(fault)),
     };
-    lines_of(alloc, &script, &settled)
+    let lines = match lines_of(alloc, &script, &settled) {
+        Ok(lines) => lines,
+        Err(fault) => return Err(fault),
+    };
+    Ok(lines)
 }
 
 /// Returns what is written of a session that was settled. The errors are the fault of its stops, and then `OutOfMemory`.
