@@ -9,7 +9,8 @@ use sam_runes::Runes;
 use sam_term::event::UserEvent;
 use sam_term::fault::{Refusal, TermFault};
 use sam_term::term::Terminal;
-use sam_test_support::lent;
+use sam_test_support::{lent, told_of};
+use std::alloc::{AllocError, Global};
 use std::test::Fail;
 
 #[test]
@@ -216,15 +217,95 @@ fn a_closed_file_has_no_dot(rt: HostRuntime) {
     assert_eq!(rt; told, (true, true, true, None));
 }
 
-#[test]
-fn copies_of_events(rt: HostRuntime) -> Result<(), Fail> {
-    let alloc = rt.alloc();
-    match UserEvent::Typed(1, Runes::from_str(alloc, "ab")?).copy(alloc)? {
-        UserEvent::Typed(tag, text) => {
-            assert_eq!(rt; tag, 1);
-            assert_eq!(rt; text.as_slice(), ['a', 'b'].as_slice());
-        }
-        _ => assert!(rt; false),
+/// An event of each kind. All numbers of one differ.
+fn each_kind(alloc: Global) -> Result<[UserEvent; 25], AllocError> {
+    let typed = Runes::from_str(alloc, "ab")?;
+    let put_in = Runes::from_str(alloc, "c\n")?;
+    let snarfed = Runes::from_str(alloc, "é")?;
+    Ok([
+        UserEvent::Typed(1, typed),
+        UserEvent::Select(2, 3, 4),
+        UserEvent::Cut(5),
+        UserEvent::Paste(6),
+        UserEvent::Snarf(7),
+        UserEvent::Look(8),
+        UserEvent::Search(9),
+        UserEvent::Send(10),
+        UserEvent::Dclick(11, 12),
+        UserEvent::Scroll(13, 14),
+        UserEvent::View(15, 16, 17),
+        UserEvent::Load(18, 19, 20),
+        UserEvent::Edit(21, 22, 23, put_in),
+        UserEvent::Open(24),
+        UserEvent::Close(25),
+        UserEvent::Write(26),
+        UserEvent::Work(27),
+        UserEvent::OpenCmd,
+        UserEvent::New,
+        UserEvent::Exit,
+        UserEvent::Check(28),
+        UserEvent::GetSnarf,
+        UserEvent::SetSnarf(snarfed),
+        UserEvent::Version(29),
+        UserEvent::Flush,
+    ])
+}
+
+/// The kind of an event, its tag or version, its other numbers, and its text: 0 and no text where it has none.
+type Parts<'a> = (&'static str, u16, u32, u32, &'a [char]);
+
+fn parts(event: &UserEvent) -> Parts<'_> {
+    match event {
+        UserEvent::Typed(tag, text) => ("type", *tag, 0, 0, text.as_slice()),
+        UserEvent::Select(tag, p, q) => ("select", *tag, *p, *q, &[]),
+        UserEvent::Cut(tag) => ("cut", *tag, 0, 0, &[]),
+        UserEvent::Paste(tag) => ("paste", *tag, 0, 0, &[]),
+        UserEvent::Snarf(tag) => ("snarf", *tag, 0, 0, &[]),
+        UserEvent::Look(tag) => ("look", *tag, 0, 0, &[]),
+        UserEvent::Search(tag) => ("search", *tag, 0, 0, &[]),
+        UserEvent::Send(tag) => ("send", *tag, 0, 0, &[]),
+        UserEvent::Dclick(tag, p) => ("dclick", *tag, *p, 0, &[]),
+        UserEvent::Scroll(tag, n) => ("scroll", *tag, *n, 0, &[]),
+        UserEvent::View(tag, p, n) => ("view", *tag, *p, *n, &[]),
+        UserEvent::Load(tag, p, n) => ("load", *tag, *p, *n, &[]),
+        UserEvent::Edit(tag, p, q, text) => ("edit", *tag, *p, *q, text.as_slice()),
+        UserEvent::Open(tag) => ("open", *tag, 0, 0, &[]),
+        UserEvent::Close(tag) => ("close", *tag, 0, 0, &[]),
+        UserEvent::Write(tag) => ("write", *tag, 0, 0, &[]),
+        UserEvent::Work(tag) => ("work", *tag, 0, 0, &[]),
+        UserEvent::OpenCmd => ("opencmd", 0, 0, 0, &[]),
+        UserEvent::New => ("new", 0, 0, 0, &[]),
+        UserEvent::Exit => ("exit", 0, 0, 0, &[]),
+        UserEvent::Check(tag) => ("check", *tag, 0, 0, &[]),
+        UserEvent::GetSnarf => ("getsnarf", 0, 0, 0, &[]),
+        UserEvent::SetSnarf(text) => ("setsnarf", 0, 0, 0, text.as_slice()),
+        UserEvent::Version(version) => ("version", *version, 0, 0, &[]),
+        UserEvent::Flush => ("flush", 0, 0, 0, &[]),
     }
-    Ok(())
+}
+
+/// Whether the event is copied as it is.
+fn is_copied(alloc: Global, event: &UserEvent) -> bool {
+    told_of(event.copy(alloc), |copy| match copy {
+        Ok(copy) => parts(copy) == parts(event),
+        Err(_) => false,
+    })
+}
+
+/// The number of the last of these events, counted from 0, that is not copied as it is.
+fn wrong_copy(alloc: Global) -> Result<Option<usize>, AllocError> {
+    let mut wrong: Option<usize> = None;
+    let mut at = 0usize;
+    for event in each_kind(alloc)? {
+        if !told_of(event, |event| is_copied(alloc, event)) {
+            wrong = Some(at);
+        }
+        at = at.wrapping_add(1);
+    }
+    Ok(wrong)
+}
+
+#[test]
+fn copies_of_events(rt: HostRuntime) {
+    assert_eq!(rt; wrong_copy(rt.alloc()), Ok(None));
 }
