@@ -76,6 +76,9 @@ const EACH_KIND: &str = "file a\\b é\\\\\\n|\n\
     k dclick 7 8\n\
     k scroll 9 10\n\
     k view 11 12 13\n\
+    k load 19 20 21\n\
+    k edit 22 23 24 Z \\\\\\n \n\
+    k edit 0 0 0 \n\
     k open 14\n\
     k close 15\n\
     k write 16\n\
@@ -144,6 +147,26 @@ const HELLO: &str =
 const SHOWN: &str =
     "= h 0 o c ~~sam~~ |,x/l/d\\n|\n= h 1 o d a |Xheo\\n|\n= t 0 0 7 7 |,x/l/d\\n|\n= t 1 0 0 5 |X\\_\\_\\_\\_|\n= s 0 7 7 0 0 0\n";
 
+/// An edit that waits for a paste, step by step, as docs/SCRIPTS.md shows it; before the user leaves, what is unsent is flushed.
+const CROSSING: &str = "file file hello\n\
+    k version 2\nk open 1\nk view 1 0 3\ndrain\n\
+    k select 1 0 2\nk cut 1\nk select 1 3 3\nk paste 1\nk select 1 5 5\nk type 1 !\n\
+    act\nact\nact\nact\nact\nshow\n\
+    host\nhost\nhost\nterm\nterm\nterm\nterm\nterm\nact\nshow\n\
+    host\nterm\nterm\nact\nact\nshow\n\
+    flush\nshow\n\
+    host\nshow\n\
+    k exit\ndrain\nshow\n";
+
+/// What it shows. The flush makes one message of `!`, which the host then takes.
+const CROSSED: &str =
+    "= h 0 - c ~~sam~~ ||\n= h 1 o c file |hello|\n= t 1 1 3 3 |l\\_\\_|\n= s 0 7 4 0 3 0\n\
+    = h 0 - c ~~sam~~ ||\n= h 1 o d file |llohe|\n= t 1 1 3 5 |l\\_\\_he|\n= s 0 8 7 0 1 0\n\
+    = h 0 - c ~~sam~~ ||\n= h 1 o d file |llohe|\n= t 1 0 6 6 |llohe!|\n= s 0 8 8 1 0 0\n\
+    = h 0 - c ~~sam~~ ||\n= h 1 o d file |llohe|\n= t 1 0 6 6 |llohe!|\n= s 0 9 8 0 1 0\n\
+    = h 0 - c ~~sam~~ ||\n= h 1 o d file |llohe!|\n= t 1 0 6 6 |llohe!|\n= s 0 9 9 0 0 0\n\
+    = h 0 - c ~~sam~~ ||\n= h 1 o d file |llohe!|\n= t 1 0 6 6 |llohe!|\n= s 0 10 10 0 0 0\n";
+
 /// Whether a script shows this when it is replayed, when it is replayed again, and when a replay uses it up.
 fn shows(alloc: Global, text: &str, shown: &str) -> Result<[bool; 3], ScriptFault> {
     let script = Script::read(alloc, text.as_bytes())?;
@@ -159,5 +182,9 @@ fn shows(alloc: Global, text: &str, shown: &str) -> Result<[bool; 3], ScriptFaul
 
 #[test]
 fn a_script_is_replayed_again_and_used_up(rt: HostRuntime) {
-    assert_eq!(rt; shows(rt.alloc(), HELLO, SHOWN), Ok([true; 3]));
+    let told = [
+        shows(rt.alloc(), HELLO, SHOWN),
+        shows(rt.alloc(), CROSSING, CROSSED),
+    ];
+    assert_eq!(rt; told, [Ok([true; 3]), Ok([true; 3])]);
 }
