@@ -16,6 +16,10 @@ const WAKES: u64 = 30;
 /// How many of these wakes have to come soon.
 const MANY: u64 = 18;
 
+/// Most rounds of these wakes. One in which many come soon is enough, since a busy machine can spoil a round. Where nothing wakes an end,
+/// hardly any wake of any round comes soon.
+const ROUNDS: u32 = 3;
+
 /// Soon, in microseconds: a quarter of the longest sleep of an end.
 const SOON: u64 = 6_400;
 
@@ -27,6 +31,27 @@ const GLANCE: u64 = 100;
 
 /// Looks at a count that doesn't move, before a test gives up: ten seconds or more.
 const GLANCES: u32 = 100_000;
+
+/// How many wakes of a round came soon, if it could be made.
+type Round = Result<Option<io::Result<u64>>, OutOfMemory>;
+
+// Whether many wakes came soon.
+fn are_many(soon: &Round) -> bool {
+    matches!(soon, Ok(Some(Ok(MANY..))))
+}
+
+// The first round in which many wakes came soon, or else the last.
+fn best_of<F: FnMut() -> Round>(mut round: F) -> Round
+    requires { F.IsAlwaysCallable round }
+{
+    for _ in 1..ROUNDS {
+        let soon = round();
+        if are_many(&soon) {
+            return soon;
+        }
+    }
+    round()
+}
 
 /// What an end that waits and the thread that wakes it share.
 #[derive(Drop)]
@@ -119,10 +144,7 @@ fn join_by_items(
 }
 
 // How often an item woke the take of a new line soon, where it has one post.
-fn woken_by_items(
-    rt: &(impl Wait + Threads + Clock + Sync),
-    alloc: Global,
-) -> Result<Option<io::Result<u64>>, OutOfMemory> {
+fn woken_by_items(rt: &(impl Wait + Threads + Clock + Sync), alloc: Global) -> Round {
     let watch = Watch::new();
     tried(alloc, 1, 1, |posts, take| {
         let [post] = posts else {
@@ -134,8 +156,8 @@ fn woken_by_items(
 
 #[test]
 fn what_is_put_wakes_the_taker(rt: HostRuntime) {
-    let soon = woken_by_items(&rt, rt.alloc());
-    assert!(rt; matches!(soon, Ok(Some(Ok(MANY..)))), "{soon:?}");
+    let soon = best_of(|| woken_by_items(&rt, rt.alloc()));
+    assert!(rt; are_many(&soon), "{soon:?}");
 }
 
 // Takes an entry of another line each time that the end has just begun to sleep, and counts how often that woke it soon.
@@ -180,10 +202,7 @@ fn join_from_afar(
 }
 
 // How often what was taken from a line woke the take of another line soon.
-fn woken_from_afar(
-    rt: &(impl Wait + Threads + Clock + Sync),
-    alloc: Global,
-) -> Result<Option<io::Result<u64>>, OutOfMemory> {
+fn woken_from_afar(rt: &(impl Wait + Threads + Clock + Sync), alloc: Global) -> Round {
     let watch = Watch::new();
     let (line, start) = Line::<u32>::new(alloc, 1, 1)?;
     let (other, other_start) = Line::<u32>::new(alloc, 1, 1)?;
@@ -202,8 +221,8 @@ fn woken_from_afar(
 
 #[test]
 fn what_is_taken_wakes_the_taker_of_another_line(rt: HostRuntime) {
-    let soon = woken_from_afar(&rt, rt.alloc());
-    assert!(rt; matches!(soon, Ok(Some(Ok(MANY..)))), "{soon:?}");
+    let soon = best_of(|| woken_from_afar(&rt, rt.alloc()));
+    assert!(rt; are_many(&soon), "{soon:?}");
 }
 
 /// Milliseconds. Longer than an end gives way, and than its first sleeps take.
@@ -250,10 +269,7 @@ fn join_by_room(
 }
 
 // How often an item that was taken woke the sender of a new line soon, where it has one post.
-fn woken_by_room(
-    rt: &(impl Wait + Threads + Clock + Sync),
-    alloc: Global,
-) -> Result<Option<io::Result<u64>>, OutOfMemory> {
+fn woken_by_room(rt: &(impl Wait + Threads + Clock + Sync), alloc: Global) -> Round {
     let watch = Watch::new();
     tried(alloc, 1, 1, |posts, take| {
         let [post] = posts else {
@@ -265,8 +281,8 @@ fn woken_by_room(
 
 #[test]
 fn what_is_taken_wakes_the_sender(rt: HostRuntime) {
-    let soon = woken_by_room(&rt, rt.alloc());
-    assert!(rt; matches!(soon, Ok(Some(Ok(MANY..)))), "{soon:?}");
+    let soon = best_of(|| woken_by_room(&rt, rt.alloc()));
+    assert!(rt; are_many(&soon), "{soon:?}");
 }
 
 /// Waits of an end in a row, of which some give way and the others sleep.

@@ -247,13 +247,14 @@ fn changes_of_a_new_file(rt: HostRuntime) {
     let told = with_file(alloc, &['x', 'y'], |files| {
         (
             files.insert(1, 3, ['z'].as_slice()),
-            files.reserve(1, 1),
+            files.reserve(1, 3),
+            files.room(1) >= 3,
             files.insert(1, 2, ['z'].as_slice()),
             spells(files, 1, "xyz"),
         )
     });
     let bad_position = Err(FilesFault::BadPosition);
-    assert_eq!(rt; told, Some((bad_position, Ok(()), Ok(()), true)));
+    assert_eq!(rt; told, Some((bad_position, Ok(()), true, Ok(()), true)));
 }
 
 /// Makes the changes of file 1, and returns how many it made.
