@@ -312,8 +312,14 @@ fn use_up<R: Threads + Wait + Sync>(
     run_outcome(alloc, script, run)
 }
 
+/// Whether a session that uses up a script of its own comes to its end.
+fn uses_up_whole<R: Threads + Wait + Sync>(rt: &R, alloc: Global) -> Tried {
+    let mut script = Script::read(alloc, SCRIPT.as_bytes())?;
+    Ok(use_up(rt, alloc, &mut script)? == Outcome::Whole)
+}
+
 /// A session that uses its script up comes to its end. Where memory is refused, the call says so with the script as it was, and can be made
-/// again; or the lines of the script are gone, and what settled replays as far as it came.
+/// again; or the lines of the script are gone, and what settled replays as far as it came. Then another script comes to its end.
 pub fn use_up_script<R: Threads + Wait + Sync>(rt: &R, alloc: Global) -> Tried {
     let mut script = Script::read(alloc, SCRIPT.as_bytes())?;
     let whole = script.lines().len();
@@ -321,7 +327,7 @@ pub fn use_up_script<R: Threads + Wait + Sync>(rt: &R, alloc: Global) -> Tried {
     let left = script.lines().len();
     Ok(match came_to {
         Outcome::Whole => left == 0,
-        Outcome::Short if left == 0 => true,
+        Outcome::Short if left == 0 => uses_up_whole(rt, alloc)?,
         Outcome::Short => left == whole && use_up(rt, alloc, &mut script)? == Outcome::Whole,
         Outcome::Wrong => false,
     })
