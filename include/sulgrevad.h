@@ -13,7 +13,7 @@
  * Words. A tag is a file's number. Tag 0 is the command file: a line that is typed into it is run as a command. The dot is what is
  * selected. The snarf buffer, which the host holds, has what was cut or copied last. A lock holds events back until the host has
  * answered. A message goes to the host, a frame to the terminal. docs/GLOSSARY.md explains the other words, docs/PROTOCOL.md the
- * messages (Twrite, Texit), docs/COMMANDS.md the command language.
+ * messages (Twrite, Texit), docs/COMMANDS.md the command language. An install has these pages in share/doc/sulgrevad.
  *
  * Units. Places and lengths of texts count runes (Unicode scalar values); a text has at most 1,000,000. Texts go in and out as
  * UTF-8 (RFC 3629), and their lengths in bytes stand beside the pointer. The runes that a terminal draws go out as numbers. Names
@@ -29,12 +29,12 @@
  * pointers. After SAM_NO_HANDLE, SAM_NO_MEMORY and SAM_NONE, and where a comment below says 'refused', what the pointers lead to is as
  * it was. A handle that has stopped says why at each feed, even of no bytes.
  *
- * Tags without a file. A tag that was never given and the tag of a closed file are treated alike. Asked about such a tag, the calls
- * that answer yes or no (sam_host_has_file, sam_term_is_known, _is_open, _is_changed) return SAM_OK and hand out false, and
- * sam_term_locked says whether the command lock is held; all other readers return SAM_NONE. Of a known file that is not open a
- * terminal has the name and the dirty mark alone: the readers of texts, dots and views return SAM_NONE there too. An event for a
- * file that is not known or not open returns SAM_OK like any other, and is refused when it comes to act: sam_term_next_refusal
- * then names SAM_REFUSAL_NO_FILE or SAM_REFUSAL_NOT_OPEN.
+ * Tags without a file. A tag that was never given and the tag of a closed file are treated alike. Asked about such a tag,
+ * sam_host_has_file, sam_term_is_known, sam_term_is_open and sam_term_is_changed return SAM_OK and hand out false, and
+ * sam_term_locked says whether the command lock is held; all other readers, both _is_dirty too, return SAM_NONE. Of a known file
+ * that is not open a terminal has the name and the dirty mark alone: the readers of texts, dots and views return SAM_NONE there
+ * too. An event for a file that is not known or not open returns SAM_OK like any other, and is refused when it comes to act:
+ * sam_term_next_refusal then names SAM_REFUSAL_NO_FILE or SAM_REFUSAL_NOT_OPEN.
  *
  * Out of memory. Nothing is lost, and no handle ends. At SAM_NO_MEMORY what the call brought was not taken: make the same call
  * again. At SAM_UNFINISHED it was taken: don't bring it again. The next feed goes on with what waits; at a terminal so does the next
@@ -84,7 +84,8 @@ uint32_t sam_library_version(void);
 #endif
 #endif
 
-/* Each family of faults has a range of its own: the first number of the range and the fault's number. */
+/* Each family of faults has a range. A status is the range's first number plus the fault's number: of a stream, a message, a frame or an
+ * event that of docs/PROTOCOL.md. */
 enum sam_status {
     SAM_OK = 0,
     SAM_NO_MEMORY = 1,  /* what the call brought was not taken: make it again */
@@ -125,15 +126,15 @@ enum sam_status {
     SAM_TERM_LOCK_NOT_HELD = SAM_TERM_REFUSED + 7,
     SAM_TERM_COUNT_FULL = SAM_TERM_REFUSED + 8,
 
-    SAM_REFUSAL = 128, /* the reasons that sam_term_next_refusal gives; the terminal goes on */
-    SAM_REFUSAL_EXITED = SAM_REFUSAL + 1,
-    SAM_REFUSAL_NO_FILE = SAM_REFUSAL + 2,
-    SAM_REFUSAL_NOT_OPEN = SAM_REFUSAL + 3,
-    SAM_REFUSAL_BAD_POSITION = SAM_REFUSAL + 4,
-    SAM_REFUSAL_TOO_LONG = SAM_REFUSAL + 5,
-    SAM_REFUSAL_TEXT_TOO_LONG = SAM_REFUSAL + 6,
-    SAM_REFUSAL_COMMAND_FILE = SAM_REFUSAL + 7,
-    SAM_REFUSAL_BAD_VERSION = SAM_REFUSAL + 8,
+    SAM_REFUSAL = 128,                           /* the reasons that sam_term_next_refusal gives; the terminal goes on */
+    SAM_REFUSAL_EXITED = SAM_REFUSAL + 1,        /* the session is over */
+    SAM_REFUSAL_NO_FILE = SAM_REFUSAL + 2,       /* the terminal knows no file of this tag */
+    SAM_REFUSAL_NOT_OPEN = SAM_REFUSAL + 3,      /* the file is not open */
+    SAM_REFUSAL_BAD_POSITION = SAM_REFUSAL + 4,  /* a place is after the end, or the end of a range before its start */
+    SAM_REFUSAL_TOO_LONG = SAM_REFUSAL + 5,      /* the file would have more than 1,000,000 runes */
+    SAM_REFUSAL_TEXT_TOO_LONG = SAM_REFUSAL + 6, /* sam_term_type: more than 512 runes; sam_term_set_snarf: too many bytes */
+    SAM_REFUSAL_COMMAND_FILE = SAM_REFUSAL + 7,  /* sam_term_open, _close, _write, _work or _edit of tag 0 */
+    SAM_REFUSAL_BAD_VERSION = SAM_REFUSAL + 8,   /* sam_term_offer_version of 0 */
 
     SAM_SCRIPT = 160, /* why sam_replay did not replay a script */
     SAM_SCRIPT_LINE = SAM_SCRIPT + 1,
@@ -300,9 +301,9 @@ SAM_MUST_USE sam_status sam_term_type(sam_term *term, uint16_t tag, const uint8_
 
 /* Puts a text of any length in the place of the runes from start to end, all or nothing; an empty one takes them out. The places are
  * those of the file's text when the event acts. The dot moves as other places do, and the snarf buffer stays as it is. Refused by
- * number, in this order, and nothing is changed then: SAM_REFUSAL_NO_FILE, SAM_REFUSAL_COMMAND_FILE for tag 0, SAM_REFUSAL_NOT_OPEN,
- * SAM_REFUSAL_BAD_POSITION if end is below start or after the end of the file, SAM_REFUSAL_TOO_LONG if the file would have more than
- * 1,000,000 runes. */
+ * number, in this order, and nothing is changed then: SAM_REFUSAL_EXITED, SAM_REFUSAL_NO_FILE, SAM_REFUSAL_COMMAND_FILE for tag 0,
+ * SAM_REFUSAL_NOT_OPEN, SAM_REFUSAL_BAD_POSITION if end is below start or after the end of the file, SAM_REFUSAL_TOO_LONG if the file
+ * would have more than 1,000,000 runes. */
 SAM_MUST_USE sam_status sam_term_edit(sam_term *term, uint16_t tag, uint32_t start, uint32_t end, const uint8_t *text, size_t len);
 
 /* Sets the dot. */
@@ -311,10 +312,10 @@ SAM_MUST_USE sam_status sam_term_select(sam_term *term, uint16_t tag, uint32_t s
 /* Selects the word round a place. */
 SAM_MUST_USE sam_status sam_term_dclick(sam_term *term, uint16_t tag, uint32_t place);
 
-/* Selects the next occurrence of the dot's text, which becomes the pattern. */
+/* Selects the next occurrence of the dot's text, which becomes the pattern. Does nothing if the dot is empty or has more than 128 runes. */
 SAM_MUST_USE sam_status sam_term_look(sam_term *term, uint16_t tag);
 
-/* Selects the next occurrence of the pattern. */
+/* Selects the next occurrence of the pattern. Does nothing if there is no pattern or no occurrence. */
 SAM_MUST_USE sam_status sam_term_search(sam_term *term, uint16_t tag);
 
 /* Sends the typed runes, once the events before this one have acted. */
@@ -328,7 +329,8 @@ SAM_MUST_USE sam_status sam_term_cut(sam_term *term, uint16_t tag);
 /* Copies the dot into the snarf buffer. */
 SAM_MUST_USE sam_status sam_term_snarf(sam_term *term, uint16_t tag);
 
-/* Puts the snarf buffer in the place of the dot. */
+/* Puts the snarf buffer in the place of the dot, and selects it. If the buffer is empty, or the file would have more than 1,000,000 runes,
+ * only the dot goes. */
 SAM_MUST_USE sam_status sam_term_paste(sam_term *term, uint16_t tag);
 
 /* Asks for the host's snarf buffer: sam_term_snarfed then has it. */
@@ -357,7 +359,8 @@ SAM_MUST_USE sam_status sam_term_check(sam_term *term, uint16_t tag);
 /* Opens a file; command lines work on it then. All other events that name a file want it open. */
 SAM_MUST_USE sam_status sam_term_open(sam_term *term, uint16_t tag);
 
-/* Makes an empty file, and opens it; command lines work on it then. */
+/* Makes an empty file, and opens it; command lines work on it then. If all tags are given it makes none, and the command file says
+ * `? no tag`. */
 SAM_MUST_USE sam_status sam_term_new_file(sam_term *term);
 
 /* Has the host write a file. */
@@ -379,12 +382,14 @@ SAM_MUST_USE sam_status sam_term_open_cmd(sam_term *term);
 /* Makes a file, with its dot, the one that command lines work on. */
 SAM_MUST_USE sam_status sam_term_work(sam_term *term, uint16_t tag);
 
-/* Prints the dot's text in the command file, and runs its last line. */
+/* Prints the dot's text in the command file, and runs its last line. Does nothing if the dot is empty, or the command file would have more
+ * than 1,000,000 runes. */
 SAM_MUST_USE sam_status sam_term_send(sam_term *term, uint16_t tag);
 
 /* ---- Events: the session ---- */
 
-/* Offers a version of the protocol, and asks for all names. */
+/* Offers a version of the protocol, and asks for all names. Before it the terminal knows none of the host's files, and refuses each event
+ * on one; events after it wait for the answer. */
 SAM_MUST_USE sam_status sam_term_offer_version(sam_term *term, uint16_t version);
 
 /* Ends the session. */
