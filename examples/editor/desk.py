@@ -5,6 +5,7 @@ from texts import COMMAND, Change, Texts
 from windows import Window
 
 SMALL = 2  # rows of a small command window, with its title
+LEAST_LARGE = 5  # rows that a large one has at least, where the screen has them
 
 
 class Desk:
@@ -31,7 +32,7 @@ class Desk:
     def arrange(self, rows: int, columns: int) -> None:
         """Shares so many rows among the windows."""
         self.rows, self.columns = rows, columns
-        share = SMALL if self.is_small and rows > SMALL else max(5, rows // 4)
+        share = SMALL if self.is_small and rows > SMALL else max(LEAST_LARGE, rows // 4)
         command_rows = rows if not self.files else min(share, max(2, rows // 2))
         self.command.put(0, max(1, command_rows - 1), columns)
         y, left = command_rows, rows - command_rows

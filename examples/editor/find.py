@@ -8,7 +8,7 @@ from windows import end_of_load
 
 PIECE = 16_384  # runes that are searched at once
 FIRST_REACH, LONGEST_REACH = 4_096, 32_768  # runes that are loaded for a search above, in one round trip, twice as many each time
-MOST_IN_PATTERN = 128  # runes of the longest pattern
+MOST_RUNES_IN_PATTERN = 128
 AFTER = ("Down", "^S", "^F", "F7")  # keys to the next place, and to the one before
 BEFORE = ("Up", "^B")
 
@@ -34,7 +34,7 @@ class Find:
         name = key.name if isinstance(key, Key) else ""
         if key == Text("\n"):
             self._finish()
-        elif isinstance(key, Text) and len(self.pattern) < MOST_IN_PATTERN:
+        elif isinstance(key, Text) and len(self.pattern) < MOST_RUNES_IN_PATTERN:
             self._seek(self.pattern + key.runes)
         elif name == "Backspace":
             self._seek(self.pattern[:-1])

@@ -20,6 +20,7 @@ ENDS = (signal.SIGTERM, signal.SIGHUP)
 SCREENS = (signal.SIGWINCH, signal.SIGCONT, signal.SIGTSTP)
 RETRY = 0.1  # seconds until that for which the memory was too small is tried again
 MOST_READ = 65_536  # bytes of keys that are read at once
+MOST_SIGNALS = 4096  # numbers of signals that are read at once
 
 
 class Loop:
@@ -114,7 +115,7 @@ class Loop:
     def _take_signals(self, ready: Dict[int, int]) -> None:
         if self.signals not in ready:
             return
-        numbers = os.read(self.signals, 4096)
+        numbers = os.read(self.signals, MOST_SIGNALS)
         for number in ENDS:
             if number in numbers and not self.ended_by:
                 self._end(number)

@@ -5,6 +5,9 @@ from keys import Input, Key, Text, table
 
 Line = Tuple[str, bool]  # a text, and whether it is the chosen one
 
+HELP_STEP = 5  # lines that a key scrolls the help by
+MENU_PAGE = 10  # entries that a page key of a menu goes by
+
 
 class Help:
     """The list of keys."""
@@ -21,9 +24,9 @@ class Help:
 
     def take(self, key: Input) -> None:
         if isinstance(key, Key) and key.name in ("Down", "Page Down"):
-            self.first += 5
+            self.first += HELP_STEP
         elif isinstance(key, Key) and key.name in ("Up", "Page Up"):
-            self.first = max(0, self.first - 5)
+            self.first = max(0, self.first - HELP_STEP)
         elif isinstance(key, (Key, Text)):
             self.is_over = True
 
@@ -43,7 +46,7 @@ class Menu:
         return [(entry, at == self.chosen) for at, entry in shown]
 
     def take(self, key: Input) -> None:
-        steps = {"Up": -1, "Down": 1, "Page Up": -10, "Page Down": 10}
+        steps = {"Up": -1, "Down": 1, "Page Up": -MENU_PAGE, "Page Down": MENU_PAGE}
         if isinstance(key, Key) and key.name in steps:
             self.chosen = max(0, min(self.chosen + steps[key.name], len(self.entries) - 1))
         elif key == Text("\n"):

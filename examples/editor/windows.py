@@ -189,14 +189,13 @@ class Window:
             rows = self.height // 3
         self._show_below(place, rows)
 
-    def _show_below(self, place: int, rows: int) -> bool:
+    def _show_below(self, place: int, rows: int) -> None:
         """Shows a place below so many rows. Where these are not loaded the place is aimed at: it is shown where it stands if no line ends
-        in what is missing. Returns whether that is known."""
+        in what is missing."""
         start = row_start(self.read, place, self.width)
         self._top, is_known = top_above(self.read, start, rows, self.width)
         self._aim = None if is_known else Aim(place, rows)
         self._loaded = None
-        return is_known
 
     def _load(self, is_busy: bool, turns: int) -> None:
         """Tells the terminal what is shown, and asks for what of it is not loaded."""
