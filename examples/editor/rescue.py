@@ -1,14 +1,17 @@
 """What can't go to the host is written to files here."""
+import contextlib
 import os
+import sys
 import tempfile
 from itertools import groupby
 from pathlib import Path
-from typing import List, Optional
+from typing import Iterator, List, Optional
 
 from sulgrevad import Terminal
 from texts import GAP
 
 MOST_NAMES = 1000  # names that are tried
+MOST_IN_BASE = 200  # bytes of the front of a name that names of files here begin with
 MOST_READ = 65_536  # runes that are read at once
 
 
@@ -35,10 +38,10 @@ def _told(missing: int) -> str:
 def keep(name: str, text: str) -> Optional[str]:
     """Writes a text to a new file of this machine: NAME.sam-here in this folder, else in the folder for temporary files. Returns its
     path; None where none could be written."""
-    base = os.path.basename(name.replace("\0", "")) or "unnamed"
-    for folder in (".", tempfile.gettempdir()):
-        for at in range(1, MOST_NAMES):
-            path = Path(folder) / (f"{base[-100:]}.sam-here" + (f".{at}" if at > 1 else ""))
+    base = _base(name)
+    for folder in _folders():
+        for at in range(1, MOST_NAMES + 1):
+            path = Path(folder) / (f"{base}.sam-here" + (f".{at}" if at > 1 else ""))
             try:
                 _write(path, text)
             except FileExistsError:
@@ -47,6 +50,19 @@ def keep(name: str, text: str) -> Optional[str]:
                 break
             return os.path.realpath(path)
     return None
+
+
+def _folders() -> Iterator[str]:
+    yield "."
+    with contextlib.suppress(OSError):  # where none can be written
+        yield tempfile.gettempdir()
+
+
+def _base(name: str) -> str:
+    """The last part of a name, as far as it fits into names of files of this machine: whole characters, and a question mark for one that
+    these can't have."""
+    base, encoding = os.path.basename(name.replace("\0", "")) or "unnamed", sys.getfilesystemencoding()
+    return base.encode(encoding, "replace")[:MOST_IN_BASE].decode(encoding, "ignore")
 
 
 def _write(path: Path, text: str) -> None:
