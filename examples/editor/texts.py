@@ -136,8 +136,9 @@ class Texts:
         gone = self.read(tag, start, end - start)
         try:
             act()
-        finally:  # out of memory in the middle of a long text
+        finally:  # out of memory, of a long text perhaps only the front has come
             grown = self.terminal.len(tag) - before
-            is_made = grown != 0 or len(came) == len(gone)
-            if is_made and (gone or came):
-                self.tell([Change(tag, start, gone, came[: grown + len(gone)])])
+            came = came[: grown + len(gone)]
+            is_made = grown == len(came) - len(gone) and (grown != 0 or self.read(tag, start, len(came)) == came)
+            if is_made and came != gone:
+                self.tell([Change(tag, start, gone, came)])
