@@ -2,7 +2,7 @@
 from typing import Optional
 
 from layout import line_start
-from lines import removes
+from lines import line_number, removes
 from texts import COMMAND, GAP
 from windows import Window
 
@@ -12,6 +12,8 @@ def line_at(window: Window, place: int, least: int = 0) -> str:
     first = line_start(window.read, place, least)
     line = window.read(first, place - first)
     return GAP + line if first > least and window.read(first - 1, 1) == GAP else line
+
+
 class Commands:
     """The part of the editor that has the host run command lines."""
 
@@ -37,8 +39,9 @@ class Commands:
             return False
         self.log.begin(window.tag)
         self.log.goes = detail if what == "pattern" else ""
-        if line.isdecimal() and int(line) > 0:
-            self._sought = (window.tag, int(line))
+        number = line_number(line)
+        if number:
+            self._sought = (window.tag, number)
         return True
 
     def _is_loaded(self, window: Window, address: Optional[str]) -> bool:
@@ -49,10 +52,9 @@ class Commands:
         if address in ("", "."):
             start, end = window.dot
             return GAP not in self.texts.read(window.tag, start, end - start)
-        numbers = [part.strip() for part in (address or "").split(",")]
-        if not all(number.isdecimal() for number in numbers):
-            return False
-        return self.texts.read(window.tag, 0, gap).count("\n") >= max(map(int, numbers))
+        loaded = self.texts.read(window.tag, 0, gap).count("\n")
+        numbers = [line_number(part.strip()) for part in (address or "").split(",")]
+        return all(number is not None and number <= loaded for number in numbers)
 
     def _work(self) -> None:
         """Has command lines work on the file that was used last, and on what is selected there."""

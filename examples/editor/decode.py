@@ -11,6 +11,7 @@ ESCAPE_DELAY = 0.025  # seconds after which an Esc was a key, and no sequence's 
 REST_DELAY = 0.5  # the same for a sequence whose rest is missing
 PASTE_DELAY = 3.0  # the same for a paste whose end is missing
 PASTE_END = b"\x1b[201~"
+MOST_DIGITS = 8  # of a number in a sequence, which is greater than any that means something where it has more
 
 # The forms of a sequence: CSI with numbers (also of the Linux console, of rxvt with its `$`, and of a mouse with three bytes), SS3,
 # a string that ends in BEL or ST.
@@ -183,7 +184,10 @@ class Decoder:
         """A character with Alt."""
         count = 1 if self._bytes[1] < 0x80 else 2 if self._bytes[1] < 0xE0 else 3 if self._bytes[1] < 0xF0 else 4
         rune = self._cut(1 + count)[1:].decode(codec(), "replace")
-        return Key("Alt-" + (rune if rune >= " " and rune != "\x7f" else control(rune).name if rune not in "\r\n\t" else "Enter"))
+        if rune >= " " and rune != "\x7f":
+            return Key("Alt-" + rune)
+        key = control(rune)
+        return Key("Alt-" + (key.name if isinstance(key, Key) else "Tab" if rune == "\t" else "Enter"))
 
     def _key_of(self, found, now: float) -> Input:
         """The key of a whole sequence."""
@@ -193,7 +197,7 @@ class Decoder:
             button, column, row = (byte - 32 for byte in found["mouse"])
             return mouse(button, column - 1, row - 1, False, now)
         if found["shifted"] is not None:
-            return Key(named(NUMBERS.get(int(found["shifted"]), ""), 2))
+            return Key(named(NUMBERS.get(_number(found["shifted"]), ""), 2))
         if found["key"] is not None:
             return _ss3(found["key"].decode(), _numbers(found["ss3"]))
         if found["final"] is None or found["between"]:
@@ -224,8 +228,15 @@ class Decoder:
         return Key(named(LETTERS[final], modifiers) if final in LETTERS else _unknown(raw, final))
 
 
+def _number(digits: bytes) -> int:
+    """The number of some digits; of a long one the first alone, since Python reads no number of any length."""
+    return int(digits.lstrip(b"0")[:MOST_DIGITS] or b"0")
+
+
 def _numbers(raw: bytes) -> List[int]:
-    return [int(number.split(b":")[0] or 1) for number in raw.lstrip(b"<=>?").split(b";") if number.split(b":")[0].isdigit() or not number]
+    """The numbers of a sequence; 1 for one that is left out."""
+    parts = [part.split(b":")[0] if part else b"1" for part in raw.lstrip(b"<=>?").split(b";")]
+    return [_number(part) for part in parts if part.isdigit()]
 
 
 def _unknown(raw: bytes, final: str) -> str:

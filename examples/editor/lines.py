@@ -5,6 +5,7 @@ from typing import Dict, List, Optional, Tuple
 from texts import GAP, Change, Texts
 
 MOST_COUNTED = 65_536  # runes between a place whose line is known and another, over which lines are counted
+MOST_DIGITS = 7  # of the number of a line that a text may have
 
 _BLANKS = r"[ \t]*"
 _PATTERN = r"/((?:\\.|[^/\\])*)(?:/|$)"
@@ -35,6 +36,12 @@ def _unescaped(pattern: str) -> str:
 def escaped(pattern: str) -> str:
     """A pattern of a command line that stands for a text."""
     return "".join("\\n" if rune == "\n" else f"\\{rune}" if re.match(r"[!-/:-@\[-`{-~]", rune) else rune for rune in pattern)
+
+
+def line_number(word: str) -> Optional[int]:
+    """The number that a word of a command line is; None where it is none, or a greater one than any text has lines."""
+    digits = word.lstrip("0") or word[-1:]
+    return int(digits) if word.isdecimal() and len(digits) <= MOST_DIGITS else None  # Python reads no number of any length
 
 
 class Numbers:
