@@ -148,8 +148,9 @@ static bool is_one_file(const struct identity *one, const struct identity *other
            (one->name == NULL || strcmp(one->name, other->name) == 0);
 }
 
-/* Whether no two paths are of one file. A path of which that can't be said will fail when it is read, or when it is written. */
-static int find_twice(char **paths, struct identity *identities, int count)
+/* Refuses two paths of one file. A path of which that can't be said will fail when it is read, or when it is written. Returns the exit
+ * status. */
+static int refuse_twice(char **paths, struct identity *identities, int count)
 {
     bool is_known = false;
 
@@ -188,7 +189,7 @@ int add_files(struct session *session, char **paths, int count)
 {
     struct identity *identities = calloc((size_t)count + 1, sizeof *identities);
     struct marks marks = {0};
-    int status = identities == NULL ? STATUS_MEMORY : find_twice(paths, identities, count);
+    int status = identities == NULL ? STATUS_MEMORY : refuse_twice(paths, identities, count);
 
     if (status == STATUS_OK && mark_files(identities, count, &marks) != 0)
         status = STATUS_MEMORY;
@@ -212,7 +213,10 @@ int add_vault(struct session *session)
 
 /* ---- What is left of earlier sessions ---- */
 
-/* A folder that is looked through. Where it is for temporary files, those of other users mean nothing. */
+/* What a folder is looked through for. In one for temporary files those of other users mean nothing. */
+enum purpose { OF_FILES, FOR_TEMPORARY_FILES };
+
+/* A folder that is looked through. */
 struct folder {
     const char *path; /* with the slash at its end; "" for the folder in which the program runs */
     dev_t device;
@@ -247,34 +251,52 @@ static bool has_suffix(const char *entry, const char *suffix, size_t *len)
     return *at == '\0';
 }
 
-/* Whether a file of the session is meant by the front of a copy's name. */
-static bool is_of(const char *path, const struct folder *folder, const char *entry, size_t len)
+static bool lies_in(const char *path, const struct folder *folder)
 {
-    char base[BASE_ROOM];
-    char *own = folder_of(path);
     struct stat status;
-    bool is_of = own != NULL && (folder->is_temporary || (stat(*own == '\0' ? "." : own, &status) == 0 && status.st_dev == folder->device &&
-                                                          status.st_ino == folder->inode));
+    char *own = folder_of(path);
+    bool is_there = own != NULL && stat(*own == '\0' ? "." : own, &status) == 0;
 
-    base_of(path, base);
     free(own);
-    return is_of && strlen(base) == len && strncmp(base, entry, len) == 0;
+    return is_there && status.st_dev == folder->device && status.st_ino == folder->inode;
 }
 
-/* Reports a copy where it is one of a file of the session, as it is named or as its symbolic links name it. */
+/* Whether the front of a copy's name is what names of a file's copies begin with. */
+static bool is_front_of(const char *path, const char *entry, size_t len)
+{
+    char base[BASE_ROOM];
+
+    base_of(path, base);
+    return strlen(base) == len && strncmp(base, entry, len) == 0;
+}
+
+/* Reports a copy where it is one of a file of the session, as it is named or as its symbolic links name it: of one beside it; in a folder
+ * for temporary files, where it is the user's own, of one anywhere. */
 static void report_copy(struct session *session, const struct folder *folder, const char *entry, size_t len, bool is_old)
 {
     size_t tags = count_tags(session);
+    bool may_be_of_any = folder->is_temporary && !is_foreign(folder, entry);
 
     for (size_t tag = 1; tag < tags; tag++) {
         const struct document *document = &session->documents[tag];
-        if (!is_of(document->path, folder, entry, len) && !is_of(document->known->path, folder, entry, len))
+        const char *paths[] = {document->path, document->known->path};
+        const char *beside = NULL;
+        bool is_named = false;
+        for (int at = 0; at < 2 && beside == NULL; at++) {
+            bool is_front = is_front_of(paths[at], entry, len);
+            is_named |= is_front;
+            beside = is_front && lies_in(paths[at], folder) ? paths[at] : NULL;
+        }
+        if (beside == NULL && !(is_named && may_be_of_any))
             continue;
-        const char *or_another = folder->is_temporary ? ", or another file of that name," : "";
+        const char *or_another = beside == NULL ? ", or another file of that name," : "";
+        char *own = beside == NULL ? NULL : folder_of(beside);
+        const char *place = own == NULL ? folder->path : own;
         if (is_old)
-            say("%s%s may be broken: what it was before a write is in %s%s", document->path, or_another, folder->path, entry);
+            say("%s%s may be broken: what it was before a write is in %s%s", document->path, or_another, place, entry);
         else
-            say("%s%s has a text that was not written: it is in %s%s", document->path, or_another, folder->path, entry);
+            say("%s%s has a text that was not written: it is in %s%s", document->path, or_another, place, entry);
+        free(own);
     }
 }
 
@@ -284,58 +306,47 @@ static void report_entry(struct session *session, const struct folder *folder, c
     bool is_temporary = strncmp(entry, TEMPORARY, strlen(TEMPORARY)) == 0;
     bool is_saved = has_suffix(entry, SAVED, &len), is_old = !is_saved && has_suffix(entry, OLD, &len);
 
-    if ((!is_temporary && !is_saved && !is_old) || (folder->is_temporary && is_foreign(folder, entry)))
-        return;
     if (is_saved || is_old)
         report_copy(session, folder, entry, len, is_old);
+    if ((!is_temporary && !is_saved) || (folder->is_temporary && is_foreign(folder, entry)))
+        return;
     if (is_temporary)
         say("%s%s is left of a write that was broken off", folder->path, entry);
     else if (is_saved && strncmp(entry, UNNAMED, strlen(UNNAMED)) == 0)
         say("a file without a name was not written: its text is in %s%s", folder->path, entry);
 }
 
-/* The folders that were looked through. */
-struct seen {
-    struct folder *folders;
-    size_t count;
-};
-
-/* Looks through a folder, unless that was done. Returns whether the folder is there. */
-static bool report_folder(struct session *session, struct seen *seen, char *path, bool is_temporary)
+/* Looks through a folder, unless that was done. The path is in memory that this frees. Returns whether the folder is there. */
+static bool report_folder(struct session *session, struct marks *seen, char *path, enum purpose purpose)
 {
     struct stat status;
     const char *name = path == NULL || *path != '\0' ? path : ".";
-    bool is_there = name != NULL && stat(name, &status) == 0, is_new = is_there;
+    bool is_there = name != NULL && stat(name, &status) == 0;
+    DIR *entries = is_there && !has_mark(seen, &status) ? opendir(name) : NULL;
 
-    for (size_t at = 0; is_new && at < seen->count; at++)
-        is_new = seen->folders[at].device != status.st_dev || seen->folders[at].inode != status.st_ino;
-    DIR *entries = is_new ? opendir(name) : NULL;
     if (entries != NULL) {
-        struct folder folder = {path, status.st_dev, status.st_ino, is_temporary};
+        struct folder folder = {path, status.st_dev, status.st_ino, purpose == FOR_TEMPORARY_FILES};
         for (struct dirent *entry = readdir(entries); entry != NULL; entry = readdir(entries))
             report_entry(session, &folder, entry->d_name);
         closedir(entries);
-        seen->folders[seen->count++] = folder;
+        (void)add_mark(seen, status.st_dev, status.st_ino); /* where memory is out, it may be reported twice */
     }
     free(path);
     return is_there;
 }
 
+/* Those for temporary files come first: where one of the files lies there, another one's copies may lie there, too. */
 void report_left(struct session *session)
 {
     size_t tags = count_tags(session);
+    struct marks seen = {0};
 
-    struct seen seen = {.folders = calloc(2 * tags + 3, sizeof *seen.folders)}; /* two of each file, its own and two temporary ones */
-    if (seen.folders == NULL) {
-        say("out of memory: what is left of earlier sessions is not looked for");
-        return;
-    }
+    if (!report_folder(session, &seen, temporary_folder(0), FOR_TEMPORARY_FILES))
+        report_folder(session, &seen, temporary_folder(1), FOR_TEMPORARY_FILES);
     for (size_t tag = 1; tag < tags; tag++) {
-        report_folder(session, &seen, folder_of(session->documents[tag].path), false);
-        report_folder(session, &seen, folder_of(session->documents[tag].known->path), false);
+        report_folder(session, &seen, folder_of(session->documents[tag].path), OF_FILES);
+        report_folder(session, &seen, folder_of(session->documents[tag].known->path), OF_FILES);
     }
-    report_folder(session, &seen, formatted(""), false);
-    if (!report_folder(session, &seen, temporary_folder(0), true))
-        report_folder(session, &seen, temporary_folder(1), true);
-    free(seen.folders);
+    report_folder(session, &seen, formatted(""), OF_FILES);
+    free(seen.items);
 }
