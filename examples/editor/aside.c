@@ -13,7 +13,7 @@
 #include "samhost.h"
 
 enum {
-    MOST_TRIES = 20,  /* attempts to save a text for good where memory is out */
+    MOST_TRIES = 20,  /* attempts where memory is out */
     PAUSE = 100000000 /* nanoseconds between two of them */
 };
 
@@ -182,8 +182,7 @@ int move_aside(struct session *session, struct document *owner)
 
 /* ---- Closing and leaving ---- */
 
-/* Whether something that failed is to be tried once more: where memory is out, after a while. */
-static bool is_tried_again(int error, int *tries)
+bool is_tried_again(int error, int *tries)
 {
     const struct timespec pause = {0, PAUSE};
 

@@ -110,7 +110,7 @@ struct journal {
     int64_t first, last; /* when the first and the last input came since */
 };
 
-/* Files that were taken, by device and inode. */
+/* Files that were taken, or folders that were looked through, by device and inode. */
 struct mark {
     dev_t device;
     ino_t inode;
@@ -127,7 +127,7 @@ struct session {
     struct document *documents; /* ALL_TAGS of them */
     struct text text;           /* room for one text (MOST_BYTES) */
     struct closed *closed;
-    bool is_lost; /* a text of a closed file could neither be saved nor held in memory */
+    bool is_lost; /* a text of a closed file could neither be saved nor held in memory, or what came last could not be taken */
     struct wire wire;
     struct journal journal;
     mode_t mode_of_new_files;
@@ -145,7 +145,7 @@ struct request {
 
 /* samhost.c */
 
-/* Writes a line to standard error. Control characters in it come out as question marks. */
+/* Writes a line to standard error. Each control character in it comes out as a question mark. */
 void say(const char *format, ...);
 
 /* How many tags the host has given; 0 where there is no host. */
@@ -170,7 +170,7 @@ void report_left(struct session *session);
 
 /* folders.c */
 
-/* Whether a file was taken, and that it was. */
+/* Whether a file was taken or a folder looked through, and that it was. */
 bool has_mark(const struct marks *marks, const struct stat *status);
 int add_mark(struct marks *marks, dev_t device, ino_t inode);
 
@@ -211,6 +211,9 @@ int take_text(struct session *session, uint16_t tag);
 /* Has the text of a file stand on disk, and hands out where: in its file where that has it, else in the document's copy. */
 enum place { IN_ITS_FILE, ASIDE };
 int secure(struct session *session, uint16_t tag, enum place *place);
+
+/* Whether something that failed is to be tried once more: where memory is out, after a while. */
+bool is_tried_again(int error, int *tries);
 
 /* Whether a copy is still there as the host saved it, so that the host may replace or remove it. */
 bool is_own(const struct copy *copy);

@@ -90,12 +90,18 @@ static void send_pending(struct session *session)
     }
 }
 
+/* The length of the message of which so many bytes have come, its header among them. */
+static size_t message_len(const uint8_t *bytes)
+{
+    return HEADER + ((size_t)bytes[1] << 8 | bytes[2]);
+}
+
 /* The length of the message that begins there, if it is whole and types or cuts in a file other than the command file. Else 0. */
 static size_t edit_len(const uint8_t *bytes, size_t have)
 {
     if (have < HEADER + TAG_LEN || (bytes[0] != KIND_TYPE && bytes[0] != KIND_CUT))
         return 0;
-    size_t len = HEADER + ((size_t)bytes[1] << 8 | bytes[2]);
+    size_t len = message_len(bytes);
     bool is_command = bytes[HEADER] == 0 && bytes[HEADER + 1] == 0;
     return is_command || len > have ? 0 : len;
 }
@@ -111,7 +117,7 @@ static size_t next_piece(struct wire *wire, bool *is_close)
     if (wire->left == 0) {
         if (have < HEADER)
             return 0;
-        size_t len = HEADER + ((size_t)bytes[1] << 8 | bytes[2]);
+        size_t len = message_len(bytes);
         *is_close = bytes[0] == KIND_CLOSE && len == CLOSE_LEN;
         if (*is_close && have < CLOSE_LEN)
             return 0;
@@ -216,20 +222,36 @@ static bool wait_for_bytes(const struct session *session, const sigset_t *mask, 
     return FD_ISSET(STDIN_FILENO, &in);
 }
 
+/* Takes what was read, where memory was out for it. What can't be taken in a while is lost. */
+static enum ending take_again(struct session *session, int *tries)
+{
+    struct wire *wire = &session->wire;
+    enum ending ending = GOES_ON;
+
+    while (ending == GOES_ON && wire->is_short && is_tried_again(ENOMEM, tries))
+        ending = take_input(session);
+    if (ending == GOES_ON && wire->is_short) {
+        say("what came last from the terminal is lost: %s", cause(ENOMEM));
+        session->is_lost = true;
+    }
+    return ending;
+}
+
 /* After a signal: takes what has come already. */
 static enum ending take_the_rest(struct session *session)
 {
-    enum ending ending = GOES_ON;
-    int flags = fcntl(STDIN_FILENO, F_GETFL);
+    int tries = 0, flags = fcntl(STDIN_FILENO, F_GETFL);
     struct wire *wire = &session->wire;
-    size_t before;
+    enum ending ending = take_again(session, &tries);
+    bool has_come = true;
 
     fcntl(STDIN_FILENO, F_SETFL, flags | O_NONBLOCK);
-    for (int pieces = 0; ending == GOES_ON && pieces < MOST_PIECES_LEFT && !wire->is_short; pieces++) {
-        before = wire->input_len - wire->taken;
+    for (int pieces = 0; ending == GOES_ON && has_come && !wire->is_short && pieces < MOST_PIECES_LEFT; pieces++) {
+        size_t before = wire->input_len - wire->taken;
         ending = read_input(session);
-        if (ending == GOES_ON && wire->taken == 0 && wire->input_len == before)
-            break;
+        has_come = wire->taken > 0 || wire->input_len != before;
+        if (ending == GOES_ON)
+            ending = take_again(session, &tries);
     }
     fcntl(STDIN_FILENO, F_SETFL, flags);
     return ending == GOES_ON ? INPUT_ENDED : ending;
