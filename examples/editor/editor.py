@@ -145,7 +145,7 @@ class Editor(Desk, Waiting, Actions):
             return
         self.is_lost = True
         self.vault.stop()
-        self.kept_here = self.keeping.keep_here()
+        self.kept_here = self.keeping.keep_here(self.way.has_all)
         self.deferred.clear()
         self.message = ""
         for line in self.kept_here or ["what is loaded can still be read. ^Q leaves"]:

@@ -1,17 +1,17 @@
 """What became of the texts: which could not be written, which the host has saved aside, and which have to be written here."""
 from collections import Counter
-from typing import Dict, List
+from typing import Dict, List, Set, Tuple
 
 import rescue
-from notes import Said
+from notes import Said, printable
 from texts import Change
 
-MOST_IN_NAME = 64  # runes of a name in the session; of a longer path the host shows the end
+MOST_RUNES_IN_NAME = 64  # in the session; of a longer path the host shows the end
 
 
 def shown_name(path: str) -> str:
     """The name in the session of a path that the host tells."""
-    return path if len(path) <= MOST_IN_NAME else "…" + path[1 - MOST_IN_NAME :]
+    return path if len(path) <= MOST_RUNES_IN_NAME else "…" + path[1 - MOST_RUNES_IN_NAME :]
 
 
 class Keeping:
@@ -26,7 +26,7 @@ class Keeping:
         self._changes: Counter = Counter()  # of each file
         self._written: Dict[int, int] = {}  # how many of them there were at the last write
         self._saved: Dict[int, int] = {}  # how many of them are in what the host has saved aside
-        self._dropped: Dict[str, str] = {}  # texts that were dropped with open eyes, until the host says that it has saved them
+        self._dropped: Dict[int, Tuple[str, str]] = {}  # names and texts of files that were dropped with open eyes, until they are saved
 
     def name(self, tag: int) -> str:
         return self.terminal.name(tag) or f"unnamed-{tag}"
@@ -51,20 +51,22 @@ class Keeping:
         """A line of the host's standard error."""
         if told.what == "lost":
             self.is_hopeless = True
-        for tag in self._tags_of(told):
+        tags = self._tags_of(told)
+        for tag in tags:
             if "failed" in told.what:
                 self.unwritten[tag] = tag not in self._writing
-            if "saved" in told.what:
-                self._saved[tag] = self._written.get(tag, -1) if "failed" in told.what else self._changes[tag]
-        if told.what == "saved":
-            self._dropped.pop(shown_name(told.name), None)
+            if "saved" not in told.what:
+                self._saved.pop(tag, None)
+        if "saved" in told.what and len(tags) == 1:  # of several files of a name, nobody knows which one it is
+            tag = tags.pop()
+            self._saved[tag] = self._written.get(tag, -1) if "failed" in told.what else self._changes[tag]
+            if told.what == "saved":
+                self._dropped.pop(tag, None)
 
-    def _tags_of(self, told: Said) -> List[int]:
-        """The files that a line of the host is about."""
-        files = self.editor.tags
-        if told.tag is not None:
-            return [tag for tag in files if tag == told.tag]
-        return [tag for tag in files if told.name and self.name(tag) == shown_name(told.name)]
+    def _tags_of(self, told: Said) -> Set[int]:
+        """The files that a line of the host may be about, also those that were dropped."""
+        names = {**{tag: name for tag, (name, _) in self._dropped.items()}, **{tag: self.name(tag) for tag in self.editor.tags}}
+        return {tag for tag, name in names.items() if tag == told.tag or (told.name and printable(name) == shown_name(told.name))}
 
     def drop(self, tag: int) -> None:
         """The file is closed."""
@@ -73,23 +75,23 @@ class Keeping:
     def let_go(self, tag: int) -> None:
         """The user closes a file that was not written. Its text is kept until the host says that it has it."""
         if self.terminal.is_open(tag):
-            self._dropped[self.name(tag)] = rescue.loaded(self.terminal, tag)
+            self._dropped[tag] = (self.name(tag), rescue.loaded(self.terminal, tag))
 
-    def keep_here(self, trusts: bool = True) -> List[str]:
+    def keep_here(self, has_all: bool, has_ended_well: bool = False) -> List[str]:
         """Writes to files of this machine what nobody has saved, as far as it is loaded, and what was typed and still waits. Returns what
-        to tell of them. Where the host may not have got all that was sent, what it has saved may lack something."""
-        texts, self._dropped = self._dropped, {}
+        to tell of them. What the host has saved lacks nothing only where it has got all that was sent (`has_all`). If it has ended well
+        then, it has saved all of it, also what it has told nothing of since a file has that text already."""
+        texts, self._dropped = {} if has_all and has_ended_well else self._dropped, {}
         waiting = self.editor.typed_ahead
-        for tag in self.editor.tags:
-            is_typed = bool(waiting) and tag == self.editor.active.tag
-            is_safe = trusts and self._saved.get(tag) == self._changes[tag] and not is_typed
-            if self.terminal.is_open(tag) and not is_safe and (self.editor.is_changed(tag) or is_typed):
-                more = f"\n[typed, and not put in yet:]\n{waiting}" if is_typed else ""
-                texts[self.name(tag)] = rescue.loaded(self.terminal, tag) + more
+        for tag in filter(self.terminal.is_open, self.editor.tags):
+            more, is_saved = "", has_all and (has_ended_well or self._saved.get(tag) == self._changes[tag])
+            if waiting and tag == self.editor.active.tag:
+                more, waiting = f"\n[typed, and not put in yet:]\n{waiting}", ""
+            if more or (self.editor.is_changed(tag) and not is_saved):
+                texts[tag] = (self.name(tag), rescue.loaded(self.terminal, tag) + more)
                 self._saved[tag] = self._changes[tag]
-        if waiting and self.editor.active.tag == 0:
-            texts["typed"] = waiting
-        return [self._kept(name, text) for name, text in texts.items()]
+        typed = [("typed", waiting)] if waiting else []
+        return [self._kept(name, text) for name, text in (*texts.values(), *typed)]
 
     def keep_late(self) -> List[str]:
         """The same of what was typed when the host was lost already: some of it before the user could know."""

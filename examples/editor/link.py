@@ -3,7 +3,7 @@ import os
 import select
 import subprocess
 import time
-from typing import Callable, List, Optional
+from typing import Callable, Dict, List, Optional
 
 PIECE = 65_536  # bytes that are read at once
 SECONDS_TO_END = 10  # how long the host may take to end
@@ -98,20 +98,18 @@ class Link:
         self.noise = [line for line in noise.decode("utf-8", "replace").splitlines() if line.strip()]
         return bool(found)
 
-    def close(self, hear: Callable[[str], None], seconds: float = SECONDS_TO_END) -> Optional[int]:
-        """Sends what waits, ends the streams, passes on what the host still tells, and waits for its end. Returns its exit status; None
-        where it doesn't end."""
+    def close(
+        self, hear: Callable[[str], None], take: Callable[[bytes], None] = lambda data: None, seconds: float = SECONDS_TO_END
+    ) -> Optional[int]:
+        """Sends what waits, ends the streams, passes on what the host still tells and answers, and waits for its end. Returns its exit
+        status; None where it doesn't end."""
         until = time.monotonic() + seconds
-        self._send_the_rest(until)
+        while self.waiting and not self.is_deaf and self._pass_on(hear, take, until):
+            self.send()
         self.process.stdin.close()
-        poll = select.poll()
-        for descriptor in (self.source, self.messages):
-            poll.register(descriptor, select.POLLIN)
-        while not self.is_quiet and (ready := poll.poll(max(0, int((until - time.monotonic()) * 1000)))):
-            if self.source in dict(ready) and not self.receive():  # else a host that still answers would wait for us
-                poll.unregister(self.source)
-            for line in self.listen():
-                hear(line)
+        self.is_deaf = True
+        while not (self.is_quiet and self.is_lost) and self._pass_on(hear, take, until):
+            pass
         try:
             return self.process.wait(max(0.1, until - time.monotonic()))
         except subprocess.TimeoutExpired:
@@ -121,11 +119,16 @@ class Link:
             self.process.stdout.close()
             self.process.stderr.close()
 
-    def _send_the_rest(self, until: float) -> None:
+    def _pass_on(self, hear: Callable[[str], None], take: Callable[[bytes], None], until: float) -> bool:
+        """Waits until something can be done, and passes on what has come: a host that still answers would else wait for us. Returns
+        whether that was before a time."""
         poll = select.poll()
-        poll.register(self.sink, select.POLLOUT)
-        poll.register(self.source, select.POLLIN)
-        while self.waiting and not self.is_deaf and (ready := poll.poll(max(0, int((until - time.monotonic()) * 1000)))):
-            if self.source in dict(ready) and not self.receive() and self.is_lost:
-                poll.unregister(self.source)
-            self.send()
+        for descriptor, events in self.wanted().items():
+            poll.register(descriptor, events)
+        ready: Dict[int, int] = dict(poll.poll(max(0, int((until - time.monotonic()) * 1000))))
+        if self.source in ready and (data := self.receive()):
+            take(data)
+        if self.messages in ready:
+            for line in self.listen():
+                hear(line)
+        return bool(ready)

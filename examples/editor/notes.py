@@ -1,5 +1,6 @@
 """The line at the bottom of the screen: what was said last, a question, or what the host has told until it is read."""
 import re
+import unicodedata
 from typing import Callable, List, NamedTuple, Optional, Tuple
 
 READ_AFTER = 0.5  # seconds that a line stands on the screen until a key counts as pressed by someone who read it
@@ -10,9 +11,14 @@ HINT = "F1 or ^G shows the keys"
 # What a host says of a text. Of a write that failed it says in the same line what became of the text.
 LOST = re.compile(r"the text of (.*) is lost: |(.*) is closed, and its text can't be saved: ")
 UNSAFE = re.compile(r"the text of .* can't be saved aside: ")
-FAILED = re.compile(r"\? write (?:file (\d+)|(.*?)): ")
+FAILED = re.compile(r"\? write (file (\d{1,5})|.*?): ")
 IS_IN = "; its text is in "
 SAVED = re.compile(r"(.*) was not written" + IS_IN)
+
+
+def printable(line: str) -> str:
+    """A line of which no screen does what stands there: with question marks for control characters, as a host tells it."""
+    return line if line.isprintable() else "".join("?" if unicodedata.category(rune) == "Cc" else rune for rune in line)
 
 
 class Said(NamedTuple):
@@ -21,7 +27,7 @@ class Said(NamedTuple):
     rank: int  # 3: a text is lost; 2: it was not written; 1: other words of the host; 0: of another program
     what: str = ""  # "lost", "failed", "saved"; "failed and saved"
     name: str = ""  # the file's name or path
-    tag: Optional[int] = None  # of a file without a name
+    tag: Optional[int] = None  # of a file without a name, whose name here is "file" and the tag
 
 
 def said(line: str) -> Said:
@@ -30,7 +36,7 @@ def said(line: str) -> Said:
         return Said(3, "lost" if found[1] else "", found[1] or found[2])
     if found := FAILED.match(words):
         rank, what = (3, "failed") if "could not be saved" in words else (2, "failed and saved" if IS_IN in words else "failed")
-        return Said(rank, what, found[2] or "", int(found[1]) if found[1] else None)
+        return Said(rank, what, found[1], int(found[2]) if found[2] else None)
     if found := SAVED.match(words):
         return Said(1, "saved", found[1])
     return Said(2 if UNSAFE.match(words) else int(words != line))

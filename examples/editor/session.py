@@ -9,6 +9,7 @@ from typing import List
 from editor import Editor
 from link import Link
 from loop import KEYBOARD, Loop
+from notes import printable
 from sulgrevad import SamError, Terminal
 from screen import FOOT, Screen
 from stream import FIRST
@@ -19,7 +20,7 @@ STATUS_NO_HOST, STATUS_LOST, STATUS_UNSAVED, STATUS_SIGNAL = 1, 3, 5, 128
 def say(line: str) -> None:
     """Tells on standard error, where that is still there."""
     with contextlib.suppress(OSError):
-        print(line, file=sys.stderr, flush=True)
+        print(printable(line), file=sys.stderr, flush=True)
 
 
 def say_all(lines: List[str]) -> None:
@@ -71,6 +72,12 @@ class Session:
         self.told.append(line)
         self.editor.hear(line)
 
+    def _take_last(self, data: bytes) -> None:
+        """The screen is closed, and the host's answers still say what has arrived. Whatever goes wrong with them, the texts are kept."""
+        with contextlib.suppress(Exception):
+            if not self.editor.is_lost:
+                self.editor.feed(data)
+
     def run(self) -> None:
         """The user edits. An exception ends the session as well, and is raised again once all is told."""
         try:
@@ -96,17 +103,19 @@ class Session:
         for line in self.told:
             say(line)
         self.told.clear()
-        status, has_all = None, False
-        with contextlib.suppress(SamError):  # of a terminal that has stopped
-            self.terminal.flush_now()
-            self.link.send(self.terminal.take_out())
-            has_all = self.terminal.under_way == 0
+        status = None
+        with contextlib.suppress(SamError):  # of a terminal that has stopped, or has no memory
+            try:
+                self.editor.way.send_last()
+            finally:
+                self.link.send(self.terminal.take_out())
         with contextlib.suppress(KeyboardInterrupt):  # the user doesn't wait for the host any longer
-            status = self.link.close(self._hear)
+            status = self.link.close(self._hear, self._take_last)
         for line in self.told:
             say(line)
         with contextlib.suppress(SamError):
-            say_all(self.editor.kept_here if self.editor.is_lost else keeping.keep_here(has_all or status == 0))
+            has_ended_well = status == 0 and not keeping.is_hopeless
+            say_all(self.editor.kept_here if self.editor.is_lost else keeping.keep_here(self.editor.way.has_all, has_ended_well))
         say_all(keeping.keep_late())
         if keeping.is_hopeless or status == STATUS_UNSAVED:
             return STATUS_UNSAVED

@@ -2,6 +2,7 @@
 from typing import Callable, Optional
 
 from sulgrevad import Terminal
+from texts import COMMAND
 
 TOLD_AFTER = 0.15  # seconds on the way before messages are told of, so that with a quick host nothing flickers
 
@@ -19,6 +20,7 @@ class Way:
         self._confirms = 0  # the number of the message whose answer is waited for
         self._is_unasked = False  # that one is not sent yet
         self._since: Optional[float] = None  # since when messages are on the way
+        self._last: Optional[int] = None  # at the end of the session, how many messages the user has made
 
     @property
     def _arrived(self) -> int:
@@ -42,6 +44,17 @@ class Way:
             if self._is_unasked:
                 self._is_unasked, self._confirms = False, self._asked
         self._note()
+
+    def send_last(self) -> None:
+        """The session ends: sends what was typed, and asks once more."""
+        self.terminal.flush_now()
+        self._last = self.terminal.sent
+        self.terminal.check(COMMAND)
+
+    @property
+    def has_all(self) -> bool:
+        """Whether the host is known to have taken all that the user did."""
+        return self.terminal.unsent == 0 and self._arrived >= (self.terminal.sent if self._last is None else self._last)
 
     def _note(self) -> None:
         if self.terminal.under_way == 0:
