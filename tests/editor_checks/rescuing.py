@@ -1,0 +1,388 @@
+"""That no text is dropped: what is written here when the host is gone or can't have saved all, and what else may lose one."""
+import contextlib
+import io
+import os
+import signal
+import sys
+import tempfile
+from pathlib import Path
+
+from .pairs import Pair, opened
+from .support import LINK, SAMHOST, SECONDS, Session, expect, made, wait_for_text, wait_until
+
+
+class Kept:
+    """Names and texts that are written here, in place of files."""
+
+    def __enter__(self):
+        import rescue
+
+        self.rescue, self.before, self.texts = rescue, rescue.keep, []
+        rescue.keep = lambda name, text: self.texts.append((name, text)) or "/somewhere"
+        return self
+
+    def __exit__(self, *_):
+        self.rescue.keep = self.before
+
+    def expect(self, wanted, told):
+        expect(sorted(self.texts) == sorted(wanted), f"{told}: it keeps {self.texts}, wanted {wanted}")
+
+
+SAVED = "samhost: {} was not written; its text is in /tmp/{}.sam-saved"
+
+
+# ---- A host that is lost
+
+
+def check_typed_while_it_saves(folder):
+    """A host that is ended by a signal saves what it has. What it has not taken by then is written here, whether it was sent or not; where
+    it has taken all, nothing is."""
+    for is_sent, late in ((True, ""), (False, "y"), (True, "y")):
+        pair, editor, _, text = opened("a\n")
+        pair.press(text("x"))
+        if late:
+            editor.take(text(late))
+        if is_sent:
+            pair.pause()
+        with Kept() as kept:
+            editor.hear(SAVED.format("file0", "file0"))
+            editor.lose("the host is gone")
+        kept.expect([("file0", "xya\n")] if late else [], f"typed late: {late!r}, sent: {is_sent}")
+
+
+def check_signal_over_a_slow_line(folder):
+    """The same with a real host, to which a key takes longer than the signal."""
+    made(folder, a="one\n")
+    with Session(folder, "a.txt", slow=LINK) as session:
+        session.wait_for("one")
+        session.type("typed ")
+        session.wait_for("typed one")
+        session.wait_for_quiet()
+        session.type("late ")
+        session.wait_for("typed late one")
+        os.kill(session.processes()[SAMHOST.name], signal.SIGTERM)
+        session.wait_for("the host is gone")
+        session.keys("C-q")
+        session.wait_for_end(3)
+    expect((folder / "a.txt.sam-saved").read_text() == "typed one\n", "this test is wrong: the host got the last key")
+    wait_for_text(folder / "a.txt.sam-here", "typed late one\n")
+
+
+def check_lost_after_a_failed_write(folder):
+    """A text that the host saved when a write failed, and then could not save again, is written here."""
+    pair, editor, key, text = opened("a\n")
+    pair.press(text("x"), key("^W"))
+    editor.hear("samhost: ? write file0: No space left on device; its text is in /tmp/file0.sam-saved")
+    for lines, wanted in (((), []), (("the text of file0 is lost: no room",), [("file0", "xa\n")])):
+        with Kept() as kept:
+            for line in lines:
+                editor.hear(f"samhost: {line}")
+            editor.is_lost = False
+            editor.lose("the host is gone")
+        kept.expect(wanted, f"after {lines}")
+
+
+# ---- Names
+
+
+def check_texts_of_one_name(folder):
+    """Files whose long paths end alike have one name in the session. Each text is written here, in a file of its own."""
+    paths = [Path(tree) / ("d" * 70) / "same.txt" for tree in ("one", "two")]
+    for path in paths:
+        (folder / path).parent.mkdir(parents=True)
+        (folder / path).write_text(f"{path.parts[0]}\n")
+    with Session(folder, *map(str, paths)) as session:
+        session.wait_for("one")
+        session.type("x")
+        session.keys("C-t")
+        session.wait_for("two")
+        session.type("y")
+        session.wait_for("ytwo")
+        session.wait_for_quiet()
+        os.kill(session.processes()[SAMHOST.name], signal.SIGKILL)
+        session.wait_for("the host is gone")
+        session.keys("C-q")
+        session.wait_for_end(3)
+    texts = sorted(path.read_text() for path in folder.glob("same.txt.sam-here*"))
+    expect(texts == ["xone\n", "ytwo\n"], f"the texts here are {texts}")
+
+
+def named_alike(*texts):
+    """A pair with files of one name, each changed."""
+    pair, editor, key, text = opened(*texts)
+    for window in editor.files:
+        editor.go_to(window)
+        pair.press(key("Esc"), text("f same\n"), key("Esc"), text("x"))
+    return pair, editor, key, text
+
+
+def check_line_of_one_of_two(folder):
+    """What the host tells of one of two files of a name says nothing of the other: both are written here, of closed ones, too."""
+    for closes in (False, True):
+        pair, editor, key, text = named_alike("a\n", "b\n")
+        if closes:
+            for _ in range(2):
+                pair.press(key("^K"), key("^K"))
+            expect(not editor.tags, "this test is wrong: a file is open")
+        with Kept() as kept:
+            editor.hear(SAVED.format("same", "same"))
+            editor.lose("the host is gone")
+        kept.expect([("same", "xa\n"), ("same", "xb\n")], f"closed: {closes}")
+
+
+def check_file_called_typed(folder):
+    """What waits where no file is shown is written beside a text that has the same name."""
+    pair, editor, key, text = opened("a\n")
+    pair.press(key("Esc"), text("f typed\n"), key("Esc"), text("x"), key("^K"), key("^K"))
+    for typed in (key("^N"), text("after")):
+        editor.take(typed)
+    with Kept() as kept:
+        editor.lose("the host is gone")
+    kept.expect([("typed", "xa\n"), ("typed", "after")], "a file called typed")
+
+
+def check_typed_before_it_opens(folder):
+    """What is typed before the first file is open is written here where the host is lost then."""
+    pair = Pair(opened("")[0].random, ["end\n"])
+    pair.trip()
+    expect(pair.editor.active.tag == 1 and not pair.terminal.is_open(1), "this test is wrong: the file is open")
+    pair.editor.take(pair.keys.Text("early"))
+    with Kept() as kept:
+        pair.editor.lose("the host is gone")
+    kept.expect([("typed", "early")], "typed early")
+
+
+def check_long_names_here(folder):
+    """Of a name that is too long for a file the front is taken, in whole characters. A thousand names are tried."""
+    import rescue
+
+    os.chdir(folder)
+    wide = "\U0001f600" * 62
+    for name in (wide, f"place/x{wide}", "x" * 64):
+        path = rescue.keep(name, f"text of {name}")
+        expect(path is not None and Path(path).parent == folder.resolve(), f"{name}: it is written as {path}")
+        front = Path(path).name.removesuffix(".sam-here")
+        expect(len(front) > 40 and Path(name).name.startswith(front), f"{name}: it is written as {path}")
+        expect(Path(path).read_text() == f"text of {name}", f"{name}: it has another text")
+    for at in range(1, 1000):
+        (folder / ("many.sam-here" + (f".{at}" if at > 1 else ""))).write_text("")
+    path = rescue.keep("many", "text")
+    expect(path == str(folder.resolve() / "many.sam-here.1000"), f"the thousandth is written as {path}")
+
+
+def check_no_temporary_folder(folder):
+    """Without a folder for temporary files a text is written in this one; where that can't be, that is told."""
+    import rescue
+
+    def refuse():
+        raise FileNotFoundError("No usable temporary directory found")
+
+    before, tempfile.gettempdir = tempfile.gettempdir, refuse
+    try:
+        os.chdir(folder)
+        path = rescue.keep("a", "text")
+        expect(path == str(folder.resolve() / "a.sam-here"), f"it is written as {path}")
+        place = folder / "gone"
+        place.mkdir()
+        os.chdir(place)
+        place.rmdir()
+        expect(rescue.keep("a", "text") is None, "it is written nowhere, and that isn't told")
+    finally:
+        tempfile.gettempdir = before
+        os.chdir(folder)
+
+
+# ---- The end
+
+
+class Ending:
+    """The link of a session that ends. The host takes as many bytes as it is given time for, tells some lines, and ends with a status."""
+
+    def __init__(self, pair, taken, lines, status):
+        self.pair, self.taken, self.lines, self.status = pair, taken, lines, status
+        self.waiting = bytearray(pair.up)
+
+    def send(self, data=b""):
+        self.waiting += data
+
+    def close(self, hear, take=lambda data: None):
+        count = len(self.waiting) if self.taken is None else self.taken
+        self.pair.host.feed(bytes(self.waiting[:count]))
+        del self.waiting[:count]
+        take(bytes(self.pair.down) + self.pair.host.take_out())
+        for line in self.lines:
+            hear(line)
+        return self.status
+
+
+def ended(pair, taken, lines, status):
+    """What is written here at the end of a session."""
+    from session import Session as Edited
+
+    with Kept() as kept, contextlib.redirect_stderr(io.StringIO()):
+        session = Edited(pair.terminal, Ending(pair, taken, lines, status), pair.editor)
+        session._end()
+    return kept
+
+
+def check_end_without_the_last_bytes(folder):
+    """At the end a status of 0 says nothing of what the host has not got: the stream may have been cut between two messages, or a signal
+    may have ended the host. What it is told to have saved then lacks something."""
+    told = (SAVED.format("file0", "file0"),)
+    for taken, status, lines, wanted in (
+        (None, 0, told, []), (None, None, told, []), (None, 255, told, []), (None, None, (), [("file0", "xya\n")]),
+        (0, 0, told, [("file0", "xya\n")]), (0, 0, (), [("file0", "xya\n")]), (0, 255, told, [("file0", "xya\n")]),
+        (None, 5, ("samhost: the text of file0 is lost: no room",), [("file0", "xya\n")]),
+        (None, 0, ("samhost: the text of file0 is lost: no room",), [("file0", "xya\n")]),
+    ):  # fmt: skip
+        pair, editor, _, text = opened("a\n")
+        pair.press(text("x"))
+        editor.take(text("y"))
+        ended(pair, taken, lines, status).expect(wanted, f"{taken} bytes taken, status {status}, told {lines}")
+
+
+def check_last_answers(folder):
+    """What the host answers at the end is heard, also once it tells nothing more; and all that waited is sent before."""
+    from link import Link
+
+    code = "import os, sys; os.write(2, b'last line\\n'); os.close(2); os.write(1, b'%d bytes' % len(sys.stdin.buffer.read())); sys.exit(7)"
+    lines, answers, link = [], [], Link([sys.executable, "-c", code])
+    link.send(bytes(300_000))
+    expect(len(link.waiting) > 0, "this test is wrong: the pipe takes all at once")
+    got = link.close(lines.append, answers.append, seconds=SECONDS), lines, b"".join(answers), len(link.waiting)
+    expect(got == (7, ["last line"], b"300000 bytes", 0), f"status, lines, answers and what waits are {got}")
+
+
+def check_end_with_a_dropped_text(folder):
+    """A text that was dropped with open eyes is written here only where the host can't have saved it."""
+    for status, lines, wanted in ((0, (), []), (255, (), [("file0", "xa\n")]), (255, (SAVED.format("file0", "file0"),), [])):
+        pair, editor, key, text = opened("a\n")
+        pair.press(text("x"), key("^K"), key("^K"))
+        expect(not editor.tags, "this test is wrong: the file is open")
+        ended(pair, None, lines, status).expect(wanted, f"status {status}, told {lines}")
+
+
+def check_no_stray_text(folder):
+    """A text that is again what its file has is neither saved nor written here: not when it is closed, and not at the end."""
+    for closes in (True, False):
+        place = folder / str(closes)
+        place.mkdir()
+        made(place, a="one\n", b="two\n")
+        with Session(place, "a.txt", "b.txt") as session:
+            session.wait_for("one")
+            session.type("x")
+            session.wait_for("xone")
+            session.keys("BSpace")
+            session.wait_for("* a.txt")
+            if closes:
+                session.keys("C-k")
+                session.answer("a.txt was not written", "C-k")
+                wait_until(lambda: not session.rows("a.txt"), "the file stays")
+                session.leave()
+            else:
+                session.leave_unwritten()
+        left = {entry.name for entry in place.iterdir()} - {"a.txt", "b.txt", "status", "stderr", ".tmux"}
+        told = (place / "stderr").read_text()
+        expect(not left and "sam-" not in told, f"closed: {closes}: there are {left}, and it tells {told!r}")
+
+
+# ---- What is told of changes
+
+
+def without_memory(pair, taken):
+    """Has the terminal's memory run out after so many typed pieces."""
+    from sulgrevad import NoMemory, Status
+
+    kind, left = pair.terminal.type, [taken]
+
+    def short(*words):
+        if left[0] == 0:
+            raise NoMemory(Status.NO_MEMORY)
+        left[0] -= 1
+        kind(*words)
+
+    pair.terminal.type = short
+
+
+def check_change_without_memory(folder):
+    """Out of memory what is told of a change, and taken back by `^Z`, is what was made of it: nothing, or the front of a long text."""
+    pieces = ("x" * 512, "y" * 512, "z")
+    for gone, count, taken in (("a", 1, 0), ("a" * 512, 3, 1), ("a" * 1024, 3, 2), ("a" * 512, 2, 0), ("a" * 600, 3, 1), ("", 3, 2)):
+        pair, editor, key, _ = opened(gone + "end\n")
+        pair.terminal.select(1, 0, len(gone))
+        pair.finish()
+        told = []
+        editor.texts.listeners.append(told.extend)
+        without_memory(pair, taken)
+        editor.take(pair.keys.Paste("".join(pieces[:count]) if count > 1 else "x"))
+        del pair.terminal.type
+        expect("not enough memory" in editor.message, f"this test is wrong: {editor.message!r}")
+        came = "".join(pieces[:taken])
+        wanted = [(1, 0, gone, came)] if taken else []
+        expect([tuple(change) for change in told] == wanted, f"{len(gone)} go, {taken} of {count} pieces come: it tells {told}")
+        pair.finish()
+        expect(pair.host.text(1) == (came if taken else gone) + "end\n", f"the text is {pair.host.text(1)!r}")
+        pair.press(key("^Z"))
+        expect(pair.host.text(1) == gone + "end\n", f"^Z leaves {pair.host.text(1)!r}")
+        expect(("nothing more" in editor.message) == (taken == 0), f"{taken} pieces: ^Z tells {editor.message!r}")
+
+
+# ---- Numbers, keys and control characters
+
+
+def check_long_numbers(folder):
+    """A number of any length, in the command window and in what a terminal sends, ends nothing. A long one is the wrong address that it
+    is, or with zeros before it the right one."""
+    from decode import Decoder
+
+    lines = "".join(f"line {at}\n" for at in range(1, 30_001))
+    long = "9" * 5000
+    for line in (long, f"{long}d", f"1,{long}d", f"{long},2d", f",x/{long}/d", "8" * 8):
+        pair, editor, key, text = opened(lines)
+        pair.press(key("Esc"), text(f"{line}\n"))
+        if "Enter again" in editor.message:  # it may take out what is not loaded
+            pair.press(text("\n"))
+        expect(pair.host.text(1) == lines and not editor.is_lost, f"{line[:20]}..: the text is changed, or {editor.message!r}")
+        expect("?" in pair.host.text(0) or "x/" in line, f"{line[:20]}..: the host takes it: {pair.host.text(0)[-40:]!r}")
+    pair, editor, key, text = opened(lines)
+    pair.press(key("Esc"), text("0" * 5000 + "20000\n"), key("Esc"))
+    window = editor.files[0]
+    expect(editor.numbers.line(1, window.dot[0]) == 20_000, f"the line is {editor.numbers.line(1, window.dot[0])}, at {window.dot}")
+    for form in (f"[{long}~", f"[{long}u", f"[{long}A", f"[1;{long}A", f"[{long}$", f"[<{long};1;1M", f"O{long}P", f"[27;5;{long}~"):
+        got = Decoder().feed(b"\x1b" + form.encode() + b"x", 0.0)
+        expect(tuple(got[-1]) == ("x",) and len(got) <= 2, f"Esc {form[:9]}.. is taken for {got}")
+    zeros = Decoder().feed(b"\x1b[" + b"0" * 5000 + b"3;0005~", 0.0)
+    expect([tuple(key) for key in zeros] == [("^Delete",)], f"a number with zeros before it is taken for {zeros}")
+
+
+def check_alt_keys(folder):
+    """Alt with a key that is no character has that key's name."""
+    from decode import Decoder
+
+    for sent, name in ((b"\t", "Alt-Tab"), (b"\r", "Alt-Enter"), (b"\n", "Alt-Enter"), (b"\x7f", "Alt-Backspace"), (b"x", "Alt-x")):
+        got = Decoder().feed(b"\x1b" + sent, 0.0)
+        expect([tuple(key) for key in got] == [(name,)], f"Esc {sent} is taken for {got}")
+
+
+def check_control_characters(folder):
+    """A line on standard error does nothing to the screen. A file whose name the host tells with question marks is known by it."""
+    import session
+
+    with contextlib.redirect_stderr(io.StringIO()) as told:
+        session.say("a\x1b[31mb\x7fc\x9bd\x80é豆")
+    expect(told.getvalue() == "a?[31mb?c?d?é豆\n", f"it tells {told.getvalue()!r}")
+    pair, editor, key, text = opened("a\n")
+    pair.press(key("Esc"), text("f a\x9bb\n"), key("Esc"), text("x"), key("^W"))
+    expect(not editor.is_changed(1), "this test is wrong")
+    editor.hear("samhost: ? write a?b: No space left on device")
+    expect(editor.is_changed(1), "a write that failed is taken for done")
+
+
+def check_file_with_a_number(folder):
+    """A file that is called as the host calls one without a name is known by it."""
+    pair, editor, key, text = opened("a\n")
+    pair.press(key("Esc"), text("f file 9\n"), key("Esc"), text("x"), key("^W"))
+    expect(not editor.is_changed(1), "this test is wrong")
+    editor.hear("samhost: ? write file 9: No space left on device")
+    expect(editor.is_changed(1), "a write that failed is taken for done")
+    editor.hear(f"samhost: ? write file {'9' * 5000}: No space left on device")
