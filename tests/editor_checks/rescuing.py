@@ -8,7 +8,7 @@ import tempfile
 from pathlib import Path
 
 from .pairs import Pair, opened
-from .support import LINK, SAMHOST, SECONDS, Session, expect, made, wait_for_text, wait_until
+from .support import LINK, SAMHOST, SECONDS, Session, expect, made, stat_of, wait_for_text, wait_until
 
 
 class Kept:
@@ -50,21 +50,26 @@ def check_typed_while_it_saves(folder):
         kept.expect([("file0", "xya\n")] if late else [], f"typed late: {late!r}, sent: {is_sent}")
 
 
-def check_signal_over_a_slow_line(folder):
-    """The same with a real host, to which a key takes longer than the signal."""
+def check_signal_before_a_key_arrives(folder):
+    """The same with a real host, which tells that it has saved while the last key is on the way."""
     made(folder, a="one\n")
+    saved = folder / "a.txt.sam-saved"
     with Session(folder, "a.txt", slow=LINK) as session:
         session.wait_for("one")
         session.type("typed ")
-        session.wait_for("typed one")
-        session.wait_for_quiet()
+        wait_for_text(saved, "typed one\n")
+        host = session.processes()[SAMHOST.name]
+        line = int(stat_of(host)[1])
+        os.kill(line, signal.SIGSTOP)
         session.type("late ")
         session.wait_for("typed late one")
-        os.kill(session.processes()[SAMHOST.name], signal.SIGTERM)
+        os.kill(host, signal.SIGTERM)
+        session.wait_for("was not written; its text is in")
+        os.kill(line, signal.SIGCONT)
         session.wait_for("the host is gone")
         session.keys("C-q")
         session.wait_for_end(3)
-    expect((folder / "a.txt.sam-saved").read_text() == "typed one\n", "this test is wrong: the host got the last key")
+    expect(saved.read_text() == "typed one\n", "this test is wrong: the host got the last key")
     wait_for_text(folder / "a.txt.sam-here", "typed late one\n")
 
 
