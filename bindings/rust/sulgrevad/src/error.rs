@@ -203,3 +203,77 @@ impl fmt::Display for Error {
 }
 
 impl std::error::Error for Error {}
+
+#[cfg(test)]
+mod tests {
+    use super::*;
+
+    /// The numbers of sulgrevad.h, with the errors that they are.
+    const ERRORS: [(u32, Error); 27] = [
+        (1, Error::NoMemory),
+        (2, Error::Unfinished),
+        (3, Error::CountFull),
+        (6, Error::NotText),
+        (17, Error::Begun),
+        (19, Error::TooLong),
+        (20, Error::NoTag),
+        (33, Error::Stream(StreamFault::BadKind)),
+        (34, Error::Stream(StreamFault::BadLength)),
+        (35, Error::Stream(StreamFault::BadText)),
+        (36, Error::Stream(StreamFault::Truncated)),
+        (65, Error::HostRefused(HostFault::NoFile)),
+        (66, Error::HostRefused(HostFault::NotOpen)),
+        (67, Error::HostRefused(HostFault::BadPosition)),
+        (68, Error::HostRefused(HostFault::TooLong)),
+        (69, Error::HostRefused(HostFault::BadVersion)),
+        (70, Error::HostRefused(HostFault::CountFull)),
+        (72, Error::HostRefused(HostFault::CommandFile)),
+        (97, Error::TermRefused(TermFault::FromTheFuture)),
+        (98, Error::TermRefused(TermFault::NoFile)),
+        (99, Error::TermRefused(TermFault::NotOpen)),
+        (100, Error::TermRefused(TermFault::AlreadyBound)),
+        (101, Error::TermRefused(TermFault::BadPosition)),
+        (102, Error::TermRefused(TermFault::TooLong)),
+        (103, Error::TermRefused(TermFault::LockNotHeld)),
+        (104, Error::TermRefused(TermFault::CountFull)),
+        (162, Error::ScriptCountFull),
+    ];
+
+    const REFUSALS: [(u32, Refusal); 8] = [
+        (129, Refusal::Exited),
+        (130, Refusal::NoFile),
+        (131, Refusal::NotOpen),
+        (132, Refusal::BadPosition),
+        (133, Refusal::TooLong),
+        (134, Refusal::TextTooLong),
+        (135, Refusal::CommandFile),
+        (136, Refusal::BadVersion),
+    ];
+
+    /// Those that no safe call hands on: SAM_OK, SAM_NO_HANDLE, SAM_MADE, SAM_NONE, and SAM_SCRIPT_LINE, which `replay` gives its line.
+    const OTHERS: [u32; 5] = [0, 4, 5, 7, 161];
+
+    #[test]
+    fn each_number_is_its_error() {
+        for (status, error) in ERRORS {
+            assert_eq!((Error::of(status), error.status()), (error, status));
+        }
+        for (status, why) in REFUSALS {
+            assert_eq!((Refusal::of(status), why.status()), (Some(why), status));
+        }
+        assert_eq!((Error::ScriptLine(9).status(), Error::Unknown(200).status()), (161, 200));
+        assert_eq!((Error::of(200), Refusal::of(128)), (Error::Unknown(200), None));
+    }
+
+    #[test]
+    fn each_number_of_the_library_has_a_name_here() {
+        let is_listed = |status| {
+            let errors = ERRORS.iter().map(|(number, _)| number);
+            let refusals = REFUSALS.iter().map(|(number, _)| number);
+            errors.chain(refusals).chain(&OTHERS).any(|number| *number == status)
+        };
+        for status in 0..256 {
+            assert_eq!(is_listed(status), status_text(status) != "unknown status", "{status}");
+        }
+    }
+}

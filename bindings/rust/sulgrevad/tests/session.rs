@@ -1,30 +1,9 @@
 //! A session over the two ends: crossing edits wait, and both ends agree.
 
-use sulgrevad::{Change, Error, Host, Refusal, StreamFault, Terminal};
+mod both;
 
-/// Carries bytes both ways, cut into pieces, until neither side has any.
-fn carry(term: &mut Terminal, host: &mut Host) -> Result<(), Error> {
-    while term.pending() + host.pending() > 0 {
-        for piece in term.take_out().flatten().collect::<Vec<u8>>().chunks(3) {
-            host.feed(piece)?;
-        }
-        for piece in host.take_out().flatten().collect::<Vec<u8>>().chunks(5) {
-            term.feed(piece)?;
-        }
-    }
-    Ok(())
-}
-
-fn opened(text: &str) -> Result<(Host, Terminal, u16), Error> {
-    let mut host = Host::new()?;
-    let file = host.add_file("notes", text)?;
-    let mut term = Terminal::new()?;
-    term.offer_version(2)?;
-    carry(&mut term, &mut host)?;
-    term.open(file)?;
-    carry(&mut term, &mut host)?;
-    Ok((host, term, file))
-}
+use both::{carry, opened};
+use sulgrevad::{Change, Error, Refusal, StreamFault};
 
 #[test]
 fn an_edit_that_would_cross_waits() -> Result<(), Error> {
