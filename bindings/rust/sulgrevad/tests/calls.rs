@@ -156,6 +156,34 @@ fn a_search_is_for_the_pattern_and_not_for_the_dot() -> Result<(), Error> {
 }
 
 #[test]
+fn a_view_asks_for_one_stretch_at_a_time() -> Result<(), Error> {
+    let (mut host, mut term, file) = opened(&"x".repeat(1500))?;
+    let sent = term.sent();
+    term.view(file, 0, 1500)?;
+    assert_eq!(term.sent() - sent, 1); // 512 runes
+    carry(&mut term, &mut host)?;
+    assert_eq!(term.sent() - sent, 3); // 512 more, and 476
+    assert_eq!((term.view_of(file), term.first_gap(file, 0)), (Some((0, 1500)), None));
+    Ok(())
+}
+
+#[test]
+fn a_check_loads_what_came_into_view_and_takes_no_lock() -> Result<(), Error> {
+    let (mut host, mut term, file) = opened("one two\n")?;
+    term.view(file, 0, 3)?;
+    carry(&mut term, &mut host)?;
+    term.select(file, 0, 3)?;
+    term.cut(file)?;
+    carry(&mut term, &mut host)?;
+    assert_eq!((term.view_of(file), term.first_gap(file, 0)), (Some((0, 3)), Some(0)));
+    term.check(file)?;
+    assert!(!term.locked(file));
+    carry(&mut term, &mut host)?;
+    assert_eq!(term.text(file, 0).as_deref(), Some(" tw"));
+    Ok(())
+}
+
+#[test]
 fn a_scroll_goes_so_many_lines_up() -> Result<(), Error> {
     let (mut host, mut term, file) = opened("a\nb\nc\nd\n")?;
     term.view(file, 6, 2)?;
@@ -261,6 +289,22 @@ fn a_flush_waits_for_the_events_before_it() -> Result<(), Error> {
     carry(&mut term, &mut host)?;
     assert_eq!((term.held(), term.unsent()), (0, 0));
     assert_eq!(host.text(file).as_deref(), Some("xone\n"));
+    Ok(())
+}
+
+#[test]
+fn flush_now_goes_before_the_events_that_are_held() -> Result<(), Error> {
+    let (mut host, mut term, file) = opened("one\n")?;
+    term.open_cmd()?;
+    carry(&mut term, &mut host)?;
+    term.look(file)?; // a lock of the file is held until it is answered
+    term.type_(0, "x")?;
+    term.type_(file, "y")?;
+    assert_eq!((term.held(), term.unsent()), (1, 1));
+    term.flush_now()?;
+    assert_eq!((term.held(), term.unsent()), (1, 0));
+    carry(&mut term, &mut host)?;
+    assert_eq!((host.text(0).as_deref(), term.unsent()), (Some("x"), 1)); // `y` was typed by then
     Ok(())
 }
 
