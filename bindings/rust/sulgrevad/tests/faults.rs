@@ -100,9 +100,13 @@ fn wants_refusal(term: &mut Terminal, why: Refusal) {
 
 #[test]
 fn events_are_refused() -> Result<(), Error> {
-    let (_host, mut term, file) = opened("one\n")?;
-    term.cut(9)?;
+    let (mut host, mut term, file) = opened("one\n")?;
+    term.close(0)?; // it is not known before it is opened
     wants_refusal(&mut term, Refusal::NoFile);
+    term.open_cmd()?;
+    carry(&mut term, &mut host)?;
+    term.close(0)?;
+    wants_refusal(&mut term, Refusal::CommandFile);
     term.select(file, 0, 5)?;
     wants_refusal(&mut term, Refusal::BadPosition);
     term.type_(file, &"é".repeat(512))?;
@@ -111,8 +115,6 @@ fn events_are_refused() -> Result<(), Error> {
     term.set_snarf(&"é".repeat(16_000))?; // 32,000 bytes
     term.set_snarf(&"é".repeat(16_001))?;
     wants_refusal(&mut term, Refusal::TextTooLong);
-    term.close(0)?;
-    wants_refusal(&mut term, Refusal::CommandFile);
     term.offer_version(0)?;
     wants_refusal(&mut term, Refusal::BadVersion);
     Ok(())
