@@ -241,21 +241,22 @@ static int keep_as(const struct text *text, const char *front, const char *suffi
 int keep(const struct text *text, const char *name, const char *suffix, struct copy *copy)
 {
     char base[BASE_ROOM];
-    char *folder = folder_of(name);
-    int error = ENOMEM;
+    bool is_short = false;
+    int error = 0;
 
     *copy = (struct copy){0};
     base_of(name, base);
-    for (int which = 0; folder != NULL; which++) {
-        char *front = formatted("%s%s", folder, base);
+    for (int which = 0; which <= count_temporary(); which++) {
+        char *folder = which == 0 ? folder_of(name) : temporary_folder(which - 1);
+        char *front = folder == NULL ? NULL : formatted("%s%s", folder, base);
         error = front == NULL ? ENOMEM : keep_as(text, front, suffix, which == 0 ? name : NULL, copy);
         free(front);
         free(folder);
         if (error == 0)
-            break;
-        folder = temporary_folder(which);
+            return 0;
+        is_short |= error == ENOMEM;
     }
-    return error;
+    return is_short ? ENOMEM : error; /* where memory is out that place may do later */
 }
 
 int keep_again(const struct text *text, struct copy *copy)

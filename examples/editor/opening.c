@@ -152,11 +152,11 @@ static bool is_one_file(const struct identity *one, const struct identity *other
  * status. */
 static int refuse_twice(char **paths, struct identity *identities, int count)
 {
-    bool is_known = false;
-
     for (int at = 0; at < count; at++) {
-        is_known = identify(paths[at], &identities[at]) == 0;
-        for (int before = 0; is_known && before < at; before++) {
+        int error = identify(paths[at], &identities[at]);
+        if (error == ENOMEM)
+            return STATUS_MEMORY;
+        for (int before = 0; error == 0 && before < at; before++) {
             if (is_one_file(&identities[at], &identities[before])) {
                 say("%s: it stands twice among the words, first as %s", paths[at], paths[before]);
                 return STATUS_UNREADABLE;
@@ -193,6 +193,8 @@ int add_files(struct session *session, char **paths, int count)
 
     if (status == STATUS_OK && mark_files(identities, count, &marks) != 0)
         status = STATUS_MEMORY;
+    if (status == STATUS_MEMORY)
+        say("out of memory");
     for (int at = 0; identities != NULL && at < count; at++)
         free(identities[at].name);
     free(identities);
@@ -222,15 +224,17 @@ struct folder {
     dev_t device;
     ino_t inode;
     bool is_temporary;
+    bool is_short; /* out: something in it was not looked at, since memory is out */
 };
 
 /* Whether what is in a folder under a name is another user's. */
-static bool is_foreign(const struct folder *folder, const char *entry)
+static bool is_foreign(struct folder *folder, const char *entry)
 {
     struct stat status;
     char *path = formatted("%s%s", folder->path, entry);
     bool is_foreign = path == NULL || lstat(path, &status) != 0 || status.st_uid != geteuid();
 
+    folder->is_short |= path == NULL;
     free(path);
     return is_foreign;
 }
@@ -251,12 +255,13 @@ static bool has_suffix(const char *entry, const char *suffix, size_t *len)
     return *at == '\0';
 }
 
-static bool lies_in(const char *path, const struct folder *folder)
+static bool lies_in(const char *path, struct folder *folder)
 {
     struct stat status;
     char *own = folder_of(path);
     bool is_there = own != NULL && stat(*own == '\0' ? "." : own, &status) == 0;
 
+    folder->is_short |= own == NULL;
     free(own);
     return is_there && status.st_dev == folder->device && status.st_ino == folder->inode;
 }
@@ -272,7 +277,7 @@ static bool is_front_of(const char *path, const char *entry, size_t len)
 
 /* Reports a copy where it is one of a file of the session, as it is named or as its symbolic links name it: of one beside it; in a folder
  * for temporary files, where it is the user's own, of one anywhere. */
-static void report_copy(struct session *session, const struct folder *folder, const char *entry, size_t len, bool is_old)
+static void report_copy(struct session *session, struct folder *folder, const char *entry, size_t len, bool is_old)
 {
     size_t tags = count_tags(session);
     bool may_be_of_any = folder->is_temporary && !is_foreign(folder, entry);
@@ -300,7 +305,7 @@ static void report_copy(struct session *session, const struct folder *folder, co
     }
 }
 
-static void report_entry(struct session *session, const struct folder *folder, const char *entry)
+static void report_entry(struct session *session, struct folder *folder, const char *entry)
 {
     size_t len;
     bool is_temporary = strncmp(entry, TEMPORARY, strlen(TEMPORARY)) == 0;
@@ -316,20 +321,29 @@ static void report_entry(struct session *session, const struct folder *folder, c
         say("a file without a name was not written: its text is in %s%s", folder->path, entry);
 }
 
-/* Looks through a folder, unless that was done. The path is in memory that this frees. Returns whether the folder is there. */
-static bool report_folder(struct session *session, struct marks *seen, char *path, enum purpose purpose)
+/* The folders that were looked through. */
+struct seen {
+    struct marks folders;
+    bool is_short; /* something was not looked at, since memory is out */
+};
+
+/* Looks through a folder, unless that was done. The path is in memory that this frees; NULL where memory is out. Returns whether the folder
+ * is there. */
+static bool report_folder(struct session *session, struct seen *seen, char *path, enum purpose purpose)
 {
     struct stat status;
     const char *name = path == NULL || *path != '\0' ? path : ".";
     bool is_there = name != NULL && stat(name, &status) == 0;
-    DIR *entries = is_there && !has_mark(seen, &status) ? opendir(name) : NULL;
+    DIR *entries = is_there && !has_mark(&seen->folders, &status) ? opendir(name) : NULL;
 
+    seen->is_short |= path == NULL;
     if (entries != NULL) {
-        struct folder folder = {path, status.st_dev, status.st_ino, purpose == FOR_TEMPORARY_FILES};
+        struct folder folder = {path, status.st_dev, status.st_ino, purpose == FOR_TEMPORARY_FILES, false};
         for (struct dirent *entry = readdir(entries); entry != NULL; entry = readdir(entries))
             report_entry(session, &folder, entry->d_name);
         closedir(entries);
-        (void)add_mark(seen, status.st_dev, status.st_ino); /* where memory is out, it may be reported twice */
+        seen->is_short |= folder.is_short;
+        (void)add_mark(&seen->folders, status.st_dev, status.st_ino); /* where memory is out, it may be reported twice */
     }
     free(path);
     return is_there;
@@ -339,14 +353,16 @@ static bool report_folder(struct session *session, struct marks *seen, char *pat
 void report_left(struct session *session)
 {
     size_t tags = count_tags(session);
-    struct marks seen = {0};
+    struct seen seen = {0};
 
-    if (!report_folder(session, &seen, temporary_folder(0), FOR_TEMPORARY_FILES))
-        report_folder(session, &seen, temporary_folder(1), FOR_TEMPORARY_FILES);
+    for (int which = 0; which < count_temporary() && !report_folder(session, &seen, temporary_folder(which), FOR_TEMPORARY_FILES); which++)
+        ;
     for (size_t tag = 1; tag < tags; tag++) {
         report_folder(session, &seen, folder_of(session->documents[tag].path), OF_FILES);
         report_folder(session, &seen, folder_of(session->documents[tag].known->path), OF_FILES);
     }
     report_folder(session, &seen, formatted(""), OF_FILES);
-    free(seen.items);
+    if (seen.is_short)
+        say("out of memory: not all that is left of earlier sessions was looked for");
+    free(seen.folders.items);
 }

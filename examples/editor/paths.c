@@ -86,14 +86,23 @@ int end_of_links(const char *path, char **end)
     return ELOOP;
 }
 
-char *temporary_folder(int which)
+static const char *named_folder(void)
 {
     const char *named = getenv("TMPDIR");
-    bool is_named = named != NULL && *named != '\0';
 
-    if (which == 0 && is_named)
-        return formatted("%s/", named);
-    return which == (is_named ? 1 : 0) ? formatted("/tmp/") : NULL;
+    return named != NULL && *named != '\0' ? named : NULL;
+}
+
+int count_temporary(void)
+{
+    return named_folder() == NULL ? 1 : 2;
+}
+
+char *temporary_folder(int which)
+{
+    const char *named = named_folder();
+
+    return which == 0 && named != NULL ? formatted("%s/", named) : formatted("/tmp/");
 }
 
 /* ---- Contents ---- */

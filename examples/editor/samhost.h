@@ -212,9 +212,6 @@ int take_text(struct session *session, uint16_t tag);
 enum place { IN_ITS_FILE, ASIDE };
 int secure(struct session *session, uint16_t tag, enum place *place);
 
-/* Whether something that failed is to be tried once more: where memory is out, after a while. */
-bool is_tried_again(int error, int *tries);
-
 /* Whether a copy is still there as the host saved it, so that the host may replace or remove it. */
 bool is_own(const struct copy *copy);
 
@@ -232,6 +229,9 @@ int move_aside(struct session *session, struct document *owner);
 
 /* Saves all changed texts aside, and says of a text once that it can't be saved. Returns whether all are. */
 bool save_changed(struct session *session);
+
+/* Whether something that failed is to be tried once more: where memory is out, some times, and after a while. */
+bool is_tried_again(int error, int *tries);
 
 /* Before the host closes a file: saves its text if it is changed. After it: forgets the document, if the host did close it. */
 void save_closing(struct session *session, uint16_t tag);
@@ -269,8 +269,9 @@ void base_of(const char *path, char base[BASE_ROOM]);
 /* The path that symbolic links at the end of a path lead to, in memory of the caller's. Nothing needs to be there. */
 int end_of_links(const char *path, char **end);
 
-/* The folders for temporary files, with the slash at their ends: $TMPDIR, where it is set and not empty, and /tmp. NULL comes last. In
- * memory of its own; NULL where there is no memory. */
+/* The folders for temporary files: $TMPDIR, where it is set and not empty, and /tmp. How many they are; and one of them, counted from 0,
+ * with the slash at its end, in memory of its own; NULL where there is no memory. */
+int count_temporary(void);
 char *temporary_folder(int which);
 
 struct content content_of(const struct text *text);
