@@ -1,8 +1,9 @@
 /*
  * Loaded before a program, this answers its request number REFUSE for memory with none, or its request number
- * REFUSE_THREAD for a thread with EAGAIN, and then writes a byte to descriptor 9. Of memory only requests of the program
- * itself count, from 1, whichever thread makes them, and not those that the C library makes for it. For each thread
- * that is made a byte is written to descriptor 8.
+ * REFUSE_THREAD for a thread with EAGAIN, and then writes a byte to descriptor 9. With REFUSE_COUNT so many requests for
+ * memory are refused, from that number on. Of memory only requests of the program itself count, from 1, whichever thread
+ * makes them, and not those that the C library makes for it. For each thread that is made a byte is written to
+ * descriptor 8.
  */
 #define _GNU_SOURCE
 #include <dlfcn.h>
@@ -23,7 +24,7 @@ void *__libc_memalign(size_t, size_t);
 typedef int make_thread(pthread_t *, const pthread_attr_t *, void *(*)(void *), void *);
 
 static uintptr_t first, last;
-static unsigned long refuse, refuse_thread;
+static unsigned long refuse, refuse_count, refuse_thread;
 static atomic_ulong asked, threads_asked;
 
 /* The first of the loaded files is the program. */
@@ -40,16 +41,17 @@ static int find_program(struct dl_phdr_info *file, size_t size, void *unused)
     return 1;
 }
 
-static unsigned long number_in(const char *name)
+static unsigned long number_in(const char *name, unsigned long otherwise)
 {
     const char *number = getenv(name);
-    return number ? strtoul(number, NULL, 10) : 0;
+    return number ? strtoul(number, NULL, 10) : otherwise;
 }
 
 __attribute__((constructor)) static void start(void)
 {
-    refuse = number_in("REFUSE");
-    refuse_thread = number_in("REFUSE_THREAD");
+    refuse = number_in("REFUSE", 0);
+    refuse_count = number_in("REFUSE_COUNT", 1);
+    refuse_thread = number_in("REFUSE_THREAD", 0);
     dl_iterate_phdr(find_program, NULL);
 }
 
@@ -61,7 +63,10 @@ static void note_refusal(void)
 
 static int is_refused(void *caller)
 {
-    if ((uintptr_t)caller < first || (uintptr_t)caller >= last || ++asked != refuse)
+    if ((uintptr_t)caller < first || (uintptr_t)caller >= last)
+        return 0;
+    unsigned long number = ++asked;
+    if (refuse == 0 || number < refuse || number - refuse >= refuse_count)
         return 0;
     note_refusal();
     errno = ENOMEM;
