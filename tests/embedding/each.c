@@ -164,8 +164,8 @@ static const struct {
     {SELECT, 1, 0, 1, "", false},
     {PASTE, 1, 0, 0, "", true}, /* in the place of a rune */
     {CUT, 1, 0, 0, "", true},
-    {TYPE, 1, 0, 0, "h\xC3\xA9llo", false},
-    {FLUSH, 0, 0, 0, "", true},
+    {TYPE, 1, 0, 0, "h\xC3\xA9llo" HUNDRED HUNDRED HUNDRED HUNDRED HUNDRED, false}, /* for its bytes there is no room yet */
+    {FLUSH_NOW_EVENT, 0, 0, 0, "", true},
     {EDIT, 1, 0, 5, HUNDRED HUNDRED HUNDRED HUNDRED HUNDRED HUNDRED, true}, /* two messages, and one that cuts */
     {WRITE, 1, 0, 0, "", true},
     {SELECT, 2, 11, 13, "", false},
@@ -183,7 +183,7 @@ static const struct {
     {CHECK, 2, 0, 0, "", true},
     {NEW_FILE, 0, 0, 0, "", true},
     {TYPE, 5, 0, 0, "new", false},
-    {FLUSH_NOW_EVENT, 0, 0, 0, "", true},
+    {FLUSH, 0, 0, 0, "", true},
     {SELECT, 1, 0, 550, "", false},
     {SNARF, 1, 0, 0, "", true},
     {SELECT, 2, 0, 0, "", false},

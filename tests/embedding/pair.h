@@ -16,10 +16,11 @@
 
 enum { FILES = 4, PIECE = 64, PART = 512, COPIES = 32, MOST = 1 << 16 };
 
-/* The calls that may find memory short, and those of the events together. */
-enum call { HOST_NEW, TERM_NEW, ADD_FILE, HOST_FEED, TERM_FEED, EVENT, FLUSH_NOW, CHANGED, CALLS };
-static const char *const call_names[CALLS] = {"sam_host_new",  "sam_term_new", "sam_host_add_file",  "sam_host_feed",
-                                              "sam_term_feed", "an event",     "sam_term_flush_now", "sam_term_changed"};
+/* The calls that may say that memory is out; those of the events together. */
+enum call { HOST_NEW, TERM_NEW, ADD_FILE, HOST_FEED, TERM_FEED, HOST_FINISH, TERM_FINISH, EVENT, FLUSH_NOW, CHANGED, CALLS };
+static const char *const call_names[CALLS] = {"sam_host_new",       "sam_term_new",    "sam_host_add_file", "sam_host_feed",
+                                              "sam_term_feed",      "sam_host_finish", "sam_term_finish",   "an event",
+                                              "sam_term_flush_now", "sam_term_changed"};
 
 static sam_host host;
 static sam_term term;
@@ -65,7 +66,7 @@ static void feed_host(const uint8_t *bytes, size_t len)
     while ((status = noted(HOST_FEED, sam_host_feed(&host, bytes, len))) == SAM_NO_MEMORY)
         ;
     while (status == SAM_UNFINISHED || status == SAM_NO_MEMORY) {
-        if (sam_host_finish(&host) != SAM_UNFINISHED)
+        if (noted(HOST_FINISH, sam_host_finish(&host)) != SAM_UNFINISHED)
             fail("the host says that nothing waits", status);
         status = noted(HOST_FEED, sam_host_feed(&host, NULL, 0));
     }
@@ -78,8 +79,10 @@ static sam_status settle_term(enum call call, sam_status status)
     if (noted(call, status) != SAM_UNFINISHED)
         return status;
     do {
-        if (sam_term_finish(&term) != SAM_UNFINISHED)
-            fail("the terminal says that nothing waits", status);
+        uint64_t held = 0;
+        want("held", sam_term_held(&term, &held));
+        if (noted(TERM_FINISH, sam_term_finish(&term)) != SAM_UNFINISHED && held == 0)
+            fail("the terminal says that nothing waits, of what came or was composed and of events", status);
         status = noted(TERM_FEED, sam_term_feed(&term, NULL, 0));
     } while (status == SAM_UNFINISHED || status == SAM_NO_MEMORY);
     return status;
