@@ -1,10 +1,12 @@
 """Questions, and texts that were not written."""
+import contextlib
 import os
+import random
 import re
 import signal
 import time
 
-from .pairs import opened
+from .pairs import Pair, opened
 from .support import READ_AFTER, SAMHOST, Session, expect, host_that, made, wait_for_text, wait_until
 
 
@@ -153,7 +155,7 @@ def check_quick_keys_answer_nothing(folder):
 
 
 def check_dropped_is_saved(folder):
-    """Two quick `^Q` do nothing. What is dropped with open eyes is saved aside once: by `^K`, and by `^Q`."""
+    """Two quick `^Q` do nothing but ask. What is dropped with open eyes is saved aside once: by `^K`, and by `^Q`."""
     made(folder, a="one\n", b="two\n")
     with Session(folder, "a.txt", "b.txt") as session:
         session.wait_for("one")
@@ -163,11 +165,12 @@ def check_dropped_is_saved(folder):
         session.type("y")
         session.wait_for("ytwo")
         session.wait_for_quiet()
-        for pause in (0.03, 0.2):  # by tmux itself, so that a busy machine doesn't make them longer
-            session.tmux("send-keys", "C-q", ";", "run-shell", f"sleep {pause}", ";", "send-keys", "C-q")
-            time.sleep(0.3)
-            expect(not session.status_file.exists(), f"two keys {pause} s apart leave")
-        session.keys("Left", "C-k")
+        # By tmux itself, so that a busy machine doesn't make them later. Longer pauses `check_quick_keys_answer_nothing` has.
+        session.tmux("send-keys", "C-q", ";", "run-shell", "sleep 0.03", ";", "send-keys", "C-q")
+        session.wait_for("^Q again leaves without them")
+        session.keys("Left")
+        wait_until(lambda: not session.shows("^Q again"), "two quick keys leave, or a key doesn't take the question back")
+        session.keys("C-k")
         session.answer("b.txt was not written", "C-k")
         wait_until(lambda: not session.shows("ytwo"), "the file stays")
         session.leave_unwritten()
@@ -241,21 +244,91 @@ def check_host_lost_with_a_text(folder):
     expect(len(list(folder.glob("a.txt.sam-here*"))) == 1, "it is written twice")
 
 
-def check_typed_ahead_is_kept(folder):
-    """What was typed and waits when the host is lost is written, too."""
-    pair, editor, key, text = opened("a\n")
+@contextlib.contextmanager
+def kept_texts():
+    """The texts that are written here meanwhile, with their names; no file is made."""
     import rescue
 
-    kept = {}
-    before, rescue.keep = rescue.keep, lambda name, text: kept.setdefault(name, text)
+    kept = []
+    before, rescue.keep = rescue.keep, lambda name, text: kept.append((name, text)) or name
     try:
-        pair.press(text("x"))
-        for typed in (key("^D"), text("after")):
-            editor.take(typed)
-        editor.lose("the host is gone")
+        yield kept
     finally:
         rescue.keep = before
-    expect(list(kept) == ["file0"] and kept["file0"].startswith("xa\n") and "after" in kept["file0"], f"it keeps {kept}")
+
+
+def check_typed_ahead_is_kept(folder):
+    """What was typed and waits when the host is lost is written, too, with the text that it was typed into. What was typed for a file that
+    is not open yet, or before the files are known, has a file of its own."""
+    pair, editor, key, text = opened("a\n")
+    pair.press(text("x"))
+    for typed in (key("^D"), text("after")):
+        editor.take(typed)
+    with kept_texts() as kept:
+        editor.lose("the host is gone")
+    expect([name for name, _ in kept] == ["file0"], f"it keeps {kept}")
+    expect(kept[0][1].startswith("xa\n") and kept[0][1].endswith("after"), f"it keeps {kept}")
+    for trips in range(4):
+        pair = Pair(random.Random(1), ["a\n"])
+        for _ in range(trips):
+            pair.trip()
+        if pair.terminal.is_open(1):
+            break
+        pair.editor.take(text("early"))
+        with kept_texts() as kept:
+            pair.editor.lose("the host is gone")
+        expect(kept == [("typed", "early")], f"after {trips} round trips it keeps {kept}")
+    expect(trips > 1, "this test is wrong: the file is open at once")
+    pair = Pair(random.Random(1), ["a\n", "b\n"])
+    pair.editor.arrange(60, 80)
+    pair.finish()
+    for typed in (text("x"), key("^T"), text("late")):
+        pair.editor.take(typed)
+    with kept_texts() as kept:
+        pair.editor.lose("the host is gone")
+    expect(kept == [("file0", "xa\n"), ("typed", "late")], f"it keeps {kept}")
+
+
+def check_texts_of_one_name(folder):
+    """Files may have the same name, or paths that end in the same 63 characters. Of each that was changed the text is kept."""
+    pair, editor, key, text = opened("a\n", "b\n")
+    for window, rune in zip(editor.files, "xy"):
+        editor.go_to(window)
+        pair.press(text(rune), key("Esc"), text("f same\n"), key("Esc"))
+    expect([pair.host.name(tag) for tag in (1, 2)] == ["same", "same"], "this test is wrong")
+    editor.hear("samhost: same was not written; its text is in same.sam-saved")  # of one of them
+    with kept_texts() as kept:
+        editor.lose("the host is gone")
+    expect(kept == [("same", "xa\n"), ("same", "yb\n")], f"it keeps {kept}")
+
+
+def check_dropped_texts_of_one_name(folder):
+    """The same of files that are closed: a text stays until the host has said that it is saved."""
+    pair, editor, key, text = opened("a\n", "b\n", "c\n")
+    for window, rune in zip(editor.files[:2], "xy"):
+        editor.go_to(window)
+        pair.press(text(rune), key("Esc"), text("f same\n"), key("Esc"))
+    for _ in range(2):
+        editor.go_to(editor.files[0])
+        pair.press(key("^K"), key("^K"))
+    expect([window.tag for window in editor.files] == [3], f"this test is wrong: {editor.message}")
+    editor.hear("samhost: same was not written; its text is in same.sam-saved")
+    with kept_texts() as kept:
+        editor.lose("the host is gone")
+    expect(kept == [("same", "yb\n")], f"it keeps {kept}")
+
+
+def check_saved_by_the_host(folder):
+    """What the host says that it has saved is not written here too, where it has got all that was sent. A later change is."""
+    pair, editor, key, text = opened("a\n")
+    pair.press(text("x"))
+    editor.hear("samhost: file0 was not written; its text is in file0.sam-saved")
+    with kept_texts() as kept:
+        expect(editor.keeping.keep_here(True) == [] == kept, f"it writes {kept}, which the host has")
+        expect(len(editor.keeping.keep_here(False)) == 1 and kept == [("file0", "xa\n")], f"it writes {kept}, where the host may lack some")
+    pair.press(text("y"))
+    with kept_texts() as kept:
+        expect(len(editor.keeping.keep_here(True)) == 1 and kept == [("file0", "xya\n")], f"it writes {kept} after a later change")
 
 
 def check_words_at_the_start(folder):
