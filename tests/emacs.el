@@ -137,4 +137,18 @@
   (sulgrevad-quit)
   (check "the host ends" (with-timeout (10 nil) (while (process-live-p sulgrevad--process) (accept-process-output nil 0.05)) t))
   (check "in peace" (eql (process-exit-status sulgrevad--process) 0) (process-exit-status sulgrevad--process))
+
+  ;; The host is lost: the text stays, and can be read.
+  (sulgrevad-start (append host (list other)))
+  (goto-char (point-min))
+  (keys "k e p t SPC")
+  (let ((text (sulgrevad--text)))
+    (check "there is something to lose" (string-prefix-p "kept " text) text)
+    (delete-process sulgrevad--process)
+    (with-timeout (10 nil) (while sulgrevad--term (accept-process-output nil 0.05)))
+    (check "the session is over" (null sulgrevad--term))
+    (check "the buffer is read-only" (eq buffer-read-only t) buffer-read-only)
+    (condition-case nil (keys "z") (error nil))
+    (check "the text stays" (equal (sulgrevad--text) text) (sulgrevad--text))
+    (check "it is known as changed" (buffer-modified-p)))
   (princ (format "%d passed, %d failed\n" passed failed)))
