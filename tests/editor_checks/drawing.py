@@ -1,8 +1,10 @@
 """What stands on the screen, in tmux."""
 import re
 import time
+from types import SimpleNamespace
 
-from .support import LINK, Session, expect, expect_sleep, made, wait_for_text, wait_until
+from .pairs import opened
+from .support import Session, expect, expect_sleep, made, wait_for_text, wait_until
 
 
 def check_runes(folder):
@@ -88,14 +90,69 @@ def check_large(folder):
 def check_gaps(folder):
     """What is not loaded is drawn as a shade, and fills."""
     made(folder, a="".join(f"line {number}\n" for number in range(2000)))
-    with Session(folder, "a.txt", slow=LINK) as session:
+    with Session(folder, "a.txt") as session:
         session.wait_for("line 14")
         session.wait_for_quiet()
-        session.keys("C-End")
-        session.wait_for("░░░░░")
+        with session.stopped_host():
+            session.keys("C-End")
+            session.wait_for("░░░░░")
         wait_until(lambda: not session.shows("░"), "the shade never fills")
         rows = session.rows("a.txt")
         expect("line 1999" in rows and all(re.fullmatch(r"(line \d+)?", row) for row in rows), f"rows {rows}")
+        session.leave()
+
+
+def check_status_line(folder):
+    """The status line has what is locked, keys that wait, and bytes that the pipe doesn't take."""
+    pair, editor, key, text = opened("a\n", "b\n", "c\n")
+    first, second, third = editor.files
+    pair.terminal.set_snarf("pasted")
+    pair.finish()
+
+    def parts(count=0):
+        return pair.screen.status(editor, SimpleNamespace(waiting=bytes(count))).split(" | ")
+
+    expect(parts() == ["file2", "0,0 of 2, line 1", "free"], f"it has {parts()}")
+    expect(parts(12_345)[-1] == "waiting 12345", f"it has {parts(12_345)}")
+    editor.take(key("^V"))
+    expect("locked: this" in parts(), f"a paste is under way here: it has {parts()}")
+    for rune in "xy":
+        editor.take(text(rune))
+    expect("held 2" in parts(), f"two keys wait: it has {parts()}")
+    pair.finish()
+    expect("free" in parts() and not any("held" in part for part in parts()), f"all is done: it has {parts()}")
+    editor.take(key("^V"))
+    editor.go_to(first)
+    expect("locked: 1" in parts(), f"a paste is under way in another window: it has {parts()}")
+    editor.take(key("^V"))
+    expect("locked: 2" in parts(), f"two pastes are under way: it has {parts()}")
+    pair.finish()
+    for typed in (key("Esc"), text("2p\n")):
+        editor.take(typed)
+    expect("locked: all" in parts(), f"a command line is under way: it has {parts()}")
+    pair.finish()
+    expect("free" in parts(), f"all is done: it has {parts()}")
+
+
+def check_full_pipe(folder):
+    """While the host takes nothing, bytes wait that the pipe has no room for. Keys act all the same, and nothing is lost."""
+    (path,) = made(folder, a="end\n")
+    text = "".join(f"line {number}\n" for number in range(20_000))
+    (folder / "text").write_text(text)
+    with Session(folder, "a.txt") as session:
+        session.wait_for("end")
+        session.wait_for_quiet()
+        with session.stopped_host():
+            session.tmux("load-buffer", str(folder / "text"))
+            session.tmux("paste-buffer", "-p")
+            session.wait_for("line 19999")
+            wait_until(lambda: re.search(r"\| waiting \d+", session.status()), "the status line doesn't tell of it")
+            session.type("|")
+            session.wait_for("|end")
+        session.wait_for_quiet()
+        expect("waiting" not in session.status(), f"bytes still wait: {session.status()}")
+        session.keys("C-w")
+        wait_for_text(path, text + "|end\n")
         session.leave()
 
 

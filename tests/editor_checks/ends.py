@@ -2,12 +2,13 @@
 import os
 import re
 import signal
+import sys
 
-from .support import SAMHOST, Session, expect, expect_sleep, made, wait_for_text
+from .support import SAMHOST, SAMTERM, Session, expect, expect_sleep, host_that, made, wait_for_text, wait_until
 
 
 def check_kill_host(folder):
-    """The host is killed: the text stays readable until the user leaves."""
+    """The host is killed: the text stays readable until the user leaves. What is typed before he knows is written to a file of its own."""
     made(folder, a="".join(f"line {number}\n" for number in range(12)))
     with Session(folder, "a.txt") as session:
         session.wait_for("line 11")
@@ -23,6 +24,48 @@ def check_kill_host(folder):
         expect_sleep(session)
         session.keys("C-q")
         session.wait_for_end(3)
+    typed = folder / "typed.sam-here"
+    expect(typed.exists() and typed.read_text() == "lost", "what was typed is lost")
+    expect(typed.name in (folder / "stderr").read_text(), "that file is not named")
+
+
+def check_saved_here(folder):
+    """At its end samterm writes what the host has not said that it saved: to this folder, or to that for temporary files where nothing can
+    be written here."""
+    gone = "sh -c 'mkdir gone; cd gone; rmdir ../gone; exec \"$0\" \"$@\"'"  # a folder that is gone takes no file, of nobody
+    for at, (program, kept) in enumerate(((SAMTERM, "a.txt.sam-here"), (f"{gone} {sys.executable} {SAMTERM}", "tmp/a.txt.sam-here"))):
+        place = folder / str(at)
+        (place / "tmp").mkdir(parents=True)
+        (path,) = made(place, a="one\n")
+        host = host_that(place, f"exec {SAMHOST} \"$@\" 2> /dev/null")  # it saves the text, and says nothing
+        with Session(place, str(path), host=host, program=program, settings=f"TMPDIR={place}/tmp") as session:
+            session.wait_for("one")
+            session.type("typed ")
+            session.wait_for("typed one")
+            session.leave_unwritten()
+        left = {str(entry.relative_to(place)): entry.read_text() for entry in place.rglob("*.sam-here*")}
+        expect(left == {kept: "typed one\n"}, f"{program}: there are {left}")
+        expect(f"/{kept}" in (place / "stderr").read_text(), f"{program}: the file is not named")
+
+
+def check_host_dies_at_the_end(folder):
+    """A host that ends too early may not have got all: then samterm writes the text, though the host has saved one of before."""
+    made(folder, a="one\n")
+    with Session(folder, "a.txt") as session:
+        session.wait_for("one")
+        session.type("typed ")
+        wait_for_text(folder / "a.txt.sam-saved", "typed one\n")
+        session.wait_for_quiet()
+        with session.stopped_host() as host:
+            session.type("more ")
+            session.wait_for("typed more one")
+            terminal = next(process for name, process in session.processes().items() if name.startswith("python"))
+            os.kill(terminal, signal.SIGTERM)
+            wait_until(lambda: not session.shows("| up "), "it doesn't leave the screen")
+            os.kill(host, signal.SIGKILL)
+        session.wait_for_end(128 + signal.SIGTERM)
+    here = folder / "a.txt.sam-here"
+    expect(here.exists() and here.read_text() == "typed more one\n", "what was typed is lost")
 
 
 def check_kill_terminal(folder):
@@ -58,13 +101,18 @@ def check_no_host(folder):
     expect("wrong.bin: it is not UTF-8" in (folder / "stderr").read_text(), "the reason is not told")
 
 
-def check_no_screen(folder):
-    """A screen that curses doesn't know: that is told in a line, and no host is run."""
-    for at, settings in enumerate(("TERM=nonsense", "env -u TERM")):
+def check_wrong_words(folder):
+    """No screen, one that curses doesn't know, and wrong words: why is told, and no host is run."""
+    for at, (settings, words, wanted) in enumerate((
+        ("TERM=nonsense", "", "samterm: .*TERM.*\n"), ("env -u TERM", "", "samterm: .*TERM.*\n"),
+        ("true |", "", "samterm: .*screen.*\n"), ("", "> out", "samterm: .*screen.*\n"),
+        ("", "--host \"'x\"", "samterm: --host: .*\n"), ("", "--nonsense", "usage: .*--nonsense.*\n"),
+    )):  # fmt: skip
         place = folder / str(at)
         place.mkdir()
         (place / "wrong.bin").write_bytes(b"\xff\xfe")  # a host would tell of it
-        with Session(place, "wrong.bin", settings=settings) as session:
+        with Session(place, "wrong.bin", words, settings=settings) as session:
             session.wait_for_end(2)
         told = (place / "stderr").read_text()
-        expect(re.fullmatch("samterm: .*TERM.*\n", told) is not None, f"{settings}: it tells {told!r}")
+        is_told = re.fullmatch(wanted, told, re.DOTALL) is not None and "wrong.bin:" not in told and "Traceback" not in told
+        expect(is_told, f"{settings} {words}: it tells {told!r}")

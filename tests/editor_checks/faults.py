@@ -52,19 +52,22 @@ def check_goes_on(folder):
 
 
 def check_suspend(folder):
-    """A key gives the terminal back to the shell, whose `fg` goes on."""
-    made(folder, a="one\n")
-    line = f"{SAMTERM} --host {SAMHOST} a.txt; echo back in the shell; read x; fg"
-    with Session(folder, "a.txt", program=f"bash --norc -ic 'set -m; {line}' --") as session:
-        session.wait_for("one")
-        session.keys("F12")
-        session.wait_for("back in the shell")
-        session.keys("Enter")
-        session.wait_for("| up ")
-        session.wait_for("one")
-        session.type("x")
-        session.wait_for("xone")
-        session.leave_unwritten()
+    """Two keys give the terminal back to the shell, whose `fg` goes on."""
+    for at, name in enumerate(("F12", "C-\\")):
+        place = folder / str(at)
+        place.mkdir()
+        made(place, a="one\n")
+        line = f"{SAMTERM} --host {SAMHOST} a.txt; echo back in the shell; read x; fg"
+        with Session(place, "a.txt", program=f"bash --norc -ic 'set -m; {line}' --") as session:
+            session.wait_for("one")
+            session.keys(name)
+            session.wait_for("back in the shell")
+            session.keys("Enter")
+            session.wait_for("| up ")
+            session.wait_for("one")
+            session.type("x")
+            session.wait_for("xone")
+            session.leave_unwritten()
 
 
 def check_exception(folder):

@@ -186,6 +186,7 @@ def check_written_over_a_copy(folder):
         session.keys("C-w")
         wait_for_text(copy, "two\n")
         session.keys("C-p", "C-p")
+        session.wait_to_go_to("d")
         session.rename("c.txt")
         session.keys("C-w")
         wait_for_text(folder / "c.txt", "one\n")

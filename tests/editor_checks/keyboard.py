@@ -1,7 +1,7 @@
 """What terminals send for keys, pastes, finding, line numbers and the clipboard."""
 import time
 
-from .pairs import opened
+from .pairs import LONG, in_a_small_window, opened
 from .support import Session, expect, made, wait_for_text, wait_until
 
 
@@ -110,12 +110,18 @@ def check_find(folder):
         session.keys("Enter")
         session.wait_for(f"{lines.find('ne 1234')},{lines.find('ne 1234') + 7} of")
         session.wait_for("line 1236")
+        origin = lines.find("ne 1234")
         session.keys("C-s")
-        session.type("zzz")
-        session.wait_for("find: zzz")
+        session.type("ne 1239")
+        session.wait_for(f"{lines.find('ne 1239')},{lines.find('ne 1239') + 7} of")
+        session.keys("BSpace")
+        session.wait_for(f"{origin},{origin + 6} of")
+        expect(session.screen()[-1].rstrip() == "find: ne 123", f"after Backspace it tells {session.screen()[-1]!r}")
+        session.keys("Down")
+        session.wait_for(f"{lines.find('ne 1235')},{lines.find('ne 1235') + 6} of")
         session.keys("Escape")
-        wait_until(lambda: not session.shows("find:"), "Esc doesn't go back")
-        session.wait_for(f"{lines.find('ne 1234')},{lines.find('ne 1234') + 7} of")
+        wait_until(lambda: not session.shows("find:"), "Esc doesn't end the search")
+        session.wait_for(f"{origin},{origin + 7} of")
         session.leave()
 
 
@@ -190,7 +196,7 @@ def check_line_numbers(folder):
 
 
 def check_clipboard(folder):
-    """What is cut stands on the clipboard of the user's terminal."""
+    """What is cut or copied stands on the clipboard of the user's terminal."""
     made(folder, a="one two\n")
     with Session(folder, "a.txt") as session:
         session.tmux("set-option", "-s", "set-clipboard", "on")
@@ -198,6 +204,62 @@ def check_clipboard(folder):
         session.keys("S-Right", "S-Right", "S-Right", "C-x")
         wait_until(lambda: session.tmux("list-buffers"), "nothing is on the clipboard")
         expect(session.tmux("show-buffer") == "one", f"the clipboard has {session.tmux('show-buffer')!r}")
+        session.keys(*["S-Right"] * 4, "C-c")
+        wait_until(lambda: session.tmux("show-buffer") == " two", lambda: f"the clipboard has {session.tmux('show-buffer')!r}")
+        expect(session.rows("a.txt")[0] == " two", "copying changes the text")
+        session.leave_unwritten()
+
+
+def check_clipboard_not_loaded(folder):
+    """Where not all that is copied or cut is loaded the clipboard keeps what it has, and that is told."""
+    pair, editor, key, _ = opened("one two\n")
+    for name in ("^C", "^X"):
+        editor.clip = None
+        pair.press(key("Home"), *[key("Shift-Right")] * 3, key(name))
+        expect(editor.clip == "one", f"{name}: the clipboard is to have {editor.clip!r}")
+    pair, editor, key, _ = in_a_small_window(True)
+    for name in ("^C", "^X"):
+        pair.press(key("^A"), key(name))
+        expect(editor.clip is None, f"{name}: the clipboard is to have a text with gaps")
+        expect("not all loaded" in editor.message, f"{name}: it tells {editor.message!r}")
+        expect(pair.terminal.snarf_len == len(LONG), f"{name}: {pair.terminal.snarf_len} characters are copied")
+    expect(pair.host.text(1) == "", "^X leaves something")
+
+
+def check_words(folder):
+    """The keys by words, with Shift too, and that which selects the word, as xterm sends them."""
+    from decode import Decoder
+
+    pair, editor, key, _ = opened("one two_3 x")
+    for name, sent, dot in (
+        ("End", b"\x1b[F", (11, 11)), ("^Left", b"\x1b[1;5D", (10, 10)), ("Alt-b", b"\x1bb", (4, 4)),
+        ("Shift-^Right", b"\x1b[1;6C", (4, 9)), ("Left", b"\x1b[D", (4, 4)), ("^D", b"\x04", (4, 9)), ("Left", b"\x1b[D", (4, 4)),
+        ("Alt-f", b"\x1bf", (9, 9)), ("^Right", b"\x1b[1;5C", (11, 11)), ("Shift-^Left", b"\x1b[1;6D", (10, 11)),
+        ("Shift-^Left", b"\x1b[1;6D", (4, 11)), ("Shift-^Right", b"\x1b[1;6C", (9, 11)),
+    ):  # fmt: skip
+        pair.press(*Decoder().feed(sent, 0.0))
+        expect(editor.focus.dot == dot, f"{name} leads to {editor.focus.dot}, wanted {dot}")
+
+
+def check_help(folder):
+    """F1 and `^G` show the keys: arrows scroll, any other key goes back and does nothing else."""
+    made(folder, a="one\n")
+    first, last = "shows these keys", "the selection stays"  # what stands in the first line, and in the last
+    with Session(folder, "a.txt") as session:
+        session.wait_for("one")
+        for name in ("F1", "C-g"):
+            session.keys(name)
+            session.wait_for(first)
+            expect(not session.shows(last), "this test is wrong: the screen has room for all of them")
+            session.keys(*["Down"] * 9)
+            session.wait_for(last)
+            expect(not session.shows(first), "the first line stays")
+            session.keys(*["Up"] * 9)
+            session.wait_for(first)
+            session.keys("x")
+            wait_until(lambda: not session.shows(first), "another key doesn't go back")
+        session.type("y")
+        session.wait_for("yone")
         session.leave_unwritten()
 
 

@@ -1,6 +1,8 @@
 """What the checks of the editor have in common: sessions in tmux, and files."""
+import contextlib
 import os
 import re
+import signal
 import subprocess
 import sys
 import time
@@ -15,8 +17,8 @@ SAMHOST = Path(os.environ.get("SAMHOST") or ROOT / "out" / "samhost")
 SECONDS = 20  # how long something may take on a busy machine
 sys.path[:0] = [str(SAMTERM.parent), str(ROOT / "bindings" / "python")]
 
-AT_ONCE = 0.050  # seconds from a key to the screen, of the middle one of several keys
 LINK = 300  # milliseconds each way
+COMMAND_WINDOW = "~~sam~~"  # its title
 NOBODY = 65534  # a user who may not do what root may
 READ_AFTER = 0.7  # seconds after which a key answers a question that stands on the screen
 
@@ -117,13 +119,37 @@ class Session:
         codes = (code for button, column, row in events for code in (27, 91, 77, 32 + button, 33 + column, 33 + row))
         self.tmux("send-keys", "-H", *(f"{code:x}" for code in codes))
 
+    def goes_to(self, name):
+        """Whether the keys go to the window with a title."""
+        return any(re.fullmatch(rf">[ *] {re.escape(name)}\s*", line) for line in self.screen())
+
+    def wait_to_go_to(self, name):
+        wait_until(lambda: self.goes_to(name), lambda: f"keys don't go to {name}:\n" + "\n".join(self.screen()))
+
+    def switch(self):
+        """Goes to the command window, or back. It waits until that shows: the editor takes Esc and a byte soon after it for one key."""
+        before = self.goes_to(COMMAND_WINDOW)
+        self.keys("Escape")
+        wait_until(lambda: self.goes_to(COMMAND_WINDOW) != before, lambda: "Esc doesn't switch:\n" + "\n".join(self.screen()))
+
     def command(self, line):
         """Runs a command line, and goes back."""
-        self.keys("Escape")
-        time.sleep(0.1)  # else the key and what follows are one
+        self.switch()
         self.type(line)
-        self.keys("Enter", "Escape")
-        time.sleep(0.1)
+        self.keys("Enter")
+        self.switch()
+
+    @contextlib.contextmanager
+    def stopped_host(self):
+        """The host stands still meanwhile, as behind a line that is as slow as a check needs: it takes nothing, and answers nothing."""
+        host = self.processes()[SAMHOST.name]
+        os.kill(host, signal.SIGSTOP)
+        try:
+            wait_until(lambda: stat_of(host)[0] == "T", "the host doesn't stop")
+            yield host
+        finally:
+            with contextlib.suppress(ProcessLookupError):  # a check has killed it
+                os.kill(host, signal.SIGCONT)
 
     def rename(self, name):
         """Names the file that was used last."""
@@ -160,6 +186,11 @@ class Session:
     def status(self):
         """The status line; empty while it isn't drawn."""
         return next((line for line in self.screen() if "| up " in line), "")
+
+    def held(self):
+        """How many keys wait."""
+        found = re.search(r"\| held (\d+)", self.status())
+        return int(found[1]) if found else 0
 
     def bytes_down(self):
         return int(re.search(r"down (\d+)", "\n".join(self.screen())).group(1))

@@ -58,6 +58,23 @@ def check_keys_after_new(folder):
     expect(pair.host.name(2) == "name", f"the name is {pair.host.name(2)!r}")
 
 
+def check_help_after_new_and_close(folder):
+    """After `^N` and `^K` the help comes before the answer. All other keys wait for that, and act then."""
+    for name, texts in (("^N", ["a\n", "b\n", "x"]), ("^K", ["xa\n"])):
+        for help_key in ("F1", "^G"):
+            pair, editor, key, text = opened("a\n", "b\n")
+            before = pair.terminal.files()
+            editor.take(key(name))
+            editor.take(key(help_key))
+            expect(editor.menu is not None and pair.terminal.files() == before, f"{name}: {help_key} waits")
+            for typed in (key("Esc"), text("x")):
+                editor.take(typed)
+            expect(editor.menu is None and editor.typed_ahead == "x", f"{name}: what is typed after the help doesn't wait")
+            pair.finish()
+            got = [pair.host.text(tag) for tag in pair.terminal.files() if tag]
+            expect(got == texts, f"{name}: the texts are {got}")
+
+
 def check_keys_after_close(folder):
     """Keys after `^K` go to the window that keys go to then; a menu has no file that is gone."""
     pair, editor, key, text = opened("a\n", "b\n")

@@ -2,7 +2,7 @@
 import random
 import time
 
-from .pairs import Pair
+from .pairs import Pair, opened
 from .support import READ_AFTER, Session, expect, made, wait_for_text, wait_until
 
 
@@ -18,6 +18,21 @@ def check_close_shows_another(folder):
     expect(pair.host.text(2) == "xb\n", "keys go elsewhere")
     pair.press(key("^Z"), key("^K"), key("^K"))
     expect(editor.files == [] and editor.focus is editor.command, f"a window stays: {editor.message}")
+
+
+def check_unsplit(folder):
+    """`^Y` and F4 take a window off the screen. Its file stays open and as it is, and can be shown again."""
+    for name in ("^Y", "F4"):
+        pair, editor, key, text = opened("a\n", "b\n")
+        pair.press(text("x"), key(name))
+        expect([window.tag for window in editor.files] == [1] and editor.focus.tag == 1, f"{name}: the window stays, or keys go nowhere")
+        expect(pair.terminal.is_open(1) and pair.terminal.is_open(2), f"{name}: a file is closed")
+        expect(pair.host.text(2) == "xb\n" and editor.is_changed(2), f"{name}: the file is not as it was")
+        pair.press(text("y"), key("^T"))
+        expect([window.tag for window in editor.files] == [1, 2] and editor.focus.tag == 2, f"{name}: ^T doesn't bring it back")
+        pair.press(text("z"))
+        texts = [pair.host.text(tag) for tag in (1, 2)]
+        expect(texts == ["ya\n", "xzb\n"], f"{name}: the texts are {texts}")
 
 
 def check_small_command_window(folder):
