@@ -295,8 +295,8 @@ SAM_MUST_USE sam_status sam_term_flush_now(sam_term *term);
 
 /* ---- Events: texts ---- */
 
-/* Types a text in the place of the dot. One of more than 512 runes is refused by number (SAM_REFUSAL_TEXT_TOO_LONG): cut it into
- * pieces. */
+/* Types a text in the place of the dot. Refused by number: one of more than 512 runes (SAM_REFUSAL_TEXT_TOO_LONG), which can be cut into
+ * pieces; and then one with which the file would have more than 1,000,000 (SAM_REFUSAL_TOO_LONG). */
 SAM_MUST_USE sam_status sam_term_type(sam_term *term, uint16_t tag, const uint8_t *text, size_t len);
 
 /* Puts a text of any length in the place of the runes from start to end, all or nothing; an empty one takes them out. The places are

@@ -160,9 +160,9 @@ class Host(_Side):
     _prefix = "sam_host"
 
     def add_file(self, name: Text, text: Text = "") -> int:
-        """Adds a file, clean and closed, and returns its tag: 1 for the first, and so on. Raises AddRefused after the first feed, even
-        of no bytes, for a name above 64 runes or a text above 1,000,000, or if no tag is left; NotText; NoMemory. The host is then
-        as it was."""
+        """Adds a file, clean and closed, and returns its tag: 1 for the first, and so on. Raises, in this order: AddRefused after the
+        first feed, even of no bytes; NotText; AddRefused for a name above 64 runes or a text above 1,000,000, and if no tag is left;
+        NoMemory. The host is then as it was."""
         name, text = bytes_of(name), bytes_of(text)
         return self._number("add_file", c_uint16, name, len(name), text, len(text))
 
@@ -246,14 +246,16 @@ class Terminal(_Side):
     # ---- Events of the user
 
     def type(self, tag: int, text: Text) -> None:
-        """Puts a text in the place of the dot; one of more than 512 runes is refused by number. Raises NotText, too."""
+        """Puts a text in the place of the dot. Refused, in this order (Status.REFUSAL_..): EXITED; NO_FILE; NOT_OPEN; TEXT_TOO_LONG for one
+        of more than 512 runes; TOO_LONG where the file would have more than 1,000,000. Raises NotText, too."""
         text = bytes_of(text)
         self._call("type", tag, text, len(text))
 
     def edit(self, tag: int, start: int, end: int, text: Text) -> None:
         """Puts a text of any length in the place of the runes from `start` to `end`, all or nothing; an empty one takes them out. The
-        dot moves as other places do. Refused by number: in the command file; a range that the file's text doesn't have; where the file
-        would have more than 1,000,000 runes. Raises NotText, too."""
+        dot moves as other places do. Refused, in this order (Status.REFUSAL_..): EXITED; NO_FILE; COMMAND_FILE for tag 0; NOT_OPEN;
+        BAD_POSITION for a range that the file's text doesn't have; TOO_LONG where the file would have more than 1,000,000 runes. Raises
+        NotText, too."""
         text = bytes_of(text)
         self._call("edit", tag, start, end, text, len(text))
 
@@ -266,7 +268,8 @@ class Terminal(_Side):
         self._call("cut", tag)
 
     def paste(self, tag: int) -> None:
-        """Puts the snarf buffer in the place of the dot."""
+        """Puts the snarf buffer in the place of the dot. Where the file would have more than 1,000,000 runes, the dot is cut, nothing
+        comes in, and nothing is refused."""
         self._call("paste", tag)
 
     def snarf(self, tag: int) -> None:
@@ -355,7 +358,8 @@ class Terminal(_Side):
     # ---- The program's own
 
     def flush_now(self) -> None:
-        """Composes the typed runes that are not sent yet; to be called when the user pauses, before the program sleeps."""
+        """Composes the typed runes that are not sent yet; to be called when the user pauses, before the program sleeps. Raises NoMemory,
+        Unfinished, or why the terminal has stopped, now or before."""
         self._call("flush_now")
 
     def next_refusal(self) -> Optional[Refusal]:

@@ -35,7 +35,8 @@ impl Host {
     }
 
     /// Takes bytes of the terminal's messages, in whatever pieces they come, and answers each that is whole. Edits of one file that
-    /// follow each other in one call move its text once, and else each of them does.
+    /// follow each other in one call move its text once, and else each of them does. Errors: `NoMemory`, `Unfinished`, `CountFull`, or
+    /// why the host has stopped, now or before: `Stream`, `HostRefused`. What stood before the fault is answered.
     pub fn feed(&mut self, bytes: &[u8]) -> Result<(), Error> {
         done(unsafe { sys::sam_host_feed(self.at(), bytes.as_ptr(), bytes.len()) })
     }

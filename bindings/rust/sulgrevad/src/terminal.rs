@@ -44,14 +44,15 @@ impl Terminal {
         self.handle.get()
     }
 
-    /// Types a text in the place of the dot; one of more than 512 runes is refused (`TextTooLong`).
+    /// Types a text in the place of the dot. Refused, in this order: `Exited`; `NoFile`; `NotOpen`; `TextTooLong` for one of more than 512
+    /// runes; `TooLong` where the file would have more than 1,000,000.
     pub fn type_(&mut self, tag: u16, text: &str) -> Result<(), Error> {
         done(unsafe { sys::sam_term_type(self.at(), tag, text.as_ptr(), text.len()) })
     }
 
     /// Puts a text of any length in the place of the runes from `start` to `end`, all or nothing; an empty one takes them out. The dot
-    /// moves as other places do. Refused in the command file (`CommandFile`), at a range that the file's text doesn't have
-    /// (`BadPosition`), and where the file would have more than 1,000,000 runes (`TooLong`).
+    /// moves as other places do. Refused, in this order: `Exited`; `NoFile`; `CommandFile` for tag 0; `NotOpen`; `BadPosition` for a range
+    /// that the file's text doesn't have; `TooLong` where the file would have more than 1,000,000 runes.
     pub fn edit(&mut self, tag: u16, start: u32, end: u32, text: &str) -> Result<(), Error> {
         done(unsafe { sys::sam_term_edit(self.at(), tag, start, end, text.as_ptr(), text.len()) })
     }
@@ -66,7 +67,8 @@ impl Terminal {
         done(unsafe { sys::sam_term_cut(self.at(), tag) })
     }
 
-    /// Puts the snarf buffer in the place of the dot.
+    /// Puts the snarf buffer in the place of the dot. Where the file would have more than 1,000,000 runes, the dot is cut, nothing comes
+    /// in, and nothing is refused.
     pub fn paste(&mut self, tag: u16) -> Result<(), Error> {
         done(unsafe { sys::sam_term_paste(self.at(), tag) })
     }
@@ -172,7 +174,8 @@ impl Terminal {
         done(unsafe { sys::sam_term_offer_version(self.at(), version) })
     }
 
-    /// Takes bytes of the host's frames, in whatever pieces they come, and then lets held events act.
+    /// Takes bytes of the host's frames, in whatever pieces they come, and then lets held events act. Errors: `NoMemory`, `Unfinished`,
+    /// `CountFull`, or why the terminal has stopped, now or before: `Stream`, `TermRefused`.
     pub fn feed(&mut self, bytes: &[u8]) -> Result<(), Error> {
         done(unsafe { sys::sam_term_feed(self.at(), bytes.as_ptr(), bytes.len()) })
     }
@@ -184,7 +187,8 @@ impl Terminal {
         done(unsafe { sys::sam_term_finish(self.at()) })
     }
 
-    /// Composes the typed runes that are not sent yet: to be called when the user pauses, before the program sleeps.
+    /// Composes the typed runes that are not sent yet: to be called when the user pauses, before the program sleeps. Errors: `NoMemory`,
+    /// `Unfinished`, or why the terminal has stopped, now or before: `Stream`, `TermRefused`.
     pub fn flush_now(&mut self) -> Result<(), Error> {
         done(unsafe { sys::sam_term_flush_now(self.at()) })
     }
