@@ -9,7 +9,7 @@ MOST_UNREAD = 100
 HINT = "F1 or ^G shows the keys"
 
 # What a host says of a text. Of a write that failed it says in the same line what became of the text.
-LOST = re.compile(r"the text of (.*) is lost: |(.*) is closed, and its text can't be saved: ")
+LOST = re.compile(r"the text of (.*) is lost: |(.*) is closed, and its text can't be saved: |what came last from the terminal is lost: ")
 UNSAFE = re.compile(r"the text of .* can't be saved aside: ")
 FAILED = re.compile(r"\? write (file (\d{1,5})|.*?): ")
 IS_IN = "; its text is in "
@@ -33,7 +33,7 @@ class Said(NamedTuple):
 def said(line: str) -> Said:
     words = line.removeprefix("samhost: ")
     if found := LOST.match(words):
-        return Said(3, "lost" if found[1] else "", found[1] or found[2])
+        return Said(3, "lost" if found[1] else "", found[1] or found[2] or "")
     if found := FAILED.match(words):
         rank, what = (3, "failed") if "could not be saved" in words else (2, "failed and saved" if IS_IN in words else "failed")
         return Said(rank, what, found[1], int(found[2]) if found[2] else None)

@@ -200,10 +200,11 @@ def check_late_word_of_a_write(folder):
 def check_worst_line_first(folder):
     """What the host tells of a text stays until it is read, the worst first."""
     pair, editor, key, text = opened("a\n")
-    for line in ("file0 was not written; its text is in /tmp/x", "the text of file0 is lost: no room", "? write file0: no room"):
+    lost = "what came last from the terminal is lost: no room"
+    for line in ("file0 was not written; its text is in /tmp/x", "the text of file0 is lost: no room", "? write file0: no room", lost):
         editor.hear("samhost: " + line)
     editor.hear("another program")
-    for wanted in ("is lost", "? write", "its text is in"):
+    for wanted in ("text of file0 is lost", "terminal is lost", "? write", "its text is in"):
         expect(wanted in editor.message, f"it shows {editor.message!r}, wanted {wanted!r}")
         editor.take(key("Left"))
         expect(wanted in editor.message, "a line that nobody can have read goes with a key")
