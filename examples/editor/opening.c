@@ -327,9 +327,8 @@ struct seen {
     bool is_short; /* something was not looked at, since memory is out */
 };
 
-/* Looks through a folder, unless that was done. The path is in memory that this frees; NULL where memory is out. Returns whether the folder
- * is there. */
-static bool report_folder(struct session *session, struct seen *seen, char *path, enum purpose purpose)
+/* Looks through a folder, if it is there, unless that was done. The path is in memory that this frees; NULL where memory is out. */
+static void report_folder(struct session *session, struct seen *seen, char *path, enum purpose purpose)
 {
     struct stat status;
     const char *name = path == NULL || *path != '\0' ? path : ".";
@@ -346,7 +345,6 @@ static bool report_folder(struct session *session, struct seen *seen, char *path
         (void)add_mark(&seen->folders, status.st_dev, status.st_ino); /* where memory is out, it may be reported twice */
     }
     free(path);
-    return is_there;
 }
 
 /* Those for temporary files come first: where one of the files lies there, another one's copies may lie there, too. */
@@ -355,8 +353,8 @@ void report_left(struct session *session)
     size_t tags = count_tags(session);
     struct seen seen = {0};
 
-    for (int which = 0; which < count_temporary() && !report_folder(session, &seen, temporary_folder(which), FOR_TEMPORARY_FILES); which++)
-        ;
+    for (int which = 0; which < count_temporary(); which++)
+        report_folder(session, &seen, temporary_folder(which), FOR_TEMPORARY_FILES);
     for (size_t tag = 1; tag < tags; tag++) {
         report_folder(session, &seen, folder_of(session->documents[tag].path), OF_FILES);
         report_folder(session, &seen, folder_of(session->documents[tag].known->path), OF_FILES);
