@@ -11,8 +11,11 @@
 
 (defun same (name)
   "The terminal has the buffer's text."
-  (check name (null (sulgrevad--difference sulgrevad--term sulgrevad--tag (sulgrevad--text)))
-         (sulgrevad--difference sulgrevad--term sulgrevad--tag (sulgrevad--text))))
+  (check name (equal (theirs) (sulgrevad--text)) (theirs) (sulgrevad--text)))
+
+(defun theirs ()
+  "The whole text that the terminal has."
+  (sulgrevad--part sulgrevad--term sulgrevad--tag 0 (sulgrevad--len sulgrevad--term sulgrevad--tag)))
 
 (defun keys (text)
   "Press keys, with the hooks that a command has."
@@ -35,6 +38,144 @@
         (6 (let ((inhibit-modification-hooks t)) (insert "hidden 日")) (run-hooks 'post-command-hook))
         (7 (keys "C-t")))
     ((beginning-of-buffer end-of-buffer) nil)))
+
+(defun said (act)
+  "What is said while ACT is called, last first."
+  (let (words)
+    (cl-letf (((symbol-function 'message) (lambda (&rest more) (push (apply #'format-message more) words) nil)))
+      (funcall act))
+    words))
+
+(defun is-said (word words)
+  "Whether one of WORDS is a message of ours with WORD in it."
+  (cl-some (lambda (one) (and (string-prefix-p "Sulgrevad: " one) (string-search word one))) words))
+
+(defun check-refusals ()
+  "Refused events are said, and refused edits go back."
+  (let ((text (sulgrevad--text)))
+    (check "a refused event is said"
+           (is-said "SAM_REFUSAL_BAD_POSITION"
+                    (said (lambda () (sulgrevad--select sulgrevad--term sulgrevad--tag 2 1) (run-hooks 'post-command-hook)))))
+    (check "a refused command line is said"
+           (is-said "SAM_REFUSAL_TEXT_TOO_LONG"
+                    (said (lambda ()
+                            (sulgrevad--type sulgrevad--term 0 (concat (make-string 512 ?k) "\n"))
+                            (run-hooks 'post-command-hook)))))
+    (check "nothing is said twice" (null (said (lambda () (run-hooks 'post-command-hook)))))
+    (let* ((buffer (sulgrevad--show 0 "*sam*")) (printed (with-current-buffer buffer (sulgrevad--text))))
+      (check "an edit of the command file is refused"
+             (is-said "SAM_REFUSAL_COMMAND_FILE"
+                      (said (lambda ()
+                              (with-current-buffer buffer (let ((inhibit-read-only t)) (insert ",d\n")))
+                              (run-hooks 'post-command-hook)))))
+      (check "it goes back" (equal (with-current-buffer buffer (sulgrevad--text)) printed))
+      (check "the kill ring has it" (string-search ",d\n" (car kill-ring)))
+      ;; The command file gets room for 1005 more: for the first 512 runes of the next line and for the last 482, but not for both and
+      ;; what is between.
+      (sulgrevad-command (make-string (- 1000000 1005 (length "\n? command\n") (length printed)) ?k))
+      (check "a line that the command file has no room for is an error"
+             (condition-case nil (ignore (sulgrevad-command (concat ",c/" (make-string 1501 ?k) "/"))) (user-error t))))
+    (check "no part of it runs" (equal (sulgrevad--text) text) (sulgrevad--text))
+    (same "at the terminal neither")))
+
+(defun check-edits ()
+  "Edits go as one event each, and what the host changes comes as that stretch alone."
+  (sulgrevad-command ",c/one two three four/")
+  (sulgrevad--select sulgrevad--term sulgrevad--tag 3 3)
+  (goto-char (point-max))
+  (insert (make-string 2000 ?e))
+  (check "an edit leaves the dot where it is" (equal (sulgrevad--dot sulgrevad--term sulgrevad--tag) '(3 3)))
+  (goto-char 3)
+  (delete-char -2)
+  (check "or moves it as other places" (equal (sulgrevad--dot sulgrevad--term sulgrevad--tag) '(1 1)))
+  (same "after two edits")
+  (sulgrevad-command ",c/one two three four/")
+  (let* ((before (copy-marker 2)) (after (copy-marker 17)) (seen nil)
+         (look (lambda (start end old) (push (list start end old) seen))))
+    (add-hook 'after-change-functions look nil t)
+    (sulgrevad-command "/two/c/22/")
+    (remove-hook 'after-change-functions look t)
+    (check "the host's change alone is put in" (equal seen '((5 7 0) (5 5 3))) seen)
+    (check "markers beside it stay with their text" (equal (list (char-after before) (char-after after)) '(?n ?u)) before after))
+
+  ;; Changes that no hook tells of, while the file is locked.
+  (sulgrevad--write sulgrevad--term sulgrevad--tag)
+  (let ((inhibit-modification-hooks t) (inhibit-read-only t)) (goto-char (point-max)) (insert "hidden"))
+  (sulgrevad--wait #'sulgrevad--is-free)
+  (check "a change of a locked file that no hook reports stays" (string-suffix-p "hidden" (sulgrevad--text)) (sulgrevad--text))
+  (same "and reaches the terminal")
+
+  ;; What is no text, though Emacs has a character for it.
+  (insert #xD800)
+  (run-hooks 'post-command-hook)
+  (check "a surrogate ends nothing" sulgrevad--term)
+  (check "it goes back" (string-suffix-p "hidden" (sulgrevad--text)) (sulgrevad--text))
+
+  ;; A hook of another package that fails.
+  (add-hook 'before-change-functions (lambda (&rest _) (error "Not mine")) nil t)
+  (sulgrevad-command ",c/after all/")
+  (check "a hook that fails keeps nothing back" (equal (sulgrevad--text) "after all") (sulgrevad--text))
+  (goto-char (point-max))
+  (insert "!")
+  (run-hooks 'post-command-hook)
+  (same "nor from the terminal"))
+
+(defmacro short-of-memory (file number &rest body)
+  "Do BODY while FILE has the module's requests for memory refused, all but the first NUMBER."
+  (declare (indent 2))
+  `(unwind-protect (progn (write-region (make-string ,number ?.) nil ,file nil 'silent) ,@body)
+     (delete-file ,file)))
+
+(defun check-memory-once (file number)
+  "Nothing is lost where memory is out for a while, but for NUMBER requests."
+  (goto-char (point-max))
+  (short-of-memory file number
+    (insert (format "%d " number))
+    (run-hooks 'post-command-hook)
+    (let ((inhibit-read-only t)) (insert "é"))
+    (run-hooks 'post-command-hook))
+  (run-hooks 'post-command-hook)
+  (same (format "an edit after %d requests" number))
+  (check "it stands" (string-suffix-p (format "%d é" number) (sulgrevad--text)) (sulgrevad--text))
+  (sulgrevad--work sulgrevad--term sulgrevad--tag)
+  (sulgrevad--wait #'sulgrevad--is-free)
+  (sulgrevad--type sulgrevad--term 0 ",x/é/c/日/\n")
+  (sulgrevad--pump t)
+  (short-of-memory file number
+    (accept-process-output sulgrevad--process 5)
+    (run-hooks 'post-command-hook))
+  (sulgrevad--wait #'sulgrevad--is-free)
+  (same (format "an answer after %d requests" number))
+  (check "it has come" (string-suffix-p (format "%d 日" number) (sulgrevad--text)) (sulgrevad--text)))
+
+(defun check-memory (file host)
+  "Refuse the module's requests for memory by FILE, a few more granted each time, while HOST holds a text."
+  (sulgrevad-start host)
+  (let* ((killed (car kill-ring)) (kinds nil)
+         (look (lambda (edit &rest words)
+                 (condition-case why (apply edit words)
+                   (error (push why kinds) (signal (car why) (cdr why))))))
+         (words (progn (advice-add 'sulgrevad--edit :around look)
+                       (said (lambda () (dotimes (number 60) (check-memory-once file number)))))))
+    (advice-remove 'sulgrevad--edit look)
+    (dolist (kind '((sulgrevad-no-memory . "out of memory") (sulgrevad-no-memory . "SAM_NO_MEMORY: ")
+                    (sulgrevad-unfinished . "SAM_UNFINISHED: ")))
+      (check "each error of an edit is met"
+             (cl-some (lambda (why) (and (eq (car why) (car kind)) (string-prefix-p (cdr kind) (cadr why)))) kinds) kind))
+    (check "that is said" (is-said ": out of memory" words) words)
+    (check "nothing else is" (cl-every (lambda (one) (string-search "out of memory" one)) words) words)
+    (check "no text goes into the kill ring" (equal (car kill-ring) killed)))
+  (let ((text (sulgrevad--text)))
+    (sulgrevad-save)
+    (check "the disk has all" (equal (disk (car (last host))) text)))
+  (sulgrevad-quit))
+
+(when (equal (car command-line-args-left) "memory")
+  (let ((words (cdr command-line-args-left)))
+    (setq command-line-args-left nil)
+    (check-memory (car words) (cdr words))
+    (princ (format "%d passed, %d failed\n" passed failed))
+    (kill-emacs)))
 
 (let* ((folder (pop command-line-args-left)) (host command-line-args-left)
        (one (expand-file-name "one.txt" folder)) (other (expand-file-name "other.txt" folder)))
@@ -137,6 +278,11 @@
   (sulgrevad-quit)
   (check "the host ends" (with-timeout (10 nil) (while (process-live-p sulgrevad--process) (accept-process-output nil 0.05)) t))
   (check "in peace" (eql (process-exit-status sulgrevad--process) 0) (process-exit-status sulgrevad--process))
+  (sulgrevad-start (append host (list one other)))
+  (check-edits)
+  (check-refusals)
+  (sulgrevad-save)
+  (sulgrevad-quit)
 
   ;; The host is lost: the text stays, and can be read.
   (sulgrevad-start (append host (list other)))

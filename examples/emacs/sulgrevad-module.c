@@ -2,7 +2,8 @@
  *
  * Bytes go to and from Lisp as strings of the characters U+0000 to U+00FF, one for each byte, since a module can't read a unibyte string:
  * the process speaks Latin-1. Texts go as what they are. A status that is not SAM_OK is a Lisp error with the status's text, and a status
- * SAM_NONE of a reader is nil.
+ * SAM_NONE of a reader is nil. Where memory is out the error is one of two: sulgrevad-no-memory if the same call is to be made again,
+ * sulgrevad-unfinished if not. A text that is not Unicode has an error of its own, too.
  */
 #include <emacs-module.h>
 #include <stdlib.h>
@@ -28,36 +29,55 @@ static emacs_value call(emacs_env *env, const char *name, ptrdiff_t count, emacs
     return env->funcall(env, env->intern(env, name), count, words);
 }
 
-static emacs_value fail(emacs_env *env, const char *why)
+static emacs_value fail(emacs_env *env, const char *error, const char *why)
 {
     emacs_value text = env->make_string(env, why, (ptrdiff_t)strlen(why));
-    env->non_local_exit_signal(env, env->intern(env, "sulgrevad-error"), call(env, "list", 1, &text));
+    env->non_local_exit_signal(env, env->intern(env, error), call(env, "list", 1, &text));
     return nil(env);
+}
+
+static emacs_value no_memory(emacs_env *env)
+{
+    return fail(env, "sulgrevad-no-memory", "out of memory");
+}
+
+/* The error of a status. */
+static emacs_value error_of(emacs_env *env, sam_status status)
+{
+    const char *error = status == SAM_NO_MEMORY    ? "sulgrevad-no-memory"
+                        : status == SAM_UNFINISHED ? "sulgrevad-unfinished"
+                        : status == SAM_NOT_TEXT   ? "sulgrevad-not-text"
+                                                   : "sulgrevad-error";
+    return fail(env, error, sam_status_text(status));
 }
 
 /* What a call without a result gives Lisp. */
 static emacs_value done(emacs_env *env, sam_status status)
 {
-    return status == SAM_OK ? nil(env) : fail(env, sam_status_text(status));
+    return status == SAM_OK ? nil(env) : error_of(env, status);
 }
 
 static emacs_value number(emacs_env *env, sam_status status, uint64_t value)
 {
     if (status == SAM_NONE)
         return nil(env);
-    return status == SAM_OK ? env->make_integer(env, (intmax_t)value) : fail(env, sam_status_text(status));
+    return status == SAM_OK ? env->make_integer(env, (intmax_t)value) : error_of(env, status);
 }
 
 static emacs_value truth(emacs_env *env, sam_status status, bool value)
 {
-    return status == SAM_OK ? env->intern(env, value ? "t" : "nil") : fail(env, sam_status_text(status));
+    return status == SAM_OK ? env->intern(env, value ? "t" : "nil") : error_of(env, status);
 }
 
-/* Two numbers, as a cons cell. */
-static emacs_value pair(emacs_env *env, sam_status status, uint32_t one, uint32_t other)
+/* Up to three numbers, as a list. */
+static emacs_value numbers(emacs_env *env, sam_status status, ptrdiff_t count, const uint32_t *values)
 {
-    emacs_value words[2] = {number(env, status, one), number(env, status, other)};
-    return status == SAM_OK ? call(env, "cons", 2, words) : words[0];
+    emacs_value words[3];
+    if (status != SAM_OK)
+        return number(env, status, 0);
+    for (ptrdiff_t i = 0; i < count; i++)
+        words[i] = number(env, status, values[i]);
+    return call(env, "list", count, words);
 }
 
 static sam_term *term_of(emacs_env *env, emacs_value word)
@@ -86,7 +106,7 @@ static uint8_t *utf8(emacs_env *env, emacs_value word, size_t *len)
     char *bytes = malloc((size_t)size);
     if (bytes == NULL || !env->copy_string_contents(env, word, bytes, &size)) {
         if (bytes == NULL)
-            fail(env, "out of memory");
+            no_memory(env);
         free(bytes);
         return NULL;
     }
@@ -94,25 +114,24 @@ static uint8_t *utf8(emacs_env *env, emacs_value word, size_t *len)
     return (uint8_t *)bytes;
 }
 
-/* Reads a rune of UTF-8 that Emacs wrote, and moves on. */
-static uint32_t next_rune(const uint8_t **at)
+/* Reads the character of a byte, in UTF-8 that Emacs wrote, and moves on. */
+static uint8_t next_byte(const uint8_t **at)
 {
     const uint8_t *p = *at;
-    int more = p[0] < 0x80 ? 0 : p[0] < 0xE0 ? 1 : p[0] < 0xF0 ? 2 : 3;
-    uint32_t rune = more == 0 ? p[0] : p[0] & (0x3FU >> more);
-    for (int i = 1; i <= more; i++)
-        rune = rune << 6 | (p[i] & 0x3FU);
-    *at = p + more + 1;
-    return rune;
+    *at += p[0] < 0x80 ? 1 : 2;
+    return (uint8_t)(p[0] < 0x80 ? p[0] : p[0] << 6 | (p[1] & 0x3F));
 }
 
-static size_t put_rune(uint32_t rune, uint8_t *into)
+/* Writes it, and says in how many bytes. */
+static size_t put_byte(uint8_t byte, uint8_t *into)
 {
-    int more = rune < 0x80 ? 0 : rune < 0x800 ? 1 : rune < 0x10000 ? 2 : 3;
-    for (int i = more; i > 0; i--, rune >>= 6)
-        into[i] = (uint8_t)(0x80 | (rune & 0x3F));
-    into[0] = (uint8_t)(more == 0 ? rune : (0xFF00U >> (more + 1) & 0xFF) | rune);
-    return (size_t)more + 1;
+    if (byte < 0x80) {
+        into[0] = byte;
+        return 1;
+    }
+    into[0] = (uint8_t)(0xC0 | byte >> 6);
+    into[1] = (uint8_t)(0x80 | (byte & 0x3F));
+    return 2;
 }
 
 /* ---- Life and bytes ---- */
@@ -129,7 +148,7 @@ static emacs_value make(emacs_env *env, ptrdiff_t count, emacs_value *words, voi
     sam_term *term = calloc(1, sizeof *term);
     if (term == NULL || sam_term_new(term) != SAM_OK) {
         free(term);
-        return fail(env, "out of memory");
+        return no_memory(env);
     }
     return env->make_user_ptr(env, finalize, term);
 }
@@ -142,7 +161,7 @@ static emacs_value feed(emacs_env *env, ptrdiff_t count, emacs_value *words, voi
     if (bytes == NULL)
         return nil(env);
     for (const uint8_t *at = bytes, *end = bytes + size; at < end;)
-        bytes[len++] = (uint8_t)next_rune(&at); /* a byte takes no more room than its character */
+        bytes[len++] = next_byte(&at); /* a byte takes no more room than its character */
     sam_status status = sam_term_feed(term_of(env, words[0]), bytes, len);
     free(bytes);
     return done(env, status);
@@ -155,9 +174,9 @@ static emacs_value take_out(emacs_env *env, ptrdiff_t count, emacs_value *words,
     size_t len = 0, size = 0;
     sam_status status = sam_term_take_out(term_of(env, words[0]), bytes, sizeof bytes, &len);
     if (status != SAM_OK)
-        return fail(env, sam_status_text(status));
+        return error_of(env, status);
     for (size_t i = 0; i < len; i++)
-        size += put_rune(bytes[i], text + size);
+        size += put_byte(bytes[i], text + size);
     return env->make_string(env, (char *)text, (ptrdiff_t)size);
 }
 
@@ -205,11 +224,72 @@ static emacs_value type(emacs_env *env, ptrdiff_t count, emacs_value *words, voi
     return done(env, status);
 }
 
+static emacs_value edit(emacs_env *env, ptrdiff_t count, emacs_value *words, void *data)
+{
+    (void)count, (void)data;
+    size_t len = 0;
+    uint32_t start = u32(env, words[2], UINT32_MAX), end = u32(env, words[3], UINT32_MAX);
+    uint8_t *text = utf8(env, words[4], &len);
+    if (text == NULL)
+        return nil(env);
+    sam_status status = sam_term_edit(term_of(env, words[0]), tag_of(env, words[1]), start, end, text, len);
+    free(text);
+    return done(env, status);
+}
+
 /* ---- Readers ---- */
 
-enum reader { LOCKED, IS_OPEN, IS_CHANGED, EXITED, HELD, TAGS, LEN, GAP, DOT, NAME, REFUSAL };
-static const char *const readers[] = {"locked", "is-open",   "is-changed", "exited", "held",        "tags",
-                                      "len",    "first-gap", "dot",        "name",   "next-refusal"};
+/* A reader, by what it hands out: yes or no of a file, a number of a file, or something else. */
+struct reader {
+    const char *name;
+    sam_status (*truth_of)(sam_term *term, uint16_t tag, bool *is);
+    sam_status (*number_of)(sam_term *term, uint16_t tag, uint32_t *value);
+    emacs_value (*other)(emacs_env *env, sam_term *term, uint16_t tag);
+};
+
+static emacs_value exited(emacs_env *env, sam_term *term, uint16_t tag)
+{
+    (void)tag;
+    bool is = false;
+    sam_status status = sam_term_exited(term, &is);
+    return truth(env, status, is);
+}
+
+static emacs_value held(emacs_env *env, sam_term *term, uint16_t tag)
+{
+    (void)tag;
+    uint64_t waiting = 0;
+    sam_status status = sam_term_held(term, &waiting);
+    return number(env, status, waiting);
+}
+
+static emacs_value tags(emacs_env *env, sam_term *term, uint16_t tag)
+{
+    (void)tag;
+    size_t count = 0;
+    sam_status status = sam_term_tags(term, &count);
+    return number(env, status, count);
+}
+
+static sam_status first_gap(sam_term *term, uint16_t tag, uint32_t *gap)
+{
+    return sam_term_first_gap(term, tag, 0, gap);
+}
+
+static emacs_value dot(emacs_env *env, sam_term *term, uint16_t tag)
+{
+    uint32_t places[2];
+    sam_status status = sam_term_dot(term, tag, &places[0], &places[1]);
+    return numbers(env, status, 2, places);
+}
+
+/* What changed since this was asked last: a place, and how many runes went and came there; nil if nothing did. */
+static emacs_value changed(emacs_env *env, sam_term *term, uint16_t tag)
+{
+    uint32_t found[3];
+    sam_status status = sam_term_changed(term, tag, &found[0], &found[1], &found[2]);
+    return status == SAM_OK && found[1] == 0 && found[2] == 0 ? nil(env) : numbers(env, status, 3, found);
+}
 
 static emacs_value name_of(emacs_env *env, sam_term *term, uint16_t tag)
 {
@@ -219,8 +299,9 @@ static emacs_value name_of(emacs_env *env, sam_term *term, uint16_t tag)
     return status == SAM_OK ? env->make_string(env, (char *)name, (ptrdiff_t)len) : number(env, status, 0);
 }
 
-static emacs_value refusal(emacs_env *env, sam_term *term)
+static emacs_value next_refusal(emacs_env *env, sam_term *term, uint16_t tag)
 {
+    (void)tag;
     uint64_t event;
     sam_status why;
     sam_status status = sam_term_next_refusal(term, &event, &why);
@@ -230,87 +311,53 @@ static emacs_value refusal(emacs_env *env, sam_term *term)
     return env->make_string(env, text, (ptrdiff_t)strlen(text));
 }
 
+static const struct reader readers[] = {
+    {"locked", sam_term_locked, NULL, NULL},
+    {"is-open", sam_term_is_open, NULL, NULL},
+    {"is-changed", sam_term_is_changed, NULL, NULL},
+    {"len", NULL, sam_term_len, NULL},
+    {"first-gap", NULL, first_gap, NULL},
+    {"exited", NULL, NULL, exited},
+    {"held", NULL, NULL, held},
+    {"tags", NULL, NULL, tags},
+    {"dot", NULL, NULL, dot},
+    {"changed", NULL, NULL, changed},
+    {"name", NULL, NULL, name_of},
+    {"next-refusal", NULL, NULL, next_refusal},
+};
+
 static emacs_value reader(emacs_env *env, ptrdiff_t count, emacs_value *words, void *data)
 {
+    const struct reader *reader = data;
     sam_term *term = term_of(env, words[0]);
     uint16_t tag = count > 1 ? tag_of(env, words[1]) : 0;
     bool is = false;
-    uint32_t one = 0, other = 0;
-    uint64_t events = 0;
-    size_t size = 0;
+    uint32_t value = 0;
     sam_status status;
-    switch ((enum reader)((const char *const *)data - readers)) {
-    case LOCKED:
-        status = sam_term_locked(term, tag, &is);
+    if (reader->truth_of != NULL) {
+        status = reader->truth_of(term, tag, &is);
         return truth(env, status, is);
-    case IS_OPEN:
-        status = sam_term_is_open(term, tag, &is);
-        return truth(env, status, is);
-    case IS_CHANGED:
-        status = sam_term_is_changed(term, tag, &is);
-        return truth(env, status, is);
-    case EXITED:
-        status = sam_term_exited(term, &is);
-        return truth(env, status, is);
-    case HELD:
-        status = sam_term_held(term, &events);
-        return number(env, status, events);
-    case TAGS:
-        status = sam_term_tags(term, &size);
-        return number(env, status, size);
-    case LEN:
-        status = sam_term_len(term, tag, &one);
-        return number(env, status, one);
-    case GAP:
-        status = sam_term_first_gap(term, tag, 0, &one);
-        return number(env, status, one);
-    case DOT:
-        status = sam_term_dot(term, tag, &one, &other);
-        return pair(env, status, one, other);
-    case NAME:
-        return name_of(env, term, tag);
-    case REFUSAL:
-        return refusal(env, term);
     }
-    return nil(env);
+    if (reader->number_of != NULL) {
+        status = reader->number_of(term, tag, &value);
+        return number(env, status, value);
+    }
+    return reader->other(env, term, tag);
 }
 
-/* Where a text of Lisp differs from that of an open file, all of which is loaded: nil where they are the same, else a list of the place
- * where they begin to differ, the place in the file from which on they are the same again, that place in the text, and what the file has
- * between. */
-static emacs_value difference(emacs_env *env, ptrdiff_t count, emacs_value *words, void *data)
+/* The text of an open file from a place to a place, or to the first gap between them. */
+static emacs_value part(emacs_env *env, ptrdiff_t count, emacs_value *words, void *data)
 {
     (void)count, (void)data;
-    static uint32_t theirs[MOST_RUNES];
-    static uint8_t between[4 * MOST_RUNES];
-    uint32_t len = 0;
-    size_t size = 0, mine_len = 0, start = 0, same = 0;
-    sam_status status = sam_term_read(term_of(env, words[0]), tag_of(env, words[1]), 0, theirs, MOST_RUNES, &len);
-    if (status != SAM_OK)
-        return fail(env, sam_status_text(status));
-    uint8_t *text = utf8(env, words[2], &size);
-    uint32_t *mine = text == NULL ? NULL : malloc((size + 1) * sizeof *mine);
-    if (mine == NULL) {
-        free(text);
-        return nil(env);
-    }
-    for (const uint8_t *at = text; at < text + size;)
-        mine[mine_len++] = next_rune(&at);
-    size_t most = len < mine_len ? len : mine_len;
-    while (start < most && theirs[start] == mine[start])
-        start++;
-    while (same < most - start && theirs[len - 1 - same] == mine[mine_len - 1 - same])
-        same++;
-    free(text);
-    free(mine);
-    if (start == len && len == mine_len)
-        return nil(env);
-    size = 0;
-    for (size_t i = start; i < len - same; i++)
-        size += put_rune(theirs[i], between + size);
-    emacs_value found[4] = {number(env, SAM_OK, start), number(env, SAM_OK, len - same), number(env, SAM_OK, mine_len - same),
-                            env->make_string(env, (char *)between, (ptrdiff_t)size)};
-    return call(env, "list", 4, found);
+    static uint8_t text[4 * MOST_RUNES];
+    sam_term *term = term_of(env, words[0]);
+    uint16_t tag = tag_of(env, words[1]);
+    uint32_t start = u32(env, words[2], UINT32_MAX), end = u32(env, words[3], UINT32_MAX), gaps, runes;
+    size_t room, len;
+    sam_status status = sam_term_bytes(term, tag, start, end, &room, &gaps);
+    if (status == SAM_OK)
+        status = sam_term_text(term, tag, start, text, room, &len, &runes);
+    return status == SAM_OK ? env->make_string(env, (char *)text, (ptrdiff_t)len) : error_of(env, status);
 }
 
 /* ---- The module ---- */
@@ -332,13 +379,14 @@ int emacs_module_init(struct emacs_runtime *runtime)
     define(env, "feed", 2, 2, feed, NULL);
     define(env, "take-out", 1, 1, take_out, NULL);
     define(env, "type", 3, 3, type, NULL);
-    define(env, "difference", 3, 3, difference, NULL);
+    define(env, "edit", 5, 5, edit, NULL);
+    define(env, "part", 4, 4, part, NULL);
     for (size_t i = 0; i < sizeof events / sizeof events[0]; i++) {
         ptrdiff_t count = events[i].plain != NULL ? 1 : events[i].of_tag != NULL ? 2 : 4;
         define(env, events[i].name, count, count, event, &events[i]);
     }
     for (size_t i = 0; i < sizeof readers / sizeof readers[0]; i++)
-        define(env, readers[i], 1, 2, reader, &readers[i]);
+        define(env, readers[i].name, 1, 2, reader, &readers[i]);
     emacs_value feature = env->intern(env, "sulgrevad-module");
     call(env, "provide", 1, &feature);
     return 0;

@@ -6,18 +6,24 @@
 ;;
 ;; Each buffer is a copy of the terminal's text, a character for each rune. The two don't drift apart:
 ;; - `after-change-functions' hands each edit to the terminal at once, so that it stands there before the next bytes are fed.
+;; - After a feed the terminal says what changed, and that stretch of the buffer is changed.
 ;; - Some code changes a buffer without that hook (`inhibit-modification-hooks'). So the buffer's tick is compared before each change and
-;;   before each feed, and the whole text before a file is written: what was not handed over is found, and goes as one edit.
+;;   round each feed, and the whole text before a file is written: what was not handed over is found, and goes as one edit.
 ;; - A hook can't refuse a change: Emacs takes off a hook that signals an error. So a buffer is read-only while its file is locked or not
 ;;   all loaded, and a command first waits until it is free. Code that changes it all the same wins over what the host did meanwhile.
+;; - Where memory is out, an edit is not handed over and nothing is fed. The next command tries again.
 ;;
-;; A long text takes its time: its first 32,000 characters come at once, and then 512 with each answer of the host. examples/emacs/build, which builds the module, has a word on licences.
+;; A long text takes its time: its first 32,000 characters come at once, and then 512 with each answer of the host.
+;; examples/emacs/build, which builds the module, has a word on licences.
 
 ;;; Code:
 
 (require 'cl-lib)
 (require 'subr-x)
 (define-error 'sulgrevad-error "Sulgrevad")
+(define-error 'sulgrevad-not-text "Sulgrevad" 'sulgrevad-error)
+(define-error 'sulgrevad-no-memory "Sulgrevad" 'sulgrevad-error) ; the same call is to be made again
+(define-error 'sulgrevad-unfinished "Sulgrevad" 'sulgrevad-no-memory) ; it is not: the next call goes on
 (unless (featurep 'sulgrevad-module)
   (module-load (expand-file-name "../../out/sulgrevad-module.so" (file-name-directory (or load-file-name buffer-file-name)))))
 
@@ -27,7 +33,7 @@
 
 (defvar sulgrevad--term nil "The terminal of the session, or nil.")
 (defvar sulgrevad--process nil "The host's process.")
-(defvar sulgrevad--inbox nil "What came from the host and is not fed yet, oldest first.")
+(defvar sulgrevad--inbox nil "What came from the host and is not fed yet, oldest first; \"\" to go on with what waits for memory.")
 (defvar sulgrevad--buffers nil "The buffers of open files.")
 (defvar sulgrevad--is-pumping nil "Whether bytes are being fed and sent.")
 (defvar sulgrevad--is-taking nil "Whether a buffer is being changed to what the terminal has.")
@@ -46,22 +52,26 @@
 
 ;;; Edits
 
-(defun sulgrevad--edit (start end text)
-  "Have TEXT take the place of the runes from START to END."
-  (unless (equal (sulgrevad--dot sulgrevad--term sulgrevad--tag) (cons start end))
-    (sulgrevad--select sulgrevad--term sulgrevad--tag start end))
-  (when (or (< start end) (> (length text) 0))
-    (sulgrevad--type sulgrevad--term sulgrevad--tag (substring text 0 (min (length text) sulgrevad-most-typed))))
-  (cl-loop for at from sulgrevad-most-typed below (length text) by sulgrevad-most-typed
-           do (sulgrevad--type sulgrevad--term sulgrevad--tag (substring text at (min (length text) (+ at sulgrevad-most-typed))))))
+(defun sulgrevad--text (&optional start end)
+  "The buffer's text from the place START to END, or all of it."
+  (save-restriction
+    (widen)
+    (buffer-substring-no-properties (1+ (or start 0)) (1+ (or end (buffer-size))))))
 
-(defun sulgrevad--fits (start end text)
-  "Whether there is room for TEXT in the place of the runes from START to END."
-  (<= (+ (sulgrevad--len sulgrevad--term sulgrevad--tag) (- start end) (length text)) sulgrevad-most-runes))
+(defun sulgrevad--same-front (one other)
+  "How many characters at the front of ONE and OTHER are the same."
+  (let ((found (compare-strings one nil nil other nil nil)))
+    (if (eq found t) (length one) (1- (abs found)))))
 
-(defun sulgrevad--text ()
-  "The whole text of the buffer."
-  (save-restriction (widen) (buffer-substring-no-properties (point-min) (point-max))))
+(defun sulgrevad--difference (start end their-end)
+  "Where the buffer from START to END differs from the terminal's text from START to THEIR-END.
+nil, or a list: where it begins, where it ends in the buffer and at the terminal, and the two texts between."
+  (let ((mine (sulgrevad--text start end)) (theirs (sulgrevad--part sulgrevad--term sulgrevad--tag start their-end)))
+    (unless (string= mine theirs)
+      (let* ((front (sulgrevad--same-front mine theirs))
+             (back (sulgrevad--same-front (reverse (substring mine front)) (reverse (substring theirs front)))))
+        (list (+ start front) (- end back) (- their-end back)
+              (substring mine front (- (length mine) back)) (substring theirs front (- (length theirs) back)))))))
 
 (defun sulgrevad--is-free ()
   "Whether an edit of the buffer acts at once, and all of its file is loaded."
@@ -70,6 +80,18 @@
        (not (sulgrevad--locked sulgrevad--term sulgrevad--tag))
        (not (sulgrevad--first-gap sulgrevad--term sulgrevad--tag))
        (= 0 (sulgrevad--held sulgrevad--term))))
+
+(defun sulgrevad--give (start end text)
+  "Have TEXT take the place of the terminal's runes from START to END, as it did in the buffer, which is free.
+Return why it can't, or nil.  It may signal `sulgrevad-no-memory'."
+  (sulgrevad--report-refusals)
+  (condition-case why
+      (progn (sulgrevad--edit sulgrevad--term sulgrevad--tag start end text)
+             (or (sulgrevad--next-refusal sulgrevad--term)
+                 (ignore (sulgrevad--changed sulgrevad--term sulgrevad--tag)))) ; the buffer has it
+    (sulgrevad-unfinished (push "" sulgrevad--inbox)
+                          (signal (car why) (cdr why)))
+    ((wrong-type-argument sulgrevad-not-text) "the buffer has what is no Unicode text")))
 
 (defun sulgrevad--before-change (&rest _)
   "Note a change that `after-change-functions' has not reported."
@@ -81,53 +103,58 @@
 It signals no error, since Emacs would not call it again."
   (unless sulgrevad--is-taking
     (condition-case nil
-        (let ((from (1- start)) (to (+ (1- start) old)) (text (buffer-substring-no-properties start end))
-              (is-known (not sulgrevad--has-drifted)))
+        (let ((is-known (not sulgrevad--has-drifted)))
           (setq sulgrevad--has-drifted t)
-          (when (and is-known (sulgrevad--is-free) (sulgrevad--fits from to text))
-            (sulgrevad--edit from to text)
-            (setq sulgrevad--has-drifted nil)))
+          (when (and is-known (sulgrevad--is-free))
+            (setq sulgrevad--has-drifted
+                  (sulgrevad--give (1- start) (+ (1- start) old) (buffer-substring-no-properties start end)))))
       (error nil))
     (setq sulgrevad--tick (buffer-chars-modified-tick))))
 
 (defun sulgrevad--hand-over (&optional whole)
-  "Hand over what no hook has reported; with WHOLE also where there is no sign of it."
-  (when (and (or whole sulgrevad--has-drifted (not (eql sulgrevad--tick (buffer-chars-modified-tick))))
-             (sulgrevad--is-free))
-    (pcase (condition-case nil (sulgrevad--difference sulgrevad--term sulgrevad--tag (sulgrevad--text))
-             (error 'not-text))
-      ('not-text (sulgrevad--keep "the buffer has what is no Unicode text"))
-      (`(,start ,end ,mine ,_)
-       (let ((text (substring (sulgrevad--text) start mine)))
-         (if (sulgrevad--fits start end text)
-             (sulgrevad--edit start end text)
-           (sulgrevad--keep "the text is too long")))))
-    (setq sulgrevad--has-drifted nil
-          sulgrevad--tick (buffer-chars-modified-tick))
-    (sulgrevad--take-over)))
+  "Hand over what no hook has reported; with WHOLE also where there is no sign of it.
+It may signal `sulgrevad-no-memory': then it is to be called again."
+  (sulgrevad--before-change)
+  (when (and (or whole sulgrevad--has-drifted) (sulgrevad--is-free))
+    (setq sulgrevad--has-drifted t)
+    (let ((why (pcase (sulgrevad--difference 0 (buffer-size) (sulgrevad--len sulgrevad--term sulgrevad--tag))
+                 (`(,start ,_ ,end ,mine ,_) (sulgrevad--give start end mine)))))
+      (when why
+        (kill-new (sulgrevad--text))
+        (message "Sulgrevad: %s; the kill ring has the buffer's text" why)))
+    (sulgrevad--take-over t)))
 
-(defun sulgrevad--take-over ()
-  "Change the buffer where the terminal has another text, and say whether it may be edited."
-  (let ((is-free (sulgrevad--is-free)))
-    (when (and is-free (not sulgrevad--has-drifted))
-      (pcase (condition-case nil (sulgrevad--difference sulgrevad--term sulgrevad--tag (sulgrevad--text))
-               (error (list 0 (sulgrevad--len sulgrevad--term sulgrevad--tag) (buffer-size) (sulgrevad--whole))))
-        (`(,start ,_ ,mine ,theirs)
-         (let ((inhibit-read-only t) (sulgrevad--is-taking t))
-           (undo-boundary)
-           (save-restriction
-             (widen)
-             (save-excursion
-               (goto-char (1+ start))
-               (delete-region (point) (1+ mine))
-               (insert theirs))))))
-      (setq sulgrevad--tick (buffer-chars-modified-tick))
+(defun sulgrevad--put (start end their-end)
+  "Have the terminal's text from START to THEIR-END take the place of the buffer's from START to END, where they differ."
+  (pcase (sulgrevad--difference start end their-end)
+    (`(,from ,to ,_ ,_ ,theirs)
+     (let ((inhibit-read-only t) (sulgrevad--is-taking t))
+       (undo-boundary)
+       (save-restriction
+         (widen)
+         (save-excursion
+           (goto-char (1+ from))
+           (delete-region (point) (1+ to))
+           (insert theirs)))))))
+
+(defun sulgrevad--put-all ()
+  "Have the terminal's text take the place of the buffer's."
+  (sulgrevad--put 0 (buffer-size) (sulgrevad--len sulgrevad--term sulgrevad--tag)))
+
+(defun sulgrevad--take-over (&optional whole)
+  "Change the buffer where the terminal's text has changed, and say whether it may be edited.
+With WHOLE change it wherever the two differ: what was not handed over goes."
+  (let ((is-free (sulgrevad--is-free)) (inhibit-quit t)) ; the terminal says only once what changed
+    (when (and is-free (or whole (not sulgrevad--has-drifted)))
+      (pcase (sulgrevad--changed sulgrevad--term sulgrevad--tag)
+        ((guard whole) (sulgrevad--put-all))
+        (`(,start ,gone ,came)
+         (condition-case nil (sulgrevad--put start (+ start gone) (+ start came))
+           (error (let ((inhibit-modification-hooks t)) (sulgrevad--put-all)))))) ; another's hook has failed
+      (setq sulgrevad--has-drifted nil
+            sulgrevad--tick (buffer-chars-modified-tick))
       (restore-buffer-modified-p (and (/= sulgrevad--tag 0) (sulgrevad--is-changed sulgrevad--term sulgrevad--tag))))
     (setq buffer-read-only (or (not is-free) (= sulgrevad--tag 0)))))
-
-(defun sulgrevad--whole ()
-  "The whole text that the terminal has."
-  (or (nth 3 (sulgrevad--difference sulgrevad--term sulgrevad--tag "")) ""))
 
 ;;; The stream
 
@@ -151,31 +178,30 @@ With IS-PAUSING what was typed is sent, too."
   (unless (or sulgrevad--is-pumping (null sulgrevad--term))
     (condition-case why
         (let ((sulgrevad--is-pumping t) (is-fed t))
-          (while is-fed                 ; more may come while bytes are sent
+          (while (or is-fed sulgrevad--inbox) ; more may come while bytes are sent
             (sulgrevad--each #'sulgrevad--hand-over)
             (setq is-fed (not (null sulgrevad--inbox)))
-            (while sulgrevad--inbox
-              (sulgrevad--feed sulgrevad--term (pop sulgrevad--inbox)))
+            (let ((inhibit-quit t))     ; no edit comes between
+              (unwind-protect (while sulgrevad--inbox (sulgrevad--feed-next))
+                (when is-fed (sulgrevad--each #'sulgrevad--take-over))))
             (sulgrevad--report-refusals)
             (when is-pausing (sulgrevad--flush-now sulgrevad--term))
-            (sulgrevad--send)
-            (when is-fed (sulgrevad--each #'sulgrevad--take-over))))
+            (sulgrevad--send)))
+      (sulgrevad-no-memory (message "Sulgrevad: %s" (cadr why)))
       (sulgrevad-error (sulgrevad--lose (cadr why))))))
 
-(defun sulgrevad--keep (why)
-  "Put the buffer's text into the kill ring, since it goes back to what the terminal has, because of WHY."
-  (kill-new (sulgrevad--text))
-  (message "Sulgrevad: %s; the kill ring has the buffer's text" why))
+(defun sulgrevad--feed-next ()
+  "Feed what came first.  Where memory is out, what is left to do of it stays the first."
+  (let ((bytes (pop sulgrevad--inbox)))
+    (condition-case why (sulgrevad--feed sulgrevad--term bytes)
+      (sulgrevad-no-memory
+       (push (if (eq (car why) 'sulgrevad-unfinished) "" bytes) sulgrevad--inbox)
+       (signal (car why) (cdr why))))))
 
 (defun sulgrevad--report-refusals ()
-  "Report the events that were refused, and go back to what the terminal has."
+  "Say why events were refused."
   (let (why)
-    (while (setq why (sulgrevad--next-refusal sulgrevad--term))
-      (sulgrevad--each
-       (lambda ()
-         (when (and (sulgrevad--is-free) (sulgrevad--difference sulgrevad--term sulgrevad--tag (sulgrevad--text)))
-           (sulgrevad--keep why)
-           (sulgrevad--take-over)))))))
+    (while (setq why (sulgrevad--next-refusal sulgrevad--term)) (message "Sulgrevad: %s" why))))
 
 (defun sulgrevad--send ()
   "Send what is pending."
@@ -242,8 +268,7 @@ With IS-PAUSING what was typed is sent, too."
         (unless (or (= tag 0) (sulgrevad--is-open sulgrevad--term tag)) (sulgrevad--open sulgrevad--term tag))
         (sulgrevad--load sulgrevad--term tag 0 sulgrevad-most-runes)
         (unless (sulgrevad--wait #'sulgrevad--is-free) (error "The host does not answer"))
-        (setq sulgrevad--tick (buffer-chars-modified-tick))
-        (sulgrevad--take-over)
+        (sulgrevad--take-over t)
         (setq buffer-undo-list (= tag 0))
         (goto-char (point-min))
         (add-hook 'before-change-functions #'sulgrevad--before-change nil t)
@@ -276,16 +301,23 @@ With IS-PAUSING what was typed is sent, too."
     (with-current-buffer (sulgrevad--show 0 "*sam*")
       (goto-char (point-max))
       (let ((from (1- (line-beginning-position))))
-        (sulgrevad--edit from (buffer-size) (concat line "\n"))
+        (sulgrevad--type-line from (concat line "\n"))
         (sulgrevad--wait #'sulgrevad--is-free)
         (sulgrevad--take-over)
         (setq printed (buffer-substring-no-properties (min (point-max) (+ from 2 (length line))) (point-max)))))
     (when (sulgrevad--wait #'sulgrevad--is-free) ; what the line put in may not be loaded yet
-      (pcase-let ((`(,from . ,to) (sulgrevad--dot sulgrevad--term sulgrevad--tag)))
+      (pcase-let ((`(,from ,to) (sulgrevad--dot sulgrevad--term sulgrevad--tag)))
         (push-mark (1+ from) t (< from to))
         (goto-char (1+ to))))
     (unless (string-empty-p printed) (message "%s" printed))
     printed))
+
+(defun sulgrevad--type-line (from line)
+  "Have LINE, which ends in a newline, take the place of the command file's text from FROM on."
+  (when (< sulgrevad-most-runes (+ from (length line))) (user-error "The command file has no room for so long a line"))
+  (sulgrevad--select sulgrevad--term 0 from (sulgrevad--len sulgrevad--term 0))
+  (cl-loop for at from 0 below (length line) by sulgrevad-most-typed
+           do (sulgrevad--type sulgrevad--term 0 (substring line at (min (length line) (+ at sulgrevad-most-typed))))))
 
 (defun sulgrevad-save ()
   "Have the host write the buffer's file, and wait until it has."
