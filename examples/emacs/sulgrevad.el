@@ -5,7 +5,8 @@
 ;; the file, and M-x sulgrevad-find shows another file.
 ;;
 ;; Each buffer is a copy of the terminal's text, a character for each rune. The two don't drift apart:
-;; - `after-change-functions' hands each edit to the terminal at once, so that it stands there before the next bytes are fed.
+;; - `after-change-functions' hands each edit to the terminal at once, so that it stands there before the next bytes are fed. It goes by
+;;   sam_term_edit, a single key too: what a command did is sent when it ends.
 ;; - After a feed the terminal says what changed, and that stretch of the buffer is changed.
 ;; - Some code changes a buffer without that hook (`inhibit-modification-hooks'). So the buffer's tick is compared before each change and
 ;;   round each feed, and the whole text before a file is written: what was not handed over is found, and goes as one edit.
