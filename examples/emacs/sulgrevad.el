@@ -179,7 +179,7 @@ With IS-PAUSING what was typed is sent, too."
   (unless (or sulgrevad--is-pumping (null sulgrevad--term))
     (condition-case why
         (let ((sulgrevad--is-pumping t) (is-fed t))
-          (while (or is-fed sulgrevad--inbox) ; more may come while bytes are sent
+          (while (and sulgrevad--term (or is-fed sulgrevad--inbox)) ; while bytes are sent more may come, or the host may end
             (sulgrevad--each #'sulgrevad--hand-over)
             (setq is-fed (not (null sulgrevad--inbox)))
             (let ((inhibit-quit t))     ; no edit comes between
@@ -205,11 +205,11 @@ With IS-PAUSING what was typed is sent, too."
     (while (setq why (sulgrevad--next-refusal sulgrevad--term)) (message "Sulgrevad: %s" why))))
 
 (defun sulgrevad--send ()
-  "Send what is pending."
+  "Send what is pending.  Where the host ends meanwhile, `sulgrevad--ended' says so."
   (let (bytes)
-    (while (not (string-empty-p (setq bytes (sulgrevad--take-out sulgrevad--term))))
+    (while (and sulgrevad--term (not (string-empty-p (setq bytes (sulgrevad--take-out sulgrevad--term)))))
       (when (process-live-p sulgrevad--process)
-        (process-send-string sulgrevad--process bytes)))))
+        (ignore-errors (process-send-string sulgrevad--process bytes))))))
 
 (defun sulgrevad--came (_process bytes)
   "Feed BYTES, now or when what is fed now is done."
