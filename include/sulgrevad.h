@@ -272,7 +272,7 @@ SAM_MUST_USE sam_status sam_term_feed(sam_term *term, const uint8_t *bytes, size
 
 /* Whether the host's stream may end here: to be asked once the terminal's input has ended. It changes nothing. SAM_OK,
  * SAM_NO_HANDLE, why the terminal has stopped before (SAM_STREAM.., SAM_TERM_REFUSED..), SAM_UNFINISHED if some of what came or was
- * composed still waits for memory, or SAM_TRUNCATED if the stream ends inside a frame. */
+ * composed still waits for memory, or SAM_TRUNCATED if the stream ends inside a frame. sam_term_held has the events that wait. */
 SAM_MUST_USE sam_status sam_term_finish(sam_term *term);
 
 /* How many bytes are pending. */
