@@ -16,8 +16,8 @@ const WAKES: u64 = 30;
 /// How many of these wakes have to come soon.
 const MANY: u64 = 18;
 
-/// Most rounds of these wakes. One in which many come soon is enough, since a busy machine can spoil a round. Where nothing wakes an end,
-/// hardly any wake of any round comes soon.
+/// Most rounds of wakes of an end that has just begun to sleep. One in which many come soon is enough, since a busy machine can spoil a
+/// round. Where nothing wakes that end, hardly any wake of any round comes soon.
 const ROUNDS: u32 = 3;
 
 /// Soon, in microseconds: a quarter of the longest sleep of an end.
@@ -281,7 +281,8 @@ fn woken_by_room(rt: &(impl Wait + Threads + Clock + Sync), alloc: Global) -> Ro
 
 #[test]
 fn what_is_taken_wakes_the_sender(rt: HostRuntime) {
-    let soon = best_of(|| woken_by_room(&rt, rt.alloc()));
+    // One round: on a busy machine the sender may still give way when room is made, and a round can then pass without a wake.
+    let soon = woken_by_room(&rt, rt.alloc());
     assert!(rt; are_many(&soon), "{soon:?}");
 }
 
