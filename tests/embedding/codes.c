@@ -34,36 +34,41 @@ static void carry(sam_term *term, sam_host *host)
     }
 }
 
-/* A handle that is NULL, or empty: not made yet, or freed. */
-static void no_handles(sam_host *host, sam_term *term)
+/* What the calls can hand out. */
+struct handed {
+    uint8_t buffer[8];
+    uint32_t runes[4], a, b, more;
+    uint16_t tag, version;
+    uint64_t many;
+    size_t len;
+    bool is;
+};
+
+static void no_host(sam_host *host, struct handed *out)
 {
-    uint8_t buffer[8] = "unused";
-    uint32_t runes[4] = {9, 9, 9, 9}, a = 1, b = 2;
-    uint16_t tag = 3, version = 4;
-    uint64_t many = 5;
-    size_t len = 6;
-    uint32_t more = 7;
-    bool is = true;
     WANT(sam_host_free(host), SAM_NO_HANDLE);
-    WANT(sam_host_add_file(host, BYTES("n"), BYTES("t"), &tag), SAM_NO_HANDLE);
+    WANT(sam_host_add_file(host, BYTES("n"), BYTES("t"), &out->tag), SAM_NO_HANDLE);
     WANT(sam_host_feed(host, BYTES("x")), SAM_NO_HANDLE);
     WANT(sam_host_finish(host), SAM_NO_HANDLE);
-    WANT(sam_host_pending(host, &len), SAM_NO_HANDLE);
-    WANT(sam_host_take_out(host, buffer, sizeof buffer, &len), SAM_NO_HANDLE);
-    WANT(sam_host_next_written(host, &tag), SAM_NO_HANDLE);
-    WANT(sam_host_is_done(host, &is), SAM_NO_HANDLE);
-    WANT(sam_host_taken(host, &many), SAM_NO_HANDLE);
-    WANT(sam_host_version(host, &version), SAM_NO_HANDLE);
-    WANT(sam_host_tags(host, &len), SAM_NO_HANDLE);
-    WANT(sam_host_has_file(host, 0, &is), SAM_NO_HANDLE);
-    WANT(sam_host_name(host, 0, buffer, sizeof buffer, &len), SAM_NO_HANDLE);
-    WANT(sam_host_len(host, 0, &a), SAM_NO_HANDLE);
-    WANT(sam_host_is_dirty(host, 0, &is), SAM_NO_HANDLE);
-    WANT(sam_host_text(host, 0, 0, buffer, sizeof buffer, &len, &more), SAM_NO_HANDLE);
-    WANT(sam_host_saved_len(host, 0, &a), SAM_NO_HANDLE);
-    WANT(sam_host_saved(host, 0, 0, buffer, sizeof buffer, &len, &more), SAM_NO_HANDLE);
-    WANT(sam_host_dot(host, 0, &a, &b), SAM_NO_HANDLE);
-    WANT(sam_term_free(term), SAM_NO_HANDLE);
+    WANT(sam_host_pending(host, &out->len), SAM_NO_HANDLE);
+    WANT(sam_host_take_out(host, out->buffer, sizeof out->buffer, &out->len), SAM_NO_HANDLE);
+    WANT(sam_host_next_written(host, &out->tag), SAM_NO_HANDLE);
+    WANT(sam_host_is_done(host, &out->is), SAM_NO_HANDLE);
+    WANT(sam_host_taken(host, &out->many), SAM_NO_HANDLE);
+    WANT(sam_host_version(host, &out->version), SAM_NO_HANDLE);
+    WANT(sam_host_tags(host, &out->len), SAM_NO_HANDLE);
+    WANT(sam_host_has_file(host, 0, &out->is), SAM_NO_HANDLE);
+    WANT(sam_host_name(host, 0, out->buffer, sizeof out->buffer, &out->len), SAM_NO_HANDLE);
+    WANT(sam_host_len(host, 0, &out->a), SAM_NO_HANDLE);
+    WANT(sam_host_is_dirty(host, 0, &out->is), SAM_NO_HANDLE);
+    WANT(sam_host_text(host, 0, 0, out->buffer, sizeof out->buffer, &out->len, &out->more), SAM_NO_HANDLE);
+    WANT(sam_host_saved_len(host, 0, &out->a), SAM_NO_HANDLE);
+    WANT(sam_host_saved(host, 0, 0, out->buffer, sizeof out->buffer, &out->len, &out->more), SAM_NO_HANDLE);
+    WANT(sam_host_dot(host, 0, &out->a, &out->b), SAM_NO_HANDLE);
+}
+
+static void no_term_for_events(sam_term *term)
+{
     WANT(sam_term_type(term, 0, BYTES("\xFF")), SAM_NO_HANDLE);
     WANT(sam_term_edit(term, 0, 0, 0, BYTES("\xFF")), SAM_NO_HANDLE);
     WANT(sam_term_select(term, 0, 0, 0), SAM_NO_HANDLE);
@@ -89,45 +94,73 @@ static void no_handles(sam_host *host, sam_term *term)
     WANT(sam_term_offer_version(term, 2), SAM_NO_HANDLE);
     WANT(sam_term_flush(term), SAM_NO_HANDLE);
     WANT(sam_term_exit(term), SAM_NO_HANDLE);
+}
+
+/* The bytes that come and go, and what became of events. */
+static void no_term_for_bytes(sam_term *term, struct handed *out)
+{
     WANT(sam_term_feed(term, BYTES("x")), SAM_NO_HANDLE);
     WANT(sam_term_finish(term), SAM_NO_HANDLE);
     WANT(sam_term_flush_now(term), SAM_NO_HANDLE);
-    WANT(sam_term_pending(term, &len), SAM_NO_HANDLE);
-    WANT(sam_term_take_out(term, buffer, sizeof buffer, &len), SAM_NO_HANDLE);
-    WANT(sam_term_next_refusal(term, &many, &a), SAM_NO_HANDLE);
-    WANT(sam_term_events(term, &many), SAM_NO_HANDLE);
-    WANT(sam_term_decided(term, &many), SAM_NO_HANDLE);
-    WANT(sam_term_tags(term, &len), SAM_NO_HANDLE);
-    WANT(sam_term_is_known(term, 0, &is), SAM_NO_HANDLE);
-    WANT(sam_term_name(term, 0, buffer, sizeof buffer, &len), SAM_NO_HANDLE);
-    WANT(sam_term_is_dirty(term, 0, &is), SAM_NO_HANDLE);
-    WANT(sam_term_is_changed(term, 0, &is), SAM_NO_HANDLE);
-    WANT(sam_term_is_open(term, 0, &is), SAM_NO_HANDLE);
-    WANT(sam_term_current(term, &tag), SAM_NO_HANDLE);
-    WANT(sam_term_len(term, 0, &a), SAM_NO_HANDLE);
-    WANT(sam_term_read(term, 0, 0, runes, 4, &a), SAM_NO_HANDLE);
-    WANT(sam_term_text(term, 0, 0, buffer, sizeof buffer, &len, &more), SAM_NO_HANDLE);
-    WANT(sam_term_bytes(term, 0, 0, 1, &len, &a), SAM_NO_HANDLE);
-    WANT(sam_term_place(term, 0, 0, 1, &a), SAM_NO_HANDLE);
-    WANT(sam_term_line(term, 0, 0, 1, &a), SAM_NO_HANDLE);
-    WANT(sam_term_changed(term, 0, &a, &b, &more), SAM_NO_HANDLE);
-    WANT(sam_term_first_gap(term, 0, 0, &a), SAM_NO_HANDLE);
-    WANT(sam_term_dot(term, 0, &a, &b), SAM_NO_HANDLE);
-    WANT(sam_term_view_of(term, 0, &a, &b), SAM_NO_HANDLE);
-    WANT(sam_term_locked(term, 0, &is), SAM_NO_HANDLE);
-    WANT(sam_term_command_locked(term, &is), SAM_NO_HANDLE);
-    WANT(sam_term_held(term, &many), SAM_NO_HANDLE);
-    WANT(sam_term_unsent(term, &a), SAM_NO_HANDLE);
-    WANT(sam_term_sent(term, &many), SAM_NO_HANDLE);
-    WANT(sam_term_under_way(term, &many), SAM_NO_HANDLE);
-    WANT(sam_term_pattern(term, buffer, sizeof buffer, &len), SAM_NO_HANDLE);
-    WANT(sam_term_snarfed(term, 0, buffer, sizeof buffer, &len, &more), SAM_NO_HANDLE);
-    WANT(sam_term_snarf_len(term, &a), SAM_NO_HANDLE);
-    WANT(sam_term_exited(term, &is), SAM_NO_HANDLE);
-    WANT(sam_term_version(term, &version), SAM_NO_HANDLE);
+    WANT(sam_term_pending(term, &out->len), SAM_NO_HANDLE);
+    WANT(sam_term_take_out(term, out->buffer, sizeof out->buffer, &out->len), SAM_NO_HANDLE);
+    WANT(sam_term_next_refusal(term, &out->many, &out->a), SAM_NO_HANDLE);
+    WANT(sam_term_events(term, &out->many), SAM_NO_HANDLE);
+    WANT(sam_term_decided(term, &out->many), SAM_NO_HANDLE);
+}
+
+static void no_term_for_files(sam_term *term, struct handed *out)
+{
+    WANT(sam_term_tags(term, &out->len), SAM_NO_HANDLE);
+    WANT(sam_term_is_known(term, 0, &out->is), SAM_NO_HANDLE);
+    WANT(sam_term_name(term, 0, out->buffer, sizeof out->buffer, &out->len), SAM_NO_HANDLE);
+    WANT(sam_term_is_dirty(term, 0, &out->is), SAM_NO_HANDLE);
+    WANT(sam_term_is_changed(term, 0, &out->is), SAM_NO_HANDLE);
+    WANT(sam_term_is_open(term, 0, &out->is), SAM_NO_HANDLE);
+    WANT(sam_term_current(term, &out->tag), SAM_NO_HANDLE);
+    WANT(sam_term_len(term, 0, &out->a), SAM_NO_HANDLE);
+    WANT(sam_term_read(term, 0, 0, out->runes, 4, &out->a), SAM_NO_HANDLE);
+    WANT(sam_term_text(term, 0, 0, out->buffer, sizeof out->buffer, &out->len, &out->more), SAM_NO_HANDLE);
+    WANT(sam_term_bytes(term, 0, 0, 1, &out->len, &out->a), SAM_NO_HANDLE);
+    WANT(sam_term_place(term, 0, 0, 1, &out->a), SAM_NO_HANDLE);
+    WANT(sam_term_line(term, 0, 0, 1, &out->a), SAM_NO_HANDLE);
+    WANT(sam_term_changed(term, 0, &out->a, &out->b, &out->more), SAM_NO_HANDLE);
+    WANT(sam_term_first_gap(term, 0, 0, &out->a), SAM_NO_HANDLE);
+    WANT(sam_term_dot(term, 0, &out->a, &out->b), SAM_NO_HANDLE);
+    WANT(sam_term_view_of(term, 0, &out->a, &out->b), SAM_NO_HANDLE);
+}
+
+/* Locks, what is unsent or under way, the pattern and the snarf buffer, the session. */
+static void no_term_for_state(sam_term *term, struct handed *out)
+{
+    WANT(sam_term_locked(term, 0, &out->is), SAM_NO_HANDLE);
+    WANT(sam_term_command_locked(term, &out->is), SAM_NO_HANDLE);
+    WANT(sam_term_held(term, &out->many), SAM_NO_HANDLE);
+    WANT(sam_term_unsent(term, &out->a), SAM_NO_HANDLE);
+    WANT(sam_term_sent(term, &out->many), SAM_NO_HANDLE);
+    WANT(sam_term_under_way(term, &out->many), SAM_NO_HANDLE);
+    WANT(sam_term_pattern(term, out->buffer, sizeof out->buffer, &out->len), SAM_NO_HANDLE);
+    WANT(sam_term_snarfed(term, 0, out->buffer, sizeof out->buffer, &out->len, &out->more), SAM_NO_HANDLE);
+    WANT(sam_term_snarf_len(term, &out->a), SAM_NO_HANDLE);
+    WANT(sam_term_exited(term, &out->is), SAM_NO_HANDLE);
+    WANT(sam_term_version(term, &out->version), SAM_NO_HANDLE);
+}
+
+/* A handle that is NULL, or empty: not made yet, or freed. */
+static void no_handles(sam_host *host, sam_term *term)
+{
+    struct handed out = {
+        .buffer = "unused", .runes = {9, 9, 9, 9}, .a = 1, .b = 2, .tag = 3, .version = 4, .many = 5, .len = 6, .more = 7, .is = true};
+    no_host(host, &out);
+    WANT(sam_term_free(term), SAM_NO_HANDLE);
+    no_term_for_events(term);
+    no_term_for_bytes(term, &out);
+    no_term_for_files(term, &out);
+    no_term_for_state(term, &out);
     /* What the pointers lead to is as it was. */
-    WANT(memcmp(buffer, "unused", 7), 0);
-    WANT(a == 1 && b == 2 && tag == 3 && version == 4 && many == 5 && len == 6 && more == 7 && is && runes[0] == 9, 1);
+    WANT(memcmp(out.buffer, "unused", 7), 0);
+    WANT(out.a == 1 && out.b == 2 && out.tag == 3 && out.version == 4 && out.many == 5 && out.len == 6 && out.more == 7, 1);
+    WANT(out.is && out.runes[0] == 9, 1);
 }
 
 /* Adding files: each refusal in its order, and the host as it was after it. */
@@ -257,18 +290,51 @@ static void ending_streams(void)
     WANT(sam_term_free(&term), SAM_OK);
 }
 
-/* A host that would pass the limit of a text refuses; so does a terminal, which goes on. */
-static void too_long(void)
+/* By one rune that is typed, and by an edit that puts three in the place of two. */
+static void longer_is_refused(sam_term *term)
 {
-    static uint8_t letters[1000000], messages[1100000];
-    sam_host host = {0};
-    sam_term term = {0};
-    uint16_t tag;
+    uint64_t event;
+    sam_status why;
+    WANT(sam_term_type(term, 1, BYTES("y")), SAM_OK);
+    WANT(sam_term_next_refusal(term, &event, &why), SAM_OK);
+    WANT(event, 3);
+    WANT(why, SAM_REFUSAL_TOO_LONG);
+    WANT(sam_term_edit(term, 1, 4, 6, BYTES("yyy")), SAM_OK);
+    WANT(sam_term_next_refusal(term, &event, &why), SAM_OK);
+    WANT(event, 4);
+    WANT(why, SAM_REFUSAL_TOO_LONG);
+}
+
+static void as_long_is_taken(sam_host *host, sam_term *term, const uint8_t *letters, size_t len)
+{
+    static uint8_t messages[1100000];
     uint64_t event;
     sam_status why;
     uint8_t text[4];
     uint32_t runes;
     size_t bytes;
+    WANT(sam_term_edit(term, 1, 0, 1000000, letters, len), SAM_OK); /* as long as it was: a Tcut and 1,954 Ttypes */
+    WANT(sam_term_edit(term, 1, 4, 6, BYTES("yy")), SAM_OK);
+    WANT(sam_term_next_refusal(term, &event, &why), SAM_NONE);
+    WANT(sam_term_sent(term, &event), SAM_OK);
+    WANT(event, 3 + 1 + 1954 + 2);
+    WANT(sam_term_take_out(term, messages, sizeof messages, &bytes), SAM_OK);
+    WANT(sam_host_feed(host, messages, bytes), SAM_OK);
+    WANT(sam_host_text(host, 1, 3, text, sizeof text, &bytes, &runes), SAM_OK);
+    WANT(runes == 4 && memcmp(text, "xyyx", 4) == 0, 1);
+    WANT(sam_host_len(host, 1, &runes), SAM_OK);
+    WANT(runes, 1000000);
+}
+
+/* A host that would pass the limit of a text refuses; so does a terminal, which goes on. */
+static void too_long(void)
+{
+    static uint8_t letters[1000000];
+    sam_host host = {0};
+    sam_term term = {0};
+    uint16_t tag;
+    uint64_t event;
+    sam_status why;
     memset(letters, 'x', sizeof letters);
     WANT(sam_host_new(&host), SAM_OK);
     WANT(sam_term_new(&term), SAM_OK);
@@ -277,25 +343,8 @@ static void too_long(void)
     WANT(sam_term_open(&term, 1), SAM_OK); /* held until the names have come */
     carry(&term, &host);
     WANT(sam_term_next_refusal(&term, &event, &why), SAM_NONE);
-    WANT(sam_term_type(&term, 1, BYTES("y")), SAM_OK);
-    WANT(sam_term_next_refusal(&term, &event, &why), SAM_OK);
-    WANT(event, 3);
-    WANT(why, SAM_REFUSAL_TOO_LONG);
-    WANT(sam_term_edit(&term, 1, 4, 6, BYTES("yyy")), SAM_OK);
-    WANT(sam_term_next_refusal(&term, &event, &why), SAM_OK);
-    WANT(event, 4);
-    WANT(why, SAM_REFUSAL_TOO_LONG);
-    WANT(sam_term_edit(&term, 1, 0, 1000000, letters, sizeof letters), SAM_OK); /* as long as it was: a Tcut and 1,954 Ttypes */
-    WANT(sam_term_edit(&term, 1, 4, 6, BYTES("yy")), SAM_OK);
-    WANT(sam_term_next_refusal(&term, &event, &why), SAM_NONE);
-    WANT(sam_term_sent(&term, &event), SAM_OK);
-    WANT(event, 3 + 1 + 1954 + 2);
-    WANT(sam_term_take_out(&term, messages, sizeof messages, &bytes), SAM_OK);
-    WANT(sam_host_feed(&host, messages, bytes), SAM_OK);
-    WANT(sam_host_text(&host, 1, 3, text, sizeof text, &bytes, &runes), SAM_OK);
-    WANT(runes == 4 && memcmp(text, "xyyx", 4) == 0, 1);
-    WANT(sam_host_len(&host, 1, &runes), SAM_OK);
-    WANT(runes, 1000000);
+    longer_is_refused(&term);
+    as_long_is_taken(&host, &term, letters, sizeof letters);
     WANT(sam_host_feed(&host, BYTES("\x08\0\x07\0\x01\0\0\0\0y")), SAM_HOST_TOO_LONG);
     WANT(sam_host_free(&host), SAM_OK);
     WANT(sam_term_free(&term), SAM_OK);
@@ -328,216 +377,301 @@ static void same_text(sam_host *host, uint16_t tag, const char *text)
     WANT(memcmp(bytes, text, len), 0);
 }
 
-/* A whole session, each event at least once, with what the readers say on the way. */
-static void session(void)
+/* The parts of a session: each goes on where the one before it ended. */
+static void session_begins(sam_host *host, sam_term *term)
 {
-    static const uint8_t many[513] = {0};
-    sam_host host = {0};
-    sam_term term = {0};
     uint16_t tag, version;
-    uint32_t a, b, more, runes[8];
-    uint64_t count, before, last;
+    size_t len;
+    uint8_t bytes[64];
+    WANT(sam_host_new(host), SAM_OK);
+    WANT(sam_host_add_file(host, BYTES("a"), BYTES("one two one\n"), &tag), SAM_OK);
+    WANT(sam_term_new(term), SAM_OK);
+    WANT(sam_term_current(term, &tag), SAM_NONE);
+    WANT(sam_term_offer_version(term, 2), SAM_OK);
+    WANT(sam_term_pending(term, &len), SAM_OK);
+    WANT(len, 5);
+    WANT(sam_term_take_out(term, bytes, sizeof bytes, &len), SAM_OK);
+    WANT(memcmp(bytes, "\x01\0\x02\0\x02", 5), 0); /* Tversion 2 */
+    WANT(sam_host_feed(host, bytes, len), SAM_OK);
+    WANT(sam_host_pending(host, &len), SAM_OK);
+    WANT(len > 0, 1);
+    carry(term, host);
+    WANT(sam_term_version(term, &version), SAM_OK);
+    WANT(version, 2);
+    WANT(sam_host_version(host, &version), SAM_OK);
+    WANT(version, 2);
+}
+
+/* What is known of a file before it is open, and an event that waits until it is. */
+static void file_opens(sam_host *host, sam_term *term)
+{
+    uint32_t a, b;
+    uint64_t count, last;
     size_t len;
     uint8_t bytes[64];
     bool is;
-    WANT(sam_host_new(&host), SAM_OK);
-    WANT(sam_host_add_file(&host, BYTES("a"), BYTES("one two one\n"), &tag), SAM_OK);
-    WANT(sam_term_new(&term), SAM_OK);
-    WANT(sam_term_current(&term, &tag), SAM_NONE);
-    WANT(sam_term_offer_version(&term, 2), SAM_OK);
-    WANT(sam_term_pending(&term, &len), SAM_OK);
-    WANT(len, 5);
-    WANT(sam_term_take_out(&term, bytes, sizeof bytes, &len), SAM_OK);
-    WANT(memcmp(bytes, "\x01\0\x02\0\x02", 5), 0); /* Tversion 2 */
-    WANT(sam_host_feed(&host, bytes, len), SAM_OK);
-    WANT(sam_host_pending(&host, &len), SAM_OK);
-    WANT(len > 0, 1);
-    carry(&term, &host);
-    WANT(sam_term_version(&term, &version), SAM_OK);
-    WANT(version, 2);
-    WANT(sam_host_version(&host, &version), SAM_OK);
-    WANT(version, 2);
-    WANT(sam_term_open_cmd(&term), SAM_OK);
-    WANT(sam_term_command_locked(&term, &is), SAM_OK);
+    WANT(sam_term_open_cmd(term), SAM_OK);
+    WANT(sam_term_command_locked(term, &is), SAM_OK);
     WANT(is, 1);
-    carry(&term, &host);
-    WANT(sam_term_tags(&term, &len), SAM_OK);
+    carry(term, host);
+    WANT(sam_term_tags(term, &len), SAM_OK);
     WANT(len, 2);
-    WANT(sam_term_is_known(&term, 1, &is), SAM_OK);
+    WANT(sam_term_is_known(term, 1, &is), SAM_OK);
     WANT(is, 1);
-    WANT(sam_term_name(&term, 1, bytes, sizeof bytes, &len), SAM_OK);
+    WANT(sam_term_name(term, 1, bytes, sizeof bytes, &len), SAM_OK);
     WANT(len == 1 && bytes[0] == 'a', 1);
-    WANT(sam_term_is_open(&term, 1, &is), SAM_OK);
+    WANT(sam_term_is_open(term, 1, &is), SAM_OK);
     WANT(is, 0);
-    WANT(sam_term_dot(&term, 1, &a, &b), SAM_NONE);
-    WANT(sam_term_open(&term, 1), SAM_OK);
-    WANT(sam_term_type(&term, 1, BYTES("\xC3")), SAM_NOT_TEXT);
-    WANT(sam_term_select(&term, 1, 0, 3), SAM_OK); /* waits for the file */
-    WANT(sam_term_held(&term, &count), SAM_OK);
+    WANT(sam_term_dot(term, 1, &a, &b), SAM_NONE);
+    WANT(sam_term_open(term, 1), SAM_OK);
+    WANT(sam_term_type(term, 1, BYTES("\xC3")), SAM_NOT_TEXT);
+    WANT(sam_term_select(term, 1, 0, 3), SAM_OK); /* waits for the file */
+    WANT(sam_term_held(term, &count), SAM_OK);
     WANT(count, 1);
-    WANT(sam_term_events(&term, &last), SAM_OK);
-    WANT(sam_term_decided(&term, &count), SAM_OK);
+    WANT(sam_term_events(term, &last), SAM_OK);
+    WANT(sam_term_decided(term, &count), SAM_OK);
     WANT(count, last - 1);
-    carry(&term, &host);
-    WANT(sam_term_decided(&term, &count), SAM_OK);
+    carry(term, host);
+    WANT(sam_term_decided(term, &count), SAM_OK);
     WANT(count, last);
-    WANT(sam_term_len(&term, 1, &a), SAM_OK);
+}
+
+static void text_loads(sam_host *host, sam_term *term)
+{
+    uint32_t a, b, more, runes[8];
+    uint64_t count, before;
+    WANT(sam_term_len(term, 1, &a), SAM_OK);
     WANT(a, 12);
-    WANT(sam_term_first_gap(&term, 1, 0, &a), SAM_OK);
+    WANT(sam_term_first_gap(term, 1, 0, &a), SAM_OK);
     WANT(a, 0);
-    WANT(sam_term_read(&term, 1, 10, runes, 8, &more), SAM_OK);
+    WANT(sam_term_read(term, 1, 10, runes, 8, &more), SAM_OK);
     WANT(more == 2 && runes[0] == SAM_GAP && runes[1] == SAM_GAP, 1);
-    WANT(sam_term_view(&term, 1, 4, 3), SAM_OK);
-    carry(&term, &host);
-    WANT(sam_term_first_gap(&term, 1, 4, &a), SAM_OK);
+    WANT(sam_term_view(term, 1, 4, 3), SAM_OK);
+    carry(term, host);
+    WANT(sam_term_first_gap(term, 1, 4, &a), SAM_OK);
     WANT(a, 7);
-    WANT(sam_term_sent(&term, &before), SAM_OK);
-    WANT(sam_term_load(&term, 1, 0, 12), SAM_OK); /* the gaps on both sides */
-    WANT(sam_term_sent(&term, &count), SAM_OK);
+    WANT(sam_term_sent(term, &before), SAM_OK);
+    WANT(sam_term_load(term, 1, 0, 12), SAM_OK); /* the gaps on both sides */
+    WANT(sam_term_sent(term, &count), SAM_OK);
     WANT(count - before, 2);
-    carry(&term, &host);
-    WANT(sam_term_view_of(&term, 1, &a, &b), SAM_OK);
+    carry(term, host);
+    WANT(sam_term_view_of(term, 1, &a, &b), SAM_OK);
     WANT(a == 0 && b == 12, 1);
-    WANT(sam_term_first_gap(&term, 1, 0, &a), SAM_NONE);
-    WANT(sam_term_read(&term, 1, 10, runes, 8, &more), SAM_OK);
+    WANT(sam_term_first_gap(term, 1, 0, &a), SAM_NONE);
+    WANT(sam_term_read(term, 1, 10, runes, 8, &more), SAM_OK);
     WANT(more == 2 && runes[0] == 'e' && runes[1] == '\n', 1);
-    WANT(sam_term_dot(&term, 1, &a, &b), SAM_OK);
+    WANT(sam_term_dot(term, 1, &a, &b), SAM_OK);
     WANT(a == 0 && b == 3, 1);
-    WANT(sam_term_look(&term, 1), SAM_OK);
-    WANT(sam_term_locked(&term, 1, &is), SAM_OK);
+}
+
+/* The next occurrence of the dot, and what is changed and dirty once it is cut. */
+static void found_and_cut(sam_host *host, sam_term *term)
+{
+    uint32_t a, b;
+    bool is;
+    WANT(sam_term_look(term, 1), SAM_OK);
+    WANT(sam_term_locked(term, 1, &is), SAM_OK);
     WANT(is, 1);
-    carry(&term, &host);
-    WANT(sam_term_dot(&term, 1, &a, &b), SAM_OK);
+    carry(term, host);
+    WANT(sam_term_dot(term, 1, &a, &b), SAM_OK);
     WANT(a == 8 && b == 11, 1); /* the second 'one' */
-    WANT(sam_term_is_changed(&term, 1, &is), SAM_OK);
+    WANT(sam_term_is_changed(term, 1, &is), SAM_OK);
     WANT(is, 0);
-    WANT(sam_term_cut(&term, 1), SAM_OK);
-    WANT(sam_term_is_changed(&term, 1, &is), SAM_OK);
+    WANT(sam_term_cut(term, 1), SAM_OK);
+    WANT(sam_term_is_changed(term, 1, &is), SAM_OK);
     WANT(is, 1);
-    WANT(sam_term_is_dirty(&term, 1, &is), SAM_OK);
+    WANT(sam_term_is_dirty(term, 1, &is), SAM_OK);
     WANT(is, 0); /* the host says nothing of what is cut here */
-    WANT(sam_term_is_changed(&term, 9, &is), SAM_OK);
+    WANT(sam_term_is_changed(term, 9, &is), SAM_OK);
     WANT(is, 0); /* there is no such file */
-    carry(&term, &host);
-    same_text(&host, 1, "one two \n");
-    WANT(sam_term_snarf_len(&term, &a), SAM_OK);
+    carry(term, host);
+    same_text(host, 1, "one two \n");
+    WANT(sam_term_snarf_len(term, &a), SAM_OK);
     WANT(a, 3);
-    WANT(sam_term_select(&term, 1, 0, 0), SAM_OK);
-    WANT(sam_term_paste(&term, 1), SAM_OK);
-    carry(&term, &host);
-    same_text(&host, 1, "oneone two \n");
-    wants_under_way(&term, 0);
-    WANT(sam_term_type(&term, 1, BYTES("\xC3\xA9")), SAM_OK); /* in the place of what was pasted */
-    WANT(sam_term_unsent(&term, &a), SAM_OK);
+}
+
+/* What is pasted, what is typed in its place, and what of it is unsent and under way. */
+static void pasted_and_typed(sam_host *host, sam_term *term)
+{
+    uint32_t a;
+    WANT(sam_term_select(term, 1, 0, 0), SAM_OK);
+    WANT(sam_term_paste(term, 1), SAM_OK);
+    carry(term, host);
+    same_text(host, 1, "oneone two \n");
+    wants_under_way(term, 0);
+    WANT(sam_term_type(term, 1, BYTES("\xC3\xA9")), SAM_OK); /* in the place of what was pasted */
+    WANT(sam_term_unsent(term, &a), SAM_OK);
     WANT(a, 1);
-    WANT(sam_term_flush_now(&term), SAM_OK);
-    WANT(sam_term_unsent(&term, &a), SAM_OK);
+    WANT(sam_term_flush_now(term), SAM_OK);
+    WANT(sam_term_unsent(term, &a), SAM_OK);
     WANT(a, 0);
-    wants_under_way(&term, 2); /* Tcut and Ttype */
-    carry(&term, &host);
-    same_text(&host, 1, "\xC3\xA9one two \n");
-    wants_under_way(&term, 2); /* the host has taken both, and answers neither */
-    WANT(sam_term_check(&term, 1), SAM_OK);
-    wants_under_way(&term, 3);
-    carry(&term, &host);
-    wants_under_way(&term, 0);
-    WANT(sam_host_text(&host, 1, 0, bytes, 1, &len, &more), SAM_OK); /* no whole rune has room */
+    wants_under_way(term, 2); /* Tcut and Ttype */
+    carry(term, host);
+    same_text(host, 1, "\xC3\xA9one two \n");
+    wants_under_way(term, 2); /* the host has taken both, and answers neither */
+    WANT(sam_term_check(term, 1), SAM_OK);
+    wants_under_way(term, 3);
+    carry(term, host);
+    wants_under_way(term, 0);
+}
+
+static void file_is_written(sam_host *host, sam_term *term)
+{
+    uint16_t tag;
+    uint32_t a, more;
+    size_t len;
+    uint8_t bytes[64];
+    bool is;
+    WANT(sam_host_text(host, 1, 0, bytes, 1, &len, &more), SAM_OK); /* no whole rune has room */
     WANT(len == 0 && more == 0, 1);
-    WANT(sam_host_is_dirty(&host, 1, &is), SAM_OK);
+    WANT(sam_host_is_dirty(host, 1, &is), SAM_OK);
     WANT(is, 1);
-    WANT(sam_host_saved_len(&host, 1, &a), SAM_NONE);
-    WANT(sam_host_next_written(&host, &tag), SAM_NONE);
-    WANT(sam_term_is_changed(&term, 1, &is), SAM_OK);
+    WANT(sam_host_saved_len(host, 1, &a), SAM_NONE);
+    WANT(sam_host_next_written(host, &tag), SAM_NONE);
+    WANT(sam_term_is_changed(term, 1, &is), SAM_OK);
     WANT(is, 1);
-    WANT(sam_term_write(&term, 1), SAM_OK);
-    WANT(sam_term_is_changed(&term, 1, &is), SAM_OK);
+    WANT(sam_term_write(term, 1), SAM_OK);
+    WANT(sam_term_is_changed(term, 1, &is), SAM_OK);
     WANT(is, 1); /* it is not written yet */
-    carry(&term, &host);
-    WANT(sam_term_is_changed(&term, 1, &is), SAM_OK);
+    carry(term, host);
+    WANT(sam_term_is_changed(term, 1, &is), SAM_OK);
     WANT(is, 0);
-    WANT(sam_host_next_written(&host, &tag), SAM_OK);
+    WANT(sam_host_next_written(host, &tag), SAM_OK);
     WANT(tag, 1);
-    WANT(sam_host_next_written(&host, &tag), SAM_NONE);
-    WANT(sam_host_saved_len(&host, 1, &a), SAM_OK);
+    WANT(sam_host_next_written(host, &tag), SAM_NONE);
+    WANT(sam_host_saved_len(host, 1, &a), SAM_OK);
     WANT(a, 10);
-    WANT(sam_host_saved(&host, 1, 5, bytes, sizeof bytes, &len, &more), SAM_OK);
+    WANT(sam_host_saved(host, 1, 5, bytes, sizeof bytes, &len, &more), SAM_OK);
     WANT(len == 5 && more == 5 && memcmp(bytes, "two \n", 5) == 0, 1);
-    WANT(sam_term_dclick(&term, 1, 5), SAM_OK);
-    carry(&term, &host);
-    WANT(sam_host_dot(&host, 1, &a, &b), SAM_OK);
+}
+
+static void word_is_snarfed(sam_host *host, sam_term *term)
+{
+    uint32_t a, b, more;
+    size_t len;
+    uint8_t bytes[64];
+    WANT(sam_term_dclick(term, 1, 5), SAM_OK);
+    carry(term, host);
+    WANT(sam_host_dot(host, 1, &a, &b), SAM_OK);
     WANT(a == 5 && b == 8, 1); /* the word 'two' */
-    WANT(sam_term_snarf(&term, 1), SAM_OK);
-    WANT(sam_term_get_snarf(&term), SAM_OK);
-    carry(&term, &host);
-    WANT(sam_term_snarfed(&term, 1, bytes, sizeof bytes, &len, &more), SAM_OK);
+    WANT(sam_term_snarf(term, 1), SAM_OK);
+    WANT(sam_term_get_snarf(term), SAM_OK);
+    carry(term, host);
+    WANT(sam_term_snarfed(term, 1, bytes, sizeof bytes, &len, &more), SAM_OK);
     WANT(len == 2 && more == 2 && memcmp(bytes, "wo", 2) == 0, 1);
-    WANT(sam_term_set_snarf(&term, BYTES(",x/o/c/0/\n")), SAM_OK);
-    WANT(sam_term_set_snarf(&term, BYTES("\xFF")), SAM_NOT_TEXT);
-    WANT(sam_term_work(&term, 1), SAM_OK);
-    WANT(sam_term_paste(&term, 0), SAM_OK); /* into the command window */
-    carry(&term, &host);
-    WANT(sam_term_current(&term, &tag), SAM_OK);
+}
+
+/* A command line that is pasted into the command window. */
+static void command_is_sent(sam_host *host, sam_term *term)
+{
+    uint16_t tag;
+    size_t len;
+    uint8_t bytes[64];
+    bool is;
+    WANT(sam_term_set_snarf(term, BYTES(",x/o/c/0/\n")), SAM_OK);
+    WANT(sam_term_set_snarf(term, BYTES("\xFF")), SAM_NOT_TEXT);
+    WANT(sam_term_work(term, 1), SAM_OK);
+    WANT(sam_term_paste(term, 0), SAM_OK); /* into the command window */
+    carry(term, host);
+    WANT(sam_term_current(term, &tag), SAM_OK);
     WANT(tag, 1);
-    WANT(sam_term_select(&term, 0, 0, 10), SAM_OK);
-    WANT(sam_term_send(&term, 0), SAM_OK);
-    carry(&term, &host);
-    same_text(&host, 1,
+    WANT(sam_term_select(term, 0, 0, 10), SAM_OK);
+    WANT(sam_term_send(term, 0), SAM_OK);
+    carry(term, host);
+    same_text(host, 1,
               "\xC3\xA9"
               "0ne tw0 \n");
-    WANT(sam_term_is_dirty(&term, 1, &is), SAM_OK);
+    WANT(sam_term_is_dirty(term, 1, &is), SAM_OK);
     WANT(is, 1); /* the host said so: the file was clean before the command */
-    WANT(sam_term_is_changed(&term, 1, &is), SAM_OK);
+    WANT(sam_term_is_changed(term, 1, &is), SAM_OK);
     WANT(is, 1);
-    WANT(sam_term_pattern(&term, bytes, sizeof bytes, &len), SAM_OK);
+    WANT(sam_term_pattern(term, bytes, sizeof bytes, &len), SAM_OK);
     WANT(len == 1 && bytes[0] == 'o', 1);
+}
+
+static void file_comes_and_goes(sam_host *host, sam_term *term)
+{
+    uint32_t a, b, more;
+    size_t len;
+    uint8_t bytes[64];
+    bool is;
+    WANT(sam_term_new_file(term), SAM_OK);
+    carry(term, host);
+    WANT(sam_host_has_file(host, 2, &is), SAM_OK);
+    WANT(is, 1);
+    WANT(sam_term_close(term, 2), SAM_OK);
+    carry(term, host);
+    WANT(sam_host_has_file(host, 2, &is), SAM_OK);
+    WANT(is, 0);
+    WANT(sam_host_name(host, 2, bytes, sizeof bytes, &len), SAM_NONE);
+    WANT(sam_host_name(host, 1, bytes, sizeof bytes, &len), SAM_OK);
+    WANT(len == 1 && bytes[0] == 'a', 1);
+    WANT(sam_host_len(host, 1, &a), SAM_OK);
+    WANT(sam_host_len(host, 2, &a), SAM_NONE);
+    WANT(sam_host_is_dirty(host, 2, &is), SAM_NONE);
+    WANT(sam_host_text(host, 2, 0, bytes, sizeof bytes, &len, &more), SAM_NONE);
+    WANT(sam_host_saved(host, 2, 0, bytes, sizeof bytes, &len, &more), SAM_NONE);
+    WANT(sam_host_dot(host, 2, &a, &b), SAM_NONE);
+}
+
+static void events_are_refused(sam_term *term)
+{
+    static const uint8_t many[513] = {0};
+    uint64_t count, last;
+    WANT(sam_term_cut(term, 9), SAM_OK);
+    WANT(sam_term_events(term, &last), SAM_OK);
+    WANT(sam_term_decided(term, &count), SAM_OK);
+    WANT(count, last); /* a refused event is no longer held */
+    wants_refusal(term, SAM_REFUSAL_NO_FILE);
+    WANT(sam_term_select(term, 1, 0, 99), SAM_OK);
+    wants_refusal(term, SAM_REFUSAL_BAD_POSITION);
+    WANT(sam_term_type(term, 1, many, sizeof many), SAM_OK);
+    wants_refusal(term, SAM_REFUSAL_TEXT_TOO_LONG);
+    WANT(sam_term_close(term, 0), SAM_OK);
+    wants_refusal(term, SAM_REFUSAL_COMMAND_FILE);
+    WANT(sam_term_offer_version(term, 0), SAM_OK);
+    wants_refusal(term, SAM_REFUSAL_BAD_VERSION);
+}
+
+static void session_ends(sam_host *host, sam_term *term)
+{
+    uint64_t count, taken;
+    bool is;
+    WANT(sam_term_sent(term, &count), SAM_OK);
+    WANT(sam_host_taken(host, &taken), SAM_OK);
+    WANT(taken, count);
+    WANT(sam_host_is_done(host, &is), SAM_OK);
+    WANT(is, 0);
+    WANT(sam_term_exit(term), SAM_OK);
+    carry(term, host);
+    WANT(sam_host_is_done(host, &is), SAM_OK);
+    WANT(is, 1);
+    WANT(sam_term_exited(term, &is), SAM_OK);
+    WANT(is, 1);
+    WANT(sam_term_cut(term, 1), SAM_OK);
+    wants_refusal(term, SAM_REFUSAL_EXITED);
+}
+
+/* A whole session, each event at least once, with what the readers say on the way. */
+static void session(void)
+{
+    sam_host host = {0};
+    sam_term term = {0};
+    session_begins(&host, &term);
+    file_opens(&host, &term);
+    text_loads(&host, &term);
+    found_and_cut(&host, &term);
+    pasted_and_typed(&host, &term);
+    file_is_written(&host, &term);
+    word_is_snarfed(&host, &term);
+    command_is_sent(&host, &term);
     WANT(sam_term_search(&term, 1), SAM_OK);
     WANT(sam_term_scroll(&term, 1, 1), SAM_OK);
     WANT(sam_term_check(&term, 1), SAM_OK);
     WANT(sam_term_flush(&term), SAM_OK);
-    WANT(sam_term_new_file(&term), SAM_OK);
-    carry(&term, &host);
-    WANT(sam_host_has_file(&host, 2, &is), SAM_OK);
-    WANT(is, 1);
-    WANT(sam_term_close(&term, 2), SAM_OK);
-    carry(&term, &host);
-    WANT(sam_host_has_file(&host, 2, &is), SAM_OK);
-    WANT(is, 0);
-    WANT(sam_host_name(&host, 2, bytes, sizeof bytes, &len), SAM_NONE);
-    WANT(sam_host_name(&host, 1, bytes, sizeof bytes, &len), SAM_OK);
-    WANT(len == 1 && bytes[0] == 'a', 1);
-    WANT(sam_host_len(&host, 1, &a), SAM_OK);
-    WANT(sam_host_len(&host, 2, &a), SAM_NONE);
-    WANT(sam_host_is_dirty(&host, 2, &is), SAM_NONE);
-    WANT(sam_host_text(&host, 2, 0, bytes, sizeof bytes, &len, &more), SAM_NONE);
-    WANT(sam_host_saved(&host, 2, 0, bytes, sizeof bytes, &len, &more), SAM_NONE);
-    WANT(sam_host_dot(&host, 2, &a, &b), SAM_NONE);
-    WANT(sam_term_cut(&term, 9), SAM_OK);
-    WANT(sam_term_events(&term, &last), SAM_OK);
-    WANT(sam_term_decided(&term, &count), SAM_OK);
-    WANT(count, last); /* a refused event is no longer held */
-    wants_refusal(&term, SAM_REFUSAL_NO_FILE);
-    WANT(sam_term_select(&term, 1, 0, 99), SAM_OK);
-    wants_refusal(&term, SAM_REFUSAL_BAD_POSITION);
-    WANT(sam_term_type(&term, 1, many, sizeof many), SAM_OK);
-    wants_refusal(&term, SAM_REFUSAL_TEXT_TOO_LONG);
-    WANT(sam_term_close(&term, 0), SAM_OK);
-    wants_refusal(&term, SAM_REFUSAL_COMMAND_FILE);
-    WANT(sam_term_offer_version(&term, 0), SAM_OK);
-    wants_refusal(&term, SAM_REFUSAL_BAD_VERSION);
-    WANT(sam_term_sent(&term, &count), SAM_OK);
-    uint64_t taken;
-    WANT(sam_host_taken(&host, &taken), SAM_OK);
-    WANT(taken, count);
-    WANT(sam_host_is_done(&host, &is), SAM_OK);
-    WANT(is, 0);
-    WANT(sam_term_exit(&term), SAM_OK);
-    carry(&term, &host);
-    WANT(sam_host_is_done(&host, &is), SAM_OK);
-    WANT(is, 1);
-    WANT(sam_term_exited(&term, &is), SAM_OK);
-    WANT(is, 1);
-    WANT(sam_term_cut(&term, 1), SAM_OK);
-    wants_refusal(&term, SAM_REFUSAL_EXITED);
+    file_comes_and_goes(&host, &term);
+    events_are_refused(&term);
+    session_ends(&host, &term);
     WANT(sam_host_free(&host), SAM_OK);
     WANT(sam_term_free(&term), SAM_OK);
     no_handles(NULL, NULL);
@@ -546,17 +680,73 @@ static void session(void)
     no_handles(&host, &term);
 }
 
+/* None of these sends a message, not even that of the rune that was typed before. */
+static void edits_are_refused(sam_term *term, uint64_t before)
+{
+    uint64_t count;
+    WANT(sam_term_edit(term, 0, 0, 0, BYTES("x")), SAM_OK);
+    wants_refusal(term, SAM_REFUSAL_COMMAND_FILE);
+    WANT(sam_term_edit(term, 2, 0, 0, BYTES("x")), SAM_OK);
+    wants_refusal(term, SAM_REFUSAL_NOT_OPEN);
+    WANT(sam_term_edit(term, 3, 0, 0, BYTES("x")), SAM_OK);
+    wants_refusal(term, SAM_REFUSAL_NO_FILE);
+    WANT(sam_term_edit(term, 1, 2, 1, BYTES("x")), SAM_OK);
+    wants_refusal(term, SAM_REFUSAL_BAD_POSITION);
+    WANT(sam_term_edit(term, 1, 0, 10, BYTES("x")), SAM_OK);
+    wants_refusal(term, SAM_REFUSAL_BAD_POSITION);
+    WANT(sam_term_edit(term, 1, 0, 9, BYTES("x\xFF")), SAM_NOT_TEXT);
+    WANT(sam_term_edit(term, 1, 4, 4, NULL, 0), SAM_OK); /* nothing goes and nothing comes: the typed rune stays unsent */
+    WANT(sam_term_sent(term, &count), SAM_OK);
+    WANT(count, before);
+}
+
+static void long_edit_goes(sam_host *host, sam_term *term, uint64_t before)
+{
+    static uint8_t many[1100];
+    uint32_t runes, a, b;
+    uint64_t count;
+    memset(many, 'm', sizeof many);
+    WANT(sam_term_edit(term, 1, 4, 7, many, sizeof many), SAM_OK);
+    WANT(sam_term_sent(term, &count), SAM_OK);
+    WANT(count - before, 5); /* a Ttype of the typed rune, a Tcut, and Ttypes of 512, 512 and 76 runes */
+    WANT(sam_term_unsent(term, &runes), SAM_OK);
+    WANT(runes, 0);
+    WANT(sam_term_dot(term, 1, &a, &b), SAM_OK);
+    WANT(a == 1106 && b == 1106, 1);
+    carry(term, host);
+    WANT(sam_host_len(host, 1, &runes), SAM_OK);
+    WANT(runes, 1106);
+}
+
+static void edit_waits_for_a_lock(sam_host *host, sam_term *term)
+{
+    uint64_t count;
+    WANT(sam_term_look(term, 1), SAM_OK); /* its lock holds the next one back */
+    WANT(sam_term_edit(term, 1, 4, 1104, BYTES("\xC3\xA9")), SAM_OK);
+    WANT(sam_term_held(term, &count), SAM_OK);
+    WANT(count, 1);
+    carry(term, host);
+    same_text(host, 1, "one \xC3\xA9\nx");
+}
+
+static void edit_takes_all_out(sam_host *host, sam_term *term)
+{
+    bool is;
+    WANT(sam_term_edit(term, 1, 0, 7, NULL, 0), SAM_OK);
+    carry(term, host);
+    same_text(host, 1, "");
+    WANT(sam_term_is_changed(term, 1, &is), SAM_OK);
+    WANT(is, 1);
+}
+
 /* An edit of any length goes at once, after the runes that were typed before; one that is refused changes nothing. */
 static void edits(void)
 {
-    static uint8_t many[1100];
     sam_host host = {0};
     sam_term term = {0};
     uint16_t tag;
-    uint32_t runes, a, b;
-    uint64_t before, count;
-    bool is;
-    memset(many, 'm', sizeof many);
+    uint32_t runes;
+    uint64_t before;
     WANT(sam_host_new(&host), SAM_OK);
     WANT(sam_host_add_file(&host, BYTES("a"), BYTES("one two\n"), &tag), SAM_OK);
     WANT(sam_host_add_file(&host, BYTES("b"), BYTES("b"), &tag), SAM_OK);
@@ -570,41 +760,10 @@ static void edits(void)
     WANT(sam_term_unsent(&term, &runes), SAM_OK);
     WANT(runes, 1);
     WANT(sam_term_sent(&term, &before), SAM_OK);
-    WANT(sam_term_edit(&term, 0, 0, 0, BYTES("x")), SAM_OK);
-    wants_refusal(&term, SAM_REFUSAL_COMMAND_FILE);
-    WANT(sam_term_edit(&term, 2, 0, 0, BYTES("x")), SAM_OK);
-    wants_refusal(&term, SAM_REFUSAL_NOT_OPEN);
-    WANT(sam_term_edit(&term, 3, 0, 0, BYTES("x")), SAM_OK);
-    wants_refusal(&term, SAM_REFUSAL_NO_FILE);
-    WANT(sam_term_edit(&term, 1, 2, 1, BYTES("x")), SAM_OK);
-    wants_refusal(&term, SAM_REFUSAL_BAD_POSITION);
-    WANT(sam_term_edit(&term, 1, 0, 10, BYTES("x")), SAM_OK);
-    wants_refusal(&term, SAM_REFUSAL_BAD_POSITION);
-    WANT(sam_term_edit(&term, 1, 0, 9, BYTES("x\xFF")), SAM_NOT_TEXT);
-    WANT(sam_term_edit(&term, 1, 4, 4, NULL, 0), SAM_OK); /* nothing goes and nothing comes: the typed rune stays unsent */
-    WANT(sam_term_sent(&term, &count), SAM_OK);
-    WANT(count, before);
-    WANT(sam_term_edit(&term, 1, 4, 7, many, sizeof many), SAM_OK);
-    WANT(sam_term_sent(&term, &count), SAM_OK);
-    WANT(count - before, 5); /* a Ttype of the typed rune, a Tcut, and Ttypes of 512, 512 and 76 runes */
-    WANT(sam_term_unsent(&term, &runes), SAM_OK);
-    WANT(runes, 0);
-    WANT(sam_term_dot(&term, 1, &a, &b), SAM_OK);
-    WANT(a == 1106 && b == 1106, 1);
-    carry(&term, &host);
-    WANT(sam_host_len(&host, 1, &runes), SAM_OK);
-    WANT(runes, 1106);
-    WANT(sam_term_look(&term, 1), SAM_OK); /* its lock holds the next one back */
-    WANT(sam_term_edit(&term, 1, 4, 1104, BYTES("\xC3\xA9")), SAM_OK);
-    WANT(sam_term_held(&term, &count), SAM_OK);
-    WANT(count, 1);
-    carry(&term, &host);
-    same_text(&host, 1, "one \xC3\xA9\nx");
-    WANT(sam_term_edit(&term, 1, 0, 7, NULL, 0), SAM_OK);
-    carry(&term, &host);
-    same_text(&host, 1, "");
-    WANT(sam_term_is_changed(&term, 1, &is), SAM_OK);
-    WANT(is, 1);
+    edits_are_refused(&term, before);
+    long_edit_goes(&host, &term, before);
+    edit_waits_for_a_lock(&host, &term);
+    edit_takes_all_out(&host, &term);
     WANT(sam_term_free(&term), SAM_OK);
     WANT(sam_host_free(&host), SAM_OK);
 }
@@ -654,6 +813,39 @@ static void reads_no_file(sam_term *term, uint16_t tag, sam_status known)
     WANT(sam_term_view_of(term, tag, &a, &b), SAM_NONE);
 }
 
+static void written_twice_and_closed(sam_host *host, sam_term *term)
+{
+    uint16_t tag;
+    WANT(sam_term_open(term, 1), SAM_OK);
+    WANT(sam_term_write(term, 1), SAM_OK);
+    WANT(sam_term_type(term, 1, BYTES("x")), SAM_OK);
+    WANT(sam_term_write(term, 1), SAM_OK);
+    WANT(sam_term_close(term, 1), SAM_OK);
+    carry(term, host);
+    WANT(sam_host_next_written(host, &tag), SAM_OK); /* each Twrite gives its tag once */
+    WANT(tag, 1);
+    WANT(sam_host_next_written(host, &tag), SAM_OK);
+    WANT(tag, 1);
+    WANT(sam_host_next_written(host, &tag), SAM_NONE);
+}
+
+static void host_reads_no_file(sam_host *host, uint16_t tag)
+{
+    uint8_t bytes[8];
+    uint32_t a, b, more;
+    size_t len;
+    bool is = true;
+    WANT(sam_host_has_file(host, tag, &is), SAM_OK);
+    WANT(is, 0);
+    WANT(sam_host_name(host, tag, bytes, sizeof bytes, &len), SAM_NONE);
+    WANT(sam_host_len(host, tag, &a), SAM_NONE);
+    WANT(sam_host_is_dirty(host, tag, &is), SAM_NONE);
+    WANT(sam_host_text(host, tag, 0, bytes, sizeof bytes, &len, &more), SAM_NONE);
+    WANT(sam_host_saved(host, tag, 0, bytes, sizeof bytes, &len, &more), SAM_NONE);
+    WANT(sam_host_saved_len(host, tag, &a), SAM_NONE);
+    WANT(sam_host_dot(host, tag, &a, &b), SAM_NONE);
+}
+
 /* What the header says of tags without a file, at both sides. */
 static void tags_without_a_file(void)
 {
@@ -661,7 +853,6 @@ static void tags_without_a_file(void)
     sam_term term = SAM_TERM_INIT;
     uint16_t tag;
     uint8_t bytes[8];
-    uint32_t a, b, more;
     size_t len;
     bool is = true;
     WANT(sam_host_new(&host), SAM_OK);
@@ -677,27 +868,9 @@ static void tags_without_a_file(void)
     reads_no_file(&term, 1, SAM_OK);
     WANT(sam_term_name(&term, 1, bytes, sizeof bytes, &len), SAM_OK);
     WANT(len == 3 && memcmp(bytes, "a\0b", 3) == 0, 1);
-    WANT(sam_term_open(&term, 1), SAM_OK);
-    WANT(sam_term_write(&term, 1), SAM_OK);
-    WANT(sam_term_type(&term, 1, BYTES("x")), SAM_OK);
-    WANT(sam_term_write(&term, 1), SAM_OK);
-    WANT(sam_term_close(&term, 1), SAM_OK);
-    carry(&term, &host);
-    WANT(sam_host_next_written(&host, &tag), SAM_OK); /* each Twrite gives its tag once */
-    WANT(tag, 1);
-    WANT(sam_host_next_written(&host, &tag), SAM_OK);
-    WANT(tag, 1);
-    WANT(sam_host_next_written(&host, &tag), SAM_NONE);
+    written_twice_and_closed(&host, &term);
     reads_no_file(&term, 1, SAM_NONE);
-    WANT(sam_host_has_file(&host, 1, &is), SAM_OK);
-    WANT(is, 0);
-    WANT(sam_host_name(&host, 1, bytes, sizeof bytes, &len), SAM_NONE);
-    WANT(sam_host_len(&host, 1, &a), SAM_NONE);
-    WANT(sam_host_is_dirty(&host, 1, &is), SAM_NONE);
-    WANT(sam_host_text(&host, 1, 0, bytes, sizeof bytes, &len, &more), SAM_NONE);
-    WANT(sam_host_saved(&host, 1, 0, bytes, sizeof bytes, &len, &more), SAM_NONE);
-    WANT(sam_host_saved_len(&host, 1, &a), SAM_NONE);
-    WANT(sam_host_dot(&host, 1, &a, &b), SAM_NONE);
+    host_reads_no_file(&host, 1);
     WANT(sam_term_free(&term), SAM_OK);
     WANT(sam_host_free(&host), SAM_OK);
 }
@@ -739,6 +912,46 @@ static void wants_line(sam_term *term, uint32_t start, uint32_t lines, sam_statu
     WANT(is, status == SAM_OK ? place : 99);
 }
 
+static void measures_with_gaps(sam_term *term)
+{
+    wants_text(term, 0, 15, "", 0);
+    wants_text(term, 1, 15, "\n\xC3\xA9\xE2\x86\x92\n\xF0\x9F\x90\xA6z\n", 7);
+    wants_text(term, 2, 8, "\xC3\xA9\xE2\x86\x92\n", 3); /* two bytes are too few for the bird */
+    wants_text(term, 2, 1, "", 0);
+    wants_text(term, 8, 15, "", 0);
+    wants_text(term, 99, 15, "", 0);
+    wants_bytes(term, 0, 11, 13, 4);
+    wants_bytes(term, 2, 4, 5, 0);
+    wants_bytes(term, 5, 6, 4, 0);
+    wants_bytes(term, 8, 99, 0, 3);
+    wants_bytes(term, 4, 4, 0, 0);
+    wants_bytes(term, 4, 3, 0, 0);
+    wants_bytes(term, 99, 100, 0, 0);
+    wants_place(term, 2, 0, 2);
+    wants_place(term, 2, 1, 2);
+    wants_place(term, 2, 5, 4);
+    wants_place(term, 2, 9, 5);  /* three bytes are too few for the bird */
+    wants_place(term, 2, 99, 8); /* the gap */
+    wants_place(term, 0, 99, 0);
+    wants_place(term, 99, 1, 99);
+    wants_line(term, 0, 0, SAM_OK, 0);
+    wants_line(term, 0, 1, SAM_NONE, 0);
+    wants_line(term, 1, 1, SAM_OK, 2);
+    wants_line(term, 1, 2, SAM_OK, 5);
+    wants_line(term, 2, 2, SAM_OK, 8);
+    wants_line(term, 2, 3, SAM_NONE, 0);
+}
+
+static void measures_without_gaps(sam_term *term)
+{
+    wants_bytes(term, 0, 11, 17, 0);
+    wants_place(term, 0, 17, 11);
+    wants_place(term, 0, 99, 11);
+    wants_line(term, 0, 3, SAM_OK, 8);
+    wants_line(term, 0, 4, SAM_NONE, 0);
+    wants_text(term, 8, 15, "end", 3);
+}
+
 /* Runes, bytes and lines of a text of which the places 1 to 8 are loaded, and then all: runes of 1, 2, 3 and 4 bytes, and three lines. */
 static void measures(void)
 {
@@ -753,40 +966,10 @@ static void measures(void)
     WANT(sam_term_open(&term, 1), SAM_OK);
     WANT(sam_term_view(&term, 1, 1, 7), SAM_OK);
     carry(&term, &host);
-    wants_text(&term, 0, 15, "", 0);
-    wants_text(&term, 1, 15, "\n\xC3\xA9\xE2\x86\x92\n\xF0\x9F\x90\xA6z\n", 7);
-    wants_text(&term, 2, 8, "\xC3\xA9\xE2\x86\x92\n", 3); /* two bytes are too few for the bird */
-    wants_text(&term, 2, 1, "", 0);
-    wants_text(&term, 8, 15, "", 0);
-    wants_text(&term, 99, 15, "", 0);
-    wants_bytes(&term, 0, 11, 13, 4);
-    wants_bytes(&term, 2, 4, 5, 0);
-    wants_bytes(&term, 5, 6, 4, 0);
-    wants_bytes(&term, 8, 99, 0, 3);
-    wants_bytes(&term, 4, 4, 0, 0);
-    wants_bytes(&term, 4, 3, 0, 0);
-    wants_bytes(&term, 99, 100, 0, 0);
-    wants_place(&term, 2, 0, 2);
-    wants_place(&term, 2, 1, 2);
-    wants_place(&term, 2, 5, 4);
-    wants_place(&term, 2, 9, 5);  /* three bytes are too few for the bird */
-    wants_place(&term, 2, 99, 8); /* the gap */
-    wants_place(&term, 0, 99, 0);
-    wants_place(&term, 99, 1, 99);
-    wants_line(&term, 0, 0, SAM_OK, 0);
-    wants_line(&term, 0, 1, SAM_NONE, 0);
-    wants_line(&term, 1, 1, SAM_OK, 2);
-    wants_line(&term, 1, 2, SAM_OK, 5);
-    wants_line(&term, 2, 2, SAM_OK, 8);
-    wants_line(&term, 2, 3, SAM_NONE, 0);
+    measures_with_gaps(&term);
     WANT(sam_term_load(&term, 1, 0, 11), SAM_OK);
     carry(&term, &host);
-    wants_bytes(&term, 0, 11, 17, 0);
-    wants_place(&term, 0, 17, 11);
-    wants_place(&term, 0, 99, 11);
-    wants_line(&term, 0, 3, SAM_OK, 8);
-    wants_line(&term, 0, 4, SAM_NONE, 0);
-    wants_text(&term, 8, 15, "end", 3);
+    measures_without_gaps(&term);
     WANT(sam_term_free(&term), SAM_OK);
     WANT(sam_host_free(&host), SAM_OK);
 }
@@ -801,6 +984,46 @@ static void wants_change(sam_term *term, uint32_t start, uint32_t gone, uint32_t
     WANT(c, came);
 }
 
+static void changes_by_loading(sam_host *host, sam_term *term)
+{
+    wants_change(term, 0, 0, 12); /* twelve gaps came into an empty text */
+    wants_change(term, 0, 0, 0);
+    WANT(sam_term_view(term, 1, 4, 3), SAM_OK);
+    wants_change(term, 0, 0, 0);
+    carry(term, host);
+    wants_change(term, 4, 3, 3); /* `two` is loaded */
+}
+
+static void changes_by_edits(sam_host *host, sam_term *term)
+{
+    WANT(sam_term_select(term, 1, 4, 7), SAM_OK);
+    wants_change(term, 0, 0, 0);
+    WANT(sam_term_type(term, 1, BYTES("\xC3\xA9\xC3\xA9")), SAM_OK);
+    wants_change(term, 4, 3, 2);
+    WANT(sam_term_select(term, 1, 0, 1), SAM_OK);
+    WANT(sam_term_cut(term, 1), SAM_OK);
+    WANT(sam_term_select(term, 1, 10, 10), SAM_OK);
+    WANT(sam_term_type(term, 1, BYTES("x")), SAM_OK);
+    wants_change(term, 0, 11, 11);       /* from the first place to the last edit, with what is between */
+    WANT(sam_term_cut(term, 1), SAM_OK); /* an empty dot: nothing */
+    wants_change(term, 0, 0, 0);
+    WANT(sam_term_select(term, 1, 2, 3), SAM_OK);
+    WANT(sam_term_paste(term, 1), SAM_OK);
+    wants_change(term, 2, 1, 0); /* the dot is gone, and the host has not answered */
+    carry(term, host);
+    wants_change(term, 2, 0, 1); /* the `o` that was cut comes */
+}
+
+static void changes_by_a_command(sam_host *host, sam_term *term)
+{
+    WANT(sam_term_open_cmd(term), SAM_OK);
+    WANT(sam_term_work(term, 1), SAM_OK);
+    WANT(sam_term_type(term, 0, BYTES(",d\n")), SAM_OK);
+    carry(term, host);
+    same_text(host, 1, "");
+    wants_change(term, 0, 11, 0);
+}
+
 /* What changes in `one two one\n`, by events and by frames, one at a time and together. */
 static void changes(void)
 {
@@ -813,34 +1036,9 @@ static void changes(void)
     WANT(sam_term_offer_version(&term, 2), SAM_OK);
     WANT(sam_term_open(&term, 1), SAM_OK);
     carry(&term, &host);
-    wants_change(&term, 0, 0, 12); /* twelve gaps came into an empty text */
-    wants_change(&term, 0, 0, 0);
-    WANT(sam_term_view(&term, 1, 4, 3), SAM_OK);
-    wants_change(&term, 0, 0, 0);
-    carry(&term, &host);
-    wants_change(&term, 4, 3, 3); /* `two` is loaded */
-    WANT(sam_term_select(&term, 1, 4, 7), SAM_OK);
-    wants_change(&term, 0, 0, 0);
-    WANT(sam_term_type(&term, 1, BYTES("\xC3\xA9\xC3\xA9")), SAM_OK);
-    wants_change(&term, 4, 3, 2);
-    WANT(sam_term_select(&term, 1, 0, 1), SAM_OK);
-    WANT(sam_term_cut(&term, 1), SAM_OK);
-    WANT(sam_term_select(&term, 1, 10, 10), SAM_OK);
-    WANT(sam_term_type(&term, 1, BYTES("x")), SAM_OK);
-    wants_change(&term, 0, 11, 11);       /* from the first place to the last edit, with what is between */
-    WANT(sam_term_cut(&term, 1), SAM_OK); /* an empty dot: nothing */
-    wants_change(&term, 0, 0, 0);
-    WANT(sam_term_select(&term, 1, 2, 3), SAM_OK);
-    WANT(sam_term_paste(&term, 1), SAM_OK);
-    wants_change(&term, 2, 1, 0); /* the dot is gone, and the host has not answered */
-    carry(&term, &host);
-    wants_change(&term, 2, 0, 1); /* the `o` that was cut comes */
-    WANT(sam_term_open_cmd(&term), SAM_OK);
-    WANT(sam_term_work(&term, 1), SAM_OK);
-    WANT(sam_term_type(&term, 0, BYTES(",d\n")), SAM_OK);
-    carry(&term, &host);
-    same_text(&host, 1, "");
-    wants_change(&term, 0, 11, 0);
+    changes_by_loading(&host, &term);
+    changes_by_edits(&host, &term);
+    changes_by_a_command(&host, &term);
     WANT(sam_term_close(&term, 1), SAM_OK);
     carry(&term, &host);
     WANT(sam_term_changed(&term, 1, &(uint32_t){0}, &(uint32_t){0}, &(uint32_t){0}), SAM_NONE);
