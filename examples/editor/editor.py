@@ -12,7 +12,7 @@ from notes import REPEAT, Notes, said
 from pointing import Pointer
 from sulgrevad import Refusal, SamError, Status, Terminal
 from stream import CLEAN, CLOSE, MOVETO, SETDOT, UNLOCK, Frame, Stream
-from texts import COMMAND, Texts
+from texts import COMMAND, COMMAND_NAME, Texts
 from undo import Undo
 from vault import Vault
 from waiting import BY_PLACE, LEAVING, Pressed, Waiting, action_of, last_of
@@ -23,6 +23,12 @@ from windows import ask
 READING = {
     "help", "switch", "next_window", "menu", "split", "unsplit", "page_up", "page_down", "leave", "small", "redraw", "suspend",
 }  # fmt: skip
+
+
+def reads(key: Input) -> bool:
+    """Whether a key changes no file."""
+    return key.what in ("wheel up", "wheel down") if isinstance(key, Mouse) else action_of(key) in READING
+
 
 WHY = {
     Status.REFUSAL_EXITED: "the session is over",
@@ -88,7 +94,9 @@ class Editor(Desk, Waiting, Actions):
         return tag != COMMAND and (self.terminal.is_changed(tag) or tag in self.keeping.unwritten)
 
     def name(self, tag: int) -> str:
-        return self.terminal.name(tag) or f"(file {tag}, no name)" if self.terminal.is_known(tag) else "(closed)"
+        if not self.terminal.is_known(tag):
+            return COMMAND_NAME if tag == COMMAND else "(closed)"
+        return self.terminal.name(tag) or f"(file {tag}, no name)"
 
     def show(self, tag: int, replaces: bool = True) -> None:
         """Shows a file: in its window, else in place of the one that was used last, or in another. Before that it is opened."""
@@ -226,11 +234,11 @@ class Editor(Desk, Waiting, Actions):
     def _act(self, pressed: Pressed) -> None:
         """Does what a key says. A question is over then: the key answers it, or takes it back."""
         key = pressed.key
-        if self.is_lost and not self._is_for_menu(key) and action_of(key) not in READING:
+        self.notes.take(pressed.has_read)
+        if self.is_lost and not self._is_for_menu(key) and not reads(key):
             self.keeping.typed_late += key.runes if isinstance(key, (Text, Paste)) else ""
             return
         self._answered, self._acting, self._is_again = pressed.answers, key, pressed.is_again
-        self.notes.take(pressed.has_read)
         try:
             if self._is_for_menu(key):
                 self._act_in_menu(pressed)

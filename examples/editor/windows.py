@@ -125,9 +125,12 @@ class Window:
         return self._layout
 
     def put(self, y: int, height: int, width: int) -> None:
-        """Gives it a place on the screen. A caret that was shown stays so."""
-        if (height, width) != (self.height, self.width) and self.is_open and self.layout().shows(self.caret):
-            self._followed = None
+        """Gives it a place on the screen. A caret that was shown stays so, and the window begins with a row of the new width."""
+        if (height, width) != (self.height, self.width) and self.is_open:
+            if self.layout().shows(self.caret):
+                self._followed = None
+            if width != self.width:
+                self._top = row_start(self.read, self.top, width)
         self.y, self.height, self.width = y, height, width
 
     # ---- What is shown

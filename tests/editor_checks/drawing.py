@@ -55,6 +55,21 @@ def check_resize(folder):
         session.leave()
 
 
+def check_rows_after_resize(folder):
+    """However the width of the screen changes, a window begins with a row."""
+    text = "".join("x" * (at * 37 % 300) + "\n" for at in range(200))
+    pair, editor, key, _ = opened(text, size=(20, 60))
+    offsets = []
+    for width in (60, 120, 60, 77, 40, 60, 13, 200, 60, 119) * 3:
+        editor.arrange(20, width)
+        pair.finish()
+        top = editor.focus.top
+        offsets.append(top - text.rfind("\n", 0, top) - 1)
+        expect(offsets[-1] % width == 0, f"{width} columns: the window begins {offsets[-1]} characters after the start of a line")
+        pair.press(key("Page Down"))
+    expect(any(offsets), "this test is wrong: each window begins with a line")
+
+
 def check_large(folder):
     """A file of 1,000,000 runes: only what is looked at crosses."""
     lines = [f"{number:07} {'.' * 41}\n" for number in range(20_000)]

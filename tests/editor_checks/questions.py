@@ -290,6 +290,23 @@ def check_typed_ahead_is_kept(folder):
     expect(kept == [("file0", "xa\n"), ("typed", "late")], f"it keeps {kept}")
 
 
+def check_lines_when_lost(folder):
+    """Without a host, too, a line stays until it is read; then any key shows the next one, also a key that can't do anything."""
+    pair, editor, key, text = opened("a\n", "b\n")
+    for window in editor.files:
+        editor.go_to(window)
+        pair.press(text("x"))
+    with kept_texts():
+        editor.lose("the host is gone")
+    for wanted, late in (("of file0 is here", key("Left")), ("of file1 is here", text("y"))):
+        editor.take(late)
+        expect(wanted in editor.message, f"it shows {editor.message!r}, wanted {wanted!r}")
+        pair.finish()
+        pair.press(late, seconds=0)
+    expect(editor.message == "", f"a line that was read stays: {editor.message!r}")
+    expect(editor.keeping.typed_late == "yy", f"of what is typed then it keeps {editor.keeping.typed_late!r}")
+
+
 def check_texts_of_one_name(folder):
     """Files may have the same name, or paths that end in the same 63 characters. Of each that was changed the text is kept."""
     pair, editor, key, text = opened("a\n", "b\n")

@@ -88,6 +88,13 @@ def check_keys_after_close(folder):
     expect(editor.files == [first], "a file that is gone has a window")
 
 
+def check_title_at_the_start(folder):
+    """The command window has its title before the host has told its name."""
+    pair = Pair(random.Random(1), ["a\n"])
+    (text, _), = pair.screen.window_rows(pair.editor, pair.editor.command)[0]
+    expect(text.rstrip() == ">  ~~sam~~", f"the title is {text!r}")
+
+
 def check_type_ahead(folder):
     """Keys that come before the first file is shown go to it, in order; `^Q` twice leaves."""
     pair = Pair(random.Random(1), ["end\n"])
@@ -293,7 +300,7 @@ def check_split_runes(folder):
 
 
 def check_reading_when_lost(folder):
-    """Without a host all that is loaded can be reached, and nothing is asked."""
+    """Without a host all that is loaded can be reached, by the page keys and by the wheel, and nothing is asked."""
     pair, editor, key, _ = opened("".join(f"line {at}\n" for at in range(3000)))
     window = editor.focus
     editor.take(key("^End"))
@@ -305,6 +312,11 @@ def check_reading_when_lost(folder):
         window.update()
     expect(pair.terminal.held == 0, "a host that is gone is asked")
     expect(window.top == 0, f"from {top} it goes up to {window.top} alone")
+    pair, editor, key, _ = opened("line\n" * 300)
+    editor.lose("the host is gone")
+    for what, top in (("wheel down", 15), ("wheel up", 0)):  # by three rows
+        editor.take(pair.keys.Mouse(what, editor.focus.y + 1, 0, 0.0))
+        expect(editor.focus.top == top, f"the {what} leads to {editor.focus.top}, wanted {top}")
 
 
 def check_window_of_one_row(folder):
