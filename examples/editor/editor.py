@@ -73,6 +73,7 @@ class Editor(Desk, Waiting, Actions):
         self._answered = ""  # the question that the key which acts now answers
         self._snarfed = ""  # what was cut or copied last, as far as it was loaded
         self._sought: Optional[Tuple[int, int]] = None  # the file and the line that the host was told to select
+        self._asks_at: List[float] = []  # when that may be asked for which the last update left, since keys came
 
     @property
     def message(self) -> str:
@@ -193,6 +194,7 @@ class Editor(Desk, Waiting, Actions):
 
     def update(self) -> None:
         """After keys or bytes: files that came or went, keys that waited, refusals, what the windows show."""
+        self._asks_at = [] if self.is_lost else [self.clock() + left for left in (self.busy_left, self.rest_left) if left > 0]
         if not self.is_lost:
             self._meet_files()
             self._awaits_file = self._awaits_file and self._is_lock_held
@@ -216,10 +218,9 @@ class Editor(Desk, Waiting, Actions):
             window.update(is_busy, rests)
 
     def wakes_in(self) -> Optional[float]:
-        """Seconds until something is to be done though nothing comes; None where that has no end."""
-        waits = [self.way.seconds]
-        if not self.is_lost:
-            waits += [left for left in (self.busy_left, self.rest_left) if left > 0]
+        """Seconds until something is to be done though nothing comes; None where that has no end. A time that has come since the last
+        update counts: else nobody would ask any more for what that left."""
+        waits = [self.way.seconds, *(when - self.clock() for when in self._asks_at)]
         if self.deferred and self.deferred[0].answers:
             waits.append(self.deferred[0].when + REPEAT - self.clock())
         if self._leaves_at is not None:

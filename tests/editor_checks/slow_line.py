@@ -244,6 +244,26 @@ def check_keys_before_loading(folder):
     pair.check()
 
 
+def check_loading_when_held_up(folder):
+    """What is not asked for while keys come is asked for later, also where the machine holds the editor up at that moment."""
+    lines = "".join(f"line {at} {'x' * 60}\n" for at in range(2000))
+    for before, held_up in ((0.1, 0.01), (0.249, 0.002), (0.249, 0.1), (0.2, 5.0)):
+        pair, editor, key, text = opened(lines, size=(20, 80))
+        loads = loads_of(pair)
+        editor.take(text("x"))
+        pair.trip()
+        editor.arrange(200, 80)
+        pair.now += before
+        editor.update()
+        expect(not loads, f"this test is wrong: it asks by {loads}")
+        pair.now += held_up
+        seconds = editor.wakes_in()
+        expect(seconds is not None and seconds <= 0.25, f"held up by {held_up} s it sleeps {seconds} s, until a key or the host wakes it")
+        pair.now += seconds
+        editor.update()
+        expect(len(loads) == 1, f"held up by {held_up} s it asks by {loads}")
+
+
 def check_pages_ahead(folder):
     """Who rests on a page, to read it, need not wait for the next. Before he rests nothing is asked for, so no key waits for it."""
     lines = "".join(f"line {at} {'x' * 60}\n" for at in range(2000))
