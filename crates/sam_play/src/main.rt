@@ -77,12 +77,13 @@ fn words<R: Env + AllocGlobal>(rt: &R) -> Result<Vec<String>, Fault> {
     }
 }
 
-/// Says on standard error, for a person, what is wrong with the words. If it can't, it says nothing: standard output and the exit status
-/// report the fault.
+/// Says on standard error, for a person, what is wrong with the words, or which there are, where they are not UTF-8. If it can't, it says
+/// nothing: standard output and the exit status report the fault.
 fn say_usage<R: Eprint + Env + AllocGlobal>(rt: &R) {
     let alloc = rt.alloc();
-    let Ok(words) = words(rt) else {
-        return;
+    let words = match words(rt) {
+        Ok(words) => words,
+        Err(_) => Vec::new(alloc),
     };
     if let Ok(text) = usage(alloc, words) {
         let _ = eprint!(rt; "{text}");
