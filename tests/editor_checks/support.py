@@ -8,39 +8,20 @@ import sys
 import time
 from pathlib import Path
 
+from checks import SECONDS, Failed, expect, wait_until
+
 ROOT = Path(__file__).resolve().parent.parent.parent
 SAMTERM = ROOT / "examples" / "editor" / "samterm"
 SLOW = ROOT / "tools" / "slow"
 PAGE = ROOT / "docs" / "EDITOR.md"
 LIBRARY = Path(os.environ.get("SAM_LIBRARY") or ROOT / "out" / "libsulgrevad.so")
 SAMHOST = Path(os.environ.get("SAMHOST") or ROOT / "out" / "samhost")
-SECONDS = 20  # how long something may take on a busy machine
 sys.path[:0] = [str(SAMTERM.parent), str(ROOT / "bindings" / "python")]
 
 LINK = 300  # milliseconds each way
 COMMAND_WINDOW = "~~sam~~"  # its title
 NOBODY = 65534  # a user who may not do what root may
 READ_AFTER = 0.7  # seconds after which a key answers a question that stands on the screen
-
-
-class Failed(Exception):
-    """What does not hold."""
-
-
-def expect(holds, told):
-    if not holds:
-        raise Failed(told)
-
-
-def wait_until(holds, told, seconds=SECONDS):
-    """Waits until something holds; answers what it was."""
-    until = time.monotonic() + seconds
-    while True:
-        got = holds()
-        if got:
-            return got
-        expect(time.monotonic() < until, told() if callable(told) else told)
-        time.sleep(0.01)
 
 
 def stat_of(process):
