@@ -41,7 +41,7 @@ pub use Rattle.sam_crossing.specs.RunOrder.{IsCountable, IsInOrder}
 pub use Rattle.sam_crossing.specs.World.{WasReached, is_quiet, IsAhead, PlainWorld, after_act, after_answer, after_compose, composed_by, host_takes, new_world, run_of, step_of, term_takes}
 pub use Rattle.sam_world.specs.Reached.{IsSoundWorld}
 pub use Rattle.sam_world.specs.Sides.{Counts, Each, HostRuns, Steps, TermRuns, run, world}
-pub use Rattle.sam_world.specs.Telling.{AddedFilesKeepWorkOpen, AnswersFree, AnswersFreeLast, AnswersKeepWorkOpen, AnswersTell, IsWorkOpen, is_answered, text_in}
+pub use Rattle.sam_world.specs.Telling.{AddedFilesKeepWorkOpen, RepliesFree, RepliesFreeLast, AnswersKeepWorkOpen, RepliesTell, IsWorkOpen, has_reply, text_in}
 pub use Rattle.sam_world.specs.UnderWay.{AreFilled, head, joined}
 pub use Rattle.sam_world.specs.Drain.{drain_limit, drained, next_event}
 pub use Rattle.sam_world.specs.Merging.{is_bad_log, merged, merged_from}

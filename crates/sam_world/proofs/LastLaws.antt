@@ -1,5 +1,5 @@
 -- Each answer frees just the lock that its message took, by its last frame.
-use Rattle.sam_world.proofs.Common.{◌≡◌, refl, ℕ, Bool, true, false, List, [], ◌∷◌, ◌++◌, arith, common_version, PlainHost, reply_to, reply_version, reply_startsnarf, EachFrame, IsTold, Freed, Nothing, Command, File, end_frames, lock_freed, reply_ends, Lock, NoLock, CommandLock, FileLock, Tmesg, Tversion, Tstartsnarf, Hmesg, Hversion, AnswersFree, AnswersFreeLast, is_answered}
+use Rattle.sam_world.proofs.Common.{◌≡◌, refl, ℕ, Bool, true, false, List, [], ◌∷◌, ◌++◌, arith, common_version, PlainHost, reply_to, reply_version, reply_startsnarf, EachFrame, IsTold, Freed, Nothing, Command, File, end_frames, lock_freed, reply_ends, Lock, NoLock, CommandLock, FileLock, Tmesg, Tversion, Tstartsnarf, Hmesg, Hversion, RepliesFree, RepliesFreeLast, has_reply}
 use Rattle.sam_term.specs.Events.{lock_of, all_freed}
 
 -- ## The lock that an answer frees is the one that its message took
@@ -9,7 +9,7 @@ lock_in Nothing = NoLock
 lock_in Command = CommandLock
 lock_in (File f) = FileLock f
 
-same_lock : (h : PlainHost) (m : Tmesg) → is_answered h m ≡ true → lock_in (lock_freed h m) ≡ lock_of m
+same_lock : (h : PlainHost) (m : Tmesg) → has_reply h m ≡ true → lock_in (lock_freed h m) ≡ lock_of m
 same_lock h m e = grind arith
 
 -- ## Frames that free no lock, and one that does at their end
@@ -40,7 +40,7 @@ frees h m = let k = reply_ends Any (λ s short. tt) h m (λ f. tt) in record { f
 
 -- ## The laws
 
-pub reply_frees_last : AnswersFreeLast
+pub reply_frees_last : RepliesFreeLast
 reply_frees_last h m e some = grind (arith, (same_lock h m e), (frees h m))
 
 freed-append : (xs ys : List Hmesg) → all_freed (xs ++ ys) ≡ all_freed xs ++ all_freed ys
@@ -48,6 +48,6 @@ unfolding all_freed
 freed-append [] ys = refl
 freed-append (x ∷ xs) ys = grind (arith, (freed-append xs ys))
 
-pub reply_frees : AnswersFree
+pub reply_frees : RepliesFree
 unfolding all_freed
 reply_frees h m e = grind (arith, (frees h m), freed-append, (same_lock h m e))

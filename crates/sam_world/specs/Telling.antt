@@ -1,4 +1,4 @@
--- What an answer of the host frees and tells.
+-- What a reply of the host frees and tells.
 use Rattle.std.specs.Prelude.{◌≡◌, ℕ, Bool, true, if◌then◌else◌, ◌==◌, List, [], ◌∷◌, ◌++◌, None, Ok, MatchOption}
 use Rattle.sam_runes.specs.Checks.{first_of_checks}
 use Rattle.sam_runes.specs.Texts.{ins, del}
@@ -13,10 +13,10 @@ use Rattle.sam_mesg.specs.declared.hmesg.HFrame.{HFrame}
 use Rattle.sam_mesg.specs.declared.tmesg.Tmesg.{Tmesg}
 use Rattle.sam_mesg.specs.declared.tmesg.Tmesg.TheVariants.{Trequest, Ttype, Tcut}
 
--- a request for a file that is gone gets no answer
-abbrev pub is_answered : PlainHost → Tmesg → Bool
-is_answered h (Trequest f p n) = has_file h.files f
-is_answered h _ = true
+-- a request for a file that is gone gets no reply
+abbrev pub has_reply : PlainHost → Tmesg → Bool
+has_reply h (Trequest f p n) = has_file h.files f
+has_reply h _ = true
 
 -- the text of f after a reply
 abbrev pub text_in : Reply → ℕ → List ℕ
@@ -43,9 +43,9 @@ abbrev pub AnswersKeepWorkOpen : Type 0
 AnswersKeepWorkOpen =
     (h g : PlainHost) (m : Tmesg) (frames : List HFrame) → answer h m ≡ Ok (g, frames) → IsWorkOpen h.files → IsWorkOpen g.files
 
--- the frames of an answer free just the lock that composing its message took
-abbrev pub AnswersFree : Type 0
-AnswersFree = (h : PlainHost) (m : Tmesg) → is_answered h m ≡ true → all_freed (reply_to h m).1 ≡ one_lock (lock_of m)
+-- the frames of a reply free just the lock that composing its message took
+abbrev pub RepliesFree : Type 0
+RepliesFree = (h : PlainHost) (m : Tmesg) → has_reply h m ≡ true → all_freed (reply_to h m).1 ≡ one_lock (lock_of m)
 
 -- the last frame frees this lock, and none before it frees any
 pub record FreesLast (lock : Lock) (frames : List Hmesg) : Type 0 where
@@ -55,14 +55,14 @@ pub record FreesLast (lock : Lock) (frames : List Hmesg) : Type 0 where
   pub frees : freed_by last ≡ lock
   pub none : all_freed front ≡ []
 
--- where the message took a lock, the frame that frees it is the last of its answer: it comes after every frame that touches a rasp
-abbrev pub AnswersFreeLast : Type 0
-AnswersFreeLast = (h : PlainHost) (m : Tmesg) → is_answered h m ≡ true → (lock_of m ≡ NoLock → ⊥) → FreesLast (lock_of m) (reply_to h m).1
+-- where the message took a lock, the frame that frees it is the last of the reply: it comes after every frame that touches a rasp
+abbrev pub RepliesFreeLast : Type 0
+RepliesFreeLast = (h : PlainHost) (m : Tmesg) → has_reply h m ≡ true → (lock_of m ≡ NoLock → ⊥) → FreesLast (lock_of m) (reply_to h m).1
 
--- the frames of an answer tell how each open file's text changed: a partial text that agreed with the text as the terminal had
+-- the frames of a reply tell how each open file's text changed: a partial text that agreed with the text as the terminal had
 -- left it agrees, after the frames, with the host's new text
-abbrev pub AnswersTell : Type 0
-AnswersTell =
+abbrev pub RepliesTell : Type 0
+RepliesTell =
     (h : PlainHost) (m : Tmesg) (f : ℕ) → first_of_checks (host_checks h m) ≡ None → AreFit h.files → IsWorkOpen h.files
     → (file_at h.files f).opened ≡ true → (file_at (reply_to h m).0.files f).opened ≡ true
     → FramesRewrite f (reply_to h m).1 (own_edit m f (file_at h.files f).text) (text_in (reply_to h m) f)
