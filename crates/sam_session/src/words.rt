@@ -97,15 +97,25 @@ pub fn mode_of(alloc: Global, words: Vec<String>) -> Result<Mode, ArgFault>
 pub fn usage(alloc: Global, words: Vec<String>) -> Result<String, AllocError> {
     let words = with_text_attached(alloc, &words)?;
     let mut command = command(alloc)?;
-    let names_mode = match command.try_get_matches_from_mut(words.as_slice()) {
-        Ok(matches) => matches.subcommand().is_some(),
+    let wrong = match command.try_get_matches_from_mut(words.as_slice()) {
+        Ok(matches) => matches.subcommand().map(|(name, inner)| wrong_value(name, inner)),
         Err(error) => return error.to_string(alloc),
     };
-    if !names_mode {
-        return command.render_help();
+    match wrong {
+        Some(wrong) => command.error(ErrorKind::ValueValidation, wrong)?.to_string(alloc),
+        None => command.render_help(),
     }
-    let error = command.error(ErrorKind::ValueValidation, "a value is out of its range")?;
-    error.to_string(alloc)
+}
+
+/// Returns which value of a mode's options is out of its range, where one is.
+fn wrong_value(mode: &str, matches: &ArgMatches<'_>) -> &'static str {
+    if mode == "bytes" {
+        return "the value of --text has more than 1000000 runes";
+    }
+    if number_in(matches, "piece", MOST_PIECE).is_err() {
+        return "the value of --piece is no number from 1 to 65536";
+    }
+    "the value of --cap is no number from 1 to 1024"
 }
 
 /// Returns the words with each `--text TEXT` as the one word `--text=TEXT`, so that clap takes TEXT as it stands.
