@@ -1,35 +1,17 @@
--- What is typed, what is printed and what a line leaves do not meet: a line never works on the command file.
+-- A line is told over the files before its typing: it never works on the command file.
 use Rattle.sam_host.proofs.Common.{common_steps, ◌≡◌, ℕ, zero, suc, ◌+◌, ◌<◌, ◌≤◌, List, [], ◌∷◌, ◌++◌, length, take, get_or, Option, Some, None, Bool, not, ◌||◌, is_empty, refl, sym, ap, ◌∙◌, subst, arith, rules, unwrap_or, option_map, option_and_then, IfSome, if◌then◌else◌, flat_map, reverse, max_runes, either, Edit, slot, put_slot, slot-put_same, meaning, work_on, line_outcome, PlainFile, PlainFiles, PlainOutcome, IsOutcomeOf, IsOutcomeFor, blank_file, file_at, put_file, typed_file, after_print, put_outcome, committed, AreFit, IsFit, Hmesg, Hexit, Hunlock, HFrame, PlainHost, stamped, printed, grown, told_edit, told_outcome, reply_line}
 use Rattle.std.proofs.lemmas.List.{get_or-set_other}
 use Rattle.sam_runes.specs.Edits.{inserted}
 use Rattle.sam_runes.proofs.EditLaws.{length-ins}
-use Rattle.sam_text.specs.Files.{IsWork, file_after}
+use Rattle.sam_text.specs.Files.{IsWork, file_after, typed_files}
 use Rattle.sam_text.proofs.MeaningLaws.{line_fits, without_work}
+use Rattle.sam_text.proofs.TypedLines.{IsElsewhere, elsewhere, slot-kept}
 use Rattle.sam_host.specs.Host.{reply_outcome}
-use Rattle.sam_host.specs.Typing.{typed_files, typed, printed_at, told_line, IsSameButEdits}
+use Rattle.sam_host.specs.Typing.{typed, printed_at, told_line, IsSameButEdits}
 use Rattle.sam_host.proofs.FrameLaws.{told_both}
-
--- a line works on another file than the command file
-abbrev pub IsElsewhere : Option ℕ → Type 0
-IsElsewhere o = IfSome o (λ f. 0 < f)
 
 abbrev with_slots : PlainFiles → List (Option PlainFile) → PlainFiles
 with_slots fs ss = record fs { slots = ss }
-
-print-put : (fs : PlainFiles) (ss : List (Option PlainFile)) (o : PlainOutcome) (s : List ℕ) (f : ℕ)
-    → put_outcome (Some (suc f)) (after_print (with_slots fs ss) s) o ≡ after_print (put_outcome (Some (suc f)) (with_slots fs ss) o) s
-print-put fs [] o s f = grind arith
-print-put fs (y ∷ ys) o s f = grind arith
-
--- printing and putting an outcome in, in either order
-put_print : (x : Option ℕ) (fs : PlainFiles) (o : PlainOutcome) (s : List ℕ) → IsElsewhere x → put_outcome x (after_print fs s) o ≡ after_print (put_outcome x fs o) s
-put_print None fs o s h = refl
-put_print (Some zero) fs o s h = absurd (omega arith)
-put_print (Some (suc f)) fs o s h = print-put fs fs.slots o s f
-
--- a print and an outcome that is put in leave the same files in either order
-pub commit_print : (fs : PlainFiles) (o : PlainOutcome) (s : List ℕ) → IsElsewhere o.file → committed (after_print fs s) o ≡ after_print (committed fs o) s
-commit_print fs o s h = grind (arith, put_print)
 
 -- what is printed stands in the command file, which no outcome changes
 printed-slots : (fs : PlainFiles) (ss : List (Option PlainFile)) (o : PlainOutcome) (p : Option (List ℕ)) (s : List ℕ) (f : ℕ)
@@ -48,26 +30,7 @@ printed_committed fs o s h = go o.file h
     go (Some zero) k = absurd (omega arith)
     go (Some (suc f)) k = printed-slots fs fs.slots o (either o.pattern fs.pattern) s f
 
--- printing leaves the other files
-slot-printed : (fs : PlainFiles) (ss : List (Option PlainFile)) (s : List ℕ) (f : ℕ) → slot (after_print (with_slots fs ss) s).slots (suc f) ≡ slot ss (suc f)
-slot-printed fs [] s f = grind arith
-slot-printed fs (y ∷ ys) s f = grind arith
-
--- an outcome that can be put in can be put in after a print
-pub outcome_after_print : (fs : PlainFiles) (o : PlainOutcome) (s : List ℕ) → IsOutcomeOf fs o → IsOutcomeOf (after_print fs s) o
-outcome_after_print fs o s h = (go o.file h.0, h.1, h.2)
-  where
-    go : (x : Option ℕ) → IfSome x (IsOutcomeFor fs o) → IfSome x (IsOutcomeFor (after_print fs s) o)
-    go None k = tt
-    go (Some zero) k = absurd (omega (arith, k.0.0))
-    go (Some (suc f)) k = grind (arith, (slot-printed fs fs.slots s f))
-
 -- ## A line after its typing
-
--- another command file leaves the other files
-slot-kept : (ss : List (Option PlainFile)) (x : PlainFile) (f : ℕ) → slot (put_slot ss 0 x) (suc f) ≡ slot ss (suc f)
-slot-kept [] x f = refl
-slot-kept (y ∷ ys) x f = refl
 
 -- a line does the same where the command file is another one
 meaning-put : (fs : PlainFiles) (x : PlainFile) (line : List ℕ) → IfSome fs.work (IsWork fs) → meaning (put_file fs 0 x) line ≡ meaning fs line
@@ -78,15 +41,6 @@ meaning-put fs x line h = ap (λ w. line_outcome w line) (go fs.work h)
     go None k = refl
     go (Some zero) k = absurd (omega (arith, k.0))
     go (Some (suc f)) k = ap (λ (s : Option PlainFile). option_map (work_on (suc f)) s) (slot-kept fs.slots x f)
-
--- an outcome that can be put in can be put in where the command file is another one
-outcome-put : (fs : PlainFiles) (x : PlainFile) (o : PlainOutcome) → IsOutcomeOf fs o → IsOutcomeOf (put_file fs 0 x) o
-outcome-put fs x o h = (go o.file h.0, h.1, h.2)
-  where
-    go : (y : Option ℕ) → IfSome y (IsOutcomeFor fs o) → IfSome y (IsOutcomeFor (put_file fs 0 x) o)
-    go None k = tt
-    go (Some zero) k = absurd (omega (arith, k.0.0))
-    go (Some (suc f)) k = grind (arith, (slot-kept fs.slots x f))
 
 told-slots : (fs : PlainFiles) (ss : List (Option PlainFile)) (x : PlainFile) (o : PlainOutcome) (f : ℕ)
     → told_outcome (Some (suc f)) (put_file (with_slots fs ss) 0 x) o ≡ told_outcome (Some (suc f)) (with_slots fs ss) o
@@ -113,13 +67,6 @@ printed-typed : (fs : PlainFiles) (p : ℕ) (t s : List ℕ) → p ≤ length (f
 printed-typed fs p t s h =
     printed-slots-at fs fs.slots (typed_file 0 (file_at fs 0) p t) s refl ∙ ap (λ n. printed_at fs n s) (length-ins (file_at fs 0).text t p h)
 
-elsewhere : (fs : PlainFiles) (o : PlainOutcome) → IsOutcomeOf fs o → IsElsewhere o.file
-elsewhere fs o h = go o.file h.0
-  where
-    go : (y : Option ℕ) → IfSome y (IsOutcomeFor fs o) → IsElsewhere y
-    go None k = tt
-    go (Some f) k = k.0.0
-
 -- the reply to a line after its typing, over the files before it
 pub line_replied : (h : PlainHost) (p : ℕ) (s line : List ℕ) (o : PlainOutcome) → o ≡ meaning h.files line → IsOutcomeOf h.files o → IfSome h.files.work (IsWork h.files)
     → p ≤ length (file_at h.files 0).text
@@ -134,14 +81,6 @@ line_replied h p s line o is fits work place =
     ap (λ o. reply_outcome (typed h p s) [] o) same
     ∙ ap (λ (ms : List Hmesg). (record (typed h p s) { files = after_print (committed (typed_files h.files p s) o) o.printed; is_done = o.quit }, ms))
     (λ i. told i ++ out i ++ (if o.quit then Hexit else Hunlock) ∷ [])
-
--- the outcome of a line is put in after its typing and its print
-pub line_put : (fs gs : PlainFiles) (p : ℕ) (s : List ℕ) (o : PlainOutcome) → IsOutcomeOf fs o → gs ≡ after_print (typed_files fs p s) o.printed
-    → IsOutcomeOf gs o × (committed gs o ≡ after_print (committed (typed_files fs p s) o) o.printed)
-line_put fs gs p s o h e =
-    let x = typed_file 0 (file_at fs 0) p s in
-    subst (λ gs. IsOutcomeOf gs o × (committed gs o ≡ after_print (committed (typed_files fs p s) o) o.printed)) (sym e)
-    (outcome_after_print (put_file fs 0 x) o o.printed (outcome-put fs x o h), commit_print (put_file fs 0 x) o o.printed (elsewhere fs o h))
 
 -- ## An outcome that has lost the texts of its edits
 
@@ -181,11 +120,6 @@ line_left h p s line o left same is fits work place =
     let end : o.quit ≡ left.quit = sym (ap (λ (l : PlainOutcome). l.quit) same.0) in
     line_replied h p s line o is fits work place
     ∙ (λ i. (record (typed h p s) { files = after_print (commits i) (out i); is_done = end i }, told_line h.files (length (file_at h.files 0).text + length s) o))
-
--- what is typed is there
-pub typed_length : (fs : PlainFiles) (p : ℕ) (s : List ℕ) → p ≤ length (file_at fs 0).text
-    → length (file_at (typed_files fs p s) 0).text ≡ length (file_at fs 0).text + length s
-typed_length fs p s h = grind (arith, slot-put_same, length-ins)
 
 -- ## What a line puts in
 

@@ -1,15 +1,12 @@
 -- What is typed into the command file, or put at its end, with a line of it that is run.
 use Rattle.std.specs.Prelude.{◌≡◌, ℕ, ◌+◌, ◌-◌, List, [], ◌∷◌, ◌++◌, length, not, ◌&&◌, nat_le, if◌then◌else◌}
 use Rattle.sam_runes.specs.Texts.{is_empty, ins, max_runes}
-use Rattle.sam_text.specs.Files.{PlainFiles, PlainOutcome, file_at, put_file, typed_file}
+use Rattle.sam_text.specs.Files.{PlainFiles, PlainOutcome, file_at, typed_files}
 use Rattle.sam_mesg.specs.declared.hmesg.Hmesg.{Hmesg}
 use Rattle.sam_mesg.specs.declared.hmesg.Hmesg.TheVariants.{Hcheck, Hexit, Hsetdot, Hunlock}
 use Rattle.sam_host.specs.Host.{PlainHost, Reply, with_files, when, grown, told_outcome, reply_line, line_to}
 
 -- s typed at p in the command file
-abbrev pub typed_files : PlainFiles → ℕ → List ℕ → PlainFiles
-typed_files fs p s = put_file fs 0 (typed_file 0 (file_at fs 0) p s)
-
 abbrev pub typed : PlainHost → ℕ → List ℕ → PlainHost
 typed h p s = with_files h (typed_files h.files p s)
 

@@ -1,11 +1,10 @@
 //! Typing and command lines. A line is run when its newline is typed into the command file, or when it is sent there. It is read, and what
 //! it does worked out, before it is typed. Then its frames are made, and then room in the command file for what is typed and printed. So
-//! all memory is had before the first change, and no change can fail. The functions `tell_..` add frames to those of the answer, and the
-//! functions `put_..` change files that have the room. The only error of a private function is `OutOfMemory`, and the host is then
+//! all memory is had before the first change, and no change can fail. The functions `tell_..` add frames to those of the answer. The only error of a private function is `OutOfMemory`, and the host is then
 //! unchanged.
 
 ghost use Rattle.std.specs.Prelude.{◌≡◌, ◌==◌, ◌<◌, ◌≤◌, ◌+◌, ◌-◌, ◌++◌, ◌∷◌, [], ◌^◌, IfOk, IsTrue, OnOk, OnErr, Err, None, Some, true, not, ◌&&◌, nat_lt, if◌then◌else◌, length};
-ghost use Rattle.sam_host.specs.Typing.{typed_files, typed, sent, typed_line, reply_typed_line, told_line, IsSameButEdits};
+ghost use Rattle.sam_host.specs.Typing.{typed, sent, typed_line, reply_typed_line, told_line, IsSameButEdits};
 ghost use Rattle.sam_host.specs.Host.{host_checks, Refuses, Appends, stamped, when, when_given, printed, told_edit, told_edits, told_outcome, with_file, line_to, reply_line, reply_type, reply_send};
 ghost use Rattle.sam_runes.specs.Texts.{max_runes, part, as_lines, last_line, ends_line};
 ghost use Rattle.sam_runes.specs.Edits.{inserted};
@@ -311,7 +310,7 @@ impl Host {
         self.tell_line(frames, len, &mut outcome)?;
         make_room(&mut self.files, runes.len(), outcome.printed.len())?;
         self.done = outcome.quit;
-        put_line(&mut self.files, p, runes, outcome);
+        self.files.commit_typed(p, runes, outcome);
         Ok(())
     }
 
@@ -480,46 +479,4 @@ fn make_room(files: &mut Files, typed: usize, printed: usize) -> Result<(), Host
     let printed = if printed <= left { printed } else { 0 };
     files.reserve(0, (typed + printed) as u32)?;
     Ok(())
-}
-
-/// Types `runes` into the command file at `p`. There is room for them, so that no memory is asked for.
-#[tactic(auto, using(crate::proofs::FileLaws::insert_allowed))]
-fn put_typed(files: &mut Files, p: u32, runes: &[char])
-    requires there { has_file files.old.plain 0 ≡ true }
-    requires place { p ≤ length (file_at files.old.plain 0).text }
-    requires fits { length (file_at files.old.plain 0).text + length runes.now ≤ max_runes }
-    requires room { length runes.now ≤ room_at files.old.rooms 0 }
-    ensures plain { files.new.plain ≡ typed_files files.old.plain p runes.now }
-    ensures room { room_at files.old.rooms 0 ≤ room_at files.new.rooms 0 + length runes.now }
-{
-    if files.insert(0, p, runes).is_err() {
-        unreachable!()
-    }
-}
-
-/// Prints `runes`. There is room for them if they come within the limit of the text, so that no memory is asked for.
-fn put_printed(files: &mut Files, runes: &[char])
-    requires room { length (file_at files.old.plain 0).text + length runes.now ≤ max_runes → length runes.now ≤ room_at files.old.rooms 0 }
-    ensures { files.new.plain ≡ after_print files.old.plain runes.now }
-{
-    if files.print(runes).is_err() {
-        unreachable!()
-    }
-}
-
-/// Types `runes` into the command file at `p`, prints what the line prints, and puts its outcome in. There is room for all of it. The print
-/// may come before the outcome, since a line changes another file.
-fn put_line(files: &mut Files, p: u32, runes: &[char], outcome: Outcome)
-    requires there { has_file files.old.plain 0 ≡ true }
-    requires place { p ≤ length (file_at files.old.plain 0).text }
-    requires fits { length (file_at files.old.plain 0).text + length runes.now ≤ max_runes }
-    requires typed { length runes.now ≤ room_at files.old.rooms 0 }
-    requires printed { length (file_at files.old.plain 0).text + length runes.now + length outcome.printed ≤ max_runes →
-        length runes.now + length outcome.printed ≤ room_at files.old.rooms 0 }
-    requires outcome { IsOutcomeOf files.old.plain (effect outcome) }
-    ensures { files.new.plain ≡ after_print (committed (typed_files files.old.plain p runes.now) (effect outcome)) outcome.printed }
-{
-    put_typed(files, p, runes);
-    put_printed(files, outcome.printed.as_slice());
-    files.commit(outcome);
 }

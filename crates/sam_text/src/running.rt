@@ -1,10 +1,11 @@
 //! Command lines on the files: what a line does, and how that is put in.
 
-ghost use Rattle.std.specs.Prelude.{◌≡◌, ℕ, IfOk, OnErr, Err, Some, option_map};
-ghost use Rattle.sam_text.specs.Files.{RoomyFiles, file_at, committed, IsOutcomeOf};
+ghost use Rattle.std.specs.Prelude.{◌≡◌, ◌≤◌, ◌+◌, ℕ, IfOk, OnErr, Err, Some, true, length, option_map};
+ghost use Rattle.sam_runes.specs.Texts.{max_runes};
+ghost use Rattle.sam_text.specs.Files.{RoomyFiles, file_at, has_file, typed_files, after_print, committed, IsOutcomeOf};
 ghost use Rattle.sam_text.specs.Meaning.{meaning, work_file};
 ghost use Rattle.sam_text.specs.Outcomes.{effect, rewritten, work};
-ghost use Rattle.sam_text.specs.Views.{KeepRoomsBut};
+ghost use Rattle.sam_text.specs.Views.{KeepRoomsBut, room_at};
 
 use crate::fault::FilesFault;
 use crate::file::{File, FileChange};
@@ -70,5 +71,53 @@ impl Files {
             self.put_pattern(pattern);
         }
         printed
+    }
+
+    /// Types `runes` into the command file at place `p`. The caller makes sure that it is there, that `p` is in its text, and that the
+    /// runes come within its limit and its room. So no memory is asked for.
+    fn put_typed(&mut self, p: u32, runes: &[char])
+        requires there { has_file self.old.plain 0 ≡ true }
+        requires place { p ≤ length (file_at self.old.plain 0).text }
+        requires fits { length (file_at self.old.plain 0).text + length runes.now ≤ max_runes }
+        requires room { length runes.now ≤ room_at self.old.rooms 0 }
+        ensures plain { self.new.plain ≡ typed_files self.old.plain p runes.now }
+        ensures room { room_at self.old.rooms 0 ≤ room_at self.new.rooms 0 + length runes.now }
+    {
+        let end = p + runes.len() as u32;
+        if self.put_in(0, p, runes, (end, end)).is_err() {
+            unreachable!()
+        }
+    }
+
+    /// Prints `runes`. The caller makes sure that there is room for them if they come within the limit of the text. So no memory is asked
+    /// for.
+    fn put_printed(&mut self, runes: &[char])
+        requires room { length (file_at self.old.plain 0).text + length runes.now ≤ max_runes → length runes.now ≤ room_at self.old.rooms 0 }
+        ensures { self.new.plain ≡ after_print self.old.plain runes.now }
+    {
+        if self.print(runes).is_err() {
+            unreachable!()
+        }
+    }
+
+    /// Lets a command line take effect that is typed now: types `runes`, with which it ends, into the command file at place `p`, prints
+    /// what the outcome prints if that comes within the limit of the text, and puts the outcome in as `commit` does.
+    ///
+    /// The outcome was worked out before the typing. The caller makes sure that it fits the files as they are, that the command file is
+    /// there, that `p` is in its text, and that the runes come within its limit and its room; and with them what is printed comes within its
+    /// room, too, if it comes within the limit. So no memory is asked for, and nothing can fail.
+    pub fn commit_typed(&mut self, p: u32, runes: &[char], outcome: Outcome)
+        requires there { has_file self.old.plain 0 ≡ true }
+        requires place { p ≤ length (file_at self.old.plain 0).text }
+        requires fits { length (file_at self.old.plain 0).text + length runes.now ≤ max_runes }
+        requires typed { length runes.now ≤ room_at self.old.rooms 0 }
+        requires printed { length (file_at self.old.plain 0).text + length runes.now + length outcome.printed ≤ max_runes →
+            length runes.now + length outcome.printed ≤ room_at self.old.rooms 0 }
+        requires outcome { IsOutcomeOf self.old.plain (effect outcome) }
+        ensures { self.new.plain ≡ after_print (committed (typed_files self.old.plain p runes.now) (effect outcome)) outcome.printed }
+    {
+        self.put_typed(p, runes);
+        self.put_printed(outcome.printed.as_slice());
+        self.commit(outcome);
     }
 }
