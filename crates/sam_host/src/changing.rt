@@ -13,6 +13,7 @@ use crate::host::Host;
 use sam_mesg::{HFrame, Hmesg, Tmesg};
 use sam_runes::places::prefix_in_bytes;
 use sam_runes::{Runes, snarf_limit};
+use sam_text::FilesFault;
 
 impl Host {
     /// Answers `Tcut` with no frame: takes out what stands from `p` to `q`, as the terminal has done already. The dot is then empty, at
@@ -64,6 +65,17 @@ impl Host {
         Ok(frames)
     }
 
+    /// Returns the frames for a paste that puts nothing in: the file is free.
+    fn nothing_pasted(&self, tag: u16) -> Result<Vec<HFrame>, HostFault>
+        requires { self.now.taken + 1 < 2 ^ 64 }
+        ensures ok { IfOk result (λ frames. frames.items ≡ stamped (self.now.taken + 1) (Hmesg.Hunlockfile tag ∷ [])) }
+        ensures memory { OnErr result (result ≡ Err HostFault.OutOfMemory) }
+    {
+        let mut frames = Vec::new(self.alloc);
+        self.say(&mut frames, Hmesg::Hunlockfile(tag))?;
+        Ok(frames)
+    }
+
     /// Answers `Tpaste`: puts the snarf buffer in at `p`, selects it, and reports what came in to the terminal. Any file but the command
     /// file is then dirty. If the buffer is empty, or the text would have more than `MAX_RUNES` runes, nothing changes, and `Hunlockfile`
     /// is the one frame. Errors, in this order: `NoFile`; `NotOpen`; `BadPosition` if `p` is past the end; `OutOfMemory`.
@@ -78,18 +90,18 @@ impl Host {
         ensures unchanged { OnErr result (self.new ≡ self.old) }
     {
         self.wants_open(tag)?;
-        let len = self.files.snarf_text().len();
-        if len == 0 || self.files.passes_limit(tag, len) {
+        if self.files.snarf_text().len() == 0 {
             self.files.wants_place(tag, p)?;
-            let mut frames = Vec::new(self.alloc);
-            self.say(&mut frames, Hmesg::Hunlockfile(tag))?;
-            return Ok(frames);
+            return self.nothing_pasted(tag);
         }
         let Ok(frames) = self.paste_frames(tag, p, self.files.snarf_text().as_slice()) else {
             return Err(self.without_memory(tag, p, p));
         };
-        self.files.paste(tag, p)?;
-        Ok(frames)
+        match self.files.paste(tag, p) {
+            Ok(()) => Ok(frames),
+            Err(FilesFault::TooLong) => self.nothing_pasted(tag),
+            Err(fault) => Err(fault.into()),
+        }
     }
 
     /// Answers `Tsnarf`: copies what stands from `p` to `q` into the snarf buffer, and reports its length in runes. Errors, in this order:

@@ -1,7 +1,7 @@
 //! The frames that several answers share. Each function adds its frames to those of the answer, stamped with the count that the message
 //! will have. The only error of each is `OutOfMemory`, and the caller then drops the frames.
 
-ghost use Rattle.std.specs.Prelude.{◌≡◌, ◌<◌, ◌≤◌, ◌+◌, ◌++◌, ◌∷◌, [], ◌^◌, OnOk, OnErr, Err, drop, length, vec_len, vec_capacity};
+ghost use Rattle.std.specs.Prelude.{◌≡◌, ◌<◌, ◌≤◌, ◌+◌, ◌++◌, ◌∷◌, [], ◌^◌, OnOk, OnErr, Ok, Err, drop, length, vec_len, vec_capacity};
 ghost use Rattle.sam_host.specs.Host.{Appends, grown, told_dirty, told_length, printed, told_at};
 ghost use Rattle.sam_host.specs.Typing.{printed_at};
 ghost use Rattle.sam_runes.specs.Texts.{max_runes};
@@ -20,6 +20,8 @@ impl Host {
         requires { self.now.taken + 1 < 2 ^ 64 }
         ensures ok { OnOk result (frames.new.items ≡ frames.old.items ++ record { seen = self.now.taken + 1; msg = msg } ∷ []) }
         ensures memory { OnErr result (result ≡ Err HostFault.OutOfMemory) }
+        // Where the frames have room for one more, it takes no memory.
+        ensures room { vec_len frames.old < vec_capacity frames.old → result ≡ Ok tt }
     {
         let seen = self.taken + 1;
         frames.push(HFrame { seen, msg })?;
@@ -78,6 +80,8 @@ impl Host {
         requires limit { length runes ≤ max_runes }
         ensures ok { OnOk result (Appends self.now frames.old.items frames.new.items (grown self.now.files tag p runes)) }
         ensures memory { OnErr result (result ≡ Err HostFault.OutOfMemory) }
+        // Where the frames have room for one more, it takes no memory.
+        ensures room { vec_len frames.old < vec_capacity frames.old → result ≡ Ok tt }
     {
         let len = runes.len();
         if !self.files.is_open(tag) || len == 0 {

@@ -5,7 +5,7 @@ ghost use Rattle.sam_runes.specs.Texts.{max_runes};
 ghost use Rattle.sam_text.specs.Files.{RoomyFiles, file_at, has_file, typed_files, after_print, committed, IsOutcomeOf};
 ghost use Rattle.sam_text.specs.Meaning.{meaning, work_file};
 ghost use Rattle.sam_text.specs.Outcomes.{effect, rewritten, work};
-ghost use Rattle.sam_text.specs.Views.{KeepRoomsBut, room_at};
+ghost use Rattle.sam_text.specs.Views.{KeepRooms, KeepRoomsBut, room_at};
 
 use crate::fault::FilesFault;
 use crate::file::{File, FileChange};
@@ -82,6 +82,7 @@ impl Files {
         requires room { length runes.now ≤ room_at self.old.rooms 0 }
         ensures plain { self.new.plain ≡ typed_files self.old.plain p runes.now }
         ensures room { room_at self.old.rooms 0 ≤ room_at self.new.rooms 0 + length runes.now }
+        ensures rooms { KeepRooms self.old self.new }
     {
         let end = p + runes.len() as u32;
         if self.put_in(0, p, runes, (end, end)).is_err() {
@@ -93,7 +94,8 @@ impl Files {
     /// for.
     fn put_printed(&mut self, runes: &[char])
         requires room { length (file_at self.old.plain 0).text + length runes.now ≤ max_runes → length runes.now ≤ room_at self.old.rooms 0 }
-        ensures { self.new.plain ≡ after_print self.old.plain runes.now }
+        ensures done { self.new.plain ≡ after_print self.old.plain runes.now }
+        ensures rooms { KeepRooms self.old self.new }
     {
         if self.print(runes).is_err() {
             unreachable!()
@@ -105,7 +107,7 @@ impl Files {
     ///
     /// The outcome was worked out before the typing. The caller makes sure that it fits the files as they are, that the command file is
     /// there, that `p` is in its text, and that the runes come within its limit and its room; and with them what is printed comes within its
-    /// room, too, if it comes within the limit. So no memory is asked for, and nothing can fail.
+    /// room, too, if it comes within the limit. So no memory is asked for, and nothing can fail. A new text brings its own room.
     pub fn commit_typed(&mut self, p: u32, runes: &[char], outcome: Outcome)
         requires there { has_file self.old.plain 0 ≡ true }
         requires place { p ≤ length (file_at self.old.plain 0).text }
@@ -114,7 +116,8 @@ impl Files {
         requires printed { length (file_at self.old.plain 0).text + length runes.now + length outcome.printed ≤ max_runes →
             length runes.now + length outcome.printed ≤ room_at self.old.rooms 0 }
         requires outcome { IsOutcomeOf self.old.plain (effect outcome) }
-        ensures { self.new.plain ≡ after_print (committed (typed_files self.old.plain p runes.now) (effect outcome)) outcome.printed }
+        ensures done { self.new.plain ≡ after_print (committed (typed_files self.old.plain p runes.now) (effect outcome)) outcome.printed }
+        ensures rooms { KeepRoomsBut (rewritten outcome) self.old self.new }
     {
         self.put_typed(p, runes);
         self.put_printed(outcome.printed.as_slice());
