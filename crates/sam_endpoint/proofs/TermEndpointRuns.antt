@@ -1,14 +1,15 @@
 -- What every run of a terminal end comes to.
-use Rattle.sam_endpoint.proofs.Common.{◌≡◌, ◌⊎◌, refl, sym, ap, subst, ◌∙◌, inl, inr, ℕ, List, [], ◌∷◌, ◌++◌, flat_map, flat_map-append, Option, Ok, Err, append_assoc, append-nil, arith, option_map, Tmesg, HFrame, host, terminal, Splits, stream_of, version_after, Held, stream_of-append, version_after-append, Splits-then, PlainTerminal, Acted, flush_of, composed_in, UserEvent, TermStop, StreamFault, Gives, mesg_fault, PlainTermEndpoint, Acts, Moves}
+use Rattle.sam_endpoint.proofs.Common.{◌≡◌, ◌⊎◌, refl, sym, ap, subst, ◌∙◌, inl, inr, ℕ, List, [], ◌∷◌, ◌++◌, flat_map, flat_map-append, Option, None, Some, Ok, Err, append_assoc, append-nil, arith, option_map, Tmesg, HFrame, host, terminal, Splits, stream_of, version_after, Held, stream_of-append, version_after-append, Splits-then, PlainTerminal, Acted, flush_of, composed_in, UserEvent, TermStop, StreamFault, Gives, mesg_fault, PlainTermEndpoint, Acts, Calls, Moves}
 use Rattle.sam_frame.specs.Reading.{IsStream}
 use Rattle.sam_frame.proofs.Cuttings.{Splits-longer}
 use Rattle.sam_term.specs.Term.{new_terminal}
 use Rattle.sam_endpoint.specs.declared.fault.EndpointFault.TheVariants as fault
+use Rattle.sam_endpoint.specs.declared.fault.TermStop.TheVariants as stop
 use Rattle.sam_endpoint.specs.TermSteps.{Answer}
-use Rattle.sam_endpoint.specs.TermEndpoints.{Feeds, FeedsIdle, Flushes, FlushesIdle, GoesOn, Puts, PutsIdle, Receives, TakesIn, composed_by, new_term_endpoint, with_event}
+use Rattle.sam_endpoint.specs.TermEndpoints.{Feeds, FeedsIdle, Flushes, FlushesIdle, GoesOn, IsDone, Puts, PutsIdle, Receives, TakesIn, composed_by, new_term_endpoint, with_event}
 use Rattle.sam_endpoint.specs.declared.changes.Kept as changes
 use Rattle.sam_term.specs.declared.fault.Refusal.{Refusal}
-use Rattle.sam_endpoint.specs.TermRuns.{Call, GoesOnAfter, HasDone, Leads, Runs, Step, came_in, event_in, events_in, frame_in, frames_in, if_taken, put_in, went_out}
+use Rattle.sam_endpoint.specs.TermRuns.{Call, GoesOnAfter, HasDone, HasStopped, Leads, Runs, Step, Stops, came_in, event_in, events_in, frame_in, frames_in, if_taken, put_in, went_out}
 use Rattle.sam_endpoint.specs.TermRuns as run
 
 -- ## Steps one after another
@@ -320,9 +321,9 @@ kept_run stream events out (run.TakeOut bytes ∷ calls) e g (rest, is, runs) ke
 kept_run stream events out (run.Ask refusals told ∷ calls) e g runs kept =
     kept_run stream events out calls (record e { refusals = refusals; kept = told }) g runs (kept_asked stream events out e refusals told kept)
 
-pub runs_lead : (calls : List Call) (g : PlainTermEndpoint) → Runs new_term_endpoint calls g
-    → HasDone (flat_map came_in calls) (flat_map put_in calls) (flat_map went_out calls) g
-runs_lead calls g runs = (kept_run [] [] [] calls new_term_endpoint g runs (record {
+-- nothing was fed or put
+kept_begun : Kept [] [] [] new_term_endpoint
+kept_begun = record {
   done = record {
     steps = [];
     composed = [];
@@ -332,4 +333,135 @@ runs_lead calls g runs = (kept_run [] [] [] calls new_term_endpoint g runs (reco
     bytes = refl;
   };
   version = refl;
-})).done
+}
+
+pub runs_lead : (calls : List Call) (g : PlainTermEndpoint) → Runs new_term_endpoint calls g
+    → HasDone (flat_map came_in calls) (flat_map put_in calls) (flat_map went_out calls) g
+runs_lead calls g runs = (kept_run [] [] [] calls new_term_endpoint g runs kept_begun).done
+
+-- ## Stops
+
+feed_goes : (e g : PlainTermEndpoint) (piece : List ℕ) (answer : Answer) → GoesOnAfter answer → Feeds e piece answer g → g.stop ≡ None
+feed_goes e g piece answer goes feeds = grind arith
+
+put_goes : (e g : PlainTermEndpoint) (event : UserEvent) (answer : Answer) → GoesOnAfter answer → Puts e event answer g → g.stop ≡ None
+put_goes e g event answer goes puts = grind arith
+
+flush_goes : (e g : PlainTermEndpoint) (answer : Answer) → GoesOnAfter answer → Flushes e answer g → g.stop ≡ None
+flush_goes e g answer goes flushes = grind arith
+
+run_goes : (e g : PlainTermEndpoint) (calls : List Call) → e.stop ≡ None → Runs e calls g → g.stop ≡ None
+run_goes e g [] goes is = grind arith
+run_goes e g (run.Feed piece answer ∷ calls) goes (k, feeds, goes_on, runs) = run_goes k g calls (feed_goes e k piece answer goes_on feeds) runs
+run_goes e g (run.Put event answer ∷ calls) goes (k, puts, goes_on, runs) = run_goes k g calls (put_goes e k event answer goes_on puts) runs
+run_goes e g (run.Flush answer ∷ calls) goes (k, flushes, goes_on, runs) = run_goes k g calls (flush_goes e k answer goes_on flushes) runs
+run_goes e g (run.TakeOut bytes ∷ calls) goes (rest, is, runs) = run_goes (record e { pending_bytes = rest }) g calls goes runs
+run_goes e g (run.Ask refusals told ∷ calls) goes runs = run_goes (record e { refusals = refusals; kept = told }) g calls goes runs
+
+-- what a run comes to that has stopped
+record Ended (stream : List ℕ) (events : List UserEvent) (out : List ℕ) (why : TermStop) (g : PlainTermEndpoint) : Type 0 where
+  pub done : HasDone stream events out g
+  pub stops : HasStopped g why
+  pub says : g.stop ≡ Some why
+
+went_on : (stream : List ℕ) (events : List UserEvent) (out : List ℕ) (e g : PlainTermEndpoint) (why : TermStop) → GoesOn e (Err (fault.Stopped why)) g
+    → Kept stream events out e → Ended stream events out why g
+went_on stream events out e g (stop.Stream why) (m, idle, broken_by, says) kept =
+    record { done = (kept_moves stream events out e g e.waiting [] m kept).done; stops = (idle, m.broken_by ∙ broken_by); says = says }
+went_on stream events out e g (stop.Refused why) (inl (frames, frame, rest, m, waits, refuses, written, says)) kept =
+    record { done = (kept_moves stream events out e g frames [] m kept).done; stops = inl (frame, rest, waits, refuses, written); says = says }
+went_on stream events out e g (stop.Refused why) (inr (acts, m, idle, whole, refuses, says)) kept =
+    record { done = (kept_moves stream events out e g e.waiting acts m kept).done; stops = inr ((idle, m.broken_by ∙ whole), inl refuses); says = says }
+
+-- the end had gone on with what waited, and then does what the call brings
+record Ready (stream : List ℕ) (events : List UserEvent) (out : List ℕ) (Brings : PlainTermEndpoint → Type 0) : Type 0 where
+  pub middle : PlainTermEndpoint
+  pub kept : Kept stream events out middle
+  pub whole : IsDone middle
+  pub brings : Brings middle
+
+-- a call stops an end that went on: as what waited goes on, or as it does what the call brings
+call_stops : (stream : List ℕ) (events : List UserEvent) (out : List ℕ) (e g : PlainTermEndpoint) (why : TermStop) (Brings : PlainTermEndpoint → Type 0) → e.stop ≡ None
+    → Calls e (Err (fault.Stopped why)) g Brings → Kept stream events out e → Ended stream events out why g ⊎ Ready stream events out Brings
+call_stops stream events out e g why Brings goes (inl (who, stops, is, same)) kept = absurd (cc)
+call_stops stream events out e g why Brings goes (inr (going, k, Ok done, on, brings)) kept =
+    inr (record { middle = k; kept = kept_goes_on stream events out e k (Ok done) tt on kept; whole = (on.2, on.1.broken_by ∙ on.4); brings = brings })
+call_stops stream events out e g why Brings goes (inr (going, k, Err fault.Unfinished, on, (is, same))) kept = absurd (cc)
+call_stops stream events out e g why Brings goes (inr (going, k, Err (fault.Stopped first), on, (is, same))) kept =
+    let one : first ≡ why = cc in
+    inl (subst (λ (x : PlainTermEndpoint). Ended stream events out why x) (sym same)
+    (subst (λ (w : TermStop). Ended stream events out w k) one (went_on stream events out e k first on kept)))
+call_stops stream events out e g why Brings goes (inr (going, k, Err fault.OutOfMemory, on, after)) kept = absurd on
+call_stops stream events out e g why Brings goes (inr (going, k, Err fault.CountFull, on, after)) kept = absurd on
+
+fed_stops : (stream : List ℕ) (events : List UserEvent) (out piece : List ℕ) (e g : PlainTermEndpoint) (why : TermStop) → e.waiting ≡ []
+    → FeedsIdle e piece (Err (fault.Stopped why)) g → Kept stream events out e → Ended (stream ++ piece) events out why g
+fed_stops stream events out piece e g why none (inl (k, takes, on)) kept =
+    went_on (stream ++ piece) events out k g why on (kept_piece stream events out piece e k none takes kept)
+fed_stops stream events out piece e g why none (inr fed) kept = absurd (grind arith)
+
+put_stops : (stream : List ℕ) (events : List UserEvent) (out : List ℕ) (event : UserEvent) (e g : PlainTermEndpoint) (why : TermStop)
+    → PutsIdle e event (Err (fault.Stopped why)) g → Kept stream events out e → Ended stream (events ++ event ∷ []) out why g
+put_stops stream events out event e g why (inl on) kept =
+    went_on stream (events ++ event ∷ []) out (with_event e event) g why on (kept_held stream events out e event kept)
+put_stops stream events out event e g why (inr puts) kept = absurd (grind arith)
+
+flush_stops : (stream : List ℕ) (events : List UserEvent) (out : List ℕ) (e g : PlainTermEndpoint) (why : TermStop) → IsDone e
+    → FlushesIdle e (Err (fault.Stopped why)) g → Kept stream events out e → Ended stream events out why g
+flush_stops stream events out e g why whole (inl (u, composed, flushes, on)) kept =
+    went_on stream events out (record e { term = u; unwritten = composed }) g why on (kept_sent stream events out e u composed whole.0.unwritten flushes kept)
+flush_stops stream events out e g why whole (inr (inl (is, same))) kept = absurd (cc)
+flush_stops stream events out e g why whole (inr (inr (who, fails, is, same))) kept =
+    let one : stop.Refused who ≡ why = cc in
+    let d = kept.done in
+    subst (λ (x : PlainTermEndpoint). Ended stream events out why x) (sym same)
+    (subst (λ (w : TermStop). Ended stream events out w (record e { stop = Some (stop.Refused who) })) one (record {
+      done = record { steps = d.steps; composed = d.composed; leads = d.leads; reads = d.reads; given = d.given; bytes = d.bytes };
+      stops = inr ((record { waiting = whole.0.waiting; unwritten = whole.0.unwritten }, whole.1), inr fails);
+      says = refl;
+    }))
+
+-- what came with the calls, and then with the last
+last_brings : {A : Type 0} (brings : Call → List A) (calls : List Call) (last : Call) → flat_map brings (calls ++ last ∷ []) ≡ flat_map brings calls ++ brings last
+last_brings brings calls last = flat_map-append brings calls (last ∷ []) ∙ ap (λ (x : List _). flat_map brings calls ++ x) (append-nil (brings last))
+
+ended_as : (s r : List ℕ) (v w : List UserEvent) (o p : List ℕ) (why : TermStop) (g : PlainTermEndpoint) → r ≡ s → w ≡ v → p ≡ o → Ended s v o why g → Ended r w p why g
+ended_as s r v w o p why g a b c ended = grind arith
+
+-- it was stopped before it took what the last call brought, or after
+last_stops : (stream : List ℕ) (events : List UserEvent) (out : List ℕ) (last : Call) (e g : PlainTermEndpoint) (why : TermStop) → e.stop ≡ None → Stops e last why g
+    → Kept stream events out e → Ended stream events out why g ⊎ Ended (stream ++ came_in last) (events ++ put_in last) (out ++ went_out last) why g
+last_stops stream events out (run.Feed piece answer) e g why goes (feeds, is) kept =
+    elim (call_stops stream events out e g why (λ middle. FeedsIdle middle piece (Err (fault.Stopped why)) g) goes (subst (λ (x : Answer). Feeds e piece x g) is feeds) kept) [
+      | inl ended ↦ inl ended
+      | inr ready ↦ inr (ended_as (stream ++ piece) (stream ++ if_taken answer piece) events (events ++ []) out (out ++ []) why g
+          (ap (λ (x : Answer). stream ++ if_taken x piece) is) (append-nil events) (append-nil out)
+          (fed_stops stream events out piece ready.middle g why ready.whole.0.waiting ready.brings ready.kept))
+    ]
+last_stops stream events out (run.Put event answer) e g why goes (puts, is) kept =
+    elim (call_stops stream events out e g why (λ middle. PutsIdle middle event (Err (fault.Stopped why)) g) goes (subst (λ (x : Answer). Puts e event x g) is puts) kept) [
+      | inl ended ↦ inl ended
+      | inr ready ↦ inr (ended_as stream (stream ++ []) (events ++ event ∷ []) (events ++ if_taken answer (event ∷ [])) out (out ++ []) why g
+          (append-nil stream) (ap (λ (x : Answer). events ++ if_taken x (event ∷ [])) is) (append-nil out)
+          (put_stops stream events out event ready.middle g why ready.brings ready.kept))
+    ]
+last_stops stream events out (run.Flush answer) e g why goes (flushes, is) kept =
+    elim (call_stops stream events out e g why (λ middle. FlushesIdle middle (Err (fault.Stopped why)) g) goes (subst (λ (x : Answer). Flushes e x g) is flushes) kept) [
+      | inl ended ↦ inl ended
+      | inr ready ↦ inl (flush_stops stream events out ready.middle g why ready.whole ready.brings ready.kept)
+    ]
+last_stops stream events out (run.TakeOut bytes) e g why goes stops kept = absurd stops
+last_stops stream events out (run.Ask refusals told) e g why goes stops kept = absurd stops
+
+pub stops_lead : (calls : List Call) (last : Call) (e g : PlainTermEndpoint) (why : TermStop) → Runs new_term_endpoint calls e → Stops e last why g
+    → (taken : List Call) × ((taken ≡ calls ++ last ∷ []) ⊎ (taken ≡ calls))
+    × HasDone (flat_map came_in taken) (flat_map put_in taken) (flat_map went_out taken) g × HasStopped g why × (g.stop ≡ Some why)
+stops_lead calls last e g why runs stops =
+    elim (last_stops (flat_map came_in calls) (flat_map put_in calls) (flat_map went_out calls) last e g why (run_goes new_term_endpoint e calls refl runs) stops
+    (kept_run [] [] [] calls new_term_endpoint e runs kept_begun)) [
+      | inl ended ↦ (calls, inr refl, ended.done, ended.stops, ended.says)
+      | inr ended ↦ let all = ended_as (flat_map came_in calls ++ came_in last) (flat_map came_in (calls ++ last ∷ [])) (flat_map put_in calls ++ put_in last)
+          (flat_map put_in (calls ++ last ∷ [])) (flat_map went_out calls ++ went_out last) (flat_map went_out (calls ++ last ∷ [])) why g
+          (last_brings came_in calls last) (last_brings put_in calls last) (last_brings went_out calls last) ended in
+          (calls ++ last ∷ [], inl refl, all.done, all.stops, all.says)
+    ]

@@ -1,5 +1,5 @@
 -- A run of calls of a terminal end, and what it comes to.
-use Rattle.std.specs.Prelude.{◌≡◌, ℕ, List, [], ◌∷◌, ◌++◌, flat_map, option_map, Ok, Err}
+use Rattle.std.specs.Prelude.{◌≡◌, ◌⊎◌, ℕ, List, [], ◌∷◌, ◌++◌, flat_map, Some, option_map, Ok, Err}
 use Rattle.sam_mesg.specs.declared.tmesg.Tmesg.{Tmesg}
 use Rattle.sam_mesg.specs.declared.hmesg.HFrame.{HFrame}
 use Rattle.sam_frame.specs.Direction.{host, terminal}
@@ -11,9 +11,11 @@ use Rattle.sam_term.specs.declared.event.Acted.{Acted}
 use Rattle.sam_term.specs.declared.event.UserEvent.{UserEvent}
 use Rattle.sam_term.specs.declared.fault.Refusal.{Refusal}
 use Rattle.sam_endpoint.specs.declared.changes.Kept.{Kept}
+use Rattle.sam_endpoint.specs.declared.fault.TermStop.{TermStop}
+use Rattle.sam_endpoint.specs.declared.fault.TermStop.TheVariants as stop
 use Rattle.sam_endpoint.specs.declared.fault.EndpointFault.TheVariants as fault
 use Rattle.sam_endpoint.specs.Streams.{mesg_fault}
-use Rattle.sam_endpoint.specs.TermEndpoints.{PlainTermEndpoint, Feeds, Flushes, IsDecided, Puts, new_term_endpoint}
+use Rattle.sam_endpoint.specs.TermEndpoints.{PlainTermEndpoint, Feeds, Flushes, IsDecided, IsDone, IsIdle, Puts, new_term_endpoint}
 use Rattle.sam_endpoint.specs.TermSteps.{Answer}
 
 -- ## What a terminal does
@@ -78,6 +80,14 @@ Runs e (Flush answer ∷ calls) g = (k : PlainTermEndpoint) × Flushes e answer 
 Runs e (TakeOut bytes ∷ calls) g = (rest : List ℕ) × (e.pending_bytes ≡ bytes ++ rest) × Runs (record e { pending_bytes = rest }) calls g
 Runs e (Ask refusals kept ∷ calls) g = Runs (record e { refusals = refusals; kept = kept }) calls g
 
+-- this call stops the end for this reason
+abbrev pub Stops : PlainTermEndpoint → Call → TermStop → PlainTermEndpoint → Type 0
+Stops e (Feed piece answer) why g = Feeds e piece answer g × (answer ≡ Err (fault.Stopped why))
+Stops e (Put event answer) why g = Puts e event answer g × (answer ≡ Err (fault.Stopped why))
+Stops e (Flush answer) why g = Flushes e answer g × (answer ≡ Err (fault.Stopped why))
+Stops e (TakeOut bytes) why g = ⊥
+Stops e (Ask refusals kept) why g = ⊥
+
 -- the call brought what it was given, unless it was not taken
 abbrev pub if_taken : {A : Type 0} → Answer → List A → List A
 if_taken (Err fault.OutOfMemory) given = []
@@ -99,7 +109,7 @@ abbrev pub went_out : Call → List ℕ
 went_out (TakeOut bytes) = bytes
 went_out _ = []
 
--- ## The law
+-- ## The laws
 
 -- The terminal has done steps. In them it received the first frames of the stream that came in, and the others wait, with what is wrong
 -- after them; and it was given these events, in order. All messages that it composed, in order, are what was taken out, what is pending
@@ -112,7 +122,22 @@ pub record HasDone (stream : List ℕ) (events : List UserEvent) (out : List ℕ
   pub given : events_in steps ≡ events
   pub bytes : (out ++ e.pending_bytes) ++ stream_of terminal e.unwritten ≡ stream_of terminal composed
 
+-- why it has stopped: the stream shows this fault after frames that are all received; or the terminal refuses the oldest that waits; or
+-- none waits, and it refuses its oldest event or to compose its unsent runes
+abbrev pub HasStopped : PlainTermEndpoint → TermStop → Type 0
+HasStopped e (stop.Stream why) = IsIdle e × (e.broken_by ≡ Some why)
+HasStopped e (stop.Refused why) =
+    ((frame : HFrame) × (rest : List HFrame) × (e.waiting ≡ frame ∷ rest) × (take_of e.term frame ≡ Err why) × (e.unwritten ≡ []))
+    ⊎ (IsDone e × ((act_of e.term ≡ Err why) ⊎ (flush_of e.term ≡ Err why)))
+
 abbrev pub RunsLead : Type 0
 RunsLead =
     (calls : List Call) (g : PlainTermEndpoint) → Runs new_term_endpoint calls g
     → HasDone (flat_map came_in calls) (flat_map put_in calls) (flat_map went_out calls) g
+
+-- a run, and then a call that stops it; all that this call brought was taken in, or nothing of it
+abbrev pub StopsLead : Type 0
+StopsLead =
+    (calls : List Call) (last : Call) (e g : PlainTermEndpoint) (why : TermStop) → Runs new_term_endpoint calls e → Stops e last why g
+    → (taken : List Call) × ((taken ≡ calls ++ last ∷ []) ⊎ (taken ≡ calls))
+    × HasDone (flat_map came_in taken) (flat_map put_in taken) (flat_map went_out taken) g × HasStopped g why × (g.stop ≡ Some why)

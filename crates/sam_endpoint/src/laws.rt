@@ -2,7 +2,7 @@
 
 ghost use Rattle.sam_endpoint.specs.Changes.{ActsKeep, AskingBegins, FlushesKeep, FramesKeep, KeptTellsChange, UnaskedIsKept};
 ghost use Rattle.sam_endpoint.specs.HostRuns.{OneOutcome, RunsServe, StopsServe};
-ghost use Rattle.sam_endpoint.specs.TermRuns.{RunsLead};
+ghost use Rattle.sam_endpoint.specs.TermRuns.{RunsLead, StopsLead};
 
 use sam_frame::one_reading_t;
 
@@ -34,6 +34,14 @@ pub fn host_one_outcome()
 #[tactic(auto, using(crate::proofs::TermEndpointRuns::runs_lead))]
 pub fn term_runs_lead()
     ensures { RunsLead }
+{}
+
+/// States what a run of a terminal endpoint comes to that its last call stops: the same, with what this call brought or with none of it,
+/// and the endpoint shows why it stopped. The stream has the fault after frames that are all received; or the terminal refuses the oldest
+/// frame that waits; or none waits, and it refuses its oldest event, or to compose its unsent runes.
+#[tactic(auto, using(crate::proofs::TermEndpointRuns::stops_lead))]
+pub fn term_stops_lead()
+    ensures { StopsLead }
 {}
 
 /// States what `TermEndpoint::changed` hands out. So much of a text as is kept stands in it as it stood when that was asked last: it is so
