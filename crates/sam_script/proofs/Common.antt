@@ -21,7 +21,7 @@ unfoldable pub use Rattle.sam_script.specs.Reading.{event_at, file_at, file_text
 pub use Rattle.sam_script.specs.Replay.{IsReplayFault, IsStopOf, after_line, after_output, printed_by, replayed_from, stepped}
 unfoldable pub use Rattle.sam_script.specs.Replay.{replayed}
 pub use Rattle.sam_script.specs.RunLines.{CanBeNamed, CanBeWritten, IsFitting, event_line, file_line, line_of, numbered_from, run_lines_of, run_script}
-pub use Rattle.sam_script.specs.Script.{PlainScript, key_of, mouse_of_line}
+pub use Rattle.sam_script.specs.Script.{PlainScript, keys_of, mouse_of}
 pub use Rattle.sam_script.specs.Show.{host_slot, name_rune, rasp_shown, show_lines, slot_lines, term_slot, text_rune, text_shown}
 pub use Rattle.sam_script.specs.Spelling.{AreFilesFirst, IsNumber, IsReadFault, IsWord, IsWrongLine, Says, SaysNothing, SaysSo, Spells, SpellsEvent, SpellsFile, SpellsLine, SpellsLines, SpellsParts, file_said, files_said, lines_of, lines_said, part_shown, spelling}
 pub use Rattle.sam_script.specs.Words.{Gives, behind_word, ended, meant, number_of, text_at, unescaped, word_at, word_of, ◌>>=◌}

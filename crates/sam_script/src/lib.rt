@@ -12,6 +12,7 @@ mod lines_of_run;
 mod replaying;
 mod script;
 mod showing;
+mod user;
 mod words;
 
 pub use fault::ScriptFault;
@@ -20,3 +21,4 @@ pub use lines_of_run::run_lines;
 pub use replaying::{replay, replay_bytes, replay_owned};
 pub use script::Script;
 pub use showing::show;
+pub use user::{Clicks, Keys};

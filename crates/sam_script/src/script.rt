@@ -9,9 +9,9 @@ ghost use Rattle.sam_script.specs.Spelling.{Spells, IsReadFault};
 
 use crate::fault::{LineFault, ScriptFault};
 use crate::line::{Line, Numbered, Said, said_by};
+use crate::user::{Clicks, Keys};
 use sam_runes::{MOST_FILES, Runes};
-use sam_term::event::UserEvent;
-use std::alloc::{AllocError, Global};
+use std::alloc::Global;
 use std::marker::Model;
 use std::mem;
 
@@ -124,31 +124,17 @@ impl Script {
         mem::replace(&mut self.lines, none)
     }
 
-    /// Returns copies of the events of its `k` lines, in order. The only error is out of memory. `lines` and
-    /// [`Line::key`](crate::Line::key) read them without memory.
-    pub fn keys(&self, alloc: Global) -> Result<Vec<UserEvent>, AllocError>
-        ensures { IfOk result (λ events. events.items ≡ keys_of self.now.lines) }
+    /// Returns the events of its `k` lines, in order. It lends them, and takes no memory.
+    pub fn keys(&self) -> Keys<'_>
+        ensures { result ≡ keys_of self.now.lines }
     {
-        let mut out = Vec::new(alloc);
-        for numbered in self.lines() {
-            if let Some(event) = numbered.line.key() {
-                out.push(event.copy(alloc)?)?;
-            }
-        }
-        Ok(out)
+        Keys::of(self.lines())
     }
 
-    /// Returns copies of the events of its `m` lines, in order. The only error is out of memory. `lines` and
-    /// [`Line::click`](crate::Line::click) read them without memory.
-    pub fn mouse(&self, alloc: Global) -> Result<Vec<UserEvent>, AllocError>
-        ensures { IfOk result (λ events. events.items ≡ mouse_of self.now.lines) }
+    /// Returns the events of its `m` lines, in order. It lends them, and takes no memory.
+    pub fn mouse(&self) -> Clicks<'_>
+        ensures { result ≡ mouse_of self.now.lines }
     {
-        let mut out = Vec::new(alloc);
-        for numbered in self.lines() {
-            if let Some(event) = numbered.line.click() {
-                out.push(event.copy(alloc)?)?;
-            }
-        }
-        Ok(out)
+        Clicks::of(self.lines())
     }
 }

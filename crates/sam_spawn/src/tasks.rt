@@ -7,7 +7,7 @@ ghost use Rattle.sam_world.specs.Given.{IsFile};
 ghost use Rattle.sam_script.specs.Script.{keys_of, mouse_of, without_lines};
 ghost use Rattle.sam_spawn.specs.Tasks.{AreNewSides, AreReady, HasRoomFor, IsHostRole};
 
-use crate::users::{Users, room_for, users_of};
+use crate::users::{Users, copied_users, room_for, users_of};
 use sam_host::host::Host;
 use sam_queue::{Line, Post, Start, Take};
 use sam_runes::Runes;
@@ -187,14 +187,9 @@ fn roles_of(alloc: Global, script: &Script) -> Result<Roles, AllocError>
     ensures files { IfOk result (λ r. r.files.items ≡ script.now.files) }
     ensures host { IfOk result IsHostRole }
 {
-    let keys = script.keys(alloc)?;
-    let clicks = script.mouse(alloc)?;
+    let users = copied_users(alloc, script)?;
     let (files, host) = first_host(alloc, script)?;
-    Ok(Roles {
-        users: Users { keys, clicks },
-        files,
-        host,
-    })
+    Ok(Roles { users, files, host })
 }
 
 /// Makes the host, and room for what the user does by the script.

@@ -1,9 +1,9 @@
-//! What the user is to do, moved out of a script.
+//! What the user is to do, copied or moved out of a script.
 ghost use Rattle.std.specs.Prelude.{◌≡◌, length, IfOk};
 ghost use Rattle.sam_script.specs.Script.{keys_of, mouse_of};
 ghost use Rattle.sam_spawn.specs.Tasks.{HasRoomFor};
 
-use sam_script::{Line, Numbered};
+use sam_script::{Line, Numbered, Script};
 use sam_term::event::UserEvent;
 use std::alloc::{AllocError, Global};
 
@@ -12,6 +12,22 @@ use std::alloc::{AllocError, Global};
 pub struct Users {
     pub keys: Vec<UserEvent>,
     pub clicks: Vec<UserEvent>,
+}
+
+/// Copies the events out of the script, which stays. Its only error is out of memory.
+pub fn copied_users(alloc: Global, script: &Script) -> Result<Users, AllocError>
+    ensures keys { IfOk result (λ users. users.keys.items ≡ keys_of script.now.lines) }
+    ensures clicks { IfOk result (λ users. users.clicks.items ≡ mouse_of script.now.lines) }
+{
+    let mut keys = Vec::new(alloc);
+    for key in script.keys() {
+        keys.push(key.copy(alloc)?)?;
+    }
+    let mut clicks = Vec::new(alloc);
+    for click in script.mouse() {
+        clicks.push(click.copy(alloc)?)?;
+    }
+    Ok(Users { keys, clicks })
 }
 
 /// Makes empty lists with room for the events of these lines. Its only error is out of memory.
