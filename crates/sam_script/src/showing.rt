@@ -37,29 +37,42 @@ pub fn push_world(out: &mut String, world: &World) -> Result<(), AllocError>
     push_state(out, world)
 }
 
-/// Appends the line for both sides.
-fn push_state(out: &mut String, world: &World) -> Result<(), AllocError>
-    ensures { OnOk result (string_bytes out.new ≡ string_bytes out.old ++ state_line world.now) }
-{
-    let locked = world.term().command_locked();
-    let sent = world.term().sent();
-    let taken = world.host().taken();
-    let unsent = world.term().unsent();
-    push_counts(out, locked, sent, taken, unsent, world.up(), world.down())
-}
-
-/// Appends the line for both sides, from its numbers.
-fn push_counts(
-    out: &mut String,
-    locked: bool,
+/// What the line for both sides counts: messages composed and taken, runes unsent, and what is under way up and down.
+#[derive(Clone, Copy)]
+struct Counts {
     sent: u64,
     taken: u64,
     unsent: u32,
     up: usize,
     down: usize,
-) -> Result<(), AllocError>
-    ensures { OnOk result (string_bytes out.new ≡ string_bytes out.old ++ counts_line locked sent taken unsent up down) }
+}
+
+/// Appends the line for both sides.
+fn push_state(out: &mut String, world: &World) -> Result<(), AllocError>
+    ensures { OnOk result (string_bytes out.new ≡ string_bytes out.old ++ state_line world.now) }
 {
+    let counts = Counts {
+        sent: world.term().sent(),
+        taken: world.host().taken(),
+        unsent: world.term().unsent(),
+        up: world.up(),
+        down: world.down(),
+    };
+    push_counts(out, world.term().command_locked(), counts)
+}
+
+/// Appends the line for both sides, from its numbers.
+fn push_counts(out: &mut String, locked: bool, counts: Counts) -> Result<(), AllocError>
+    ensures { OnOk result (string_bytes out.new ≡ string_bytes out.old
+        ++ counts_line locked counts.sent counts.taken counts.unsent counts.up counts.down) }
+{
+    let Counts {
+        sent,
+        taken,
+        unsent,
+        up,
+        down,
+    } = counts;
     push(out, "= s ")?;
     push_lock(out, locked)?;
     write!(out, "{sent} {taken} {unsent} {up} {down}")?;
