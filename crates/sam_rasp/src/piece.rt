@@ -2,30 +2,104 @@
 
 ghost use Rattle.std.specs.Prelude.{◌≡◌, ◌≤◌, ◌+◌, ◌-◌, ◌++◌, ◌↔◌, length, IsTrue, IfOk, OnOk, OnErr, slice_get, take, drop, vec_capacity, vec_len, true, false};
 ghost use Rattle.sam_runes.specs.Texts.{del, most_in_message};
+ghost use Rattle.sam_rasp.specs.Pieces.{most_inside, runes_of, IsCounted};
 
 use sam_runes::{MOST_IN_MESSAGE, insert_runes, remove_runes};
 use std::alloc::{AllocError, Global};
 use std::marker::Model;
 
-/// How many runes a new piece has room for at least, so that the next keys find some.
-const LEAST_ROOM: usize = 6;
+/// How many runes a piece holds without a block of memory. With so many a section is as small as it can be.
+const MOST_INSIDE: usize = 3;
 
-/// The text of a loaded section: at most `MOST_IN_MESSAGE` runes.
+/// How many runes a new block has room for at least, so that the next keys find some.
+const LEAST_ROOM: usize = 10;
+
+/// Where the runes of a piece stand. Each has their count first, so that it is read without a look into memory.
+#[derive(Drop)]
+enum Runes {
+    /// In the piece: so many, at the front of the array.
+    Inside(u16, [char; MOST_INSIDE]),
+    /// In a block of memory: so many, all that the block has.
+    Outside(u16, Box<Vec<char>>),
+}
+
+/// The text of a loaded section: at most `MOST_IN_MESSAGE` runes. A few of them take no memory of their own.
 #[derive(Drop)]
 pub struct Piece {
+    /// What a block of memory comes from.
+    alloc: Global,
     /// The runes: at most `MOST_IN_MESSAGE`.
-    runes: Vec<char>,
+    runes: Runes,
 }
 
 impl Model for Piece {
-    ghost use Rattle.std.specs.Prelude.{ℕ, List, ◌≤◌, vec_len};
-    ghost use Rattle.sam_runes.specs.Texts.{most_in_message};
+    ghost use Rattle.std.specs.Prelude.{ℕ, List};
+    ghost use Rattle.sam_rasp.specs.Pieces.{runes_of, IsCounted};
 
     ghost Value = { List ℕ };
 
-    ghost view = { λ a. a.runes.items };
+    ghost view = { λ a. runes_of a.runes };
 
-    ghost invariant = { λ a. vec_len a.runes ≤ most_in_message };
+    ghost invariant = { λ a. IsCounted a.runes };
+}
+
+/// Writes the runes at `dest`. They take the place of as many that stood there.
+fn put(items: &mut [char], dest: usize, runes: &[char])
+    requires within { dest + length runes.now ≤ length items.old }
+    ensures len { length items.new ≡ length items.old }
+    ensures done { take (dest + length runes.now) items.new ≡ take dest items.old ++ runes.now }
+{
+    let part = &mut items[dest..dest + runes.len()];
+    part.copy_from_slice(runes);
+}
+
+/// Returns the runes of three texts, one after another, without a block of memory.
+fn inside(front: &[char], middle: &[char], back: &[char]) -> Runes
+    requires { length front.now + length middle.now + length back.now ≤ most_inside }
+    ensures runes { runes_of result ≡ front.now ++ middle.now ++ back.now }
+    ensures counted { IsCounted result }
+{
+    let mut runes = ['\0'; MOST_INSIDE];
+    let p = front.len();
+    let q = p + middle.len();
+    put(&mut runes, 0, front);
+    put(&mut runes, p, middle);
+    put(&mut runes, q, back);
+    Runes::Inside((q + back.len()) as u16, runes)
+}
+
+/// Returns the runes of three texts, one after another, in a block of memory. The only error is out of memory.
+fn outside(
+    alloc: Global,
+    front: &[char],
+    middle: &[char],
+    back: &[char],
+) -> Result<Runes, AllocError>
+    requires { length front.now + length middle.now + length back.now ≤ most_in_message }
+    ensures { IfOk result (λ a. IsCounted a × (runes_of a ≡ front.now ++ middle.now ++ back.now)) }
+{
+    let count = front.len() + middle.len() + back.len();
+    let mut own = Vec::with_capacity(alloc, count.max(LEAST_ROOM))?;
+    own.extend_from_slice(front)?;
+    own.extend_from_slice(middle)?;
+    own.extend_from_slice(back)?;
+    Ok(Runes::Outside(count as u16, Box::new(alloc, own)?))
+}
+
+/// Returns the runes of three texts, one after another, in a block of memory where they are many. The only error is out of memory.
+fn joined(
+    alloc: Global,
+    front: &[char],
+    middle: &[char],
+    back: &[char],
+) -> Result<Runes, AllocError>
+    requires { length front.now + length middle.now + length back.now ≤ most_in_message }
+    ensures { IfOk result (λ a. IsCounted a × (runes_of a ≡ front.now ++ middle.now ++ back.now)) }
+{
+    if front.len() + middle.len() + back.len() > MOST_INSIDE {
+        return outside(alloc, front, middle, back);
+    }
+    Ok(inside(front, middle, back))
 }
 
 /// Puts `more` at the end of `runes`, which has room for it, so no memory is asked for.
@@ -38,15 +112,120 @@ fn put_within(runes: &mut Vec<char>, more: &[char])
     }
 }
 
+impl Runes {
+    fn len(&self) -> usize
+        requires { IsCounted self.now }
+        ensures len { result ≡ length (runes_of self.now) }
+        ensures limit { result ≤ most_in_message }
+    {
+        match self {
+            Runes::Inside(count, _) => *count as usize,
+            Runes::Outside(count, _) => *count as usize,
+        }
+    }
+
+    fn as_slice(&self) -> &[char]
+        requires { IsCounted self.now }
+        ensures { result.now ≡ runes_of self.now }
+    {
+        match self {
+            Runes::Inside(count, runes) => &runes[..*count as usize],
+            Runes::Outside(_, block) => block.as_slice(),
+        }
+    }
+
+    /// As `Piece::append`.
+    fn append(&mut self, more: &[char]) -> bool
+        requires { IsCounted self.old }
+        ensures done { result ≡ true → runes_of self.new ≡ runes_of self.old ++ more.now }
+        ensures refused { result ≡ false → self.new ≡ self.old }
+        ensures counted { IsCounted self.new }
+    {
+        match self {
+            Runes::Inside(count, _) => {
+                let len = *count as usize;
+                if more.len() > MOST_INSIDE - len {
+                    return false;
+                }
+                let new = inside(self.as_slice(), more, &[]);
+                *self = new;
+                true
+            }
+            Runes::Outside(count, block) => {
+                let len = *count as usize;
+                if more.len() > MOST_IN_MESSAGE - len || more.len() > block.capacity() - len {
+                    return false;
+                }
+                put_within(block, more);
+                *count = (len + more.len()) as u16;
+                true
+            }
+        }
+    }
+
+    /// As `Piece::replace`.
+    fn replace(
+        &mut self,
+        alloc: Global,
+        p: usize,
+        q: usize,
+        runes: &[char],
+    ) -> Result<(), AllocError>
+        requires counted { IsCounted self.old }
+        requires ascending { p ≤ q }
+        requires within { q ≤ length (runes_of self.old) }
+        requires most { length (runes_of self.old) + length runes.now ≤ most_in_message + (q - p) }
+        ensures ok { OnOk result (runes_of self.new ≡ take p (runes_of self.old) ++ runes.now ++ drop q (runes_of self.old)) }
+        ensures err { OnErr result (runes_of self.new ≡ runes_of self.old) }
+        ensures counted { IsCounted self.new }
+    {
+        match self {
+            Runes::Inside(_, _) => {
+                let held = self.as_slice();
+                let new = joined(alloc, &held[..p], runes, &held[q..])?;
+                *self = new;
+            }
+            Runes::Outside(count, block) => {
+                insert_runes(block, q, runes)?;
+                remove_runes(block, p, q);
+                *count = block.len() as u16;
+            }
+        }
+        Ok(())
+    }
+
+    /// As `Piece::cut`.
+    fn cut(&mut self, p: usize, q: usize)
+        requires counted { IsCounted self.old }
+        requires ascending { p ≤ q }
+        requires within { q ≤ length (runes_of self.old) }
+        ensures cut { runes_of self.new ≡ del (runes_of self.old) p q }
+        ensures counted { IsCounted self.new }
+    {
+        match self {
+            Runes::Inside(_, _) => {
+                let held = self.as_slice();
+                let new = inside(&held[..p], &[], &held[q..]);
+                *self = new;
+            }
+            Runes::Outside(count, block) => {
+                remove_runes(block, p, q);
+                *count = block.len() as u16;
+            }
+        }
+    }
+}
+
 impl Piece {
     /// Returns a piece of these runes, with room for some more. The only error is out of memory.
     pub fn of(alloc: Global, runes: &[char]) -> Result<Piece, AllocError>
         requires { length runes.now ≤ most_in_message }
         ensures { IfOk result (λ a. a ≡ runes.now) }
     {
-        let mut own = Vec::with_capacity(alloc, runes.len().max(LEAST_ROOM))?;
-        own.extend_from_slice(runes)?;
-        Ok(Piece { runes: own })
+        Ok(Piece {
+            alloc,
+            runes: joined(alloc, &[], runes, &[])?,
+        })
     }
 
     /// Returns how many runes it has: at most `MOST_IN_MESSAGE`.
@@ -68,7 +247,7 @@ impl Piece {
     pub fn get(&self, place: usize) -> Option<char>
         ensures { result ≡ slice_get self.now place }
     {
-        self.runes.get(place).copied()
+        self.runes.as_slice().get(place).copied()
     }
 
     /// Returns whether its runes are exactly `runes`.
@@ -85,12 +264,7 @@ impl Piece {
         ensures refused { result ≡ false → self.new ≡ self.old }
         ensures limit { (length self.old ≤ length self.new) × (length self.new ≤ most_in_message) }
     {
-        let len = self.runes.len();
-        if runes.len() > MOST_IN_MESSAGE - len || runes.len() > self.runes.capacity() - len {
-            return false;
-        }
-        put_within(&mut self.runes, runes);
-        true
+        self.runes.append(runes)
     }
 
     /// Puts `runes` in the place of those from place `p` to place `q`. The caller makes sure that it has at most `MOST_IN_MESSAGE` then.
@@ -102,9 +276,7 @@ impl Piece {
         ensures ok { OnOk result (self.new ≡ take p self.old ++ runes.now ++ drop q self.old) }
         ensures err { OnErr result (self.new ≡ self.old) }
     {
-        insert_runes(&mut self.runes, q, runes)?;
-        remove_runes(&mut self.runes, p, q);
-        Ok(())
+        self.runes.replace(self.alloc, p, q, runes)
     }
 
     /// Takes out the runes from place `p` to place `q`.
@@ -113,7 +285,7 @@ impl Piece {
         requires within { q ≤ length self.old }
         ensures { self.new ≡ del self.old p q }
     {
-        remove_runes(&mut self.runes, p, q);
+        self.runes.cut(p, q);
     }
 
     /// Takes out the runes from place `p` on, and returns them. The only error is out of memory; the piece is then unchanged.
@@ -123,7 +295,8 @@ impl Piece {
         ensures err { OnErr result (self.new ≡ self.old) }
     {
         let back = Piece::of(alloc, &self.runes.as_slice()[p..])?;
-        self.runes.truncate(p);
+        let len = self.runes.len();
+        self.runes.cut(p, len);
         Ok(back)
     }
 }
