@@ -2,9 +2,10 @@
 
 ghost use Rattle.std.specs.Prelude.{◌≡◌};
 ghost use Rattle.sam_c.specs.Status.{add_status, host_finish_status, host_refusal, host_status, refusal_status, script_status, stream_status};
-ghost use Rattle.sam_c.specs.Status.{term_finish_status, term_refusal, term_status};
+ghost use Rattle.sam_c.specs.Status.{term_finish_status, term_refusal, term_status, truncated};
 
 use sam_endpoint::{AddFault, EndpointFault, FinishFault, HostStop, StreamFault, TermStop};
+use sam_frame::FeedFault;
 use sam_host::HostFault;
 use sam_script::ScriptFault;
 use sam_term::{Refusal, TermFault};
@@ -41,9 +42,6 @@ const ADD: u32 = 16;
 /// Added to the number of what is wrong with the other side's stream, which has stopped the handle.
 const STREAM: u32 = 32;
 
-/// The other side's stream ends inside a message or frame. Only the calls that ask whether it may end return it, and the handle goes on.
-const TRUNCATED: u32 = STREAM + 4;
-
 /// Added to the number of why the host refused a message, which has stopped the handle.
 const HOST_REFUSED: u32 = 64;
 
@@ -74,6 +72,14 @@ fn stream_status(why: StreamFault) -> u32
     STREAM + why as u32
 }
 
+/// Returns the number by which a stream ends inside a message or frame. Only the calls that ask whether it may end return it, and the
+/// handle goes on.
+fn truncated() -> u32
+    ensures { result ≡ truncated }
+{
+    STREAM + FeedFault::<()>::Truncated.number() as u32
+}
+
 /// Returns the number of why the host refused a message.
 fn host_refusal(why: HostFault) -> u32
     ensures { result ≡ host_refusal why }
@@ -100,9 +106,8 @@ pub(crate) fn script_status(why: ScriptFault) -> u32
     ensures { result ≡ script_status why }
 {
     match why {
-        ScriptFault::Line(_) => SCRIPT + 1,
-        ScriptFault::CountFull => SCRIPT + 2,
         ScriptFault::OutOfMemory => NO_MEMORY,
+        ScriptFault::Line(_) | ScriptFault::CountFull => SCRIPT + why.number() as u32,
     }
 }
 
@@ -141,7 +146,7 @@ pub(crate) fn host_finish_status(came: Result<(), FinishFault<HostStop>>) -> u32
     match came {
         Ok(()) => OK,
         Err(FinishFault::Unfinished) => UNFINISHED,
-        Err(FinishFault::Truncated) => TRUNCATED,
+        Err(FinishFault::Truncated) => truncated(),
         Err(FinishFault::Stopped(HostStop::Stream(why))) => stream_status(why),
         Err(FinishFault::Stopped(HostStop::Refused(why))) => host_refusal(why),
     }
@@ -154,7 +159,7 @@ pub(crate) fn term_finish_status(came: Result<(), FinishFault<TermStop>>) -> u32
     match came {
         Ok(()) => OK,
         Err(FinishFault::Unfinished) => UNFINISHED,
-        Err(FinishFault::Truncated) => TRUNCATED,
+        Err(FinishFault::Truncated) => truncated(),
         Err(FinishFault::Stopped(TermStop::Stream(why))) => stream_status(why),
         Err(FinishFault::Stopped(TermStop::Refused(why))) => term_refusal(why),
     }

@@ -1,3 +1,4 @@
+pub mod Faults
 pub mod Script
 pub mod Show
 pub mod Words

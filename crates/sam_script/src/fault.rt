@@ -1,6 +1,7 @@
 //! Why a script could not be read, replayed or written.
 
 ghost use Rattle.std.specs.Prelude.{◌≡◌};
+ghost use Rattle.sam_script.specs.Faults.{script_fault_number};
 ghost use Rattle.sam_script.specs.declared.fault.LineFault.TheVariants.{OutOfMemory};
 
 use std::alloc::{AllocError, AllocFailed};
@@ -19,6 +20,19 @@ pub enum ScriptFault {
     /// A request for memory was refused. The same call may be made again.
     #[error("out of memory")]
     OutOfMemory,
+}
+
+impl ScriptFault {
+    /// Returns the number of the fault, from 1 in the order of the variants.
+    pub fn number(&self) -> u8
+        ensures { result ≡ script_fault_number self.now }
+    {
+        match self {
+            ScriptFault::Line(_) => 1,
+            ScriptFault::CountFull => 2,
+            ScriptFault::OutOfMemory => 3,
+        }
+    }
 }
 
 impl From<AllocError> for ScriptFault {

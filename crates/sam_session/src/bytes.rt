@@ -15,6 +15,7 @@ use crate::fault::PlayFault;
 use crate::reading::{MOST_INPUT, PIECE, read_piece};
 use crate::start::host_of_text;
 use sam_endpoint::{EndpointFault, HostEndpoint, HostStop};
+use sam_frame::FeedFault;
 use sam_workers::Stop;
 use std::alloc::Global;
 use std::io::{Read, Write};
@@ -77,7 +78,8 @@ fn answer_input<R: Read, W: Write>(
     end_of(end)
 }
 
-/// Tests whether the stream may end here. The error is `Side(Stop::Frame(4))` if half a frame is held.
+/// Tests whether the stream may end here. The error is `Side(Stop::Frame(..))` with the number of `FeedFault::Truncated` if half a frame is
+/// held.
 fn end_of(end: &HostEndpoint) -> Result<(), PlayFault>
     requires done { IsDone end.now }
     requires goes { end.now.stop ≡ None }
@@ -85,7 +87,7 @@ fn end_of(end: &HostEndpoint) -> Result<(), PlayFault>
 {
     match end.finish() {
         Ok(()) => Ok(()),
-        Err(_) => Err(PlayFault::Side(Stop::Frame(4))),
+        Err(_) => Err(PlayFault::Side(Stop::Frame(FeedFault::<()>::Truncated.number()))),
     }
 }
 
