@@ -1,5 +1,5 @@
 -- A line is told over the files before its typing: it never works on the command file.
-use Rattle.sam_host.proofs.Common.{common_steps, ◌≡◌, ℕ, zero, suc, ◌+◌, ◌<◌, ◌≤◌, List, [], ◌∷◌, ◌++◌, length, take, get_or, Option, Some, None, Bool, not, ◌||◌, is_empty, refl, sym, ap, ◌∙◌, subst, arith, rules, unwrap_or, option_map, option_and_then, IfSome, if◌then◌else◌, flat_map, reverse, max_runes, either, Edit, slot, put_slot, slot-put_same, meaning, work_on, line_outcome, PlainFile, PlainFiles, PlainOutcome, IsOutcomeOf, IsOutcomeFor, blank_file, file_at, put_file, typed_file, after_print, put_outcome, committed, AreFit, IsFit, Hmesg, Hexit, Hunlock, HFrame, PlainHost, stamped, printed, grown, told_edit, told_outcome, reply_line}
+use Rattle.sam_host.proofs.Common.{common_steps, ◌≡◌, ℕ, zero, suc, ◌+◌, ◌<◌, ◌≤◌, List, [], ◌∷◌, ◌++◌, length, take, get_or, Option, Some, None, Bool, not, ◌||◌, is_empty, refl, sym, ap, ◌∙◌, subst, arith, rules, unwrap_or, option_map, option_and_then, IfSome, if◌then◌else◌, flat_map, reverse, max_runes, either, Edit, slot, put_slot, meaning, work_on, line_outcome, PlainFile, PlainFiles, PlainOutcome, IsOutcomeOf, blank_file, file_at, put_file, typed_file, after_print, put_outcome, committed, AreFit, IsFit, Hmesg, Hexit, Hunlock, HFrame, PlainHost, stamped, printed, grown, told_edit, told_outcome, reply_line}
 use Rattle.std.proofs.lemmas.List.{get_or-set_other}
 use Rattle.sam_runes.specs.Edits.{inserted}
 use Rattle.sam_runes.proofs.EditLaws.{length-ins}
