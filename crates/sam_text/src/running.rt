@@ -65,7 +65,15 @@ impl Files {
         self.facts();
         if let Some(tag) = file {
             let edited = !edits.items.is_empty();
-            self.change(tag, FileChange::Line(text, dot, name, edited));
+            self.change(
+                tag,
+                FileChange::Line {
+                    text,
+                    dot,
+                    name,
+                    edited,
+                },
+            );
         }
         if let Some(pattern) = pattern {
             self.put_pattern(pattern);
