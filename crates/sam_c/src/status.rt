@@ -1,8 +1,8 @@
 //! The numbers by which C knows what came of a call: enum sam_status of include/sulgrevad.h.
 
 ghost use Rattle.std.specs.Prelude.{◌≡◌};
-ghost use Rattle.sam_c.specs.Status.{add_status, host_finish_status, host_refusal, host_status, refusal_status, script_status, stream_status};
-ghost use Rattle.sam_c.specs.Status.{term_finish_status, term_refusal, term_status, truncated};
+ghost use Rattle.sam_c.specs.Status.{add_status, host_finish_status, host_refusal, host_status, refusal_status, script_status};
+ghost use Rattle.sam_c.specs.Status.{stream_status, term_finish_status, term_refusal, term_status, truncated};
 
 use sam_endpoint::{AddFault, EndpointFault, FinishFault, HostStop, StreamFault, TermStop};
 use sam_frame::FeedFault;
