@@ -98,11 +98,15 @@ pub fn usage(alloc: Global, words: Vec<String>) -> Result<String, AllocError> {
     let words = with_text_attached(alloc, &words)?;
     let mut command = command(alloc)?;
     let wrong = match command.try_get_matches_from_mut(words.as_slice()) {
-        Ok(matches) => matches.subcommand().map(|(name, inner)| wrong_value(name, inner)),
+        Ok(matches) => matches
+            .subcommand()
+            .map(|(name, inner)| wrong_value(name, inner)),
         Err(error) => return error.to_string(alloc),
     };
     match wrong {
-        Some(wrong) => command.error(ErrorKind::ValueValidation, wrong)?.to_string(alloc),
+        Some(wrong) => command
+            .error(ErrorKind::ValueValidation, wrong)?
+            .to_string(alloc),
         None => command.render_help(),
     }
 }

@@ -113,11 +113,11 @@ each_leaves fs gs p s o (suc f) place away is same =
     (ap text kept, ap text printed)
 each_leaves fs gs p s o zero place away is same =
     let there : text_in gs 0 ≡ text_in fs 0 =
-        sym (ap (λ (x : Option PlainFile). option_map (λ (file : PlainFile). file.text) x) (slot-committed gs o away)) ∙ same in
+    sym (ap (λ (x : Option PlainFile). option_map (λ (file : PlainFile). file.text) x) (slot-committed gs o away)) ∙ same in
     let long : length (file_at gs 0).text ≡ length (file_at fs 0).text =
-        ap (λ (t : List ℕ). length t) (text-at gs 0 ∙ ap (λ (t : Option (List ℕ)). unwrap_or t []) there ∙ sym (text-at fs 0)) in
+    ap (λ (t : List ℕ). length t) (text-at gs 0 ∙ ap (λ (t : Option (List ℕ)). unwrap_or t []) there ∙ sym (text-at fs 0)) in
     let short : length (file_at (after_print (typed_files fs p s) o.printed) 0).text ≤ length (file_at (typed_files fs p s) 0).text =
-        grind (arith, (typed_length fs p s place), (ap (λ (hs : PlainFiles). length (file_at hs 0).text) is)) in
+    grind (arith, (typed_length fs p s place), (ap (λ (hs : PlainFiles). length (file_at hs 0).text) is)) in
     let none : gs ≡ typed_files fs p s = is ∙ print-none (typed_files fs p s) o.printed short in
     let stays = ap (λ (hs : PlainFiles). text_in hs 0) none in
     (sym stays ∙ there, stays)
