@@ -1,7 +1,7 @@
 //! Typing and command lines. A line is run when its newline is typed into the command file, or when it is sent there. It is read, and what
 //! it does worked out, before it is typed. Then its frames are made, and then room in the command file for what is typed and printed. So
-//! all memory is had before the first change, and no change can fail. The functions `tell_..` add frames to those of the answer. The only error of a private function is `OutOfMemory`, and the host is then
-//! unchanged.
+//! all memory is had before the first change, and no change can fail. The functions `tell_..` add frames to those of the answer. The only
+//! error of a private function is `OutOfMemory`, and the host is then unchanged.
 
 ghost use Rattle.std.specs.Prelude.{◌≡◌, ◌==◌, ◌<◌, ◌≤◌, ◌+◌, ◌-◌, ◌++◌, ◌∷◌, [], ◌^◌, IfOk, IsTrue, OnOk, OnErr, Err, None, Some, true, not, ◌&&◌, nat_lt, if◌then◌else◌, length};
 ghost use Rattle.sam_host.specs.Typing.{typed, sent, typed_line, reply_typed_line, told_line, IsSameButEdits};

@@ -101,7 +101,8 @@ impl Files {
     /// Prints `runes`. The caller makes sure that there is room for them if they come within the limit of the text. So no memory is asked
     /// for.
     fn put_printed(&mut self, runes: &[char])
-        requires room { length (file_at self.old.plain 0).text + length runes.now ≤ max_runes → length runes.now ≤ room_at self.old.rooms 0 }
+        requires room { length (file_at self.old.plain 0).text + length runes.now ≤ max_runes →
+            length runes.now ≤ room_at self.old.rooms 0 }
         ensures done { self.new.plain ≡ after_print self.old.plain runes.now }
         ensures rooms { KeepRooms self.old self.new }
     {
@@ -114,8 +115,8 @@ impl Files {
     /// what the outcome prints if that comes within the limit of the text, and puts the outcome in as `commit` does.
     ///
     /// The outcome was worked out before the typing. The caller makes sure that it fits the files as they are, that the command file is
-    /// there, that `p` is in its text, and that the runes come within its limit and its room; and with them what is printed comes within its
-    /// room, too, if it comes within the limit. So no memory is asked for, and nothing can fail. A new text brings its own room.
+    /// there, that `p` is in its text, and that the runes come within its limit and its room; and with them what is printed comes within
+    /// its room, too, if it comes within the limit. So no memory is asked for, and nothing can fail. A new text brings its own room.
     pub fn commit_typed(&mut self, p: u32, runes: &[char], outcome: Outcome)
         requires there { has_file self.old.plain 0 ≡ true }
         requires place { p ≤ length (file_at self.old.plain 0).text }
