@@ -30,8 +30,8 @@ def check_kill_host(folder):
 
 
 def check_saved_here(folder):
-    """At its end samterm writes what a host that doesn't end well has not said that it saved: to this folder, or to that for temporary files
-    where nothing can be written here."""
+    """At its end samterm writes what a host that doesn't end well has not said that it saved: to this folder, or to that for temporary
+    files where nothing can be written here."""
     gone = "sh -c 'mkdir gone; cd gone; rmdir ../gone; exec \"$0\" \"$@\"'"  # a folder that is gone takes no file, of nobody
     for at, (program, kept) in enumerate(((SAMTERM, "a.txt.sam-here"), (f"{gone} {sys.executable} {SAMTERM}", "tmp/a.txt.sam-here"))):
         place = folder / str(at)

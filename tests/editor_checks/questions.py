@@ -7,7 +7,7 @@ import signal
 import time
 
 from .pairs import Pair, opened
-from .support import READ_AFTER, SAMHOST, Session, expect, host_that, made, wait_for_text, wait_until
+from .support import READ_AFTER, SAMHOST, Session, change_two, expect, host_that, made, wait_for_text, wait_until
 
 
 def check_quit_by_selection(folder):
@@ -158,13 +158,7 @@ def check_dropped_is_saved(folder):
     """Two quick `^Q` do nothing but ask. What is dropped with open eyes is saved aside once: by `^K`, and by `^Q`."""
     made(folder, a="one\n", b="two\n")
     with Session(folder, "a.txt", "b.txt") as session:
-        session.wait_for("one")
-        session.type("x")
-        session.keys("C-t")
-        session.wait_for("two")
-        session.type("y")
-        session.wait_for("ytwo")
-        session.wait_for_quiet()
+        change_two(session)
         # By tmux itself, so that a busy machine doesn't make them later. Longer pauses `check_quick_keys_answer_nothing` has.
         session.tmux("send-keys", "C-q", ";", "run-shell", "sleep 0.03", ";", "send-keys", "C-q")
         session.wait_for("^Q again leaves without them")

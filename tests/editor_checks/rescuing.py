@@ -8,7 +8,7 @@ import tempfile
 from pathlib import Path
 
 from .pairs import Pair, opened
-from .support import LINK, SAMHOST, SECONDS, Session, expect, made, stat_of, wait_for_text, wait_until
+from .support import LINK, SAMHOST, SECONDS, Session, change_two, expect, made, stat_of, wait_for_text, wait_until
 
 
 class Kept:
@@ -97,13 +97,7 @@ def check_texts_of_one_name(folder):
         (folder / path).parent.mkdir(parents=True)
         (folder / path).write_text(f"{path.parts[0]}\n")
     with Session(folder, *map(str, paths)) as session:
-        session.wait_for("one")
-        session.type("x")
-        session.keys("C-t")
-        session.wait_for("two")
-        session.type("y")
-        session.wait_for("ytwo")
-        session.wait_for_quiet()
+        change_two(session)
         os.kill(session.processes()[SAMHOST.name], signal.SIGKILL)
         session.wait_for("the host is gone")
         session.keys("C-q")

@@ -391,8 +391,8 @@ def check_cost_of_many_edits(folder):
 
 
 def check_cost_of_undo(folder):
-    """Taking back what a command line changed in 9,000 places of a text of which little is loaded, and making it again, costs less than half
-    a second of processor time each, or as many times more as the machine is slow; and one call of the terminal for each place."""
+    """Taking back what a command line changed in 9,000 places of a text of which little is loaded, and making it again, costs less than
+    half a second of processor time each, or as many times more as the machine is slow; and one call of the terminal for each place."""
     first = "abcdefghijklmno\n" * 9_000
     pair, editor, key, text = opened(first, size=(40, 80))
     pair.press(key("Esc"), text(",x/a/c/b/\n"), key("Esc"))

@@ -212,6 +212,17 @@ class Session:
         self.wait_for_end(0)
 
 
+def change_two(session):
+    """Types `x` into the first file, `one`, and `y` into the second, `two`."""
+    session.wait_for("one")
+    session.type("x")
+    session.keys("C-t")
+    session.wait_for("two")
+    session.type("y")
+    session.wait_for("ytwo")
+    session.wait_for_quiet()
+
+
 def made(folder, **texts):
     """Files NAME.txt with their texts; answers their paths."""
     paths = []
