@@ -16,7 +16,7 @@ const LEAST_ROOM: usize = 10;
 
 /// Where the runes of a piece stand. Each has their count first, so that it is read without a look into memory.
 #[derive(Drop)]
-enum Runes {
+enum Store {
     /// In the piece: so many, at the front of the array.
     Inside(u16, [char; MOST_INSIDE]),
     /// In a block of memory: so many, all that the block has.
@@ -29,7 +29,7 @@ pub struct Piece {
     /// What a block of memory comes from.
     alloc: Global,
     /// The runes: at most `MOST_IN_MESSAGE`.
-    runes: Runes,
+    runes: Store,
 }
 
 impl Model for Piece {
@@ -54,7 +54,7 @@ fn put(items: &mut [char], dest: usize, runes: &[char])
 }
 
 /// Returns the runes of three texts, one after another, without a block of memory.
-fn inside(front: &[char], middle: &[char], back: &[char]) -> Runes
+fn inside(front: &[char], middle: &[char], back: &[char]) -> Store
     requires { length front.now + length middle.now + length back.now ≤ most_inside }
     ensures runes { runes_of result ≡ front.now ++ middle.now ++ back.now }
     ensures counted { IsCounted result }
@@ -65,7 +65,7 @@ fn inside(front: &[char], middle: &[char], back: &[char]) -> Runes
     put(&mut runes, 0, front);
     put(&mut runes, p, middle);
     put(&mut runes, q, back);
-    Runes::Inside((q + back.len()) as u16, runes)
+    Store::Inside((q + back.len()) as u16, runes)
 }
 
 /// Returns the runes of three texts, one after another, in a block of memory. The only error is out of memory.
@@ -74,7 +74,7 @@ fn outside(
     front: &[char],
     middle: &[char],
     back: &[char],
-) -> Result<Runes, AllocError>
+) -> Result<Store, AllocError>
     requires { length front.now + length middle.now + length back.now ≤ most_in_message }
     ensures { IfOk result (λ a. IsCounted a × (runes_of a ≡ front.now ++ middle.now ++ back.now)) }
 {
@@ -83,7 +83,7 @@ fn outside(
     own.extend_from_slice(front)?;
     own.extend_from_slice(middle)?;
     own.extend_from_slice(back)?;
-    Ok(Runes::Outside(count as u16, Box::new(alloc, own)?))
+    Ok(Store::Outside(count as u16, Box::new(alloc, own)?))
 }
 
 /// Returns the runes of three texts, one after another, in a block of memory where they are many. The only error is out of memory.
@@ -92,7 +92,7 @@ fn joined(
     front: &[char],
     middle: &[char],
     back: &[char],
-) -> Result<Runes, AllocError>
+) -> Result<Store, AllocError>
     requires { length front.now + length middle.now + length back.now ≤ most_in_message }
     ensures { IfOk result (λ a. IsCounted a × (runes_of a ≡ front.now ++ middle.now ++ back.now)) }
 {
@@ -112,25 +112,27 @@ fn put_within(runes: &mut Vec<char>, more: &[char])
     }
 }
 
-impl Runes {
+impl Store {
+    /// As `Piece::len`.
     fn len(&self) -> usize
         requires { IsCounted self.now }
         ensures len { result ≡ length (runes_of self.now) }
         ensures limit { result ≤ most_in_message }
     {
         match self {
-            Runes::Inside(count, _) => *count as usize,
-            Runes::Outside(count, _) => *count as usize,
+            Store::Inside(count, _) => *count as usize,
+            Store::Outside(count, _) => *count as usize,
         }
     }
 
+    /// As `Piece::as_slice`.
     fn as_slice(&self) -> &[char]
         requires { IsCounted self.now }
         ensures { result.now ≡ runes_of self.now }
     {
         match self {
-            Runes::Inside(count, runes) => &runes[..*count as usize],
-            Runes::Outside(_, block) => block.as_slice(),
+            Store::Inside(count, runes) => &runes[..*count as usize],
+            Store::Outside(_, block) => block.as_slice(),
         }
     }
 
@@ -142,7 +144,7 @@ impl Runes {
         ensures counted { IsCounted self.new }
     {
         match self {
-            Runes::Inside(count, _) => {
+            Store::Inside(count, _) => {
                 let len = *count as usize;
                 if more.len() > MOST_INSIDE - len {
                     return false;
@@ -151,7 +153,7 @@ impl Runes {
                 *self = new;
                 true
             }
-            Runes::Outside(count, block) => {
+            Store::Outside(count, block) => {
                 let len = *count as usize;
                 if more.len() > MOST_IN_MESSAGE - len || more.len() > block.capacity() - len {
                     return false;
@@ -180,12 +182,12 @@ impl Runes {
         ensures counted { IsCounted self.new }
     {
         match self {
-            Runes::Inside(_, _) => {
+            Store::Inside(_, _) => {
                 let held = self.as_slice();
                 let new = joined(alloc, &held[..p], runes, &held[q..])?;
                 *self = new;
             }
-            Runes::Outside(count, block) => {
+            Store::Outside(count, block) => {
                 insert_runes(block, q, runes)?;
                 remove_runes(block, p, q);
                 *count = block.len() as u16;
@@ -203,12 +205,12 @@ impl Runes {
         ensures counted { IsCounted self.new }
     {
         match self {
-            Runes::Inside(_, _) => {
+            Store::Inside(_, _) => {
                 let held = self.as_slice();
                 let new = inside(&held[..p], &[], &held[q..]);
                 *self = new;
             }
-            Runes::Outside(count, block) => {
+            Store::Outside(count, block) => {
                 remove_runes(block, p, q);
                 *count = block.len() as u16;
             }
