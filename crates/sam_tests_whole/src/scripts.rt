@@ -1,6 +1,7 @@
 //! Scripts, read and written.
 
 use sam_script::{Line, Script, ScriptFault, replay, replay_owned, run_lines};
+use sam_term::event::UserEvent;
 use sam_test_support::told_of;
 use sam_world::Event;
 use std::alloc::{AllocError, Global};
@@ -137,6 +138,37 @@ fn lines_of_a_run_are_read_as_its_events(rt: HostRuntime) {
         is_kept(rt.alloc(), EACH_KIND),
     ];
     assert_eq!(rt; kept, [true; 3]);
+}
+
+/// Whether a script lends its two events of the keyboard, and then its two of the mouse, in their order and nothing more.
+fn lends(alloc: Global, text: &str) -> Result<[bool; 2], ScriptFault> {
+    let script = Script::read(alloc, text.as_bytes())?;
+    let mut keys = script.keys();
+    let mut clicks = script.mouse();
+    Ok([
+        matches!(keys.next(), Some(UserEvent::Cut(1)))
+            && matches!(keys.next(), Some(UserEvent::Exit))
+            && keys.next().is_none(),
+        matches!(clicks.next(), Some(UserEvent::Open(2)))
+            && matches!(clicks.next(), Some(UserEvent::Flush))
+            && clicks.next().is_none(),
+    ])
+}
+
+#[test]
+fn a_script_lends_what_the_user_does(rt: HostRuntime) {
+    let lent = lends(rt.alloc(), "k cut 1\nm open 2\nact\nk exit\nm flush\n");
+    assert_eq!(rt; lent, Ok([true; 2]));
+}
+
+#[test]
+fn the_faults_of_a_script_have_numbers(rt: HostRuntime) {
+    let numbers = [
+        ScriptFault::Line(7).number(),
+        ScriptFault::CountFull.number(),
+        ScriptFault::OutOfMemory.number(),
+    ];
+    assert_eq!(rt; numbers, [1, 2, 3]);
 }
 
 /// A session that types into a file and runs a command on it.
