@@ -152,7 +152,7 @@ class Editor(Desk, Waiting, Actions):
         """The host is gone: what is loaded can still be read. What was changed is written here."""
         if self.is_lost:
             return
-        self.is_lost = True
+        self.is_lost = self.texts.is_final = True
         self.vault.stop()
         self.kept_here = self.keeping.keep_here(self.way.has_all)
         self.deferred.clear()

@@ -227,9 +227,17 @@ def row_start(read: Reader, place: int, width: int) -> int:
     return _starts_of_rows(read, start, end, width)[-1]
 
 
-def top_above(read: Reader, place: int, rows: int, width: int) -> Tuple[int, bool]:
-    """Where a window begins that has so many rows above the row that begins at a place, or all there are; and whether that is known.
-    It is not where a rune that is not loaded is in the way: then it is where the window begins if no line ends there."""
+class Above(NamedTuple):
+    """Where a window begins, whether that is known, and how many rows it then has above a place."""
+
+    top: int
+    is_known: bool
+    rows: int
+
+
+def top_above(read: Reader, place: int, rows: int, width: int) -> Above:
+    """Where a window begins that has so many rows above the row that begins at a place, or all there are. That is not known where a rune
+    that is not loaded is in the way: then it is where the window begins if no line ends there."""
     starts: List[int] = [place]
     is_known = place == 0 or read(place - 1, 1) != GAP
     while is_known and len(starts) <= rows and starts[0] > 0:
@@ -239,8 +247,9 @@ def top_above(read: Reader, place: int, rows: int, width: int) -> Tuple[int, boo
         starts = _starts_of_rows(read, start, end, width) + starts
     missing = rows + 1 - len(starts)
     if missing > 0 and not is_known:
-        return max(0, starts[0] - missing * width), False
-    return starts[max(0, -missing)], is_known
+        missing = min(missing, -(-starts[0] // width))
+        return Above(max(0, starts[0] - missing * width), False, len(starts) - 1 + missing)
+    return Above(starts[max(0, -missing)], is_known, min(rows, len(starts) - 1))
 
 
 def _starts_of_rows(read: Reader, start: int, end: int, width: int) -> List[int]:

@@ -83,6 +83,7 @@ class Texts:
     def __init__(self, terminal: Terminal):
         self.terminal = terminal
         self.versions: Dict[int, int] = {}  # of each text; another one once it changed, or was loaded further
+        self.is_final = False  # the host is gone, so no more of any text is loaded
         self.listeners: List[Callable[[List[Change]], None]] = []
 
     def read(self, tag: int, place: int, count: int) -> str:

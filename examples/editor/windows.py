@@ -37,10 +37,11 @@ def end_of_load(terminal: Terminal, tag: int, start: int, end: int) -> int:
 
 
 class Aim(NamedTuple):
-    """A place that is to stand below so many rows; whether the text above it was asked for."""
+    """A place that is to stand below so many rows, how many stand above it until then, and whether the text above it was asked for."""
 
     place: int
     rows: int
+    reached: int  # fewer than `rows` where these lead past the start of the text
     is_asked: bool = False
 
 
@@ -196,8 +197,8 @@ class Window:
         """Shows a place below so many rows. Where these are not loaded the place is aimed at: it is shown where it stands if no line ends
         in what is missing."""
         start = row_start(self.read, place, self.width)
-        self._top, is_known = top_above(self.read, start, rows, self.width)
-        self._aim = None if is_known else Aim(place, rows)
+        self._top, is_known, reached = top_above(self.read, start, rows, self.width)
+        self._aim = None if is_known else Aim(place, rows, reached)
         self._loaded = None
 
     def _load(self, is_busy: bool, turns: int) -> None:
@@ -234,9 +235,12 @@ class Window:
         self._turns = True
         if rows is None:
             rows = max(1, self.height - 1)
-        if self._aim is not None and self._aim.rows >= rows:
-            self._show_below(self._aim.place, self._aim.rows - rows)
-            return
+        place, below = self._counted_from()
+        if self._aim is not None:
+            self._show_below(place, max(0, below - rows))
+            if below >= rows:
+                return
+            rows -= below
         self._aim = None
         layout, gap = self.layout(), self.terminal.first_gap(self.tag, self.top)
         if gap is not None and layout.shows(gap):
@@ -250,8 +254,14 @@ class Window:
         self._turns = True
         if rows is None:
             rows = max(1, self.height - 1)
-        place, below, _ = self._aim or Aim(self.top, 0)
+        place, below = self._counted_from()
         self._show_below(place, below + rows)
+
+    def _counted_from(self) -> Tuple[int, int]:
+        """A place, and how many rows above it the window begins. Where no more text is loaded, rows past its start don't count."""
+        if self._aim is None:
+            return self.top, 0
+        return self._aim.place, self._aim.reached if self.texts.is_final else self._aim.rows
 
     def select(self, place: int, extends: bool = False) -> None:
         """Moves the caret, and shows it; the anchor stays where the selection is extended."""
@@ -302,7 +312,7 @@ class Window:
             layout = Layout(self.read, start, self.width, rows + 1)
             at = min(rows, len(layout.rows) - 1)
             return self.length if at < rows else layout.place_at(at, self.goal)
-        top, is_known = top_above(self.read, start, -rows, self.width)
+        top, is_known, _ = top_above(self.read, start, -rows, self.width)
         if start == 0 or not is_known:
             return max(start - 1, 0)
         return Layout(self.read, top, self.width, 2).place_at(0, self.goal)

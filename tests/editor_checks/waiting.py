@@ -319,6 +319,29 @@ def check_reading_when_lost(folder):
         expect(editor.focus.top == top, f"the {what} leads to {editor.focus.top}, wanted {top}")
 
 
+def check_top_when_lost(folder):
+    """Without a host no key counts on past the top of a text that is not loaded throughout: so many rows down lead away from it at once."""
+    for is_lost_first in (True, False):  # the wheel counts over a gap before the host is gone, too
+        pair, editor, key, _ = opened("line of a text\n" * 3000)
+        window = editor.focus
+        pair.press(key("^End"))
+        wheel_up, wheel_down = (pair.keys.Mouse(what, window.y + 1, 0, 0.0) for what in ("wheel up", "wheel down"))
+        if is_lost_first:
+            editor.lose("the host is gone")
+        for _ in range(300):
+            editor.take(wheel_up)
+        editor.lose("the host is gone")
+        for _ in range(9 if is_lost_first else 0):
+            editor.take(key("Page Up"))
+        expect(window.top == 0, f"it goes up to {window.top}")
+        editor.take(wheel_down)
+        low, high = 2 * window.width, 3 * window.width
+        expect(low < window.top <= high, f"three rows down from the top lead to {window.top}, wanted more than {low}, up to {high}")
+        for _ in range(70):
+            editor.take(key("Page Down"))
+        expect(window.layout().is_whole, f"Page Down leads to {window.top} alone, which doesn't show the end")
+
+
 def check_window_of_one_row(folder):
     """Page Down goes on by a row where there is one row alone."""
     pair, editor, key, _ = opened("".join(f"line {at}\n" for at in range(30)))
