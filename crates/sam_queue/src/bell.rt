@@ -1,18 +1,14 @@
-//! How an end of a line waits: it looks again for some millionths of a second, and then sleeps until the other side of the line acts.
+//! How an end of a line waits: it gives way to other threads a few times, and then sleeps until the other side of the line acts.
 //! No contract speaks of it: what an end has put or taken is said of its tries alone.
 
-use std::hint;
 use std::sync::Wait;
 use std::sync::atomic::{AtomicU64, Ordering};
+use std::thread;
 use std::time::Duration;
 
-/// How often a wait only pauses before it sleeps. That takes about as long as to wake a thread, so that ends of a busy line
+/// How often a wait gives way before it sleeps. That takes about as long as to wake a thread, so that ends of a busy line
 /// seldom sleep.
-const PAUSES: u32 = 200;
-
-/// How many hints to the processor make a pause. A wait doesn't give its processor to other threads in place of that: where all
-/// processors are busy, these would keep it for a whole slice of time, while a thread that sleeps is woken at once.
-const HINTS: u32 = 8;
+const YIELDS: u32 = 200;
 
 /// The first sleep of a wait, in microseconds. Each further one may take twice as long.
 const FIRST_SLEEP: u64 = 100;
@@ -39,17 +35,10 @@ impl Backoff {
         Backoff { tries: 0 }
     }
 
-    /// Returns whether the wait has paused often enough: after one more call, which sets the bell, it sleeps. What is worth doing
-    /// only while nothing else comes is done then.
+    /// Returns whether the wait has given way to other threads often enough: after one more call, which sets the bell, it sleeps.
+    /// What is worth doing only while nothing else comes is done then.
     pub fn sleeps_next(&self) -> bool {
-        self.tries >= PAUSES
-    }
-}
-
-/// Lets a little time go by.
-fn pause() {
-    for _ in 0..HINTS {
-        hint::spin_loop();
+        self.tries >= YIELDS
     }
 }
 
@@ -82,12 +71,12 @@ impl Bell {
     pub(crate) fn wait<R: Wait>(&self, rt: &R, backoff: &mut Backoff) {
         let tries = backoff.tries;
         backoff.tries = tries.saturating_add(1);
-        if tries < PAUSES {
-            pause();
+        if tries < YIELDS {
+            thread::yield_now();
             return;
         }
-        if tries > PAUSES {
-            let longest = FIRST_SLEEP << (tries - PAUSES - 1).min(DOUBLINGS);
+        if tries > YIELDS {
+            let longest = FIRST_SLEEP << (tries - YIELDS - 1).min(DOUBLINGS);
             self.state
                 .park_timeout(rt, AWAITED, Duration::from_micros(longest));
         }
