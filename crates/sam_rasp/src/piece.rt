@@ -1,6 +1,6 @@
 //! `Piece`: the text of a loaded section.
 
-ghost use Rattle.std.specs.Prelude.{◌≡◌, ◌≤◌, ◌+◌, ◌-◌, ◌++◌, ◌↔◌, length, IsTrue, IfOk, OnOk, OnErr, slice_get, take, drop, vec_capacity, vec_len, true, false};
+ghost use Rattle.std.specs.Prelude.{◌≡◌, ◌≤◌, ◌+◌, ◌-◌, ◌++◌, ◌↔◌, length, IsTrue, IsOk, IfOk, OnOk, OnErr, slice_get, take, drop, vec_capacity, vec_len, true, false};
 ghost use Rattle.sam_runes.specs.Texts.{del, most_in_message};
 ghost use Rattle.sam_rasp.specs.Pieces.{most_inside, runes_of, IsCounted};
 
@@ -23,7 +23,7 @@ enum Store {
     Outside(u16, Box<Vec<char>>),
 }
 
-/// The text of a loaded section: at most `MOST_IN_MESSAGE` runes. A few of them take no memory of their own.
+/// The text of a loaded section: at most `MOST_IN_MESSAGE` runes. Up to three of them take no block of memory.
 #[derive(Drop)]
 pub struct Piece {
     /// What a block of memory comes from.
@@ -86,7 +86,8 @@ fn outside(
     Ok(Store::Outside(count as u16, Box::new(alloc, own)?))
 }
 
-/// Returns the runes of three texts, one after another, in a block of memory where they are many. The only error is out of memory.
+/// Returns the runes of three texts, one after another, in a block of memory if they are more than `MOST_INSIDE`. The only error is out of
+/// memory.
 fn joined(
     alloc: Global,
     front: &[char],
@@ -94,7 +95,8 @@ fn joined(
     back: &[char],
 ) -> Result<Store, AllocError>
     requires { length front.now + length middle.now + length back.now ≤ most_in_message }
-    ensures { IfOk result (λ a. IsCounted a × (runes_of a ≡ front.now ++ middle.now ++ back.now)) }
+    ensures runes { IfOk result (λ a. IsCounted a × (runes_of a ≡ front.now ++ middle.now ++ back.now)) }
+    ensures few { length front.now + length middle.now + length back.now ≤ most_inside → IsOk result }
 {
     if front.len() + middle.len() + back.len() > MOST_INSIDE {
         return outside(alloc, front, middle, back);
@@ -219,10 +221,11 @@ impl Store {
 }
 
 impl Piece {
-    /// Returns a piece of these runes, with room for some more. The only error is out of memory.
+    /// Returns a piece of these runes: at most `MOST_IN_MESSAGE`. The only error is out of memory, which up to three runes never meet.
     pub fn of(alloc: Global, runes: &[char]) -> Result<Piece, AllocError>
         requires { length runes.now ≤ most_in_message }
-        ensures { IfOk result (λ a. a ≡ runes.now) }
+        ensures runes { IfOk result (λ a. a ≡ runes.now) }
+        ensures few { length runes.now ≤ most_inside → IsOk result }
     {
         Ok(Piece {
             alloc,

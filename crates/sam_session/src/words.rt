@@ -31,7 +31,8 @@ pub const MOST_PIECE: usize = 65_536;
 /// The greatest capacity of a line between threads, in entries: the greatest number for `--cap`.
 pub const MOST_CAPACITY: usize = 1_024;
 
-// What help says of the program, its modes and their options. The ranges in it are those of `MOST_PIECE` and `MOST_CAPACITY`.
+// What help says of the program, its modes and their options, and what is wrong with a value. The ranges in it are those of `MAX_RUNES`,
+// `MOST_PIECE` and `MOST_CAPACITY`.
 const PROGRAM_HELP: &str = "A host and a terminal after Pike's sam, over standard input and output";
 
 const BYTES_HELP: &str =
@@ -47,6 +48,12 @@ const THREADS_HELP: &str =
 const PIECE_HELP: &str = "The most bytes of a piece of the stream between threads, from 1 to 65536";
 
 const CAP_HELP: &str = "The capacity of a line between threads, from 1 to 1024";
+
+const WRONG_TEXT: &str = "the value of --text has more than 1000000 runes";
+
+const WRONG_PIECE: &str = "the value of --piece is no number from 1 to 65536";
+
+const WRONG_CAP: &str = "the value of --cap is no number from 1 to 1024";
 
 /// Why the words name no mode. The program then runs none: it writes the line of the fault, and for `Wrong` the usage on standard error.
 /// Its exit status is 2, or 4 when out of memory, or 5 if the line can't be written.
@@ -114,12 +121,12 @@ pub fn usage(alloc: Global, words: Vec<String>) -> Result<String, AllocError> {
 /// Returns which value of a mode's options is out of its range, where one is.
 fn wrong_value(mode: &str, matches: &ArgMatches<'_>) -> &'static str {
     if mode == "bytes" {
-        return "the value of --text has more than 1000000 runes";
+        return WRONG_TEXT;
     }
     if number_in(matches, "piece", MOST_PIECE).is_err() {
-        return "the value of --piece is no number from 1 to 65536";
+        return WRONG_PIECE;
     }
-    "the value of --cap is no number from 1 to 1024"
+    WRONG_CAP
 }
 
 /// Returns the words with each `--text TEXT` as the one word `--text=TEXT`, so that clap takes TEXT as it stands.
