@@ -40,12 +40,16 @@ impl<P: Part> Model for Row<P> {
 }
 
 /// Returns how many of `count` parts stay where they are cut in two, and the next change comes in the part of this index: half of them, but
-/// the first alone where that is to change, since the edits of a command line come from the last to the first.
+/// a quarter where that is the first, since the edits of a command line come from the last to the first.
 fn kept_of(count: usize, index: usize) -> usize
     requires { 2 ≤ count }
     ensures { (0 < result) × (result < count) }
 {
-    if index == 0 { 1 } else { count / 2 }
+    if index == 0 {
+        (count / 4).max(1)
+    } else {
+        count / 2
+    }
 }
 
 impl<P: Part> Row<P> {

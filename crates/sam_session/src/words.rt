@@ -4,7 +4,7 @@ ghost use Rattle.std.specs.Str.{encode_utf8_all};
 ghost use Rattle.clap.specs.Words.{app_of, new_app, rule_of, found_of, rows_of, subcommand_rows_of, first_of};
 ghost use Rattle.clap.specs.declared.builder.command.Command.TheViews.{out-Command};
 ghost use Rattle.sam_runes.specs.Texts.{max_runes};
-ghost use Rattle.sam_session.specs.Words.{IsModeOf, HoldsMode, HoldsNumber, attached, option_of, program};
+ghost use Rattle.sam_session.specs.Words.{IsModeOf, HoldsMode, HoldsNumber, attached, option_of, bytes_app, threads_app, program};
 
 use clap::error::ErrorKind;
 use clap::{Arg, ArgMatches, Command};
@@ -174,17 +174,31 @@ fn option_named<'a>(alloc: Global, name: &'a str, default: &'a str, help: &'a st
         .help(help)
 }
 
+/// Makes the command of mode `bytes`.
+fn bytes_command<'a>(alloc: Global) -> Result<Command<'a>, AllocError>
+    ensures { IfOk result (λ c. (app_of c ≡ bytes_app) × ((out-Command c).has_globals ≡ false)) }
+{
+    let text = option_named(alloc, "text", "", TEXT_HELP);
+    command_named(alloc, "bytes", BYTES_HELP).arg(text)
+}
+
+/// Makes the command of mode `threads`.
+fn threads_command<'a>(alloc: Global) -> Result<Command<'a>, AllocError>
+    ensures { IfOk result (λ c. (app_of c ≡ threads_app) × ((out-Command c).has_globals ≡ false)) }
+{
+    let piece = option_named(alloc, "piece", "64", PIECE_HELP);
+    let cap = option_named(alloc, "cap", "16", CAP_HELP);
+    let cut = command_named(alloc, "threads", THREADS_HELP).arg(piece)?;
+    cut.arg(cap)
+}
+
 /// Makes the program's command line.
 fn command<'a>(alloc: Global) -> Result<Command<'a>, AllocError>
     ensures { IfOk result (λ c. app_of c ≡ program) }
 {
-    let text = option_named(alloc, "text", "", TEXT_HELP);
-    let piece = option_named(alloc, "piece", "64", PIECE_HELP);
-    let cap = option_named(alloc, "cap", "16", CAP_HELP);
-    let bytes = command_named(alloc, "bytes", BYTES_HELP).arg(text)?;
+    let bytes = bytes_command(alloc)?;
     let replay = command_named(alloc, "replay", REPLAY_HELP);
-    let cut = command_named(alloc, "threads", THREADS_HELP).arg(piece)?;
-    let threads = cut.arg(cap)?;
+    let threads = threads_command(alloc)?;
     command_named(alloc, "sam_play", PROGRAM_HELP)
         .subcommand(bytes)?
         .subcommand(replay)?

@@ -1,8 +1,5 @@
-//! Tests of the program by its modes, and of sessions of threads. They stand in a crate of their own, since a crate with tests is
-//! proved twice. It holds nothing else.
+//! Tests of sessions of threads. They stand in a crate of their own, since a crate with tests is proved twice. It holds nothing else.
 #![tactic(auto)]
 
-#[cfg(test)]
-mod modes;
 #[cfg(test)]
 mod threads;

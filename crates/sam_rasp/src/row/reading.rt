@@ -29,18 +29,20 @@ pub fn sort_from<P: Part>(parts: &[P], loaded: bool, p: u32) -> u32
     ensures count { result ≡ sort_from loaded (members_of P.members parts.now) p }
     ensures limit { result ≤ length (members_of P.members parts.now) }
 {
-    let Some((first, others)) = parts.split_first() else {
-        return 0;
-    };
-    let len = first.len();
-    if p >= len {
-        return sort_from(others, loaded, p - len);
+    let mut rest = parts;
+    let mut at = p;
+    let mut found = 0;
+    while let Some((first, others)) = rest.split_first() {
+        let len = first.len();
+        let more = first.sort_from(loaded, at);
+        found += more;
+        if at + more < len {
+            return found;
+        }
+        at = at.saturating_sub(len);
+        rest = others;
     }
-    let found = first.sort_from(loaded, p);
-    if p + found < len {
-        return found;
-    }
-    found + sort_from(others, loaded, 0)
+    found
 }
 
 /// Returns how many runes stand from place `p` on before the first gap, and how many gaps stand there before the next rune.
@@ -51,19 +53,23 @@ pub fn hole_from<P: Part>(parts: &[P], p: u32) -> (u32, u32)
     ensures gaps { result.1 ≡ sort_from false (members_of P.members parts.now) (p + result.0) }
     ensures limit { result.0 + result.1 ≤ length (members_of P.members parts.now) }
 {
-    let Some((first, others)) = parts.split_first() else {
-        return (0, 0);
-    };
-    let len = first.len();
-    let (runes, gaps) = first.hole_from(p);
-    if p + runes + gaps < len {
-        return (runes, gaps);
+    let mut rest = parts;
+    let mut at = p;
+    let mut runes = 0;
+    while let Some((first, others)) = rest.split_first() {
+        let len = first.len();
+        let (more, gaps) = first.hole_from(at);
+        runes += more;
+        if at + more + gaps < len {
+            return (runes, gaps);
+        }
+        if gaps > 0 {
+            return (runes, gaps + sort_from(others, false, 0));
+        }
+        at = at.saturating_sub(len);
+        rest = others;
     }
-    if gaps > 0 {
-        return (runes, gaps + sort_from(others, false, 0));
-    }
-    let (more, gaps) = hole_from(others, p.saturating_sub(len));
-    (runes + more, gaps)
+    (runes, 0)
 }
 
 /// Returns how many runes (if `loaded`) or gaps stand at once before place `p` after the last of the other sort. The parts have `len` runes
@@ -75,15 +81,21 @@ pub fn sort_before<P: Part>(parts: &[P], len: u32, loaded: bool, p: u32) -> u32
     ensures count { result ≡ sort_before loaded (members_of P.members parts.now) p }
     ensures limit { result ≤ p }
 {
-    let Some((last, others)) = parts.split_last() else {
-        return 0;
-    };
-    let start = len - last.len();
-    let found = last.sort_before(loaded, p.max(start) - start);
-    if p > start + found {
-        return found;
+    let mut rest = parts;
+    let mut start = len;
+    let mut at = p;
+    let mut found = 0;
+    while let Some((last, others)) = rest.split_last() {
+        start -= last.len();
+        let more = last.sort_before(loaded, at.max(start) - start);
+        found += more;
+        if at > start + more {
+            return found;
+        }
+        at = at.min(start);
+        rest = others;
     }
-    found + sort_before(others, start, loaded, p.min(start))
+    found
 }
 
 /// Returns the tally of `before` with all sections of the parts added.
