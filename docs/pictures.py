@@ -121,7 +121,7 @@ def crates_picture():
         text(24, 34, "The crates", "title", "start"),
         text(24, 58, "An arrow leads to a crate that this one stands on.", "", "start"),
         text(24, 76, "What it stands on through others has no arrow.", "", "start"),
-        text(24, 100, "Left out: the crates that test and time these.", "grey", "start"),
+        text(24, 100, "Left out: tests, benches and examples.", "grey", "start"),
     ]
     for name, other in direct(crates()):
         (x, row, _), (other_x, other_row, _) = PLACES[name], PLACES[other]
@@ -160,7 +160,7 @@ def threads_picture():
     parts += worker(24, 150, 116, 52, "Mouse", ["worker 1"])
     parts += line(196, 121, 5, "events", ["user events and frames", "three senders"])
     parts += worker(356, 66, 150, 136, "Terminal", ["worker 4", "rasps, locks, held events"], "side")
-    parts += [box(381, 150, 100, 34, "part"), text(431, 171, "outbox", "grey")]
+    parts += [box(381, 150, 100, 34, "part"), text(431, 171, "to send", "grey")]
     parts += line(554, 154, 4, "up", ["pieces of bytes"])
     parts += worker(676, 66, 108, 136, "Host", ["worker 2", "whole texts,", "commands"], "side")
     parts += line(554, 277, 4, "down", ["pieces of bytes"])
@@ -177,7 +177,7 @@ def threads_picture():
     ]
     parts += [
         text(24, 352, "Each line keeps the order of each sender, and holds a bounded number of entries.", "", "start"),
-        text(24, 371, "The terminal never waits in a send: its pieces stand in the outbox until the line up has room.", "", "start"),
+        text(24, 371, "The terminal never waits in a send: its bytes wait outside the line up until that has room.", "", "start"),
     ]
     return picture("Five workers and the three lines between them", 800, 390, parts)
 
