@@ -1,8 +1,9 @@
 ;;; sulgrevad.el --- edit files that lie behind samhost  -*- lexical-binding: t -*-
 
-;; M-x sulgrevad-start runs a host, as "ssh box samhost notes.txt", and shows its first file. The whole text is loaded before it can be
-;; edited. What you type goes to the host, undo and all; C-c C-c runs a command line of sam on the buffer, C-x C-s has the host write
-;; the file, and M-x sulgrevad-find shows another file.
+;; Build the module by examples/emacs/build (which has a word on licences), and run emacs -l examples/emacs/sulgrevad.el. M-x
+;; sulgrevad-start runs a host, as "ssh box samhost notes.txt", and shows its first file. The whole text is loaded before it can be edited.
+;; What you type goes to the host, undo and all; C-c C-c runs a command line on the buffer, C-x C-s has the host write the file, M-x
+;; sulgrevad-find shows another file, and M-x sulgrevad-quit leaves.
 ;;
 ;; Each buffer is a copy of the terminal's text, a character for each rune. The two don't drift apart:
 ;; - `after-change-functions' hands each edit to the terminal at once, so that it stands there before the next bytes are fed. It goes by
@@ -14,8 +15,7 @@
 ;;   all loaded, and a command first waits until it is free. Code that changes it all the same wins over what the host did meanwhile.
 ;; - Where memory is out, an edit is not handed over and nothing is fed. The next command tries again.
 ;;
-;; A long text takes its time: its first 32,000 characters come at once, and then 512 with each answer of the host.
-;; examples/emacs/build, which builds the module, has a word on licences.
+;; A long text takes its time: its first 32,768 characters come at once, and then 512 with each answer of the host.
 
 ;;; Code:
 

@@ -3,6 +3,8 @@
 A `Host` holds whole texts and runs commands. A `Terminal` holds windows, and of each open text the parts that it has loaded. Neither
 of them reads or writes anything: the program carries the bytes.
 
+    from sulgrevad import Host, Terminal
+
     with Host() as host, Terminal() as terminal:
         tag = host.add_file("notes", "hello")
         terminal.offer_version(2)
