@@ -234,7 +234,7 @@ CommandFileOpens =
     (editor : PlainEditor) → IsReached editor → May editor event.OpenCmd
     → (file_at (carried editor event.OpenCmd).host.files 0).opened ≡ true
 
--- under the next tag there is a new file, on which command lines work. Where all tags are given that is printed instead
+-- under the next tag there is a new file, on which command lines work, as long as a tag is left
 abbrev pub NewMakes : Type 0
 NewMakes =
     (editor : PlainEditor) → IsReached editor → May editor event.New

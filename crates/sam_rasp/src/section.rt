@@ -145,7 +145,7 @@ impl Section {
 
     /// Puts the runes or gaps of `next` at its end if both are of one sort and memory is at hand. A loaded section has at most
     /// `MOST_IN_MESSAGE` runes then. Returns whether it did; if not, nothing is changed. The caller makes sure that the two have at most
-    /// `MOST_KEPT` runes or gaps together.
+    /// `most_kept` runes or gaps together.
     #[tactic(auto, using(crate::proofs::SectionLaws::absorbed))]
     pub(crate) fn absorb(&mut self, next: &Section) -> bool
         requires { size self.old + size next.now ≤ most_kept }

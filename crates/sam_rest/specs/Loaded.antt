@@ -1,4 +1,4 @@
--- A view that was set by a View or a Load, with no edit after it, has no gap once the session has come to rest.
+-- A view that was set by a View or a Load, with only events after it that look, has no gap once the session has come to rest.
 use Rattle.std.specs.Prelude.{◌≡◌, ℕ, Bool, true, false, List, [], ◌∷◌, Some, None}
 use Rattle.sam_runes.specs.Checks.{first_of_checks}
 use Rattle.sam_rasp.specs.Rasp.{hole_within}

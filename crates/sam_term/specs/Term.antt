@@ -145,7 +145,7 @@ is_any_locked [] = false
 is_any_locked (None ∷ ss) = is_any_locked ss
 is_any_locked (Some known ∷ ss) = nat_lt 0 (unwrap_or known.window blank_window).locks || is_any_locked ss
 
--- no window holds a lock or awaits anything
+-- a window without locks, which awaits nothing
 abbrev pub free_window : Option Window → Option Window
 free_window None = None
 free_window (Some w) = Some (record w { locks = 0; awaited = 0 })
@@ -501,7 +501,7 @@ took_data t f p s =
 unfoldable pub took_grow : PlainTerminal → ℕ → ℕ → ℕ → PlainTerminal
 took_grow t f p n = ins_rasp t f p (replicate n None)
 
--- gaps, and then the runes in their places
+-- the runes come in at the place
 unfoldable pub took_growdata : PlainTerminal → ℕ → ℕ → List ℕ → PlainTerminal
 took_growdata t f p s = ins_rasp t f p (map Some s)
 

@@ -138,8 +138,8 @@ impl Terminal {
     }
 
     /// Returns the request that a file wants: for the first stretch of gaps in its view, at most `MOST_IN_MESSAGE` of them. `None` if
-    /// there is no gap, the file is not open, the session is over, or a request is awaited already. The cost goes by the sections before
-    /// the gap.
+    /// there is no gap, the file is not open, the session is over, or a request is awaited already. The cost is that of
+    /// `Rasp::first_hole`.
     #[tactic(auto, using(crate::proofs::Requests::shown_same))]
     pub(crate) fn wanted(&self, tag: u16) -> Option<Tmesg>
         ensures { result ≡ wanted self.now tag }

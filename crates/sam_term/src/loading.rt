@@ -109,8 +109,8 @@ impl Terminal {
     }
 }
 
-/// Returns in how many stretches of at most `MOST_IN_MESSAGE` the gaps from `p` to `q` are asked for: `MOST_REQUESTS` at most. The cost is
-/// that of as many walks over the sections.
+/// Returns in how many stretches of at most `MOST_IN_MESSAGE` the gaps from `p` to `q` are asked for: `MOST_REQUESTS` at most. Each is
+/// looked for once, at the cost of `Rasp::first_hole`.
 #[tactic(auto, using(crate::proofs::Loads::stretch_facts))]
 fn count_stretches(rasp: &Rasp, p: u32, q: u32) -> usize
     requires ascending { p ≤ q }

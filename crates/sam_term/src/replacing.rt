@@ -111,7 +111,7 @@ fn cut_in_pieces(
 
 impl Terminal {
     /// Does an `Edit`: puts its runes in the place of its range, and composes the cut of the range and then a `Ttype` for each piece of
-    /// the runes. Errors, in this order: `CountFull`; `OutOfMemory`. The terminal is then unchanged. The cost is one copy of the runes.
+    /// the runes. Errors, in this order: `CountFull`; `OutOfMemory`. The terminal is then unchanged. The cost is two copies of the runes.
     #[tactic(auto, using(crate::proofs::Replaces::make_edit_facts), unfolding(crate::proofs::Edits::makes_opened))]
     pub(crate) fn make_edit(&mut self) -> Result<Acted, TermFault>
         requires free { free_first self.old ≡ None }

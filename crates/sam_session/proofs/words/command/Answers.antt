@@ -1,4 +1,4 @@
-use Rattle.sam_session.proofs.Common.{rules, ap, ap₂, ◌∙◌, IfOk-weaker, App, Shape, with_subcommand}
+use Rattle.sam_session.proofs.Common.{ap, ap₂, ◌∙◌, IfOk-weaker, App, Shape, with_subcommand}
 use Rattle.sam_session.proofs.words.command.Goals as goal
 
 abbrev top : App → Shape
