@@ -50,7 +50,7 @@ abbrev pub PutsText : PlainTermEndpoint → List ℕ → (List ℕ → UserEvent
 PutsText e text event status g =
     ((runes : List ℕ) × (result : Result (Unit {0}) (EndpointFault TermStop))
     × AreRunes runes × (encode_utf8_all runes ≡ text) × Puts e (event runes) result g × (status ≡ term_status result))
-    ⊎ (((status ≡ not_text) × (IsUtf8 text → ⊥) × (g ≡ e)) ⊎ ((status ≡ no_memory) × (g ≡ e)))
+    ⊎ (((status ≡ not_text) × (IsUtf8 text → ⊥) × (g ≡ e)) ⊎ ((status ≡ no_memory) × IsUtf8 text × (g ≡ e)))
 
 abbrev pub TermPutText : Option PlainTermEndpoint → List ℕ → (List ℕ → UserEvent) → ℕ → Option PlainTermEndpoint → Type 0
 TermPutText before text event status after = AtHandle before status after (λ e status g. PutsText e text event status g)

@@ -185,7 +185,7 @@ kept_stop h stream out piece e g why goes (inr (going, k, first, on, after)) kep
 pub none_full : (e g : PlainHostEndpoint) (piece : List ℕ) → HasRoom e.framer piece → Feeds e piece (Err fault.CountFull) g → ⊥
 none_full e g piece room (inl (why, stops, is, same)) = cc
 none_full e g piece room (inr (going, k, Ok done, on, inl (m, takes, last))) = last
-none_full e g piece room (inr (going, k, Ok done, on, inr (inl (is, same)))) = cc
+none_full e g piece room (inr (going, k, Ok done, on, inr (inl (is, counted, same)))) = cc
 none_full e g piece room (inr (going, k, Ok done, on, inr (inr (is, full, same)))) = let one = on.0.framer in grind arith
 none_full e g piece room (inr (going, k, Err fault.Unfinished, on, (is, same))) = cc
 none_full e g piece room (inr (going, k, Err (fault.Stopped why), on, (is, same))) = cc

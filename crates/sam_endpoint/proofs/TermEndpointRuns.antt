@@ -223,14 +223,14 @@ kept_fed : (stream : List ℕ) (events : List UserEvent) (out piece : List ℕ) 
     → FeedsIdle e piece result g → Kept stream events out e → Kept (stream ++ if_taken result piece) events out g
 kept_fed stream events out piece e g result goes none (inl (k, takes, on)) kept =
     taken_on stream piece events out k g result goes on (kept_piece stream events out piece e k none takes kept)
-kept_fed stream events out piece e g result goes none (inr (inl (is, same))) kept = grind (arith, append-nil, (as_it_was result piece (inl is)))
+kept_fed stream events out piece e g result goes none (inr (inl (is, room, same))) kept = grind (arith, append-nil, (as_it_was result piece (inl is)))
 kept_fed stream events out piece e g result goes none (inr (inr (is, full, same))) kept = grind (arith, append-nil, (as_it_was result piece (inr is)))
 
 kept_put : (stream : List ℕ) (events : List UserEvent) (out : List ℕ) (event : UserEvent) (e g : PlainTermEndpoint) (result : Answer) → GoesOnAfter result
     → PutsIdle e event result g → Kept stream events out e → Kept stream (events ++ if_taken result (event ∷ [])) out g
 kept_put stream events out event e g result goes (inl on) kept =
     held_on stream events (event ∷ []) out (with_event e event) g result goes on (kept_held stream events out e event kept)
-kept_put stream events out event e g result goes (inr (inl (is, same))) kept = grind (arith, append-nil, (as_it_was result (event ∷ []) (inl is)))
+kept_put stream events out event e g result goes (inr (inl (is, room, same))) kept = grind (arith, append-nil, (as_it_was result (event ∷ []) (inl is)))
 kept_put stream events out event e g result goes (inr (inr (is, full, same))) kept = grind (arith, append-nil, (as_it_was result (event ∷ []) (inr is)))
 
 kept_flushed : (stream : List ℕ) (events : List UserEvent) (out : List ℕ) (e g : PlainTermEndpoint) (result : Answer) → GoesOnAfter result → e.unwritten ≡ []

@@ -8,7 +8,7 @@ use Rattle.sam_mesg.specs.declared.tmesg.Tmesg.TheVariants.{Twrite}
 use Rattle.sam_mesg.specs.declared.hmesg.HFrame.{HFrame}
 use Rattle.sam_frame.specs.Direction.{host, terminal}
 use Rattle.sam_frame.specs.Stream.{stream_of}
-use Rattle.sam_frame.specs.Framing.{Held, fresh}
+use Rattle.sam_frame.specs.Framing.{Held, HasRoom, fresh}
 use Rattle.sam_host.specs.Host.{PlainHost, answer, new_host, with_given}
 use Rattle.sam_endpoint.specs.declared.fault.AddFault.{AddFault}
 use Rattle.sam_endpoint.specs.declared.fault.AddFault.TheVariants as refusal
@@ -99,7 +99,7 @@ TakesIn e piece k =
 abbrev pub FeedsIdle : PlainHostEndpoint → List ℕ → Result (Unit {0}) (EndpointFault HostStop) → PlainHostEndpoint → Type 0
 FeedsIdle e piece result g =
     ((k : PlainHostEndpoint) × TakesIn e piece k × GoesOn k result g)
-    ⊎ (((result ≡ Err fault.OutOfMemory) × (g ≡ e))
+    ⊎ (((result ≡ Err fault.OutOfMemory) × HasRoom e.framer piece × (g ≡ e))
     ⊎ ((result ≡ Err fault.CountFull) × (2 ^ 64 ≤ e.framer.offset + length e.framer.bytes + length piece) × (g ≡ e)))
 
 -- what it does with the piece after it went on with what waited

@@ -3,6 +3,7 @@ use Rattle.std.specs.Prelude.{◌≡◌, ◌⊎◌, ℕ, ◌+◌, ◌^◌, ◌<�
 use Rattle.sam_mesg.specs.declared.tmesg.Tmesg.{Tmesg}
 use Rattle.sam_mesg.specs.declared.hmesg.HFrame.{HFrame}
 use Rattle.sam_frame.specs.Direction.{host}
+use Rattle.sam_frame.specs.Framing.{HasRoom}
 use Rattle.sam_frame.specs.Stream.{stream_of}
 use Rattle.sam_host.specs.Edits.{TakesInSilence}
 use Rattle.sam_host.specs.Host.{PlainHost, answer}
@@ -84,7 +85,7 @@ Ends e (Err fault.CountFull) g = ⊥
 -- the framer takes the piece in, or all stays
 abbrev pub Brings : PlainHostEndpoint → List ℕ → Answer → PlainHostEndpoint → Type 0
 Brings e piece (Ok done) g = TakesIn e piece g
-Brings e piece (Err fault.OutOfMemory) g = g ≡ e
+Brings e piece (Err fault.OutOfMemory) g = HasRoom e.framer piece × (g ≡ e)
 Brings e piece (Err fault.CountFull) g = (2 ^ 64 ≤ e.framer.offset + length e.framer.bytes + length piece) × (g ≡ e)
 Brings e piece (Err fault.Unfinished) g = ⊥
 Brings e piece (Err (fault.Stopped why)) g = ⊥

@@ -7,7 +7,7 @@ use Rattle.sam_mesg.specs.declared.fault.MesgFault.{MesgFault}
 use Rattle.sam_mesg.specs.declared.fault.MesgFault.TheVariants as wrong
 use Rattle.sam_frame.specs.Direction.{Direction, terminal, host}
 use Rattle.sam_frame.specs.Stream.{CanEncode}
-use Rattle.sam_frame.specs.Framing.{Held, GaveAll, GaveUp}
+use Rattle.sam_frame.specs.Framing.{Held, HasRoom, GaveAll, GaveUp}
 use Rattle.sam_endpoint.specs.declared.fault.EndpointFault.{EndpointFault}
 use Rattle.sam_endpoint.specs.declared.fault.EndpointFault.TheVariants as fault
 use Rattle.sam_endpoint.specs.declared.fault.StreamFault.{StreamFault}
@@ -34,7 +34,7 @@ Gives d h piece messages (Some fault) k = (place : ℕ) × GaveUp d h piece mess
 -- what the framer gave for the piece; or it took none of it and is as before
 abbrev pub GivesAs : {M S : Type 0} → Direction M → Held → List ℕ → Result (Vec M × Option StreamFault) (EndpointFault S) → Held → Type 0
 GivesAs d h piece (Ok (messages, broken_by)) k = Gives d h piece messages.items broken_by k
-GivesAs d h piece (Err fault.OutOfMemory) k = k ≡ h
+GivesAs d h piece (Err fault.OutOfMemory) k = HasRoom h piece × (k ≡ h)
 GivesAs d h piece (Err fault.CountFull) k = (2 ^ 64 ≤ h.offset + length h.bytes + length piece) × (k ≡ h)
 GivesAs d h piece (Err fault.Unfinished) k = ⊥
 GivesAs d h piece (Err (fault.Stopped why)) k = ⊥

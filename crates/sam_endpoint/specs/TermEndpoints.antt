@@ -4,7 +4,7 @@ use Rattle.sam_mesg.specs.declared.tmesg.Tmesg.{Tmesg}
 use Rattle.sam_mesg.specs.declared.hmesg.HFrame.{HFrame}
 use Rattle.sam_frame.specs.Direction.{host, terminal}
 use Rattle.sam_frame.specs.Stream.{stream_of}
-use Rattle.sam_frame.specs.Framing.{Held, fresh}
+use Rattle.sam_frame.specs.Framing.{Held, HasRoom, fresh}
 use Rattle.sam_term.specs.Fitting.{composed_in}
 use Rattle.sam_term.specs.Term.{PlainTerminal, new_terminal, act_of, flush_of, is_open, rasp_at, take_of}
 use Rattle.sam_term.specs.declared.event.Acted.{Acted}
@@ -189,7 +189,7 @@ TakesIn e piece k =
 abbrev pub FeedsIdle : PlainTermEndpoint → List ℕ → Result (Unit {0}) (EndpointFault TermStop) → PlainTermEndpoint → Type 0
 FeedsIdle e piece result g =
     ((k : PlainTermEndpoint) × TakesIn e piece k × GoesOn k result g)
-    ⊎ (((result ≡ Err fault.OutOfMemory) × (g ≡ e))
+    ⊎ (((result ≡ Err fault.OutOfMemory) × HasRoom e.framer piece × (g ≡ e))
     ⊎ ((result ≡ Err fault.CountFull) × (2 ^ 64 ≤ e.framer.offset + length e.framer.bytes + length piece) × (g ≡ e)))
 
 -- the event is held after the others
@@ -200,7 +200,7 @@ with_event e event = record e { term = record e.term { held = e.term.held ++ eve
 abbrev pub PutsIdle : PlainTermEndpoint → UserEvent → Result (Unit {0}) (EndpointFault TermStop) → PlainTermEndpoint → Type 0
 PutsIdle e event result g =
     GoesOn (with_event e event) result g
-    ⊎ (((result ≡ Err fault.OutOfMemory) × (g ≡ e))
+    ⊎ (((result ≡ Err fault.OutOfMemory) × (e.events < 2 ^ 64 - 1) × (g ≡ e))
     ⊎ ((result ≡ Err fault.CountFull) × (e.events ≡ 2 ^ 64 - 1) × (g ≡ e)))
 
 -- the unsent runes are composed, where nothing waits

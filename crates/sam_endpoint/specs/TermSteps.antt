@@ -1,8 +1,9 @@
 -- What the steps of a terminal end do, of which its calls are made.
-use Rattle.std.specs.Prelude.{◌≡◌, ℕ, ◌+◌, ◌-◌, ◌^◌, ◌≤◌, ◌⊎◌, List, [], ◌∷◌, ◌++◌, length, Bool, true, false, Some, None, Result, Ok, Err}
+use Rattle.std.specs.Prelude.{◌≡◌, ℕ, ◌+◌, ◌-◌, ◌^◌, ◌<◌, ◌≤◌, ◌⊎◌, List, [], ◌∷◌, ◌++◌, length, Bool, true, false, Some, None, Result, Ok, Err}
 use Rattle.sam_mesg.specs.declared.tmesg.Tmesg.{Tmesg}
 use Rattle.sam_mesg.specs.declared.hmesg.HFrame.{HFrame}
 use Rattle.sam_frame.specs.Direction.{terminal}
+use Rattle.sam_frame.specs.Framing.{HasRoom}
 use Rattle.sam_frame.specs.Stream.{stream_of}
 use Rattle.sam_term.specs.Fitting.{composed_in}
 use Rattle.sam_term.specs.Term.{PlainTerminal, act_of, flush_of, take_of}
@@ -153,7 +154,7 @@ Resumes e (Err fault.CountFull) g = ⊥
 -- what a framer gives is taken in, or nothing is
 abbrev pub Gains : PlainTermEndpoint → List ℕ → Answer → PlainTermEndpoint → Type 0
 Gains e piece (Ok done) g = TakesIn e piece g
-Gains e piece (Err fault.OutOfMemory) g = g ≡ e
+Gains e piece (Err fault.OutOfMemory) g = HasRoom e.framer piece × (g ≡ e)
 Gains e piece (Err fault.CountFull) g = (2 ^ 64 ≤ e.framer.offset + length e.framer.bytes + length piece) × (g ≡ e)
 Gains e piece (Err fault.Unfinished) g = ⊥
 Gains e piece (Err (fault.Stopped why)) g = ⊥
@@ -161,7 +162,7 @@ Gains e piece (Err (fault.Stopped why)) g = ⊥
 -- the event is held after the others, or all stays
 abbrev pub Holds : PlainTermEndpoint → UserEvent → Answer → PlainTermEndpoint → Type 0
 Holds e event (Ok done) g = g ≡ with_event e event
-Holds e event (Err fault.OutOfMemory) g = g ≡ e
+Holds e event (Err fault.OutOfMemory) g = (e.events < 2 ^ 64 - 1) × (g ≡ e)
 Holds e event (Err fault.CountFull) g = (e.events ≡ 2 ^ 64 - 1) × (g ≡ e)
 Holds e event (Err fault.Unfinished) g = ⊥
 Holds e event (Err (fault.Stopped why)) g = ⊥
