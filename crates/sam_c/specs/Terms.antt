@@ -1,5 +1,5 @@
 -- What the calls of a terminal do.
-use Rattle.std.specs.Prelude.{◌≡◌, ◌⊎◌, ℕ, List, [], ◌∷◌, length, Bool, true, false, ◌||◌, nat_lt, Option, option_map, Some, None, Result}
+use Rattle.std.specs.Prelude.{◌≡◌, ◌⊎◌, ◌≤◌, ℕ, List, [], ◌∷◌, length, Bool, true, false, ◌||◌, nat_lt, Option, option_map, Some, None, Result}
 use Rattle.std.specs.Str.{encode_utf8_all, IsUtf8}
 use Rattle.sam_runes.specs.Reading.{AreRunes}
 use Rattle.sam_runes.specs.Slots.{slot}
@@ -74,13 +74,14 @@ TermNextRefusal (Some e) before status after g = FirstRefusal e e.refusals befor
 abbrev pub numbers : Change → ℕ × ℕ × ℕ
 numbers c = (c.start, c.gone, c.came)
 
--- the change of an open file's text is handed out, and the next one begins; or memory was refused; of a file that is not open there is none
+-- the change of an open file's text is handed out, and the next one begins; or memory was refused, where neither this file nor one with a
+-- higher tag was asked of before; of a file that is not open there is none
 abbrev pub HandsChange : PlainTermEndpoint → ℕ → Bool → ℕ × ℕ × ℕ → ℕ → ℕ × ℕ × ℕ → Option PlainTermEndpoint → Type 0
 HandsChange e tag false before status after g = (status ≡ nothing) × (after ≡ before) × (g ≡ Some e)
 HandsChange e tag true before status after g =
     ((status ≡ ok) × (after ≡ numbers (change_of (kept_at e.kept tag) (length (rasp_at e.term tag))))
     × (g ≡ Some (record e { kept = asked e.kept tag (length (rasp_at e.term tag)) })))
-    ⊎ ((status ≡ no_memory) × (after ≡ before) × (g ≡ Some e))
+    ⊎ ((status ≡ no_memory) × (length e.kept ≤ tag) × (after ≡ before) × (g ≡ Some e))
 
 abbrev pub TermChanged : Option PlainTermEndpoint → ℕ → ℕ × ℕ × ℕ → ℕ → ℕ × ℕ × ℕ → Option PlainTermEndpoint → Type 0
 TermChanged None tag before status after g = (status ≡ no_handle) × (after ≡ before) × (g ≡ None)

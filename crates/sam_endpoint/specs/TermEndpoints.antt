@@ -224,13 +224,14 @@ Flushes e result g = Calls e result g (λ middle. FlushesIdle middle result g)
 
 -- ## What changed in a text
 
--- the change of an open file's text since this was asked last, and from now on; or it is not open; or memory was refused
+-- the change of an open file's text since this was asked last, and from now on; or it is not open; or memory was refused, where neither
+-- this file nor one with a higher tag was asked of before
 abbrev pub Asks : {E : Type 0} → PlainTermEndpoint → ℕ → Result (Option Change) E → PlainTermEndpoint → Type 0
 Asks e tag (Ok (Some change)) g =
     (is_open e.term tag ≡ true) × (change ≡ change_of (kept_at e.kept tag) (length (rasp_at e.term tag)))
     × (g ≡ record e { kept = asked e.kept tag (length (rasp_at e.term tag)) })
 Asks e tag (Ok None) g = (is_open e.term tag ≡ false) × (g ≡ e)
-Asks e tag (Err why) g = (is_open e.term tag ≡ true) × (g ≡ e)
+Asks e tag (Err why) g = (is_open e.term tag ≡ true) × (length e.kept ≤ tag) × (g ≡ e)
 
 -- ## The end of the stream
 

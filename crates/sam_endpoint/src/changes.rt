@@ -1,6 +1,6 @@
 //! What changed in the texts of a terminal since it was asked last: three numbers for each file, and no copy of a text.
 
-ghost use Rattle.std.specs.Prelude.{◌≡◌, ◌-◌, [], length, IfOk, OnErr, OnOk, Some, None, if◌then◌else◌};
+ghost use Rattle.std.specs.Prelude.{◌≡◌, ◌≤◌, ◌-◌, [], length, IfOk, OnErr, OnOk, Some, None, if◌then◌else◌};
 ghost use Rattle.sam_term.specs.Term.{is_open, rasp_at, window_at};
 ghost use Rattle.sam_endpoint.specs.Changes.{asked, change_of, edit_touch, event_touch, frame_touch, kept_after, kept_at, oldest_touch};
 
@@ -94,10 +94,11 @@ impl Changes {
     }
 
     /// Returns what changed in the text of a file, which has `len` runes and gaps, since this was asked last, and keeps all of it from now
-    /// on. Its only error is out of memory, and nothing has changed then.
+    /// on. Its only error is out of memory, the first time for a tag alone; nothing has changed then.
     pub fn ask(&mut self, tag: u16, len: u32) -> Result<Change, AllocError>
         ensures change { IfOk result (λ change. change ≡ change_of (kept_at self.old tag) len) }
         ensures asked { OnOk result (self.new ≡ asked self.old tag len) }
+        ensures first { OnErr result (length self.old ≤ tag) }
         ensures unchanged { OnErr result (self.new ≡ self.old) }
     {
         let tag = tag as usize;
