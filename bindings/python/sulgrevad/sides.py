@@ -3,7 +3,7 @@ import ctypes
 import operator
 from ctypes import byref, c_bool, c_size_t, c_uint16, c_uint32, c_uint64
 from types import TracebackType
-from typing import Any, Iterator, List, NamedTuple, Optional, Tuple, Type, TypeVar, Union
+from typing import Any, Iterator, List, NamedTuple, NoReturn, Optional, Tuple, Type, TypeVar, Union
 
 from sulgrevad._library import LIBRARY, PIECE, Handle, Text, bytes_of
 from sulgrevad.status import Missing, Status, error_of
@@ -49,8 +49,13 @@ class _Side:
     _prefix = ""
 
     def __init__(self) -> None:
-        self._handle = Handle()
+        if not hasattr(self, "_handle"):  # else it is made already, which the library says
+            self._handle = Handle()
         self._call("new")
+
+    def __reduce__(self) -> NoReturn:
+        """Refuses to be copied or pickled: a copy would free what this one has."""
+        raise TypeError(f"a {type(self).__name__} can't be copied or pickled")
 
     def _answer(self, name: str, *arguments: Any) -> int:
         """Makes a call, and returns its status. ValueError for a number that C's type can't hold: ctypes would wrap it."""
