@@ -10,11 +10,16 @@ fn link_archive(folder: &Path) {
     println!("cargo:rerun-if-changed={}", folder.join("libsulgrevad.a").display());
 }
 
-/// The folder of the archive that `./build_c` left, if this crate lies in the repository.
+/// The folder of the archive that `./build_c` left, if this crate lies in the repository. If there is none yet, this program runs again
+/// at the next build.
 fn folder_of_tree() -> Option<PathBuf> {
     let tree = PathBuf::from(env::var_os("CARGO_MANIFEST_DIR")?).join("../../..");
+    if !tree.join("include/sulgrevad.h").exists() {
+        return None;
+    }
     let out = tree.join("out");
-    (tree.join("include/sulgrevad.h").exists() && out.join("libsulgrevad.a").exists()).then_some(out)
+    println!("cargo:rerun-if-changed={}", out.join("libsulgrevad.a").display());
+    out.join("libsulgrevad.a").exists().then_some(out)
 }
 
 /// The words by which pkg-config has a program linked with the installed library.
