@@ -134,12 +134,14 @@ class _Side:
         return self._number("pending", c_size_t)
 
     def take_out(self, most: Optional[int] = None) -> bytes:
-        """Moves out the pending bytes, all or the first `most`; b"" if there are none. ValueError if `most` is below 0."""
+        """Moves out the pending bytes, all or the first `most`; b"" if there are none. ValueError if `most` is below 0. If there is no
+        memory for them it raises MemoryError, and they are still pending."""
         room = _least(most, self.pending)
         if room == 0:
             return b""
-        into, count = ctypes.create_string_buffer(room), c_size_t()
+        into, count, for_result = ctypes.create_string_buffer(room), c_size_t(), bytes(room)
         self._call("take_out", into, room, byref(count))
+        del for_result  # what is moved out is pending no more, so memory for the result has to be had before
         return ctypes.string_at(into, count.value)
 
     def free(self) -> None:
