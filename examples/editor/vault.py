@@ -5,7 +5,7 @@ A text gets there by the host's snarf buffer. What the user has copied stands at
 from collections import deque
 from typing import Callable, Deque, List, NamedTuple, Optional
 
-from sulgrevad import NoMemory, Terminal
+from sulgrevad import Terminal, Unfinished
 from texts import Texts
 
 NAME = "~~undo~~"  # the vault's name in the session
@@ -107,9 +107,7 @@ class Vault:
         while self._steps and self._is_settled:
             try:
                 self._steps[0]()
-            except NoMemory:
-                raise
-            except MemoryError:  # it was taken all the same
+            except Unfinished:  # it was taken all the same
                 self._steps.popleft()
                 raise
             if self._steps:

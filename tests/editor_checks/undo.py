@@ -255,6 +255,8 @@ def check_undo_without_memory(folder):
         def short(*words):
             if numbers.random() < 0.1:
                 raise NoMemory(Status.NO_MEMORY)
+            if numbers.random() < 0.1:
+                raise MemoryError  # of Python, before the library is called
             edit(*words)
             if numbers.random() < 0.1:
                 raise Unfinished(Status.UNFINISHED)
