@@ -1,7 +1,7 @@
 """What a call answers: the status codes, and the exceptions that carry them."""
 import enum
 import operator
-from typing import Any, Optional, Tuple
+from typing import Any, Dict, Optional, Tuple
 
 from sulgrevad._library import LIBRARY, version_of
 
@@ -149,8 +149,17 @@ FAMILIES = (
 )
 
 
+# What is raised where there is no memory for an exception either: the caller has to learn whether what it brought was taken.
+SPARE: Dict[int, SamError] = {code: SINGLE[code](code) for code in (Status.NO_MEMORY, Status.UNFINISHED)}
+
+
 def error_of(code: int) -> SamError:
     """The exception of a status code."""
-    if code in SINGLE:
-        return SINGLE[Status(code)](code)
-    return next((family for codes, family in FAMILIES if code in codes), SamError)(code)
+    try:
+        if code in SINGLE:
+            return SINGLE[Status(code)](code)
+        return next((family for codes, family in FAMILIES if code in codes), SamError)(code)
+    except MemoryError:
+        if code in SPARE:
+            return SPARE[code].with_traceback(None)
+        raise
