@@ -485,8 +485,9 @@ SAM_MUST_USE sam_status sam_term_bytes(sam_term *term, uint16_t tag, uint32_t st
  * the text is the last place that it hands out. It is `start` if that is after the end. */
 SAM_MUST_USE sam_status sam_term_place(sam_term *term, uint16_t tag, uint32_t start, size_t bytes, uint32_t *place);
 
-/* The place after that many line ends (U+000A) of an open file from the place `start` on, where a line begins. SAM_NONE also if a gap or
- * the end of the text comes before. These four cost by the runes from `start` on that they look at, and not by those before it. */
+/* The place after that many line ends (U+000A) of an open file from the place `start` on, where a line begins; for 0 of them it is `start`,
+ * wherever that is. SAM_NONE also if a gap or the end of the text comes before. These four cost by the runes from `start` on that they look
+ * at, and not by those before it. */
 SAM_MUST_USE sam_status sam_term_line(sam_term *term, uint16_t tag, uint32_t start, uint32_t lines, uint32_t *place);
 
 /* What changed in an open file since this was asked of it last: in the old text `gone` runes or gaps from the place `start` on gave way to

@@ -3,7 +3,7 @@ from itertools import repeat
 from struct import Struct
 from typing import Callable, Dict, List, NamedTuple, Optional
 
-from sulgrevad import NoMemory, SamError, Terminal
+from sulgrevad import SamError, Terminal, Unfinished
 from texts import GAP, Change, Texts
 
 # Kinds of frames.
@@ -123,12 +123,10 @@ class Stream:
             raise
 
     def _give(self, end: int, then: Callable[[], None]) -> None:
-        """Has the terminal take the bytes up to an end. Out of memory it may have taken them all the same."""
+        """Has the terminal take the bytes up to an end. After Unfinished it has taken them all the same."""
         try:
             self.terminal.feed(bytes(self._bytes[self._given : end]))
-        except NoMemory:
-            raise
-        except MemoryError:
+        except Unfinished:
             then()
             raise
         then()

@@ -1,7 +1,7 @@
 """Undo: the changes of each file, oldest first. Of a text nothing is kept but what came and what went."""
 from typing import Dict, List, Optional
 
-from sulgrevad import NoMemory, Terminal
+from sulgrevad import Terminal, Unfinished
 from texts import GAP, Change, Texts, runs
 from vault import Kept, Part, Vault
 
@@ -196,9 +196,7 @@ class Undo:
                     self._fill(step, changes, made, sign)
                 try:
                     self.terminal.edit(tag, run.place, run.place + run.gone, "".join(run.came))
-                except NoMemory:
-                    raise
-                except MemoryError:  # it was taken all the same
+                except Unfinished:  # it was taken all the same
                     made += run.count
                     raise
                 made += run.count

@@ -5,7 +5,7 @@ A text gets there by the host's snarf buffer. What the user has copied stands at
 from collections import deque
 from typing import Callable, Deque, List, NamedTuple, Optional
 
-from sulgrevad import NoMemory, Terminal
+from sulgrevad import Terminal, Unfinished
 from texts import Texts
 
 NAME = "~~undo~~"  # the vault's name in the session
@@ -107,9 +107,7 @@ class Vault:
         while self._steps and self._is_settled:
             try:
                 self._steps[0]()
-            except NoMemory:
-                raise
-            except MemoryError:  # it was taken all the same
+            except Unfinished:  # it was taken all the same
                 self._steps.popleft()
                 raise
             if self._steps:
@@ -122,6 +120,13 @@ class Vault:
 
     # ---- Steps
 
+    def _select(self, tag: int, start: int, end: int) -> None:
+        """Sets the dot for the call after it. Where memory is out that call isn't made, so the step is taken again."""
+        try:
+            self.terminal.select(tag, start, end)
+        except Unfinished as why:
+            raise MemoryError(str(why)) from why
+
     def _begin(self, tag: int) -> None:
         self._file = tag
         if not self.terminal.is_open(self.tag):
@@ -133,7 +138,7 @@ class Vault:
         live = self.live()
         for part in [part for part in self._parts if part not in live]:
             before = self.terminal.len(self.tag)
-            self.terminal.select(self.tag, part.start, part.end)
+            self._select(self.tag, part.start, part.end)
             try:
                 self.terminal.type(self.tag, "")
             finally:  # out of memory it may be gone all the same
@@ -151,7 +156,7 @@ class Vault:
     def _paste(self) -> None:
         """Puts the snarf buffer at the vault's end."""
         end = self.terminal.len(self.tag)
-        self.terminal.select(self.tag, end, end)
+        self._select(self.tag, end, end)
         self.terminal.paste(self.tag)
 
     def _note_copied(self) -> None:
@@ -165,13 +170,13 @@ class Vault:
             self._steps.clear()
 
     def _snarf(self, tag: int, start: int, end: int) -> None:
-        self.terminal.select(tag, start, end)
+        self._select(tag, start, end)
         self.terminal.snarf(tag)
 
     def _give_copied_back(self) -> None:
         """Makes what the user has copied the snarf buffer again."""
         if self._copied > 0:
-            self.terminal.select(self.tag, self._length, self._length + self._copied)
+            self._select(self.tag, self._length, self._length + self._copied)
             self.terminal.cut(self.tag)
         elif not self.has_lost_copied:
             self.terminal.set_snarf("")

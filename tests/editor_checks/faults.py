@@ -209,6 +209,8 @@ def check_stream_without_memory(folder):
         def short(data=b""):
             if numbers.random() < 0.2:
                 raise NoMemory(Status.NO_MEMORY)
+            if numbers.random() < 0.2:
+                raise MemoryError  # of Python, before the library is called
             while waiting:
                 feed(waiting.pop())
             if numbers.random() < 0.3:

@@ -255,6 +255,8 @@ def check_undo_without_memory(folder):
         def short(*words):
             if numbers.random() < 0.1:
                 raise NoMemory(Status.NO_MEMORY)
+            if numbers.random() < 0.1:
+                raise MemoryError  # of Python, before the library is called
             edit(*words)
             if numbers.random() < 0.1:
                 raise Unfinished(Status.UNFINISHED)
@@ -274,6 +276,49 @@ def check_undo_without_memory(folder):
             noted.pair.press(noted.key("^Z"))
             noted.expect_text(f"seed {seed}, at the end")
         expect(noted.pair.host.text(1) == noted.texts[0], f"seed {seed}: it is not all taken back")
+
+
+class Short:
+    """A terminal that is out of memory now and then, before it takes an event or after it."""
+
+    def __init__(self, terminal, numbers):
+        self._terminal, self._numbers = terminal, numbers
+
+    def __getattr__(self, name):
+        from sulgrevad import NoMemory, Status, Unfinished
+
+        act = getattr(self._terminal, name)
+
+        def short(*words):
+            if self._numbers.random() < 0.2:
+                raise NoMemory(Status.NO_MEMORY)
+            act(*words)
+            if self._numbers.random() < 0.2:
+                raise Unfinished(Status.UNFINISHED)
+
+        return short if name in ("select", "snarf", "cut", "paste", "set_snarf", "open", "work") else act
+
+
+def check_vault_without_memory(folder):
+    """Where memory is out while the host keeps a text or puts it back, that goes on, and so what went and what was copied come back."""
+    for seed in range(12):
+        pair, editor, key, text = in_a_small_window(has_vault=True)
+        go_on = editor.vault.go_on
+
+        def until_taken():
+            while True:
+                try:
+                    return go_on()
+                except MemoryError:
+                    continue
+
+        editor.vault.terminal, editor.vault.go_on = Short(pair.terminal, random.Random(seed)), until_taken
+        pair.press(key("Shift-End"), key("^C"), key("^A"), key("Backspace"))
+        expect(pair.host.text(1) == "", f"seed {seed}: it doesn't go: {editor.message}")
+        pair.press(key("^Z"))
+        expect(pair.host.text(1) == LONG, f"seed {seed}: it doesn't come back: {editor.message}")
+        pair.press(key("^Home"), key("^V"))
+        expect(pair.host.text(1) == "line 0 foo" + LONG, f"seed {seed}: what was copied is lost: {editor.message}")
 
 
 def check_room_to_keep(folder):

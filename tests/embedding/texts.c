@@ -302,6 +302,8 @@ static void measures_with_gaps(sam_term *term)
     wants_place(term, 0, 99, 0);
     wants_place(term, 99, 1, 99);
     wants_line(term, 0, 0, SAM_OK, 0);
+    wants_line(term, 99, 0, SAM_OK, 99);
+    wants_line(term, 99, 1, SAM_NONE, 0);
     wants_line(term, 0, 1, SAM_NONE, 0);
     wants_line(term, 1, 1, SAM_OK, 2);
     wants_line(term, 1, 2, SAM_OK, 5);

@@ -24,8 +24,9 @@ is given may be a `str`, or its UTF-8 as `bytes`.
 Errors: each family of status codes has an exception class below `SamError`, whose `code` is the `Status`; `status_text` explains one.
 Out of memory: `NoMemory` says that what the call brought was not taken: make it again. `Unfinished` says that it was taken: don't bring
 it again. The next `feed`, event or `flush_now` goes on, and `feed()` without bytes does just that; it raises `NoMemory` while memory is
-still short. Both are `MemoryError`s, and neither ends anything. A number that C's types can't hold is a `ValueError`, and what is no
-number or no text a `TypeError`, before the library is called.
+still short. Both are `MemoryError`s, and neither ends anything. A `MemoryError` that is neither is Python's own: what the call brought was
+not taken. A number that C's types can't hold is a `ValueError`, and what is no number or no text a `TypeError`, before the library is
+called.
 
 The shared library is the first of these that is there:
 

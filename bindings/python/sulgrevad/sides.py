@@ -3,7 +3,7 @@ import ctypes
 import operator
 from ctypes import byref, c_bool, c_size_t, c_uint16, c_uint32, c_uint64
 from types import TracebackType
-from typing import Any, Iterator, List, NamedTuple, Optional, Tuple, Type, TypeVar, Union
+from typing import Any, Iterator, List, NamedTuple, NoReturn, Optional, Tuple, Type, TypeVar, Union
 
 from sulgrevad._library import LIBRARY, PIECE, Handle, Text, bytes_of
 from sulgrevad.status import Missing, Status, error_of
@@ -49,8 +49,13 @@ class _Side:
     _prefix = ""
 
     def __init__(self) -> None:
-        self._handle = Handle()
+        if not hasattr(self, "_handle"):  # else it is made already, which the library says
+            self._handle = Handle()
         self._call("new")
+
+    def __reduce__(self) -> NoReturn:
+        """Refuses to be copied or pickled: a copy would free what this one has."""
+        raise TypeError(f"a {type(self).__name__} can't be copied or pickled")
 
     def _answer(self, name: str, *arguments: Any) -> int:
         """Makes a call, and returns its status. ValueError for a number that C's type can't hold: ctypes would wrap it."""
@@ -129,12 +134,14 @@ class _Side:
         return self._number("pending", c_size_t)
 
     def take_out(self, most: Optional[int] = None) -> bytes:
-        """Moves out the pending bytes, all or the first `most`; b"" if there are none. ValueError if `most` is below 0."""
+        """Moves out the pending bytes, all or the first `most`; b"" if there are none. ValueError if `most` is below 0. If there is no
+        memory for them it raises MemoryError, and they are still pending."""
         room = _least(most, self.pending)
         if room == 0:
             return b""
-        into, count = ctypes.create_string_buffer(room), c_size_t()
+        into, count, for_result = ctypes.create_string_buffer(room), c_size_t(), bytes(room)
         self._call("take_out", into, room, byref(count))
+        del for_result  # what is moved out is pending no more, so memory for the result has to be had before
         return ctypes.string_at(into, count.value)
 
     def free(self) -> None:

@@ -1,6 +1,7 @@
 """What a call answers: the status codes, and the exceptions that carry them."""
 import enum
-from typing import Optional, Tuple
+import operator
+from typing import Any, Dict, Optional, Tuple
 
 from sulgrevad._library import LIBRARY, version_of
 
@@ -53,7 +54,7 @@ class Status(enum.IntEnum):
 def status_text(code: int) -> str:
     """The name of a status and a sentence about it, as "SAM_NOT_TEXT: the bytes are not UTF-8"; "unknown status" for any other number.
     ValueError for a number that a status can't be."""
-    if not 0 <= code < 2**32:
+    if not 0 <= operator.index(code) < 2**32:
         raise ValueError(f"{code} is not from 0 to {2**32 - 1}")
     text: bytes = LIBRARY.sam_status_text(code)
     return text.decode()
@@ -75,6 +76,10 @@ class SamError(Exception):
         except ValueError:
             self.code = code
         super().__init__(status_text(code) if isinstance(self.code, Status) else f"status {code}")
+
+    def __reduce__(self) -> Tuple[Any, ...]:
+        """Is copied and pickled by its code, of which the sentence is made."""
+        return type(self), (self.code,), self.__dict__
 
 
 class NoMemory(SamError, MemoryError):
@@ -144,8 +149,17 @@ FAMILIES = (
 )
 
 
+# What is raised where there is no memory for an exception either: the caller has to learn whether what it brought was taken.
+SPARE: Dict[int, SamError] = {code: SINGLE[code](code) for code in (Status.NO_MEMORY, Status.UNFINISHED)}
+
+
 def error_of(code: int) -> SamError:
     """The exception of a status code."""
-    if code in SINGLE:
-        return SINGLE[Status(code)](code)
-    return next((family for codes, family in FAMILIES if code in codes), SamError)(code)
+    try:
+        if code in SINGLE:
+            return SINGLE[Status(code)](code)
+        return next((family for codes, family in FAMILIES if code in codes), SamError)(code)
+    except MemoryError:
+        if code in SPARE:
+            return SPARE[code].with_traceback(None)
+        raise
