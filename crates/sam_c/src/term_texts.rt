@@ -91,8 +91,8 @@ pub extern "C" fn sam_term_place(
     })
 }
 
-/// Hands out the place after so many line ends of an open file from the place `start` on: where a line begins. `SAM_NONE` also if a gap or
-/// the end of the text comes before.
+/// Hands out the place after so many line ends of an open file from the place `start` on: where a line begins, or `start` itself for none.
+/// `SAM_NONE` also if a gap or the end of the text comes before.
 #[unsafe(no_mangle)]
 pub extern "C" fn sam_term_line(
     term: &mut SamTerm,
