@@ -198,7 +198,7 @@
 
   ;; Edits of all kinds.
   (dotimes (number 200) (one-edit number) (same (format "after edit %d" number)))
-  (sulgrevad-save)
+  (keys "C-x C-s")
   (check "the disk has what was saved" (equal (sulgrevad--text) (disk one)))
   (check "it is no more changed" (not (buffer-modified-p)))
 
@@ -230,8 +230,8 @@
   ;; Command lines, which change the text from the other side, and undo of that.
   (sulgrevad-command ",c/one two one\\n/")
   (check "a command line" (equal (sulgrevad--text) "one two one\n") (sulgrevad--text))
-  (sulgrevad-command ",x/one/c/1/")
-  (check "a second" (equal (sulgrevad--text) "1 two 1\n"))
+  (keys "C-c C-c ,x/one/c/1/ RET")
+  (check "a second, by the keys for it" (equal (sulgrevad--text) "1 two 1\n"))
   (check "what it prints" (equal (sulgrevad-command "/two/p") "two"))
   (check "where it selects" (and (= (point) 6) (= (mark t) 3)) (point) (mark t))
   (check "after what it printed" (equal (sulgrevad-command "fly") "? command\n") (sulgrevad-command "fly"))
@@ -255,7 +255,7 @@
     (check "a large text is loaded whole" (equal (sulgrevad--text) (make-string 2000 ?g)) printed))
 
   ;; Another file, narrowed.
-  (sulgrevad-find other)
+  (keys (format "M-x sulgrevad-find RET %s RET" other))
   (check "the other file" (equal (sulgrevad--text) (disk other)))
   (narrow-to-region 3 5)
   (goto-char 4)
@@ -279,7 +279,7 @@
   (sulgrevad-quit)
   (check "the host ends" (with-timeout (10 nil) (while (process-live-p sulgrevad--process) (accept-process-output nil 0.05)) t))
   (check "in peace" (eql (process-exit-status sulgrevad--process) 0) (process-exit-status sulgrevad--process))
-  (sulgrevad-start (append host (list one other)))
+  (sulgrevad-start (mapconcat #'shell-quote-argument (append host (list one other)) " ")) ; a line for the shell
   (check-edits)
   (check-refusals)
   (sulgrevad-save)

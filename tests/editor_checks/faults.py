@@ -52,15 +52,19 @@ def check_goes_on(folder):
 
 
 def check_suspend(folder):
-    """Two keys give the terminal back to the shell, whose `fg` goes on."""
-    for at, name in enumerate(("F12", "C-\\")):
+    """Two keys and a signal give the terminal back to the shell, whose `fg` goes on."""
+    for at, key in enumerate(("F12", "C-\\", None)):
         place = folder / str(at)
         place.mkdir()
         made(place, a="one\n")
         line = f"{SAMTERM} --host {SAMHOST} a.txt; echo back in the shell; read x; fg"
         with Session(place, "a.txt", program=f"bash --norc -ic 'set -m; {line}' --") as session:
             session.wait_for("one")
-            session.keys(name)
+            if key:
+                session.keys(key)
+            else:
+                terminal = next(process for name, process in session.processes().items() if name.startswith("python"))
+                os.kill(terminal, signal.SIGTSTP)
             session.wait_for("back in the shell")
             session.keys("Enter")
             session.wait_for("| up ")

@@ -24,6 +24,7 @@ def check_host_words(folder):
         (["a", "a"], 1, "twice"),
         (["latin.txt", "hard"], 1, "twice"),
         (["latin.txt", "soft"], 1, "twice"),
+        ([], 0, ""),
     ):
         ended = host(folder, *words, input=b"")
         expect(ended.returncode == status and told in ended.stderr.decode(), f"{words}: {ended.returncode}, {ended.stderr}")

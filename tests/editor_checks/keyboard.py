@@ -12,8 +12,9 @@ def check_sequences(folder):
     known = {
         "^Left": ("[1;5D", "Od"), "^Right": ("[1;5C", "Oc"), "Shift-Left": ("[1;2D", "[d"), "Shift-Home": ("[1;2H", "[7$"),
         "^Home": ("[1;5H", "[7^"), "Home": ("[H", "OH", "[1~", "[7~"), "End": ("[F", "OF", "[4~", "[8~"), "F1": ("OP", "[11~", "[[A"),
-        "F5": ("[15~", "[[E"), "F12": ("[24~",), "Alt-b": ("b",), "Up": ("[A", "OA"), "Alt-Up": ("[1;3A", "\x1b[A"), "Delete": ("[3~",),
-        "^Delete": ("[3;5~", "[3^"), "Alt-Backspace": ("\x7f",), "^A": ("[97;5u", "[27;5;97~"), "Shift-Tab": ("[Z",),
+        "F2": ("OQ", "[12~", "[[B"), "F3": ("OR", "[13~", "[[C"), "F4": ("OS", "[14~", "[[D"), "F5": ("[15~", "[[E"), "F6": ("[17~",),
+        "F7": ("[18~",), "F8": ("[19~",), "F12": ("[24~",), "Alt-b": ("b",), "Up": ("[A", "OA"), "Alt-Up": ("[1;3A", "\x1b[A"),
+        "Delete": ("[3~",), "^Delete": ("[3;5~", "[3^"), "Alt-Backspace": ("\x7f",), "^A": ("[97;5u", "[27;5;97~"), "Shift-Tab": ("[Z",),
     }  # fmt: skip
     for name, forms in known.items():
         for form in forms:

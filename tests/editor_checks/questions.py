@@ -194,11 +194,14 @@ def check_late_word_of_a_write(folder):
 def check_worst_line_first(folder):
     """What the host tells of a text stays until it is read, the worst first."""
     pair, editor, key, text = opened("a\n")
-    lost = "what came last from the terminal is lost: no room"
-    for line in ("file0 was not written; its text is in /tmp/x", "the text of file0 is lost: no room", "? write file0: no room", lost):
+    for line in (
+        "file0 was not written; its text is in /tmp/x", "the text of file0 is lost: no room", "? write file0: no room",
+        "the text of file0 can't be saved aside: no room", "what came last from the terminal is lost: no room",
+        "file0 is closed, and its text can't be saved: no room",
+    ):  # fmt: skip
         editor.hear("samhost: " + line)
     editor.hear("another program")
-    for wanted in ("text of file0 is lost", "terminal is lost", "? write", "its text is in"):
+    for wanted in ("text of file0 is lost", "terminal is lost", "is closed", "? write", "saved aside", "its text is in"):
         expect(wanted in editor.message, f"it shows {editor.message!r}, wanted {wanted!r}")
         editor.take(key("Left"))
         expect(wanted in editor.message, "a line that nobody can have read goes with a key")
@@ -301,7 +304,7 @@ def check_lines_when_lost(folder):
     expect(editor.keeping.typed_late == "yy", f"of what is typed then it keeps {editor.keeping.typed_late!r}")
 
 
-def check_texts_of_one_name(folder):
+def check_open_texts_of_one_name(folder):
     """Files may have the same name, or paths that end in the same 63 characters. Of each that was changed the text is kept."""
     pair, editor, key, text = opened("a\n", "b\n")
     for window, rune in zip(editor.files, "xy"):
