@@ -119,7 +119,76 @@
   (goto-char (point-max))
   (insert "!")
   (run-hooks 'post-command-hook)
-  (same "nor from the terminal"))
+  (same "nor from the terminal")
+  (add-hook 'before-change-functions (lambda (&rest _) (error "Not mine")) nil t)
+  (let ((inhibit-modification-hooks t)) (insert (unibyte-char-to-multibyte 255)))
+  (run-hooks 'post-command-hook)
+  (check "nor what is no text in the buffer" (equal (sulgrevad--text) "after all!") (sulgrevad--text)))
+
+(defun check-quit ()
+  "A quit loses none of the bytes that are being sent."
+  (let ((quit (lambda (bytes) (unless (string-empty-p bytes) (setq quit-flag t)) bytes)))
+    (advice-add 'sulgrevad--take-out :filter-return quit)
+    (insert "quit ")
+    (condition-case nil (sulgrevad--pump t) (quit nil))
+    (advice-remove 'sulgrevad--take-out quit)))
+
+(defun check-mode (file)
+  "The buffer's file FILE stays the host's in another major mode."
+  (text-mode)
+  (run-hooks 'post-command-hook)
+  (insert "m")
+  (same "an edit in another major mode")
+  (keys "m")
+  (same "a key there")
+  (check "the keys are the same there" (eq (key-binding (kbd "C-x C-s")) #'sulgrevad-save))
+  (check-quit)
+  (sulgrevad-save)
+  (check "the disk has all" (equal (disk file) (sulgrevad--text)) (disk file)))
+
+(defun check-refused-write (file)
+  "That the host has not written FILE is said, and not that it has."
+  (write-region "another's\n" nil file nil 'silent)
+  (let ((words (said #'sulgrevad-save)))
+    (check "that another program changed a file is said" (string-search "another program changed it" (or (car words) "")) words)
+    (check "and not that it is written" (not (cl-some (lambda (one) (string-search "has written" one)) words)) words))
+  (check "it is as it was" (equal (disk file) "another's\n") (disk file))
+  (check "the next write is said" (string-search "has written" (or (car (said #'sulgrevad-save)) "")))
+  (check "the disk has it" (equal (disk file) (sulgrevad--text)) (disk file)))
+
+(defun check-beginning (host file)
+  "What the host says of a FILE that it refuses is the error, and patience is for an answer, not for all of a long text."
+  (let ((coding-system-for-write 'latin-1-unix)) (write-region "\u00e9" nil file nil 'silent))
+  (check "a host that refuses a file says why"
+         (condition-case why (ignore (sulgrevad-start (list (car (last host)) file)))
+           (error (string-search "it is not UTF-8" (error-message-string why)))))
+  (write-region (make-string 60000 ?l) nil file nil 'silent)
+  (let ((sulgrevad-patience 2)) (sulgrevad-start (append host (list file))))
+  (check "a long text comes" (= (buffer-size) 60000) (buffer-size))
+  (sulgrevad-quit))
+
+(defun check-next-session (host file)
+  "What is left of a lost session, the current buffer and its host's process, does nothing to one of HOST with FILE."
+  (let ((lost (current-buffer)) (process sulgrevad--process) (text (disk file)))
+    (sulgrevad-start (append host (list file)))
+    (with-current-buffer lost
+      (condition-case nil (sulgrevad-save) (error nil))
+      (let ((inhibit-read-only t)) (insert "lost "))
+      (run-hooks 'post-command-hook))
+    (sulgrevad--came process (string 255 255 255))
+    (check "the next session goes on" sulgrevad--term)
+    (check "its text is its own" (equal (theirs) text) (theirs))
+    (check "and so is its file" (equal (disk file) text) (disk file))))
+
+(defun check-wrong-stream (file)
+  "Where the host's stream is wrong the host ends, and saves what FILE is to have."
+  (keys "w")
+  (let ((process sulgrevad--process))
+    (sulgrevad--came process (string 255 255 255))
+    (check "a wrong stream ends the session" (null sulgrevad--term))
+    (with-timeout (10 nil) (while (process-live-p process) (accept-process-output nil 0.05)))
+    (check "and the host" (eq (process-status process) 'exit) (process-status process))
+    (check "which saves the text" (equal (disk (concat file ".sam-saved")) (sulgrevad--text)))))
 
 (defmacro short-of-memory (file number &rest body)
   "Do BODY while FILE has the module's requests for memory refused, all but the first NUMBER."
@@ -264,6 +333,8 @@
   (same "an edit of a narrowed buffer")
   (sulgrevad-save)
   (check "the disk has it" (equal (disk other) "othner\n") (disk other))
+  (check-mode other)
+  (check-refused-write other)
   (sulgrevad-find one)
   (goto-char (point-max))
   (keys "k")
@@ -298,4 +369,7 @@
     (condition-case nil (keys "z") (error nil))
     (check "the text stays" (equal (sulgrevad--text) text) (sulgrevad--text))
     (check "it is known as changed" (buffer-modified-p)))
+  (check-next-session host one)
+  (check-wrong-stream one)
+  (check-beginning host (expand-file-name "more.txt" folder))
   (princ (format "%d passed, %d failed\n" passed failed)))

@@ -319,6 +319,14 @@ static int fill_again(int file, const struct text *text)
     return sync_written(file, error);
 }
 
+/* Whether a path still leads to an open file. */
+static bool is_at(int file, const char *path)
+{
+    struct stat own, there;
+
+    return fstat(file, &own) == 0 && stat(path, &there) == 0 && own.st_dev == there.st_dev && own.st_ino == there.st_ino;
+}
+
 /* Writes into an open file, which has `old`, unless that has changed by now. Where the write fails, the file gets `old` back; where that
  * fails, too, `old` stays where it is kept. */
 static int write_over(struct request *request, int file, const struct text *old)
@@ -329,7 +337,7 @@ static int write_over(struct request *request, int file, const struct text *old)
     if (error != 0)
         return error;
     request->found = content_at(request->path);
-    if (!is_same(request->found, kept.content))
+    if (!is_same(request->found, kept.content) || !is_at(file, request->path))
         error = IS_CHANGED;
     else
         error = fill_again(file, request->text);
@@ -360,7 +368,7 @@ static int put_in_place(struct request *request)
 /* Whether an error means that no new file can take the place of one, while that one may yet be written. */
 static bool is_of_the_place(int error)
 {
-    return error == EACCES || error == EPERM || error == EROFS || error == EBUSY || error == EXDEV;
+    return error == EACCES || error == EPERM || error == EROFS || error == EBUSY || error == EXDEV || error == ENAMETOOLONG;
 }
 
 int put_file(struct request *request)

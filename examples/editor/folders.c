@@ -123,6 +123,6 @@ int add_folder(struct session *session, const char *path, struct marks *marks)
     else if (offer.taken == 0)
         say("%s has no text files", path);
     if (offer.left_out > 0)
-        say("%s: %d files are left out, as they are no UTF-8 text, or too long", path, offer.left_out);
+        say("%s: %d files are left out, as they are no UTF-8 text, are too long or can't be read", path, offer.left_out);
     return offer.status;
 }

@@ -67,7 +67,7 @@ int end_of_links(const char *path, char **end)
     char target[LINK_ROOM];
     char *at = formatted("%s", path);
 
-    for (int links = 0; at != NULL && links < MOST_LINKS; links++) {
+    for (int links = 0; at != NULL && links <= MOST_LINKS; links++) {
         ssize_t len = readlink(at, target, sizeof target - 1);
         if (len < 0) { /* it is no link, or not there: what is wrong shows when it is used */
             *end = at;

@@ -218,7 +218,7 @@ static bool wait_for_bytes(const struct session *session, const sigset_t *mask, 
     if (!wire->is_broken && wire->sent < wire->output_len)
         FD_SET(STDOUT_FILENO, &out);
     if (pselect(STDOUT_FILENO + 1, &in, &out, NULL, is_waiting || wire->is_short ? &pause : NULL, mask) < 0)
-        return false;
+        return errno != EINTR; /* what is wrong with the input shows when it is read */
     return FD_ISSET(STDIN_FILENO, &in);
 }
 

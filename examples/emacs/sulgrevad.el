@@ -35,12 +35,17 @@
 (defvar sulgrevad--term nil "The terminal of the session, or nil.")
 (defvar sulgrevad--process nil "The host's process.")
 (defvar sulgrevad--inbox nil "What came from the host and is not fed yet, oldest first; \"\" to go on with what waits for memory.")
+(defvar sulgrevad--told nil "What the host has told since it was last to write a file.")
 (defvar sulgrevad--buffers nil "The buffers of open files.")
 (defvar sulgrevad--is-pumping nil "Whether bytes are being fed and sent.")
 (defvar sulgrevad--is-taking nil "Whether a buffer is being changed to what the terminal has.")
 (defvar-local sulgrevad--tag nil "The tag of the buffer's file.")
 (defvar-local sulgrevad--tick nil "The buffer's tick after the last change that the terminal knows.")
 (defvar-local sulgrevad--has-drifted nil "Whether the terminal may not know all changes of the buffer.")
+(dolist (name '(sulgrevad--tag sulgrevad--tick sulgrevad--has-drifted sulgrevad-mode)) ; they outlive a change of the major mode
+  (put name 'permanent-local t))
+(dolist (name '(sulgrevad--before-change sulgrevad--after-change))
+  (put name 'permanent-local-hook t))
 
 (defvar sulgrevad-mode-map
   (let ((map (make-sparse-keymap)))
@@ -147,11 +152,12 @@ It may signal `sulgrevad-no-memory': then it is to be called again."
 With WHOLE change it wherever the two differ: what was not handed over goes."
   (let ((is-free (sulgrevad--is-free)) (inhibit-quit t)) ; the terminal says only once what changed
     (when (and is-free (or whole (not sulgrevad--has-drifted)))
-      (pcase (sulgrevad--changed sulgrevad--term sulgrevad--tag)
-        ((guard whole) (sulgrevad--put-all))
-        (`(,start ,gone ,came)
-         (condition-case nil (sulgrevad--put start (+ start gone) (+ start came))
-           (error (let ((inhibit-modification-hooks t)) (sulgrevad--put-all)))))) ; another's hook has failed
+      (let ((changed (sulgrevad--changed sulgrevad--term sulgrevad--tag)))
+        (condition-case nil
+            (pcase changed
+              ((guard whole) (sulgrevad--put-all))
+              (`(,start ,gone ,came) (sulgrevad--put start (+ start gone) (+ start came))))
+          (error (let ((inhibit-modification-hooks t)) (sulgrevad--put-all))))) ; another's hook has failed
       (setq sulgrevad--has-drifted nil
             sulgrevad--tick (buffer-chars-modified-tick))
       (restore-buffer-modified-p (and (/= sulgrevad--tag 0) (sulgrevad--is-changed sulgrevad--term sulgrevad--tag))))
@@ -164,13 +170,21 @@ With WHOLE change it wherever the two differ: what was not handed over goes."
   (setq sulgrevad--buffers (cl-remove-if-not #'buffer-live-p sulgrevad--buffers))
   (dolist (buffer sulgrevad--buffers) (with-current-buffer buffer (funcall function))))
 
+(defun sulgrevad--let-go ()
+  "Have the buffer stay readable, and be of no file of a later session."
+  (setq buffer-read-only t sulgrevad--tag nil)
+  (sulgrevad-mode -1)
+  (remove-hook 'before-change-functions #'sulgrevad--before-change t)
+  (remove-hook 'after-change-functions #'sulgrevad--after-change t))
+
 (defun sulgrevad--lose (why)
-  "The session is over, because of WHY. What the buffers have stays readable."
+  "The session is over, because of WHY.  A host that is still there ends, too, and saves what was not written."
   (when sulgrevad--term
     (setq sulgrevad--term nil)
     (remove-hook 'post-command-hook #'sulgrevad--after-command)
     (remove-hook 'pre-command-hook #'sulgrevad--before-command)
-    (sulgrevad--each (lambda () (setq buffer-read-only t)))
+    (sulgrevad--each #'sulgrevad--let-go)
+    (when (process-live-p sulgrevad--process) (ignore-errors (process-send-eof sulgrevad--process)))
     (message "Sulgrevad: %s" why)))
 
 (defun sulgrevad--pump (&optional is-pausing)
@@ -206,15 +220,21 @@ With IS-PAUSING what was typed is sent, too."
 
 (defun sulgrevad--send ()
   "Send what is pending.  Where the host ends meanwhile, `sulgrevad--ended' says so."
-  (let (bytes)
+  (let ((inhibit-quit t) bytes)         ; what was taken out is nowhere else
     (while (and sulgrevad--term (not (string-empty-p (setq bytes (sulgrevad--take-out sulgrevad--term)))))
       (when (process-live-p sulgrevad--process)
         (ignore-errors (process-send-string sulgrevad--process bytes))))))
 
-(defun sulgrevad--came (_process bytes)
-  "Feed BYTES, now or when what is fed now is done."
-  (setq sulgrevad--inbox (nconc sulgrevad--inbox (list bytes)))
-  (sulgrevad--pump))
+(defun sulgrevad--came (process bytes)
+  "Feed BYTES, now or when what is fed now is done, unless PROCESS is the host of an earlier session."
+  (when (eq process sulgrevad--process)
+    (setq sulgrevad--inbox (nconc sulgrevad--inbox (list bytes)))
+    (sulgrevad--pump)))
+
+(defun sulgrevad--tell (_process text)
+  "Show TEXT, which the host tells."
+  (setq sulgrevad--told (concat sulgrevad--told text))
+  (message "%s" (string-trim text)))
 
 (defun sulgrevad--ended (_process _event)
   "Say that the host is gone, where the session was not over."
@@ -223,11 +243,12 @@ With IS-PAUSING what was typed is sent, too."
     (sulgrevad--lose (if (and sulgrevad--term (sulgrevad--exited sulgrevad--term)) "the session is over" "the host is gone"))))
 
 (defun sulgrevad--wait (is-there)
-  "Feed and send until IS-THERE returns non-nil, the host is gone, or patience ends.  Return what IS-THERE does."
+  "Feed and send until IS-THERE returns non-nil, the host is gone, or nothing has come for too long.  Return what IS-THERE does."
   (let ((end (+ (float-time) sulgrevad-patience)) found)
     (sulgrevad--pump t)
     (while (and (not (setq found (funcall is-there))) sulgrevad--term (process-live-p sulgrevad--process) (< (float-time) end))
-      (accept-process-output sulgrevad--process 0.05)
+      (when (accept-process-output sulgrevad--process 0.05)
+        (setq end (+ (float-time) sulgrevad-patience)))
       (sulgrevad--pump t))
     found))
 
@@ -246,12 +267,12 @@ With IS-PAUSING what was typed is sent, too."
   "Run COMMAND, a list of words or a shell's line, as a host, and show its first file."
   (interactive "sHost: ")
   (when (and sulgrevad--term (process-live-p sulgrevad--process)) (user-error "There is a session already"))
-  (setq sulgrevad--term (sulgrevad--make) sulgrevad--inbox nil sulgrevad--buffers nil)
+  (sulgrevad--lose "the host is gone")
+  (setq sulgrevad--term (sulgrevad--make) sulgrevad--inbox nil sulgrevad--buffers nil sulgrevad--told nil)
   (setq sulgrevad--process
         (make-process :name "samhost" :command (if (listp command) command (list "/bin/sh" "-c" command))
                       :coding 'latin-1-unix :connection-type 'pipe :noquery t
-                      :stderr (make-pipe-process :name "samhost-errors" :noquery t :sentinel #'ignore
-                                                 :filter (lambda (_ text) (message "samhost: %s" (string-trim text))))
+                      :stderr (make-pipe-process :name "samhost-errors" :noquery t :sentinel #'ignore :filter #'sulgrevad--tell)
                       :filter #'sulgrevad--came :sentinel #'sulgrevad--ended))
   (add-hook 'post-command-hook #'sulgrevad--after-command)
   (add-hook 'pre-command-hook #'sulgrevad--before-command)
@@ -268,7 +289,11 @@ With IS-PAUSING what was typed is sent, too."
         (setq sulgrevad--tag tag buffer-read-only t buffer-undo-list t)
         (unless (or (= tag 0) (sulgrevad--is-open sulgrevad--term tag)) (sulgrevad--open sulgrevad--term tag))
         (sulgrevad--load sulgrevad--term tag 0 sulgrevad-most-runes)
-        (unless (sulgrevad--wait #'sulgrevad--is-free) (error "The host does not answer"))
+        (unless (sulgrevad--wait #'sulgrevad--is-free)
+          (kill-buffer)
+          (accept-process-output nil 0.1) ; what a host told that is gone
+          (error "%s" (if (process-live-p sulgrevad--process) "The host does not answer"
+                        (string-trim (concat "The host is gone: " sulgrevad--told)))))
         (sulgrevad--take-over t)
         (setq buffer-undo-list (= tag 0))
         (goto-char (point-min))
@@ -325,10 +350,13 @@ With IS-PAUSING what was typed is sent, too."
   (interactive)
   (unless (sulgrevad--wait #'sulgrevad--is-free) (user-error "The host does not answer"))
   (sulgrevad--hand-over t)
+  (setq sulgrevad--told nil)
   (sulgrevad--write sulgrevad--term sulgrevad--tag)
-  (if (sulgrevad--wait (lambda () (and (sulgrevad--is-free) (not (sulgrevad--is-changed sulgrevad--term sulgrevad--tag)))))
-      (message "The host has written %s" (buffer-name))
-    (message "The host has not said that it wrote %s" (buffer-name))))
+  (cond ((not (sulgrevad--wait (lambda () (and (sulgrevad--is-free) (not (sulgrevad--is-changed sulgrevad--term sulgrevad--tag))))))
+         (message "The host has not said that it wrote %s" (buffer-name)))
+        ((string-search "? write " (or sulgrevad--told "")) ; the terminal takes it for written all the same
+         (message "%s" (string-trim sulgrevad--told)))
+        (t (message "The host has written %s" (buffer-name)))))
 
 (defun sulgrevad-quit ()
   "End the session; ask first where a file was not written."
@@ -338,8 +366,8 @@ With IS-PAUSING what was typed is sent, too."
             (yes-or-no-p "Some files were not written; leave? "))
     (sulgrevad--exit sulgrevad--term)
     (sulgrevad--wait (lambda () (or (null sulgrevad--term) (sulgrevad--exited sulgrevad--term))))
-    (mapc #'kill-buffer (prog1 sulgrevad--buffers (sulgrevad--lose "the session is over")))
-    (when (process-live-p sulgrevad--process) (process-send-eof sulgrevad--process))))
+    (sulgrevad--lose "the session is over")
+    (mapc #'kill-buffer sulgrevad--buffers)))
 
 (provide 'sulgrevad)
 ;;; sulgrevad.el ends here
