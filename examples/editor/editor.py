@@ -264,7 +264,7 @@ class Editor(Desk, Waiting, Actions):
 
     def _act_in_menu(self, pressed: Pressed) -> None:
         key = pressed.key
-        if isinstance(key, (Text, Paste)):
+        if isinstance(key, Text):
             key = Text(self.first_of(pressed, 1))
         menu = self.menu
         try:
