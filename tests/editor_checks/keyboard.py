@@ -180,6 +180,15 @@ def check_find_in_process(folder):
     expect(pair.host.text(0).startswith("/one/\n/a\\.b\\\\c\\//\n? search"), f"the command window has {pair.host.text(0)!r}")
 
 
+def check_long_line_outlives_a_search(folder):
+    """So does one that is longer than what one message brings."""
+    begun = "".join(f"{at} " for at in range(500))
+    pair, editor, key, text = opened("one two one\n")
+    pair.press(key("Esc"), text(begun), key("Esc"), key("^S"), text("two"), text("\n"))
+    expect(editor.focus.dot == (4, 7), f"it finds {editor.focus.dot}")
+    expect(pair.host.text(0) == "/two/\n" + begun, f"the command window has {pair.host.text(0)!r}; it tells {editor.message!r}")
+
+
 def check_search_back(folder):
     """`^B` also finds what stands above in text that is not loaded, and says where there is nothing. Esc stops it."""
     lines = "".join(f"line {at} {'x' * 60}\n" for at in range(12_000))
