@@ -117,6 +117,10 @@ class Decoder:
         """The keys of what stays alone."""
         return self._taken(now, True) if self.delay(now) == 0.0 else []
 
+    def finish(self, now: float) -> List[Input]:
+        """The same where nothing comes any more."""
+        return self._taken(now, True)
+
     def _taken(self, now: float, is_over: bool) -> List[Input]:
         inputs: List[Input] = []
         while self._bytes or (is_over and self._pasted is not None):

@@ -61,7 +61,7 @@ class Editor(Desk, Waiting, Actions):
         self.texts.listeners = [self.log.hear, self.numbers.hear, self.keeping.hear_changes, self.hear_changes]
         self.pointer, self.menu = Pointer(self), None
         self.is_lost = self.is_leaving = self.is_over = self.has_begun = False
-        self.kept_here: List[str] = []  # what was told of texts that were written here
+        self.kept_here: Optional[List[str]] = None  # what was told of texts that were written here, as the host was lost
         self.wishes: List[str] = []  # what the screen is to do: "redraw", "suspend"
         self.clip: Optional[str] = None  # what the user's clipboard is to have
         self._awaits_file = False  # the host makes a file or closes one

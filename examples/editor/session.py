@@ -3,6 +3,7 @@ import contextlib
 import curses
 import os
 import shlex
+import signal
 import sys
 from typing import List
 
@@ -110,12 +111,17 @@ class Session:
             finally:
                 self.link.send(self.terminal.take_out())
         with contextlib.suppress(KeyboardInterrupt):  # the user doesn't wait for the host any longer
-            status = self.link.close(self._hear, self._take_last)
+            try:
+                signal.signal(signal.SIGINT, signal.default_int_handler)
+                status = self.link.close(self._hear, self._take_last)
+            finally:
+                signal.signal(signal.SIGINT, signal.SIG_IGN)  # one more is not to stop what is written here
         for line in self.told:
             say(line)
         with contextlib.suppress(SamError):
             has_ended_well = status == 0 and not keeping.is_hopeless
-            say_all(self.editor.kept_here if self.editor.is_lost else keeping.keep_here(self.editor.way.has_all, has_ended_well))
+            kept = self.editor.kept_here
+            say_all(keeping.keep_here(self.editor.way.has_all, has_ended_well) if kept is None else kept)
         say_all(keeping.keep_late())
         if keeping.is_hopeless or status == STATUS_UNSAVED:
             return STATUS_UNSAVED
