@@ -35,6 +35,7 @@ class Actions(Commands, Moves):
 
     def _type_in_file(self, window: Window, runes: str, is_paste: bool) -> None:
         start, end = window.dot
+        self.texts.left = runes
         if not self._may_go(window, "the same key again"):
             return
         is_enter = not is_paste and runes.count("\n") == 1 and len(runes) <= MOST_IN_ENTER

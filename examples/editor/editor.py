@@ -240,6 +240,7 @@ class Editor(Desk, Waiting, Actions):
             self.keeping.typed_late += key.runes if isinstance(key, (Text, Paste)) else ""
             return
         self._answered, self._acting, self._is_again = pressed.answers, key, pressed.is_again
+        self.texts.left = ""
         try:
             if self._is_for_menu(key):
                 self._act_in_menu(pressed)
@@ -251,8 +252,10 @@ class Editor(Desk, Waiting, Actions):
                 self._do(key)
         except MemoryError as error:
             self.message = f"there is not enough memory ({error})"
+            self.keeping.typed_late += self.texts.left
         except SamError as error:
             self.lose(f"the session can't go on ({error})")
+            self.keeping.typed_late += self.texts.left
         self._answered = ""
         if self._again is not None:
             self.deferred.appendleft(pressed._replace(key=self._again, answers="", has_read=False, is_again=True))
