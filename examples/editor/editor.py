@@ -3,7 +3,7 @@ in actions.py."""
 import time
 from typing import Callable, List, Optional, Sequence, Tuple
 
-from actions import Actions
+from actions import TOO_LONG, Actions
 from desk import Desk
 from keeping import Keeping, shown_name
 from keys import Input, Key, Mouse, Paste, Text
@@ -35,7 +35,7 @@ WHY = {
     Status.REFUSAL_NO_FILE: "there is no such file",
     Status.REFUSAL_NOT_OPEN: "the file is not open",
     Status.REFUSAL_BAD_POSITION: "there is no such place",
-    Status.REFUSAL_TOO_LONG: "the file would have more than 1,000,000 characters",
+    Status.REFUSAL_TOO_LONG: TOO_LONG,
     Status.REFUSAL_TEXT_TOO_LONG: "the text is too long",
     Status.REFUSAL_COMMAND_FILE: "that can't be done to the command window",
     Status.REFUSAL_BAD_VERSION: "there is no such version",
@@ -209,7 +209,7 @@ class Editor(Desk, Waiting, Actions):
     def _go_on_with_vault(self) -> None:
         self.vault.go_on()
         if self.vault.has_lost_copied and not self.vault.is_busy:
-            self.vault.has_lost_copied = False
+            self.vault.has_lost_copied, self._snarfed = False, ""
             self.message = "what was copied or cut last is lost: the host had no room to keep it beside what came back"
 
     def _update_windows(self) -> None:

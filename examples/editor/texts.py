@@ -9,6 +9,7 @@ from sulgrevad import NoMemory, Terminal
 COMMAND = 0  # the tag of the command file
 COMMAND_NAME = "~~sam~~"  # which the host tells, too
 GAP = "\ud800"  # stands for a rune that is not loaded: no rune is a surrogate
+MOST_RUNES = 1_000_000  # of a text
 MOST_IN_EVENT = 512  # runes that are typed in one event
 LONG = 256  # runes from which on it pays to ask first whether all of them are loaded, or none
 DENSE = 64  # runes that are read in the time that one call takes

@@ -276,6 +276,16 @@ def check_clipboard_not_loaded(folder):
     expect(pair.host.text(1) == "", "^X leaves something")
 
 
+def check_no_room_to_paste(folder):
+    """Where a file would get too long by what was copied, `^V` says so, and what is selected stays."""
+    pair, editor, key, _ = opened("line\n" * 120_000)
+    pair.press(key("^A"), key("^C"), key("^Home"), key("Shift-End"), key("^V"))
+    expect(len(pair.host.text(1)) == 600_000, f"the text has {len(pair.host.text(1))} characters")
+    expect("more than 1,000,000 characters" in editor.message, f"it tells {editor.message!r}")
+    pair.press(key("Shift-Left"), key("^C"), key("^V"))
+    expect(len(pair.host.text(1)) == 600_000 and editor.message == "", f"it doesn't paste what has room: {editor.message!r}")
+
+
 def check_words(folder):
     """The keys by words, with Shift too, and that which selects the word, as xterm sends them."""
     from decode import Decoder
