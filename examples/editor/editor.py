@@ -11,7 +11,7 @@ from lines import Numbers
 from notes import REPEAT, Notes, said
 from pointing import Pointer
 from sulgrevad import Refusal, SamError, Status, Terminal
-from stream import CLEAN, CLOSE, MOVETO, SETDOT, UNLOCK, Frame, Stream
+from stream import CLEAN, CLOSE, DELNAME, MOVETO, NEWNAME, SETDOT, UNLOCK, Frame, Stream
 from texts import COMMAND, COMMAND_NAME, Texts
 from undo import Undo
 from vault import Vault
@@ -51,14 +51,15 @@ class Editor(Desk, Waiting, Actions):
         super().__init__(Texts(terminal))
         self._begin_waiting()
         self.terminal, self.clock, self.indents = terminal, clock, indents
-        self.asked_for = [shown_name(path) for path in asked_for]  # the names that the files have whose paths the user gave
+        self.asked_for = {shown_name(path) for path in asked_for}  # the names that the files have whose paths the user gave
         self.way, self.notes = Way(terminal, clock), Notes(clock)
         self.vault = Vault(terminal, self.texts)
         self.log, self.numbers, self.keeping = Undo(terminal, self.texts, self.vault), Numbers(self.texts), Keeping(self)
         told = {CLEAN: self._meet_clean, CLOSE: self._meet_close, MOVETO: self._meet_move, SETDOT: self._meet_dot}
-        told[UNLOCK] = self._meet_unlock
+        told.update({UNLOCK: self._meet_unlock, NEWNAME: self._meet_name, DELNAME: self._meet_name})
         self.stream = Stream(terminal, self.texts, told)
         self.texts.listeners = [self.log.hear, self.numbers.hear, self.keeping.hear_changes, self.hear_changes]
+        self._known: Optional[List[int]] = None  # all files, since thousands take long to ask for; None where some came or went
         self.pointer, self.menu = Pointer(self), None
         self.is_lost = self.is_leaving = self.is_over = self.has_begun = False
         self.kept_here: Optional[List[str]] = None  # what was told of texts that were written here, as the host was lost
@@ -88,7 +89,9 @@ class Editor(Desk, Waiting, Actions):
     @property
     def tags(self) -> List[int]:
         """The user's files."""
-        return [tag for tag in self.terminal.files() if tag not in (COMMAND, self.vault.tag)]
+        if self._known is None:
+            self._known = self.terminal.files()
+        return [tag for tag in self._known if tag not in (COMMAND, self.vault.tag)]
 
     def is_changed(self, tag: int) -> bool:
         """Whether a file was not written since it was changed, or its last write failed. The command file is never written."""
@@ -128,6 +131,9 @@ class Editor(Desk, Waiting, Actions):
         """The host has written a file, or could not. It may say that a little later, so it is asked once more."""
         self.keeping.meet_clean(frame.tag)
         self.way.confirm()
+
+    def _meet_name(self, _frame: Frame) -> None:
+        self._known = None
 
     def _meet_close(self, frame: Frame) -> None:
         for memory in (self.log, self.numbers, self.keeping):
@@ -189,8 +195,8 @@ class Editor(Desk, Waiting, Actions):
             self.message = "no file: ^N makes one, F1 shows the keys"
         self.terminal.open_cmd()
         self.has_begun = True
-        if any(self.name(tag) not in self.asked_for for tag in known):  # of a folder the host has the files below it
-            self.do_menu()
+        if len(known) != len(self.asked_for) and any(self.name(tag) not in self.asked_for for tag in known):
+            self.do_menu()  # of a folder the host has the files below it
 
     def update(self) -> None:
         """After keys or bytes: files that came or went, keys that waited, refusals, what the windows show."""
