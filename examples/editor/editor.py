@@ -201,7 +201,7 @@ class Editor(Desk, Waiting, Actions):
     def update(self) -> None:
         """After keys or bytes: files that came or went, keys that waited, refusals, what the windows show."""
         self._asks_at = [] if self.is_lost else [self.clock() + left for left in (self.busy_left, self.rest_left) if left > 0]
-        if not self.is_lost:
+        if not self.is_lost and not self.terminal.exited:
             self._meet_files()
             self._awaits_file = self._awaits_file and self._is_lock_held
             self._go_on_with_vault()

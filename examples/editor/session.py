@@ -8,7 +8,7 @@ import sys
 from typing import List
 
 from editor import Editor
-from link import Link
+from link import SECONDS_TO_END, Link
 from loop import KEYBOARD, Loop
 from notes import printable
 from sulgrevad import SamError, Terminal
@@ -98,12 +98,22 @@ class Session:
             self.ended_by = loop.ended_by
             screen.close()
 
+    def _tell_of_leaving(self) -> None:
+        """The user has left: what was typed since, and where he didn't wait for the host, that it still has some time."""
+        if self.terminal.exited:
+            if self.editor.typed_ahead:
+                say(f"samterm: typed while the host was left, and put in nowhere: {self.editor.typed_ahead!r}")
+            self.editor.deferred.clear()
+        elif not self.editor.is_lost and not self.ended_by:
+            say(f"samterm: the host has {SECONDS_TO_END} seconds to save what it got; ^C doesn't wait for it")
+
     def _end(self) -> int:
         """Ends the link, and writes here what nobody has saved. Returns the exit status."""
         keeping = self.editor.keeping
         for line in self.told:
             say(line)
         self.told.clear()
+        self._tell_of_leaving()
         status = None
         with contextlib.suppress(SamError):  # of a terminal that has stopped, or has no memory
             try:

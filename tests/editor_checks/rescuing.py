@@ -363,8 +363,8 @@ def without_memory(pair, taken):
 
 
 def check_change_without_memory(folder):
-    """Out of memory what is told of a change, and taken back by `^Z`, is what was made of it: nothing, or the front of a long text. The rest is
-    written here at the end."""
+    """Out of memory what is told of a change, and taken back by `^Z`, is what was made of it: nothing, or the front of a long text. The
+    rest is written here at the end."""
     pieces = ("x" * 512, "y" * 512, "z")
     for gone, count, taken in (("a", 1, 0), ("a" * 512, 3, 1), ("a" * 1024, 3, 2), ("a" * 512, 2, 0), ("a" * 600, 3, 1), ("", 3, 2)):
         pair, editor, key, _ = opened(gone + "end\n")
