@@ -5,7 +5,7 @@ import signal
 import sys
 import time
 
-from .support import LINK, SAMHOST, SAMTERM, Session, expect, expect_sleep, host_that, made, wait_for_text, wait_until
+from .support import SAMHOST, SAMTERM, Session, expect, expect_sleep, host_that, made, wait_for_text, wait_until
 
 
 def check_kill_host(folder):
@@ -72,11 +72,14 @@ def check_host_dies_at_the_end(folder):
 def check_typed_while_it_leaves(folder):
     """What is typed while the host answers that the user left is told on standard error, and is written nowhere."""
     made(folder, a="one\n")
-    with Session(folder, "a.txt", slow=LINK) as session:
+    with Session(folder, "a.txt") as session:
         session.wait_for("one")
         session.wait_for_quiet()
-        session.keys("C-q")
-        session.type("late\nword")
+        with session.stopped_host():
+            session.keys("C-q")
+            session.wait_for("leaving")
+            session.type("late\nword")
+            session.wait_for("| held")
         session.wait_for_end(0)
     told = (folder / "stderr").read_text()
     expect("'late\\nword'" in told, f"it tells {told!r}")
