@@ -4,10 +4,11 @@ from find import Find
 from keys import Paste, Text
 from menus import Help, Menu
 from moving import Moves
-from texts import COMMAND, GAP
+from texts import COMMAND, GAP, MOST_RUNES
 from windows import Window
 
 LEAST_ROWS = 4  # rows of the least window, with its title
+TOO_LONG = f"the file would have more than {MOST_RUNES:,} characters"
 MOST_IN_ENTER = 8  # runes that may have come together with a typed newline; where there are more they were pasted
 
 
@@ -35,6 +36,7 @@ class Actions(Commands, Moves):
 
     def _type_in_file(self, window: Window, runes: str, is_paste: bool) -> None:
         start, end = window.dot
+        self.texts.left = runes
         if not self._may_go(window, "the same key again"):
             return
         is_enter = not is_paste and runes.count("\n") == 1 and len(runes) <= MOST_IN_ENTER
@@ -166,7 +168,10 @@ class Actions(Commands, Moves):
         self.terminal.snarf(self.focus.tag)
 
     def do_paste(self) -> None:
-        if self._goes("^V"):
+        start, end = self.focus.dot
+        if self.focus.length - (end - start) + len(self._snarfed) > MOST_RUNES:  # the host would put in nothing, and not say so
+            self.message = TOO_LONG
+        elif self._goes("^V"):
             self.log.comes = self._snarfed
             self.texts.paste(self.focus.tag)
 

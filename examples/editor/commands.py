@@ -69,7 +69,7 @@ class Commands:
         self.terminal.select(COMMAND, end - len(begun), end)
         self.texts.replace(COMMAND, line + "\n")
         if begun:
-            self.terminal.type(COMMAND, begun)
+            self.texts.replace(COMMAND, begun)
 
     def may_leave(self, key: str) -> bool:
         """Whether all is written, or the user is sure. If not, it is asked; the same key answers."""

@@ -13,15 +13,17 @@ PASTE_DELAY = 3.0  # the same for a paste whose end is missing
 PASTE_END = b"\x1b[201~"
 MOST_DIGITS = 8  # of a number in a sequence, which is greater than any that means something where it has more
 
+# How a string begins that a terminal answers with. What else comes after Alt with such a key was typed, and doesn't wait for an end.
+ANSWER = rb"(?:\]\d+;|P[\d;]*[!$+>]|_G)[^\x00-\x1f\x7f]*"
 # The forms of a sequence: CSI with numbers (also of the Linux console, of rxvt with its `$`, and of a mouse with three bytes), SS3,
 # a string that ends in BEL or ST.
 SEQUENCE = re.compile(
     rb"\x1b\[\[(?P<linux>[A-E])|\x1b\[M(?P<mouse>[\x00-\xff]{3})|\x1b\[(?P<shifted>\d+)\$|"
     rb"\x1b\[(?![M\[])(?P<numbers>[0-?]*)(?P<between>[ -/]*)(?P<final>[@-~])|\x1bO(?P<ss3>[0-9;]*)(?P<key>[@-~])|"
-    rb"\x1b[\]PX^_][^\x1b\x07]*(?:\x07|\x1b\\)",
+    rb"\x1b" + ANSWER + rb"(?:\x07|\x1b\\)",
     re.DOTALL,
 )
-BEGUN = re.compile(rb"\x1b(?:\[M.{0,2}|\[\[|\[[0-?]*[ -/]*|O[0-9;]*|[\]PX^_][^\x1b\x07]*\x1b?)?", re.DOTALL)
+BEGUN = re.compile(rb"\x1b(?:\[M.{0,2}|\[\[|\[[0-?]*[ -/]*|O[0-9;]*|\]\d*|P[\d;]*|_|" + ANSWER + rb"\x1b?)?", re.DOTALL)
 
 LETTERS = {
     "A": "Up", "B": "Down", "C": "Right", "D": "Left", "H": "Home", "F": "End", "P": "F1", "Q": "F2", "R": "F3", "S": "F4",
@@ -115,6 +117,10 @@ class Decoder:
         """The keys of what stays alone."""
         return self._taken(now, True) if self.delay(now) == 0.0 else []
 
+    def finish(self, now: float) -> List[Input]:
+        """The same where nothing comes any more."""
+        return self._taken(now, True)
+
     def _taken(self, now: float, is_over: bool) -> List[Input]:
         inputs: List[Input] = []
         while self._bytes or (is_over and self._pasted is not None):
@@ -178,12 +184,19 @@ class Decoder:
         if is_over and len(self._bytes) > 2 and BEGUN.fullmatch(self._bytes):
             self._cut(len(self._bytes))
             return [Key("a sequence of which the rest is missing")]
-        return [self._alt()]
+        return self._alt(is_over)
 
-    def _alt(self) -> Input:
-        """A character with Alt."""
-        count = 1 if self._bytes[1] < 0x80 else 2 if self._bytes[1] < 0xE0 else 3 if self._bytes[1] < 0xF0 else 4
-        rune = self._cut(1 + count)[1:].decode(codec(), "replace")
+    def _alt(self, is_over: bool) -> Optional[List[Input]]:
+        """A character with Alt; None where more of its bytes have to come."""
+        runes, rune, end = codecs.getincrementaldecoder(codec())("replace"), "", 1
+        while not rune and end < len(self._bytes):
+            rune, end = runes.decode(bytes(self._bytes[end : end + 1])), end + 1
+        if not rune and not is_over:
+            return None
+        self._cut(end - max(0, len(rune) - 1))  # a byte that is wrong goes alone
+        return [self._with_alt(rune[:1] or "\ufffd")]
+
+    def _with_alt(self, rune: str) -> Input:
         if rune >= " " and rune != "\x7f":
             return Key("Alt-" + rune)
         key = control(rune)

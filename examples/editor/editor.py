@@ -3,7 +3,7 @@ in actions.py."""
 import time
 from typing import Callable, List, Optional, Sequence, Tuple
 
-from actions import Actions
+from actions import TOO_LONG, Actions
 from desk import Desk
 from keeping import Keeping, shown_name
 from keys import Input, Key, Mouse, Paste, Text
@@ -11,7 +11,7 @@ from lines import Numbers
 from notes import REPEAT, Notes, said
 from pointing import Pointer
 from sulgrevad import Refusal, SamError, Status, Terminal
-from stream import CLEAN, CLOSE, MOVETO, SETDOT, UNLOCK, Frame, Stream
+from stream import CLEAN, CLOSE, DELNAME, MOVETO, NEWNAME, SETDOT, UNLOCK, Frame, Stream
 from texts import COMMAND, COMMAND_NAME, Texts
 from undo import Undo
 from vault import Vault
@@ -35,7 +35,7 @@ WHY = {
     Status.REFUSAL_NO_FILE: "there is no such file",
     Status.REFUSAL_NOT_OPEN: "the file is not open",
     Status.REFUSAL_BAD_POSITION: "there is no such place",
-    Status.REFUSAL_TOO_LONG: "the file would have more than 1,000,000 characters",
+    Status.REFUSAL_TOO_LONG: TOO_LONG,
     Status.REFUSAL_TEXT_TOO_LONG: "the text is too long",
     Status.REFUSAL_COMMAND_FILE: "that can't be done to the command window",
     Status.REFUSAL_BAD_VERSION: "there is no such version",
@@ -51,17 +51,18 @@ class Editor(Desk, Waiting, Actions):
         super().__init__(Texts(terminal))
         self._begin_waiting()
         self.terminal, self.clock, self.indents = terminal, clock, indents
-        self.asked_for = [shown_name(path) for path in asked_for]  # the names that the files have whose paths the user gave
+        self.asked_for = {shown_name(path) for path in asked_for}  # the names that the files have whose paths the user gave
         self.way, self.notes = Way(terminal, clock), Notes(clock)
         self.vault = Vault(terminal, self.texts)
         self.log, self.numbers, self.keeping = Undo(terminal, self.texts, self.vault), Numbers(self.texts), Keeping(self)
         told = {CLEAN: self._meet_clean, CLOSE: self._meet_close, MOVETO: self._meet_move, SETDOT: self._meet_dot}
-        told[UNLOCK] = self._meet_unlock
+        told.update({UNLOCK: self._meet_unlock, NEWNAME: self._meet_name, DELNAME: self._meet_name})
         self.stream = Stream(terminal, self.texts, told)
         self.texts.listeners = [self.log.hear, self.numbers.hear, self.keeping.hear_changes, self.hear_changes]
+        self._known: Optional[List[int]] = None  # all files, since thousands take long to ask for; None where some came or went
         self.pointer, self.menu = Pointer(self), None
         self.is_lost = self.is_leaving = self.is_over = self.has_begun = False
-        self.kept_here: List[str] = []  # what was told of texts that were written here
+        self.kept_here: Optional[List[str]] = None  # what was told of texts that were written here, as the host was lost
         self.wishes: List[str] = []  # what the screen is to do: "redraw", "suspend"
         self.clip: Optional[str] = None  # what the user's clipboard is to have
         self._awaits_file = False  # the host makes a file or closes one
@@ -88,7 +89,9 @@ class Editor(Desk, Waiting, Actions):
     @property
     def tags(self) -> List[int]:
         """The user's files."""
-        return [tag for tag in self.terminal.files() if tag not in (COMMAND, self.vault.tag)]
+        if self._known is None:
+            self._known = self.terminal.files()
+        return [tag for tag in self._known if tag not in (COMMAND, self.vault.tag)]
 
     def is_changed(self, tag: int) -> bool:
         """Whether a file was not written since it was changed, or its last write failed. The command file is never written."""
@@ -128,6 +131,9 @@ class Editor(Desk, Waiting, Actions):
         """The host has written a file, or could not. It may say that a little later, so it is asked once more."""
         self.keeping.meet_clean(frame.tag)
         self.way.confirm()
+
+    def _meet_name(self, _frame: Frame) -> None:
+        self._known = None
 
     def _meet_close(self, frame: Frame) -> None:
         for memory in (self.log, self.numbers, self.keeping):
@@ -189,13 +195,13 @@ class Editor(Desk, Waiting, Actions):
             self.message = "no file: ^N makes one, F1 shows the keys"
         self.terminal.open_cmd()
         self.has_begun = True
-        if any(self.name(tag) not in self.asked_for for tag in known):  # of a folder the host has the files below it
-            self.do_menu()
+        if len(known) != len(self.asked_for) and any(self.name(tag) not in self.asked_for for tag in known):
+            self.do_menu()  # of a folder the host has the files below it
 
     def update(self) -> None:
         """After keys or bytes: files that came or went, keys that waited, refusals, what the windows show."""
         self._asks_at = [] if self.is_lost else [self.clock() + left for left in (self.busy_left, self.rest_left) if left > 0]
-        if not self.is_lost:
+        if not self.is_lost and not self.terminal.exited:
             self._meet_files()
             self._awaits_file = self._awaits_file and self._is_lock_held
             self._go_on_with_vault()
@@ -209,7 +215,7 @@ class Editor(Desk, Waiting, Actions):
     def _go_on_with_vault(self) -> None:
         self.vault.go_on()
         if self.vault.has_lost_copied and not self.vault.is_busy:
-            self.vault.has_lost_copied = False
+            self.vault.has_lost_copied, self._snarfed = False, ""
             self.message = "what was copied or cut last is lost: the host had no room to keep it beside what came back"
 
     def _update_windows(self) -> None:
@@ -240,6 +246,7 @@ class Editor(Desk, Waiting, Actions):
             self.keeping.typed_late += key.runes if isinstance(key, (Text, Paste)) else ""
             return
         self._answered, self._acting, self._is_again = pressed.answers, key, pressed.is_again
+        self.texts.left = ""
         try:
             if self._is_for_menu(key):
                 self._act_in_menu(pressed)
@@ -251,8 +258,10 @@ class Editor(Desk, Waiting, Actions):
                 self._do(key)
         except MemoryError as error:
             self.message = f"there is not enough memory ({error})"
+            self.keeping.typed_late += self.texts.left
         except SamError as error:
             self.lose(f"the session can't go on ({error})")
+            self.keeping.typed_late += self.texts.left
         self._answered = ""
         if self._again is not None:
             self.deferred.appendleft(pressed._replace(key=self._again, answers="", has_read=False, is_again=True))
@@ -264,7 +273,7 @@ class Editor(Desk, Waiting, Actions):
 
     def _act_in_menu(self, pressed: Pressed) -> None:
         key = pressed.key
-        if isinstance(key, (Text, Paste)):
+        if isinstance(key, Text):
             key = Text(self.first_of(pressed, 1))
         menu = self.menu
         try:

@@ -1,7 +1,7 @@
 """Finding as the user types: on what is loaded at once, and by the host at Enter."""
 from typing import Optional, Tuple
 
-from keys import Input, Key, Text
+from keys import Input, Key, Paste, Text
 from lines import escaped
 from texts import GAP
 from windows import end_of_load
@@ -32,10 +32,10 @@ class Find:
         """Returns whether the key is for the windows, as this is over."""
         self._why = ""
         name = key.name if isinstance(key, Key) else ""
-        if key == Text("\n"):
+        if isinstance(key, Text) and key.runes == "\n":
             self._finish()
-        elif isinstance(key, Text) and len(self.pattern) < MOST_RUNES_IN_PATTERN:
-            self._seek(self.pattern + key.runes)
+        elif isinstance(key, (Text, Paste)) and len(self.pattern) < MOST_RUNES_IN_PATTERN:
+            self._seek((self.pattern + key.runes)[:MOST_RUNES_IN_PATTERN])
         elif name == "Backspace":
             self._seek(self.pattern[:-1])
         elif name == "Esc":
@@ -45,7 +45,7 @@ class Find:
             self._show(self._after(self.window.dot[0] + 1))
         elif name in BEFORE:
             self._show(self._before(self.window.dot[0]), " (not in what is loaded above; Enter, then ^B, looks there)")
-        elif not isinstance(key, Text):
+        elif not isinstance(key, (Text, Paste)):
             self.is_over = True
             return True
         self.editor.message = "" if self.is_over else self.line

@@ -21,8 +21,8 @@ class Keeping:
         self.editor, self.terminal = editor, editor.terminal
         self.unwritten: Dict[int, bool] = {}  # files whose last write failed; whether that write is answered
         self.is_hopeless = False  # a text could not be saved anywhere
-        self.typed_late = ""  # what was typed when the host was lost already
-        self._writing: set = set()  # files whose write is not answered
+        self.typed_late = ""  # what was typed when the host was lost already, or memory was out for it
+        self._writing: Counter = Counter()  # of each file, how many writes are not answered
         self._changes: Counter = Counter()  # of each file
         self._written: Dict[int, int] = {}  # how many of them there were at the last write
         self._saved: Dict[int, int] = {}  # how many of them are in what the host has saved aside
@@ -33,7 +33,7 @@ class Keeping:
 
     def write(self, tag: int) -> None:
         """The host is told to write a file."""
-        self._writing.add(tag)
+        self._writing[tag] += 1
         self._written[tag] = self._changes[tag]
 
     def meet_clean(self, tag: int) -> None:
@@ -42,7 +42,7 @@ class Keeping:
             self.unwritten.pop(tag, None)
         else:
             self.unwritten[tag] = True
-        self._writing.discard(tag)
+        self._writing[tag] = max(0, self._writing[tag] - 1)
 
     def hear_changes(self, changes: List[Change]) -> None:
         self._changes[changes[0].tag] += len(changes)
@@ -54,7 +54,7 @@ class Keeping:
         tags = self._tags_of(told)
         for tag in tags:
             if "failed" in told.what:
-                self.unwritten[tag] = tag not in self._writing
+                self.unwritten[tag] = self._writing[tag] <= 0
             if "saved" not in told.what:
                 self._saved.pop(tag, None)
         if "saved" in told.what and len(tags) == 1:  # of several files of a name, nobody knows which one it is
@@ -66,7 +66,9 @@ class Keeping:
     def _tags_of(self, told: Said) -> Set[int]:
         """The files that a line of the host may be about, also those that were dropped."""
         names = {**{tag: name for tag, (name, _) in self._dropped.items()}, **{tag: self.name(tag) for tag in self.editor.tags}}
-        return {tag for tag, name in names.items() if tag == told.tag or (told.name and printable(name) == shown_name(told.name))}
+        of_names = ({tag for tag, name in names.items() if printable(name) == shown_name(told_name)} for told_name in told.names)
+        unnamed = {told.tag} & set(names)
+        return unnamed | next(filter(None, of_names), set())
 
     def drop(self, tag: int) -> None:
         """The file is closed."""

@@ -16,7 +16,7 @@ from sulgrevad import SamError, Terminal
 from screen import Screen, sequences
 
 KEYBOARD = 0
-ENDS = (signal.SIGTERM, signal.SIGHUP)
+ENDS = (signal.SIGTERM, signal.SIGHUP, signal.SIGINT, signal.SIGQUIT)
 SCREENS = (signal.SIGWINCH, signal.SIGCONT, signal.SIGTSTP)
 RETRY = 0.1  # seconds until that for which the memory was too small is tried again
 MOST_READ = 65_536  # bytes of keys that are read at once
@@ -51,6 +51,8 @@ class Loop:
             self._take_signals(ready)
             self._take_bytes(ready)
             self._send()
+        if self.ended_by:  # what came of a paste
+            self._act_on(self.decoder.finish(time.monotonic()))
 
     def _ready(self, seconds: Optional[float]) -> Dict[int, int]:
         """What is there to be read or written: events by descriptor. Sleeps until something is, or so long where a time is given."""

@@ -1,7 +1,7 @@
 """What lies over the windows: the menu of files and the help. Each has rows to draw, and takes keys until it is over."""
 from typing import Callable, List, Tuple
 
-from keys import Input, Key, Text, table
+from keys import Input, Key, Mouse, Paste, Text, table
 
 Line = Tuple[str, bool]  # a text, and whether it is the chosen one
 
@@ -22,13 +22,15 @@ class Help:
         self.first = min(self.first, max(0, len(lines) - height))
         return [(line, False) for line in lines[self.first : self.first + height]]
 
-    def take(self, key: Input) -> None:
+    def take(self, key: Input) -> bool:
+        """Returns whether the key is for the windows, as this is over: so is a paste, of which nothing is to be lost."""
         if isinstance(key, Key) and key.name in ("Down", "Page Down"):
             self.first += HELP_STEP
         elif isinstance(key, Key) and key.name in ("Up", "Page Up"):
             self.first = max(0, self.first - HELP_STEP)
-        elif isinstance(key, (Key, Text)):
+        elif not isinstance(key, Mouse):
             self.is_over = True
+        return isinstance(key, Paste)
 
 
 class Menu:
@@ -45,12 +47,14 @@ class Menu:
         shown = list(enumerate(self.entries))[first : first + height]
         return [(entry, at == self.chosen) for at, entry in shown]
 
-    def take(self, key: Input) -> None:
+    def take(self, key: Input) -> bool:
+        """As the help does."""
         steps = {"Up": -1, "Down": 1, "Page Up": -MENU_PAGE, "Page Down": MENU_PAGE}
         if isinstance(key, Key) and key.name in steps:
             self.chosen = max(0, min(self.chosen + steps[key.name], len(self.entries) - 1))
-        elif key == Text("\n"):
+        elif isinstance(key, Text) and key.runes == "\n":
             self.is_over = True
             self.choose(self.chosen)
-        elif isinstance(key, Key):
+        elif isinstance(key, (Key, Paste)):
             self.is_over = True
+        return isinstance(key, Paste)

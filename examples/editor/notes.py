@@ -11,7 +11,7 @@ HINT = "F1 or ^G shows the keys"
 # What a host says of a text. Of a write that failed it says in the same line what became of the text.
 LOST = re.compile(r"the text of (.*) is lost: |(.*) is closed, and its text can't be saved: |what came last from the terminal is lost: ")
 UNSAFE = re.compile(r"the text of .* can't be saved aside: ")
-FAILED = re.compile(r"\? write (file (\d{1,5})|.*?): ")
+FAILED = re.compile(r"\? write (?:file (\d{1,5}): )?")
 IS_IN = "; its text is in "
 SAVED = re.compile(r"(.*) was not written" + IS_IN)
 
@@ -26,19 +26,21 @@ class Said(NamedTuple):
 
     rank: int  # 3: a text is lost; 2: it was not written; 1: other words of the host; 0: of another program
     what: str = ""  # "lost", "failed", "saved"; "failed and saved"
-    name: str = ""  # the file's name or path
+    names: Tuple[str, ...] = ()  # what the file's name or path may be, the longest first
     tag: Optional[int] = None  # of a file without a name, whose name here is "file" and the tag
 
 
 def said(line: str) -> Said:
     words = line.removeprefix("samhost: ")
     if found := LOST.match(words):
-        return Said(3, "lost" if found[1] else "", found[1] or found[2] or "")
+        return Said(3, "lost" if found[1] else "", tuple(filter(None, found.groups())))
     if found := FAILED.match(words):
         rank, what = (3, "failed") if "could not be saved" in words else (2, "failed and saved" if IS_IN in words else "failed")
-        return Said(rank, what, found[1], int(found[2]) if found[2] else None)
+        line = words[len("? write ") :]
+        ends = [colon.start() for colon in re.finditer(": ", line)]  # one ends the name, and others may stand in it
+        return Said(rank, what, tuple(line[:end] for end in reversed(ends)), int(found[1]) if found[1] else None)
     if found := SAVED.match(words):
-        return Said(1, "saved", found[1])
+        return Said(1, "saved", (found[1],))
     return Said(2 if UNSAFE.match(words) else int(words != line))
 
 
@@ -93,9 +95,10 @@ class Notes:
         """Shows a line until it is read, what is worse first."""
         if self.message == HINT:
             self.message = ""
-        if len(self.unread) < MOST_UNREAD and (rank, line) not in self.unread:
+        if (rank, line) not in self.unread:
             self.unread.append((rank, line))
             self.unread.sort(key=lambda kept: -kept[0])
+            del self.unread[MOST_UNREAD:]
 
     @property
     def is_read(self) -> bool:

@@ -3,11 +3,12 @@ import contextlib
 import curses
 import os
 import shlex
+import signal
 import sys
 from typing import List
 
 from editor import Editor
-from link import Link
+from link import SECONDS_TO_END, Link
 from loop import KEYBOARD, Loop
 from notes import printable
 from sulgrevad import SamError, Terminal
@@ -97,12 +98,22 @@ class Session:
             self.ended_by = loop.ended_by
             screen.close()
 
+    def _tell_of_leaving(self) -> None:
+        """The user has left: what was typed since, and where he didn't wait for the host, that it still has some time."""
+        if self.terminal.exited:
+            if self.editor.typed_ahead:
+                say(f"samterm: typed while the host was left, and put in nowhere: {self.editor.typed_ahead!r}")
+            self.editor.deferred.clear()
+        elif not self.editor.is_lost and not self.ended_by:
+            say(f"samterm: the host has {SECONDS_TO_END} seconds to save what it got; ^C doesn't wait for it")
+
     def _end(self) -> int:
         """Ends the link, and writes here what nobody has saved. Returns the exit status."""
         keeping = self.editor.keeping
         for line in self.told:
             say(line)
         self.told.clear()
+        self._tell_of_leaving()
         status = None
         with contextlib.suppress(SamError):  # of a terminal that has stopped, or has no memory
             try:
@@ -110,12 +121,17 @@ class Session:
             finally:
                 self.link.send(self.terminal.take_out())
         with contextlib.suppress(KeyboardInterrupt):  # the user doesn't wait for the host any longer
-            status = self.link.close(self._hear, self._take_last)
+            try:
+                signal.signal(signal.SIGINT, signal.default_int_handler)
+                status = self.link.close(self._hear, self._take_last)
+            finally:
+                signal.signal(signal.SIGINT, signal.SIG_IGN)  # one more is not to stop what is written here
         for line in self.told:
             say(line)
         with contextlib.suppress(SamError):
             has_ended_well = status == 0 and not keeping.is_hopeless
-            say_all(self.editor.kept_here if self.editor.is_lost else keeping.keep_here(self.editor.way.has_all, has_ended_well))
+            kept = self.editor.kept_here
+            say_all(keeping.keep_here(self.editor.way.has_all, has_ended_well) if kept is None else kept)
         say_all(keeping.keep_late())
         if keeping.is_hopeless or status == STATUS_UNSAVED:
             return STATUS_UNSAVED

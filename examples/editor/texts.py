@@ -4,11 +4,12 @@ from itertools import repeat
 from operator import add
 from typing import Callable, Dict, Iterator, List, NamedTuple
 
-from sulgrevad import Terminal
+from sulgrevad import NoMemory, Terminal
 
 COMMAND = 0  # the tag of the command file
 COMMAND_NAME = "~~sam~~"  # which the host tells, too
 GAP = "\ud800"  # stands for a rune that is not loaded: no rune is a surrogate
+MOST_RUNES = 1_000_000  # of a text
 MOST_IN_EVENT = 512  # runes that are typed in one event
 LONG = 256  # runes from which on it pays to ask first whether all of them are loaded, or none
 DENSE = 64  # runes that are read in the time that one call takes
@@ -84,6 +85,7 @@ class Texts:
         self.terminal = terminal
         self.versions: Dict[int, int] = {}  # of each text; another one once it changed, or was loaded further
         self.is_final = False  # the host is gone, so no more of any text is loaded
+        self.left = ""  # what is to be typed, and was not taken
         self.listeners: List[Callable[[List[Change]], None]] = []
 
     def read(self, tag: int, place: int, count: int) -> str:
@@ -128,7 +130,15 @@ class Texts:
 
     def _type(self, tag: int, runes: str) -> None:
         for at in range(0, max(1, len(runes)), MOST_IN_EVENT):
-            self.terminal.type(tag, runes[at : at + MOST_IN_EVENT])
+            self.left = runes[at:]
+            try:
+                self.terminal.type(tag, runes[at : at + MOST_IN_EVENT])
+            except NoMemory:
+                raise
+            except MemoryError:  # it was taken all the same
+                self.left = runes[at + MOST_IN_EVENT :]
+                raise
+        self.left = ""
 
     def _change(self, tag: int, came: str, act: Callable[[], None]) -> None:
         if not self.terminal.is_open(tag):

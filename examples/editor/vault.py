@@ -6,10 +6,9 @@ from collections import deque
 from typing import Callable, Deque, List, NamedTuple, Optional
 
 from sulgrevad import Terminal, Unfinished
-from texts import Texts
+from texts import MOST_RUNES, Texts
 
 NAME = "~~undo~~"  # the vault's name in the session
-MOST_KEPT = 1_000_000  # runes
 
 
 class Part:
@@ -73,7 +72,7 @@ class Vault:
     def keep(self, tag: int, start: int, end: int) -> bool:
         """Has the host keep a text. Returns whether there is room for it."""
         before, self._refused = self._refused, None
-        room = MOST_KEPT - sum(part.count for part in self.live()) - self.terminal.snarf_len
+        room = MOST_RUNES - sum(part.count for part in self.live()) - self.terminal.snarf_len
         if self.tag is None or before == (tag, start, end) or end - start > room:
             return False
         terminal, dot = self.terminal, self.terminal.dot(tag)

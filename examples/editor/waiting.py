@@ -76,7 +76,8 @@ class Waiting:
         """Does what a key says, now or when what it acts on is settled."""
         when = self.clock() if when is None else when
         pressed = Pressed(key, when, self._answer_of(key, when), self.notes.is_read)
-        self._leaves_at = when + REPEAT if key == Key("^Q") and pressed.answers in (LEAVING, WAITING) else None
+        is_leave = action_of(key) == "leave"
+        self._leaves_at = when + REPEAT if is_leave and pressed.answers in (LEAVING, WAITING) else None
         if self._leaves_at is not None or self._stops(key):
             return
         self._pressed_at = when
@@ -85,14 +86,15 @@ class Waiting:
         self.deferred.append(pressed)
         self._act_in_order()
         if self.deferred and action_of(key) in ASKING and not self.deferred[-1].answers:
-            if key == Key("^Q"):
+            if is_leave:
                 self._ask(LEAVING if self.is_leaving else WAITING, key)
             else:
                 self.message = "keys wait for the host"
 
     def _stops(self, key: Input) -> bool:
         """Whether a key stops a search that goes on."""
-        stops = key == Key("Esc") and bool(self.deferred) and self.deferred[0].is_again and action_of(self.deferred[0].key) == "search_back"
+        first = self.deferred[0] if action_of(key) == "switch" and self.deferred else None
+        stops = first is not None and first.is_again and action_of(first.key) == "search_back"
         if stops:
             self.deferred.popleft()
             self.message = "stopped"
@@ -164,7 +166,7 @@ class Waiting:
 
     def _is_for_menu(self, key: Input) -> bool:
         """Whether a menu lies over the windows, which takes all keys but `^Q`."""
-        return self.menu is not None and key != Key("^Q")
+        return self.menu is not None and action_of(key) != "leave"
 
     def first_of(self, pressed: Pressed, count: int) -> str:
         """The first runes of a text; those after them come next, and may go elsewhere."""

@@ -3,6 +3,7 @@ import os
 import re
 import signal
 import sys
+import time
 
 from .support import SAMHOST, SAMTERM, Session, expect, expect_sleep, host_that, made, wait_for_text, wait_until
 
@@ -66,6 +67,45 @@ def check_host_dies_at_the_end(folder):
         session.wait_for_end(128 + signal.SIGTERM)
     here = folder / "a.txt.sam-here"
     expect(here.exists() and here.read_text() == "typed more one\n", "what was typed is lost")
+
+
+def check_typed_while_it_leaves(folder):
+    """What is typed while the host answers that the user left is told on standard error, and is written nowhere."""
+    made(folder, a="one\n")
+    with Session(folder, "a.txt") as session:
+        session.wait_for("one")
+        session.wait_for_quiet()
+        with session.stopped_host():
+            session.keys("C-q")
+            session.wait_for("leaving")
+            session.type("late\nword")
+            session.wait_for("| held")
+        session.wait_for_end(0)
+    told = (folder / "stderr").read_text()
+    expect("'late\\nword'" in told, f"it tells {told!r}")
+    left = {entry.name for entry in folder.iterdir()} - {"a.txt", "status", "stderr", ".tmux"}
+    expect(not left, f"there are {left}")
+
+
+def check_leave_without_the_host(folder):
+    """Who leaves without waiting is told how long the host has, and `^C` ends that."""
+    made(folder, a="one\n")
+    with Session(folder, "a.txt") as session:
+        session.wait_for("one")
+        session.keys("S-Right", "C-c")
+        session.wait_for_quiet()
+        terminal = next(process for name, process in session.processes().items() if name.startswith("python"))
+        with session.stopped_host():
+            session.keys("C-v")
+            session.type("waits")
+            session.keys("C-q")
+            session.answer("^Q again leaves without them", "C-q")
+            wait_until(lambda: "^C" in (folder / "stderr").read_text(), "it isn't told")
+            start = time.monotonic()
+            os.kill(terminal, signal.SIGINT)  # `^C` would end the shell, too, that notes the status
+            session.wait_for_end(0)
+            expect(time.monotonic() - start < 5, "it waits all the same")
+        wait_for_text(folder / "a.txt.sam-here", "ne\n\n[typed, and not put in yet:]\nwaits")
 
 
 def check_kill_terminal(folder):

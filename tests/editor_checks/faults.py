@@ -11,8 +11,8 @@ from .support import ROOT, SAMHOST, SAMTERM, Failed, Session, expect, made, wait
 
 
 def check_signals(folder):
-    """SIGTERM and SIGHUP end the session with statuses of their own, and the host saves the text."""
-    for number in (signal.SIGTERM, signal.SIGHUP):
+    """Signals end the session with statuses of their own, and the host saves the text."""
+    for number in (signal.SIGTERM, signal.SIGHUP, signal.SIGINT, signal.SIGQUIT):
         place = folder / str(int(number))
         place.mkdir()
         made(place, a="one\n")

@@ -34,6 +34,47 @@ def check_sequences(folder):
         expect([tuple(key) for key in got] == [(name,)], f"{alone} alone is taken for {got}")
 
 
+def check_text_after_alt(folder):
+    """Text that comes at once with Alt and a key, as where a line holds it up, is text, and waits for no end of a sequence. A character of
+    several bytes may come in parts there, too, and a wrong byte goes alone."""
+    import locale
+
+    from decode import Decoder
+
+    locale.setlocale(locale.LC_CTYPE, "C.UTF-8")
+    for sign in "]PX^_":
+        got = Decoder().feed(f"\x1b{sign}lease note".encode(), 0.0)
+        expect([tuple(key) for key in got] == [(f"Alt-{sign}",), ("lease note",)], f"Alt-{sign} and a text are taken for {got}")
+    for data, wanted in (
+        ((b"\x1b\xe8", b"\xb1\x86x"), [("Alt-豆",), ("x",)]), ((b"\x1b\xe9ABC",), [("Alt-\ufffd",), ("ABC",)]),
+        ((b"\x1b\xc3", b"\xa9"), [("Alt-é",)]),
+    ):  # fmt: skip
+        decoder = Decoder()
+        got = [tuple(key) for piece in data for key in decoder.feed(piece, 0.0)]
+        expect(got == wanted, f"{data}: it is taken for {got}, wanted {wanted}")
+    decoder = Decoder()
+    got = decoder.feed(b"\x1b\xe8", 0.0) + decoder.flush(1.0)
+    expect([tuple(key) for key in got] == [("Alt-\ufffd",)], f"the first byte of a character is taken for {got}")
+
+
+def check_paste_over_the_windows(folder):
+    """A paste while a text is sought is part of that, with its line ends. Over a list of keys or of files it goes to the window, whole. A
+    text that reads as the name of a key is none."""
+    pair, editor, key, text = opened("one\ntwo\none\nthree\n", "b\n")
+    paste = pair.keys.Paste
+    editor.go_to(editor.files[0])
+    pair.press(key("^S"), paste("one\nth"))
+    expect(editor.focus.dot == (8, 14), f"it finds {editor.focus.dot}; it tells {editor.message!r}")
+    pair.press(paste("^Q"), paste("\n"))
+    expect(editor.menu and editor.menu.pattern == "one\nth^Q\n", f"what is sought is {editor.menu and editor.menu.pattern!r}")
+    pair.press(key("Esc"), key("^Home"))
+    expect(pair.host.text(1) == "one\ntwo\none\nthree\n", f"the text is {pair.host.text(1)!r}")
+    for at, name in enumerate(("F1", "F2")):
+        pair.press(key(name), paste("\nx\n"))
+        expect(editor.menu is None, f"{name}: it stays")
+        expect(pair.host.text(1) == "\nx\n" * (at + 1) + "one\ntwo\none\nthree\n", f"{name}: the text is {pair.host.text(1)!r}")
+
+
 def check_unknown_keys(folder):
     """On every kind of terminal, sequences that nobody knows change nothing; word moves move."""
     unknown = ("1b 78", "1b 5b 49", "1b 5b 31 3b 37 41", "1b 5b 39 39 7e", "1b 4f 7a", "1b 5b 31 3b 33 43", "1b 5d 31 31 3b 78 07")
@@ -140,6 +181,15 @@ def check_find_in_process(folder):
     expect(pair.host.text(0).startswith("/one/\n/a\\.b\\\\c\\//\n? search"), f"the command window has {pair.host.text(0)!r}")
 
 
+def check_long_line_outlives_a_search(folder):
+    """So does one that is longer than what one message brings."""
+    begun = "".join(f"{at} " for at in range(500))
+    pair, editor, key, text = opened("one two one\n")
+    pair.press(key("Esc"), text(begun), key("Esc"), key("^S"), text("two"), text("\n"))
+    expect(editor.focus.dot == (4, 7), f"it finds {editor.focus.dot}")
+    expect(pair.host.text(0) == "/two/\n" + begun, f"the command window has {pair.host.text(0)!r}; it tells {editor.message!r}")
+
+
 def check_search_back(folder):
     """`^B` also finds what stands above in text that is not loaded, and says where there is nothing. Esc stops it."""
     lines = "".join(f"line {at} {'x' * 60}\n" for at in range(12_000))
@@ -225,6 +275,16 @@ def check_clipboard_not_loaded(folder):
         expect("not all loaded" in editor.message, f"{name}: it tells {editor.message!r}")
         expect(pair.terminal.snarf_len == len(LONG), f"{name}: {pair.terminal.snarf_len} characters are copied")
     expect(pair.host.text(1) == "", "^X leaves something")
+
+
+def check_no_room_to_paste(folder):
+    """Where a file would get too long by what was copied, `^V` says so, and what is selected stays."""
+    pair, editor, key, _ = opened("line\n" * 120_000)
+    pair.press(key("^A"), key("^C"), key("^Home"), key("Shift-End"), key("^V"))
+    expect(len(pair.host.text(1)) == 600_000, f"the text has {len(pair.host.text(1))} characters")
+    expect("more than 1,000,000 characters" in editor.message, f"it tells {editor.message!r}")
+    pair.press(key("Shift-Left"), key("^C"), key("^V"))
+    expect(len(pair.host.text(1)) == 600_000 and editor.message == "", f"it doesn't paste what has room: {editor.message!r}")
 
 
 def check_words(folder):

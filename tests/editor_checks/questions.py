@@ -191,6 +191,34 @@ def check_late_word_of_a_write(folder):
     expect(not editor.is_changed(1), "a write that did not fail leaves the file changed")
 
 
+def check_two_writes(folder):
+    """Where the second of two quick writes failed, too, the file is changed; where it did not, the file is written."""
+    for fails in (True, False):
+        pair, editor, key, text = opened("a\n")
+        pair.press(text("x"))
+        for name in ("^W", "^W"):
+            editor.take(key(name))
+        for is_told in (True, fails):
+            if is_told:
+                editor.hear("samhost: ? write file0: No space left on device; its text is in /tmp/file0.sam-saved")
+            pair.trip()
+        pair.finish()
+        expect(editor.is_changed(1) == fails, f"the second fails: {fails}, and the file is taken for {'un' * (not fails)}written")
+
+
+def check_names_with_colons(folder):
+    """What the host tells of a file is known by its name where this has a colon in it; a file whose name is the front of it is another."""
+    pair, editor, key, text = opened("a\n", "b\n")
+    for window, name in zip(editor.files, ("note", "note: a: b")):
+        editor.go_to(window)
+        pair.press(key("Esc"), text(f"f {name}\n"), key("Esc"), text("x"), key("^W"))
+    expect([pair.host.name(tag) for tag in (1, 2)] == ["note", "note: a: b"], "this test is wrong")
+    editor.hear("samhost: ? write note: a: b: No space left on device; its text could not be saved: No space left on device")
+    expect([editor.is_changed(tag) for tag in (1, 2)] == [False, True], "a write that failed is taken for done, or for another's")
+    editor.hear("samhost: ? write note: No space left on device")
+    expect([editor.is_changed(tag) for tag in (1, 2)] == [True, True], "a write that failed is taken for done")
+
+
 def check_worst_line_first(folder):
     """What the host tells of a text stays until it is read, the worst first."""
     pair, editor, key, text = opened("a\n")
@@ -208,6 +236,16 @@ def check_worst_line_first(folder):
         pair.finish()
         pair.press(key("Left"), seconds=0)
     expect(editor.message == "", f"it shows {editor.message!r}")
+
+
+def check_worst_line_of_many(folder):
+    """However many lines are not read yet, one that is worse comes first."""
+    pair, editor, key, text = opened("a\n")
+    for at in range(150):
+        editor.hear(f"samhost: file{at}.sam-saved is there")
+    for line in ("? write file0: no room", "the text of file0 is lost: no room"):
+        editor.hear(f"samhost: {line}")
+        expect(line in editor.message, f"it shows {editor.message!r}, wanted {line!r}")
 
 
 def check_text_lost(folder):

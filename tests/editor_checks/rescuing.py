@@ -5,10 +5,11 @@ import os
 import signal
 import sys
 import tempfile
+import time
 from pathlib import Path
 
 from .pairs import Pair, opened
-from .support import LINK, SAMHOST, SECONDS, Session, change_two, expect, made, stat_of, wait_for_text, wait_until
+from .support import LINK, SAMHOST, SECONDS, Failed, Session, change_two, expect, made, stat_of, wait_for_text, wait_until
 
 
 class Kept:
@@ -214,13 +215,19 @@ class Ending:
         return self.status
 
 
-def ended(pair, taken, lines, status):
-    """What is written here at the end of a session."""
+def edited(pair, link):
+    """A session that has ended but for its link."""
     from session import Session as Edited
 
+    return Edited(pair.terminal, link, pair.editor)
+
+
+def ended(pair, taken, lines, status):
+    """What is written here at the end of a session."""
+    before = signal.getsignal(signal.SIGINT)
     with Kept() as kept, contextlib.redirect_stderr(io.StringIO()):
-        session = Edited(pair.terminal, Ending(pair, taken, lines, status), pair.editor)
-        session._end()
+        edited(pair, Ending(pair, taken, lines, status))._end()
+    signal.signal(signal.SIGINT, before)
     return kept
 
 
@@ -238,6 +245,58 @@ def check_end_without_the_last_bytes(folder):
         pair.press(text("x"))
         editor.take(text("y"))
         ended(pair, taken, lines, status).expect(wanted, f"{taken} bytes taken, status {status}, told {lines}")
+
+
+def check_interrupts_at_the_end(folder):
+    """`^C` at the end doesn't wait for the host any longer. A second one doesn't stop what is written here."""
+    import rescue
+
+    class Hanging(Ending):
+        def close(self, hear, take=lambda data: None):
+            os.kill(os.getpid(), signal.SIGINT)
+            expect(False, "the first doesn't end the waiting")
+
+    def keep(name, text):
+        os.kill(os.getpid(), signal.SIGINT)
+        return kept(name, text)
+
+    pair, editor, _, text = opened("a\n")
+    pair.press(text("x"))
+    os.chdir(folder)
+    kept, rescue.keep, before = rescue.keep, keep, signal.getsignal(signal.SIGINT)
+    try:
+        with contextlib.redirect_stderr(io.StringIO()):
+            edited(pair, Hanging(pair, 0, (), 0))._end()
+    except KeyboardInterrupt as why:
+        raise Failed("the second stops it") from why
+    finally:
+        rescue.keep = kept
+        signal.signal(signal.SIGINT, before)
+    wait_for_text(folder / "file0.sam-here", "xa\n")
+
+
+def check_fault_while_it_is_lost(folder):
+    """What could not be written here when the host was lost, for a fault, is written at the end."""
+    pair, editor, _, text = opened("a\n")
+    pair.press(text("x"))
+    keep_here, editor.keeping.keep_here = editor.keeping.keep_here, lambda *_: 1 // 0
+    with contextlib.suppress(ZeroDivisionError):
+        editor.lose("the host is gone")
+    editor.keeping.keep_here = keep_here
+    ended(pair, 0, (), None).expect([("file0", "xa\n")], "a fault")
+
+
+def check_paste_broken_off(folder):
+    """A signal ends the session before the end of a paste has come: what has come is saved."""
+    made(folder, a="one\n")
+    with Session(folder, "a.txt") as session:
+        session.wait_for("one")
+        session.tmux("send-keys", "-H", *(f"{byte:x}" for byte in b"\x1b[200~first\nsecond "))
+        time.sleep(0.5)
+        terminal = next(process for name, process in session.processes().items() if name.startswith("python"))
+        os.kill(terminal, signal.SIGTERM)
+        session.wait_for_end(128 + signal.SIGTERM)
+        wait_for_text(folder / "a.txt.sam-saved", "first\nsecond one\n")
 
 
 def check_last_answers(folder):
@@ -304,7 +363,8 @@ def without_memory(pair, taken):
 
 
 def check_change_without_memory(folder):
-    """Out of memory what is told of a change, and taken back by `^Z`, is what was made of it: nothing, or the front of a long text."""
+    """Out of memory what is told of a change, and taken back by `^Z`, is what was made of it: nothing, or the front of a long text. The
+    rest is written here at the end."""
     pieces = ("x" * 512, "y" * 512, "z")
     for gone, count, taken in (("a", 1, 0), ("a" * 512, 3, 1), ("a" * 1024, 3, 2), ("a" * 512, 2, 0), ("a" * 600, 3, 1), ("", 3, 2)):
         pair, editor, key, _ = opened(gone + "end\n")
@@ -324,6 +384,9 @@ def check_change_without_memory(folder):
         pair.press(key("^Z"))
         expect(pair.host.text(1) == gone + "end\n", f"^Z leaves {pair.host.text(1)!r}")
         expect(("nothing more" in editor.message) == (taken == 0), f"{taken} pieces: ^Z tells {editor.message!r}")
+        rest = "".join(pieces[taken:count]) if count > 1 else "x"
+        pair.press(pair.keys.Text("more"))
+        ended(pair, None, (SAVED.format("file0", "file0"),), 0).expect([("typed", rest)], f"{taken} of {count} pieces came")
 
 
 # ---- Numbers, keys and control characters

@@ -48,6 +48,29 @@ def check_small_command_window(folder):
         session.leave()
 
 
+def check_name_that_a_shell_reads(folder):
+    """A file whose name the host's shell reads otherwise than it was given is no folder: it is shown at once, and takes what was typed."""
+    for asked_for, is_menu in ((["'my file'"], False), (["file*"], True)):
+        pair = Pair(random.Random(1), ["a\n"] * (1 + is_menu))
+        pair.editor.asked_for = set(asked_for)
+        pair.editor.take(pair.keys.Text("x"))
+        pair.finish()
+        expect((pair.editor.menu is not None) == is_menu, f"{asked_for}: files are offered: {not is_menu}")
+        expect(is_menu or pair.host.text(1) == "xa\n", f"{asked_for}: the text is {pair.host.text(1)!r}")
+
+
+def check_thousands_of_files(folder):
+    """A key doesn't ask of each of thousands of files whether it is there."""
+    pair = Pair(random.Random(1), ["a\n"] * 3000)
+    pair.finish()
+    asked, is_known = [], pair.terminal.is_known
+    pair.terminal.is_known = lambda tag: asked.append(tag) or is_known(tag)
+    pair.press(pair.keys.Text("x"), pair.keys.Key("Left"))
+    expect(pair.host.text(1) == "xa\n" and len(asked) < 300, f"two keys ask {len(asked)} times")
+    pair.press(pair.keys.Key("^N"), pair.keys.Text("y"), pair.keys.Key("^K"), pair.keys.Key("^K"))
+    expect(len(pair.editor.tags) == 3000, f"a new file stays after it was closed: {pair.editor.message!r}")
+
+
 def check_folder(folder):
     """Of a folder the text files below it are offered, also over a link; what is left out is told."""
     made(folder, z="zeta\n")
