@@ -4,7 +4,7 @@ from itertools import repeat
 from operator import add
 from typing import Callable, Dict, Iterator, List, NamedTuple
 
-from sulgrevad import NoMemory, Terminal
+from sulgrevad import Terminal, Unfinished
 
 COMMAND = 0  # the tag of the command file
 COMMAND_NAME = "~~sam~~"  # which the host tells, too
@@ -133,9 +133,7 @@ class Texts:
             self.left = runes[at:]
             try:
                 self.terminal.type(tag, runes[at : at + MOST_IN_EVENT])
-            except NoMemory:
-                raise
-            except MemoryError:  # it was taken all the same
+            except Unfinished:  # it was taken all the same
                 self.left = runes[at + MOST_IN_EVENT :]
                 raise
         self.left = ""
