@@ -146,12 +146,13 @@ abbrev pub InOrder : List Acted → PlainTermEndpoint → Type 0
 InOrder [] g = Unit {0}
 InOrder (acted ∷ rest) g = g.waiting ≡ []
 
--- how many frames, messages and events it still holds
+-- how many frames and messages wait, and events are held
 abbrev pub undone : PlainTermEndpoint → ℕ
 undone g = length g.waiting + length g.unwritten + length g.term.held
 
--- what going on with what waits leads to: all frames are received and events act while one can; memory was refused first, and something is
--- still held; or the end stops, at a frame that the terminal refuses, at the stream's fault after them all, or at an event that can't be counted
+-- what going on with what waits leads to: all frames are received and events act while one can; memory was refused first, and something
+-- still waits or is held; or the end stops, at a frame that the terminal refuses, at the stream's fault after them all, or at an event
+-- that can't be counted
 abbrev pub GoesOn : PlainTermEndpoint → Result (Unit {0}) (EndpointFault TermStop) → PlainTermEndpoint → Type 0
 GoesOn e (Ok done) g = (acts : List Acted) × Moves e e.waiting acts g × IsIdle g × IsQuiet g.term × (e.broken_by ≡ None) × (g.stop ≡ None)
 GoesOn e (Err fault.Unfinished) g =
