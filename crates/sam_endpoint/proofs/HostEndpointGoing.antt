@@ -30,6 +30,10 @@ pub first_done : (e before g : PlainHostEndpoint) (m : Tmesg) (rest : List Tmesg
     → writes ≡ before.writes ++ writes_of before.host m → AnswersFirst e g
 first_done e before g m rest h frames writes same after waited answered noted = grind arith
 
+-- nothing is to be written
+pub none_written : (e : PlainHostEndpoint) → e.unwritten ≡ [] → e ≡ written e
+none_written e none = grind (arith, append-nil)
+
 -- ## The loop
 
 -- some messages were answered, and all their frames are written
@@ -104,14 +108,16 @@ goes_further e l k g gone next is = let n = next_gone e l k gone next in then_wr
 -- ## Where it ends
 
 pub not_written : (e l k g : PlainHostEndpoint) (why : EndpointFault HostStop) → HasGone e l → AnswersFirst l k ⊎ TakesEdits l k → Writes k (Err why) g → GoesOn e (Err why) g
-not_written e l k g fault.Unfinished gone next same = let n = next_gone e l k gone next in subst (λ (x : PlainHostEndpoint). GoesOn e (Err fault.Unfinished) x) (sym same) n
+not_written e l k g fault.Unfinished gone next (left, same) =
+    let n = next_gone e l k gone next in
+    subst (λ (x : PlainHostEndpoint). GoesOn e (Err fault.Unfinished) x) (sym same) (n.0, n.1, n.2, omega (arith, left))
 not_written e l k g (fault.Stopped why) gone next writes = absurd writes
 not_written e l k g fault.OutOfMemory gone next writes = absurd writes
 not_written e l k g fault.CountFull gone next writes = absurd writes
 
 -- the host refused the oldest message, or memory was refused
 pub not_answered : (e l g : PlainHostEndpoint) (why : EndpointFault HostStop) → HasGone e l → Handles l (Err why) g → GoesOn e (Err why) g
-not_answered e l g fault.Unfinished gone same = grind arith
+not_answered e l g fault.Unfinished gone (left, same) = grind arith
 not_answered e l g (fault.Stopped (stop.Refused why)) gone refused = grind arith
 not_answered e l g (fault.Stopped (stop.Stream why)) gone refused = absurd refused
 not_answered e l g fault.OutOfMemory gone refused = absurd refused

@@ -66,7 +66,7 @@ kept_piece h stream out piece e k none (messages, broken_by, rest, gives, is) ke
 
 kept_goes_on : (h : PlainHost) (stream out : List ℕ) (e g : PlainHostEndpoint) (result : Answer) → GoesOnAfter result → GoesOn e result g → Kept h stream out e → Kept h stream out g
 kept_goes_on h stream out e g (Ok done) goes on kept = kept_answers h stream out e g e.waiting on.0 kept
-kept_goes_on h stream out e g (Err fault.Unfinished) goes (ms, a, going) kept = kept_answers h stream out e g ms a kept
+kept_goes_on h stream out e g (Err fault.Unfinished) goes (ms, a, going, left) kept = kept_answers h stream out e g ms a kept
 kept_goes_on h stream out e g result u w q = grind arith
 
 kept_same : (h : PlainHost) (stream out : List ℕ) (e g : PlainHostEndpoint) → g ≡ e → Kept h stream out e → Kept h (stream ++ []) out g

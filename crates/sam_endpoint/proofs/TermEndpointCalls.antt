@@ -63,7 +63,7 @@ acting_unwritten e g k why u w = grind arith
 -- all frames were received, and then events act
 pub going_acts : (e m g : PlainTermEndpoint) (result : Answer) → ReceivesAll e (Ok tt) m → m.broken_by ≡ None → ActsAll m result g → GoesOn e result g
 going_acts e m g (Ok done) (received, idle, number, runs) sound (acts, moves, still, quiet, on) = grind (arith, moves_both)
-going_acts e m g (Err fault.Unfinished) (received, idle, number, runs) sound (acts, moves, on) = grind (arith, moves_both)
+going_acts e m g (Err fault.Unfinished) (received, idle, number, runs) sound (acts, moves, on, left) = grind (arith, moves_both)
 going_acts e m g (Err (fault.Stopped (stop.Refused why))) (received, idle, number, runs) sound (acts, moves, still, refused, on) = search (rules, common_steps)
 going_acts e m g result u w q = grind arith
 

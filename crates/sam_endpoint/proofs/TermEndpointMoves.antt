@@ -49,6 +49,10 @@ broken_by out base left before more none so_far = grind (arith, append_assoc, fl
 pub moves_none : (e : PlainTermEndpoint) → Moves e [] [] e
 moves_none e = grind (arith, append-nil)
 
+-- nothing is to be written
+pub none_written : (e : PlainTermEndpoint) → e.unwritten ≡ [] → e ≡ written e
+none_written e none = grind (arith, append-nil)
+
 pub moves_written : (e g : PlainTermEndpoint) (frames : List HFrame) (acts : List Acted) → Moves e frames acts g → Moves e frames acts (written g)
 moves_written e g frames acts m = grind (arith, append-nil)
 

@@ -1,5 +1,5 @@
 -- One step of a terminal end: what holds of the end after it.
-use Rattle.sam_endpoint.proofs.Common.{◌≡◌, sym, subst, ℕ, ◌-◌, ◌≤◌, false, List, [], ◌∷◌, ◌++◌, length, drop, Option, Some, None, Ok, Err, arith, slice_get, IsTrue, All-tail, fits_h, HFrame, Tmesg, host, Held, composed_in, PlainTerminal, act_of, take_of, Acted, StreamFault, TermStop, EndpointFault, FitFrames, Gives, PlainTermEndpoint, act_touch, kept_after, IsDecided, oldest, refusals_from, ActsFirst, Receives, Tries, stopped_by, All-nil, FitInTurn}
+use Rattle.sam_endpoint.proofs.Common.{◌≡◌, refl, ap, inl, sym, subst, ℕ, ◌-◌, ◌≤◌, false, List, [], ◌∷◌, ◌++◌, length, drop, Option, Some, None, Ok, Err, arith, slice_get, IsTrue, All-tail, fits_h, HFrame, Tmesg, host, Held, composed_in, PlainTerminal, UserEvent, act_of, act_on, take_of, Acted, StreamFault, TermStop, EndpointFault, FitFrames, Gives, PlainTermEndpoint, act_touch, kept_after, IsDecided, IsQuiet, oldest, refusals_from, ActsFirst, Receives, Tries, stopped_by, All-nil, FitInTurn}
 use Rattle.sam_endpoint.specs.TermSteps.{IsSound}
 use Rattle.sam_endpoint.proofs.TermEndpointHeld.{act_held, take_held}
 use Rattle.sam_endpoint.proofs.TermEndpointStamps.{act_counts}
@@ -19,6 +19,15 @@ pub taken_counted : (e : PlainTermEndpoint) (u : PlainTerminal) (frame : HFrame)
 taken_counted e u frame ms s taken = subst (λ hs. length hs ≤ e.events) (sym (take_held e.term u frame ms taken)) s.counted
 
 -- ## Events
+
+none_held : (events : List UserEvent) → length events ≡ 0 → events ≡ []
+none_held [] none = refl
+none_held (event ∷ events) none = absurd (grind arith)
+
+-- no event is held, so none can act
+pub none_acts : (t : PlainTerminal) → length t.held ≡ 0 → IsQuiet t
+unfolding act_of
+none_acts t none = inl (ap (λ (events : List UserEvent). act_on t events) (none_held t.held none))
 
 pub settled_counted : (e : PlainTermEndpoint) (u : PlainTerminal) (acted : Acted) → IsSound e → act_of e.term ≡ Ok (u, acted) → IsDecided acted → length u.held ≤ e.events
 settled_counted e u acted s act settled = omega (arith, act_held e.term u acted act settled, s.counted)

@@ -75,11 +75,12 @@ pub record IsIdle (g : PlainHostEndpoint) : Type 0 where
   pub waiting : g.waiting ≡ []
   pub unwritten : g.unwritten ≡ []
 
--- what going on with what waits leads to: all is answered; memory was refused first; or the end stops, at a message that the host
--- refuses or at the stream's fault after them all
+-- what going on with what waits leads to: all is answered; memory was refused first, and something still waits; or the end stops, at a
+-- message that the host refuses or at the stream's fault after them all
 abbrev pub GoesOn : PlainHostEndpoint → Result (Unit {0}) (EndpointFault HostStop) → PlainHostEndpoint → Type 0
 GoesOn e (Ok done) g = Answers e e.waiting g × IsIdle g × (e.broken_by ≡ None) × (g.stop ≡ None)
-GoesOn e (Err fault.Unfinished) g = (messages : List Tmesg) × Answers e messages g × (g.stop ≡ None)
+GoesOn e (Err fault.Unfinished) g =
+    (messages : List Tmesg) × Answers e messages g × (g.stop ≡ None) × (0 < length g.waiting + length g.unwritten)
 GoesOn e (Err (fault.Stopped (stop.Stream why))) g =
     Answers e e.waiting g × IsIdle g × (e.broken_by ≡ Some why) × (g.stop ≡ Some (stop.Stream why))
 GoesOn e (Err (fault.Stopped (stop.Refused why))) g =

@@ -34,7 +34,7 @@ stopped e why = record e { stop = Some why }
 -- the frames of the last answer are written, or all stays
 abbrev pub Writes : PlainHostEndpoint → Answer → PlainHostEndpoint → Type 0
 Writes e (Ok done) g = g ≡ written e
-Writes e (Err fault.Unfinished) g = g ≡ e
+Writes e (Err fault.Unfinished) g = (0 < length e.unwritten) × (g ≡ e)
 Writes e (Err _) g = ⊥
 
 -- the host answered the oldest message that waited
@@ -50,7 +50,7 @@ pub record AnswersFirst (e : PlainHostEndpoint) (g : PlainHostEndpoint) : Type 0
 -- it is answered, or all stays, or the host refuses it
 abbrev pub Handles : PlainHostEndpoint → Answer → PlainHostEndpoint → Type 0
 Handles e (Ok done) g = AnswersFirst e g
-Handles e (Err fault.Unfinished) g = g ≡ e
+Handles e (Err fault.Unfinished) g = (0 < length e.waiting) × (g ≡ e)
 Handles e (Err (fault.Stopped (stop.Refused why))) g =
     (message : Tmesg) × (rest : List Tmesg)
     × (e.waiting ≡ message ∷ rest) × (answer e.host message ≡ Err why) × (g ≡ stopped e (stop.Refused why))

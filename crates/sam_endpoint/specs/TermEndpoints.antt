@@ -146,11 +146,17 @@ abbrev pub InOrder : List Acted → PlainTermEndpoint → Type 0
 InOrder [] g = Unit {0}
 InOrder (acted ∷ rest) g = g.waiting ≡ []
 
--- what going on with what waits leads to: all frames are received and events act while one can; memory was refused first; or the end
--- stops, at a frame that the terminal refuses, at the stream's fault after them all, or at an event that can't be counted
+-- how many frames and messages wait, and events are held
+abbrev pub undone : PlainTermEndpoint → ℕ
+undone g = length g.waiting + length g.unwritten + length g.term.held
+
+-- what going on with what waits leads to: all frames are received and events act while one can; memory was refused first, and something
+-- still waits or is held; or the end stops, at a frame that the terminal refuses, at the stream's fault after them all, or at an event
+-- that can't be counted
 abbrev pub GoesOn : PlainTermEndpoint → Result (Unit {0}) (EndpointFault TermStop) → PlainTermEndpoint → Type 0
 GoesOn e (Ok done) g = (acts : List Acted) × Moves e e.waiting acts g × IsIdle g × IsQuiet g.term × (e.broken_by ≡ None) × (g.stop ≡ None)
-GoesOn e (Err fault.Unfinished) g = (frames : List HFrame) × (acts : List Acted) × Moves e frames acts g × InOrder acts g × (g.stop ≡ None)
+GoesOn e (Err fault.Unfinished) g =
+    (frames : List HFrame) × (acts : List Acted) × Moves e frames acts g × InOrder acts g × (g.stop ≡ None) × (0 < undone g)
 GoesOn e (Err (fault.Stopped (stop.Stream why))) g =
     Moves e e.waiting [] g × IsIdle g × (e.broken_by ≡ Some why) × (g.stop ≡ Some (stop.Stream why))
 GoesOn e (Err (fault.Stopped (stop.Refused why))) g =

@@ -17,7 +17,7 @@ use Rattle.sam_endpoint.specs.declared.fault.EndpointFault.TheVariants as fault
 use Rattle.sam_term.specs.declared.fault.TermFault.TheVariants as refusal
 use Rattle.sam_endpoint.specs.Changes.{act_touch, frame_touch, kept_after}
 use Rattle.sam_endpoint.specs.Streams.{FitFrames, FitMessages}
-use Rattle.sam_endpoint.specs.TermEndpoints.{PlainTermEndpoint, GoesOn, IsIdle, IsQuiet, IsDecided, Moves, TakesIn, oldest, refusals_from, with_event}
+use Rattle.sam_endpoint.specs.TermEndpoints.{PlainTermEndpoint, GoesOn, IsIdle, IsQuiet, IsDecided, Moves, TakesIn, oldest, refusals_from, undone, with_event}
 
 -- what holds of every terminal end
 pub record IsSound (e : PlainTermEndpoint) : Type 0 where
@@ -63,7 +63,7 @@ Tries t answer (Err fault.CountFull) u = ⊥
 -- what was composed is written, or all stays
 abbrev pub Writes : PlainTermEndpoint → Answer → PlainTermEndpoint → Type 0
 Writes e (Ok done) g = g ≡ written e
-Writes e (Err fault.Unfinished) g = g ≡ e
+Writes e (Err fault.Unfinished) g = (0 < length e.unwritten) × (g ≡ e)
 Writes e (Err fault.OutOfMemory) g = ⊥
 Writes e (Err fault.CountFull) g = ⊥
 Writes e (Err (fault.Stopped why)) g = ⊥
@@ -88,7 +88,7 @@ pub record ReceivesFirst (e : PlainTermEndpoint) (g : PlainTermEndpoint) : Type 
 abbrev pub Receives : PlainTermEndpoint → Result Bool (EndpointFault TermStop) → PlainTermEndpoint → Type 0
 Receives e (Ok true) g = ReceivesFirst e g
 Receives e (Ok false) g = (e.waiting ≡ []) × (g ≡ e)
-Receives e (Err fault.Unfinished) g = g ≡ e
+Receives e (Err fault.Unfinished) g = (0 < length e.waiting) × (g ≡ e)
 Receives e (Err (fault.Stopped (stop.Refused why))) g =
     (frame : HFrame) × (rest : List HFrame) × (e.waiting ≡ frame ∷ rest) × (take_of e.term frame ≡ Err why)
     × (g ≡ stopped e (stop.Refused why))
@@ -115,7 +115,7 @@ pub record ActsFirst (e : PlainTermEndpoint) (g : PlainTermEndpoint) : Type 0 wh
 abbrev pub Acts : PlainTermEndpoint → Result Bool (EndpointFault TermStop) → PlainTermEndpoint → Type 0
 Acts e (Ok true) g = ActsFirst e g
 Acts e (Ok false) g = IsQuiet e.term × (g ≡ e)
-Acts e (Err fault.Unfinished) g = g ≡ e
+Acts e (Err fault.Unfinished) g = (0 < length e.term.held) × (g ≡ e)
 Acts e (Err (fault.Stopped (stop.Refused why))) g = (act_of e.term ≡ Err why) × (g ≡ stopped e (stop.Refused why))
 Acts e (Err (fault.Stopped (stop.Stream why))) g = ⊥
 Acts e (Err fault.OutOfMemory) g = ⊥
@@ -124,7 +124,7 @@ Acts e (Err fault.CountFull) g = ⊥
 -- the frames that waited are received, and their answers are written
 abbrev pub ReceivesAll : PlainTermEndpoint → Answer → PlainTermEndpoint → Type 0
 ReceivesAll e (Ok done) g = Moves e e.waiting [] g × IsIdle g × (oldest g ≡ oldest e) × (g.stop ≡ None)
-ReceivesAll e (Err fault.Unfinished) g = (frames : List HFrame) × Moves e frames [] g × (g.stop ≡ None)
+ReceivesAll e (Err fault.Unfinished) g = (frames : List HFrame) × Moves e frames [] g × (g.stop ≡ None) × (0 < undone g)
 ReceivesAll e (Err (fault.Stopped (stop.Refused why))) g =
     (frames : List HFrame) × (frame : HFrame) × (rest : List HFrame)
     × Moves e frames [] g × (g.waiting ≡ frame ∷ rest) × (take_of g.term frame ≡ Err why)
@@ -136,7 +136,7 @@ ReceivesAll e (Err fault.CountFull) g = ⊥
 -- events act while one can, and what they compose is written
 abbrev pub ActsAll : PlainTermEndpoint → Answer → PlainTermEndpoint → Type 0
 ActsAll e (Ok done) g = (acts : List Acted) × Moves e [] acts g × IsIdle g × IsQuiet g.term × (g.stop ≡ None)
-ActsAll e (Err fault.Unfinished) g = (acts : List Acted) × Moves e [] acts g × (g.stop ≡ None)
+ActsAll e (Err fault.Unfinished) g = (acts : List Acted) × Moves e [] acts g × (g.stop ≡ None) × (0 < undone g)
 ActsAll e (Err (fault.Stopped (stop.Refused why))) g =
     (acts : List Acted) × Moves e [] acts g × IsIdle g × (act_of g.term ≡ Err why) × (g.stop ≡ Some (stop.Refused why))
 ActsAll e (Err (fault.Stopped (stop.Stream why))) g = ⊥

@@ -392,9 +392,13 @@ impl HostEndpoint {
     }
 
     /// Writes the frames of the last answer into the pending bytes, all or none. Its only error is `Unfinished`.
+    #[tactic(auto, using(crate::proofs::HostEndpointGoing::none_written))]
     fn write_answer(&mut self) -> Result<(), EndpointFault<HostStop>>
         ensures { Writes self.old result self.new }
     {
+        if self.unwritten.is_empty() {
+            return Ok(());
+        }
         let written = self.pending_bytes.put_messages(self.unwritten.as_slice());
         if written.is_err() {
             return Err(EndpointFault::Unfinished);

@@ -1,7 +1,7 @@
 //! A terminal at one end of a stream of bytes each way.
 
-ghost use Rattle.std.specs.Prelude.{◌≡◌, ◌↔◌, IfOk, IsTrue, None, [], ◌≤◌, drop, length, min, option_copied, take, slice_get, ◌++◌};
-ghost use Rattle.sam_endpoint.specs.TermEndpoints.{Asks, Feeds, Finishes, Flushes, GoesOn, IsIdle, Puts, decided, new_term_endpoint, under_way};
+ghost use Rattle.std.specs.Prelude.{◌≡◌, ◌↔◌, IfOk, IsTrue, None, [], ◌<◌, ◌≤◌, true, false, drop, length, min, option_copied, take, slice_get, ◌++◌};
+ghost use Rattle.sam_endpoint.specs.TermEndpoints.{Asks, Feeds, Finishes, Flushes, GoesOn, IsIdle, IsQuiet, Puts, decided, new_term_endpoint, under_way};
 ghost use Rattle.sam_endpoint.specs.TermSteps.{Acts, ActsAll, Composes, Gains, Holds, Receives, ReceivesAll, Resumes, Tries, Writes, end_fault, stopped_by};
 ghost use Rattle.sam_mesg.specs.HostKinds.{fits_h};
 ghost use Rattle.sam_term.specs.Fitting.{AllFit, composed_in};
@@ -91,9 +91,13 @@ impl TermEndpoint {
     }
 
     /// Writes what was composed into the pending bytes, all or none. Its only error is `Unfinished`.
+    #[tactic(auto, using(crate::proofs::TermEndpointMoves::none_written))]
     fn write_composed(&mut self) -> Result<(), EndpointFault<TermStop>>
         ensures { Writes self.old result self.new }
     {
+        if self.unwritten.is_empty() {
+            return Ok(());
+        }
         if self
             .pending_bytes
             .put_messages(self.unwritten.as_slice())
@@ -142,6 +146,9 @@ impl TermEndpoint {
         requires { self.old.unwritten ≡ [] }
         ensures { Acts self.old result self.new }
     {
+        if holds_no_event(&self.term) {
+            return Ok(false);
+        }
         if self.refusals.reserve(1).is_err() {
             return Err(EndpointFault::Unfinished);
         }
@@ -440,6 +447,15 @@ fn end_fault(why: TermFault) -> EndpointFault<TermStop>
         TermFault::OutOfMemory => EndpointFault::Unfinished,
         _ => EndpointFault::Stopped(TermStop::Refused(why)),
     }
+}
+
+/// Returns whether no event is held.
+#[tactic(auto, using(crate::proofs::TermEndpointSteps::none_acts))]
+fn holds_no_event(term: &Terminal) -> bool
+    ensures quiet { result ≡ true → IsQuiet term.now }
+    ensures held { result ≡ false → 0 < length term.now.held }
+{
+    term.held() == 0
 }
 
 /// Returns the oldest frame.
