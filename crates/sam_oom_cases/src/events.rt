@@ -28,7 +28,7 @@ fn is_same_window(terminal: &Terminal, other: &Terminal, tag: u16) -> bool {
         && is_same_part(terminal.rasp(tag), other.rasp(tag))
 }
 
-/// Whether the readers say the same of both terminals.
+/// Whether the readers of windows, locks, events and what was copied say the same of both terminals.
 pub fn is_same_terminal(terminal: &Terminal, other: &Terminal) -> bool {
     for tag in 0..TAGS {
         if !is_same_window(terminal, other, tag) {
@@ -40,6 +40,12 @@ pub fn is_same_terminal(terminal: &Terminal, other: &Terminal) -> bool {
         && terminal.unsent() == other.unsent()
         && terminal.sent() == other.sent()
         && terminal.version() == other.version()
+        && terminal.held() == other.held()
+        && terminal.has_unsent() == other.has_unsent()
+        && terminal.current() == other.current()
+        && terminal.pattern() == other.pattern()
+        && terminal.snarf() == other.snarf()
+        && terminal.snarf_len() == other.snarf_len()
 }
 
 /// Hands over a frame. The cases have none that does not fit.

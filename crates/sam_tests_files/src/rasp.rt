@@ -42,11 +42,6 @@ fn holds(rasp: &Rasp, cells: &[Option<char>]) -> bool {
     rasp.len() as usize == cells.len()
 }
 
-/// Whether the rasp is these members in so many sections. It takes no memory.
-fn shows(rasp: &Rasp, cells: &[Option<char>], sections: usize) -> bool {
-    holds(rasp, cells) && rasp.sections() == sections
-}
-
 /// A change of a rasp or a look at it, with the answer.
 #[derive(Clone, Copy)]
 enum Step<'a> {
@@ -182,47 +177,6 @@ const FEW: [Step<'static>; 11] = [
 #[test]
 fn sections_are_few(rt: HostRuntime) {
     assert_eq!(rt; first_wrong_of_new(rt.alloc(), &FEW), None);
-}
-
-/// Whether the change is made at the first call, or at the second where the first was refused memory and changed nothing.
-fn is_made(rasp: &mut Rasp, change: Change<'_>, before: &[Option<char>], sections: usize) -> bool {
-    let answer = make(rasp, change);
-    if answer != Err(RaspFault::OutOfMemory) {
-        return answer == Ok(());
-    }
-    shows(rasp, before, sections) && make(rasp, change) == Ok(())
-}
-
-/// Whether each change is made, where these members stand before it in so many sections.
-fn are_made(rasp: &mut Rasp, rows: &[(Change<'_>, &[Option<char>], usize)]) -> bool {
-    for (change, before, sections) in rows {
-        if !is_made(rasp, *change, *before, *sections) {
-            return false;
-        }
-    }
-    true
-}
-
-// Run once for each allocation that is refused, and once with none refused.
-#[test]
-fn a_refused_change_leaves_all_as_it_was(rt: HostRuntime) {
-    let gaps = [None; 5];
-    let loaded = [None, None, Some('c'), Some('d'), None];
-    let cut = [None, Some('d'), None];
-    let typed = [None, Some('x'), Some('d'), None];
-    let replaced = [Some('a'), Some('b'), Some('d'), None];
-    let rows: [(Change<'_>, &[Option<char>], usize); 5] = [
-        (Change::Grow(0, 5), &[], 0),
-        (Change::Data(2, &['c', 'd']), &gaps, 1),
-        (Change::Cut(1, 2), &loaded, 3),
-        (Change::TypeIn(1, &['x']), &cut, 3),
-        (Change::Replace(0, 2, &['a', 'b']), &typed, 3),
-    ];
-    let told = lent(
-        Rasp::new(rt.alloc()),
-        |rasp| (are_made(rasp, &rows), shows(rasp, &replaced, 2)),
-    );
-    assert_eq!(rt; told, (true, true));
 }
 
 /// Numbers that look random, by Marsaglia's shifts of 13, 17 and 5.

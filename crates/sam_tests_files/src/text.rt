@@ -335,9 +335,10 @@ fn tags_are_given_once(rt: HostRuntime) {
             files.close(1).is_ok(),
             files.new_file(['a'].as_slice(), [].as_slice()),
             files.start_file(),
+            (files.was_given(1), files.was_given(3), files.was_given(4)),
         )
     });
-    assert_eq!(rt; told, Some((true, Ok(2), Ok(3))));
+    assert_eq!(rt; told, Some((true, Ok(2), Ok(3), (true, true, false))));
 }
 
 #[test]

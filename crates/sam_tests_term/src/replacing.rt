@@ -1,7 +1,7 @@
 //! `Edit`: what it composes, what it leaves of the text and of the dot, and when it is refused or waits.
 
 use crate::trying::{
-    acts, composed, goes_on, loaded, opens_five_gaps, rasp_len, refusal, takes, typed, waits,
+    acts, composed, loaded, opens_five_gaps, rasp_len, refusal, takes, typed, waits,
 };
 use sam_mesg::{Hmesg, Tmesg};
 use sam_runes::{MAX_RUNES, Runes};
@@ -413,10 +413,10 @@ fn an_edit_waits_for_a_lock_of_its_file(rt: HostRuntime) -> Result<(), Fail> {
                 Ok(Acted::Locked)
             ) && waits(terminal),
             takes(terminal, Hmesg::Hunlockfile(1)),
-            goes_on(terminal),
+            matches!(terminal.act(), Ok(Acted::Refused(Refusal::BadPosition))),
         )
     });
     // Its range ends before it begins, which is looked at after the lock.
-    assert_eq!(rt; told, (true, Some(1), true, true, false));
+    assert_eq!(rt; told, (true, Some(1), true, true, true));
     Ok(())
 }
