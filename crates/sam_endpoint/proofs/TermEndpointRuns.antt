@@ -237,7 +237,7 @@ kept_flushed : (stream : List ℕ) (events : List UserEvent) (out : List ℕ) (e
     → FlushesIdle e result g → Kept stream events out e → Kept stream events out g
 kept_flushed stream events out e g result goes none (inl (u, composed, flushes, on)) kept =
     kept_goes_on stream events out (record e { term = u; unwritten = composed }) g result goes on (kept_sent stream events out e u composed none flushes kept)
-kept_flushed stream events out e g result goes none (inr (inl (is, same))) kept = subst (λ (x : PlainTermEndpoint). Kept stream events out x) (sym same) kept
+kept_flushed stream events out e g result goes none (inr (inl (is, counted, same))) kept = subst (λ (x : PlainTermEndpoint). Kept stream events out x) (sym same) kept
 kept_flushed stream events out e g result goes none (inr (inr (why, fails, is, same))) kept = absurd (stopped_not result _ is goes)
 
 kept_feeds : (stream : List ℕ) (events : List UserEvent) (out piece : List ℕ) (e g : PlainTermEndpoint) (result : Answer) → GoesOnAfter result → Feeds e piece result g
@@ -410,7 +410,7 @@ flush_stops : (stream : List ℕ) (events : List UserEvent) (out : List ℕ) (e 
     → FlushesIdle e (Err (fault.Stopped why)) g → Kept stream events out e → Ended stream events out why g
 flush_stops stream events out e g why whole (inl (u, composed, flushes, on)) kept =
     went_on stream events out (record e { term = u; unwritten = composed }) g why on (kept_sent stream events out e u composed whole.0.unwritten flushes kept)
-flush_stops stream events out e g why whole (inr (inl (is, same))) kept = absurd (cc)
+flush_stops stream events out e g why whole (inr (inl (is, counted, same))) kept = absurd (cc)
 flush_stops stream events out e g why whole (inr (inr (who, fails, is, same))) kept =
     let one : stop.Refused who ≡ why = cc in
     let d = kept.done in

@@ -1,6 +1,10 @@
 -- One step of a terminal end: what holds of the end after it.
-use Rattle.sam_endpoint.proofs.Common.{◌≡◌, refl, ap, inl, sym, subst, ℕ, ◌-◌, ◌≤◌, false, List, [], ◌∷◌, ◌++◌, length, drop, Option, Some, None, Ok, Err, arith, slice_get, IsTrue, All-tail, fits_h, HFrame, Tmesg, host, Held, composed_in, PlainTerminal, UserEvent, act_of, act_on, take_of, Acted, StreamFault, TermStop, EndpointFault, FitFrames, Gives, PlainTermEndpoint, act_touch, kept_after, IsDecided, IsQuiet, oldest, refusals_from, ActsFirst, Receives, Tries, stopped_by, All-nil, FitInTurn}
-use Rattle.sam_endpoint.specs.TermSteps.{IsSound}
+use Rattle.sam_endpoint.proofs.Common.{◌≡◌, refl, ap, inl, sym, subst, ℕ, ◌-◌, ◌≤◌, false, List, [], ◌∷◌, ◌++◌, length, drop, Option, Some, None, Ok, Err, arith, slice_get, IsTrue, All-tail, fits_h, HFrame, Tmesg, host, Held, composed_in, PlainTerminal, UserEvent, act_of, act_on, flush_of, take_of, Acted, StreamFault, TermStop, EndpointFault, FitFrames, Gives, PlainTermEndpoint, act_touch, kept_after, IsDecided, IsQuiet, oldest, refusals_from, ActsFirst, Receives, Tries, stopped_by, All-nil, FitInTurn}
+use Rattle.std.proofs.Common.{IsOk}
+use Rattle.sam_term.specs.Taking.{IsFailure}
+use Rattle.sam_term.specs.declared.fault.TermFault.{TermFault}
+use Rattle.sam_endpoint.specs.declared.fault.EndpointFault.TheVariants as fault
+use Rattle.sam_endpoint.specs.TermSteps.{IsSound, end_fault}
 use Rattle.sam_endpoint.proofs.TermEndpointHeld.{act_held, take_held}
 use Rattle.sam_endpoint.proofs.TermEndpointStamps.{act_counts}
 
@@ -46,6 +50,11 @@ pub acted_stamped : (e : PlainTermEndpoint) (u : PlainTerminal) (acted : Acted) 
 acted_stamped e u acted s act = omega (arith, act_counts e.term u acted act, s.stamped)
 
 -- ## Faults
+
+-- out of memory is none of what the definition answers
+pub flush_counted : (t : PlainTerminal) (why : TermFault) → IsFailure (flush_of t) why → end_fault why ≡ fault.Unfinished → IsOk (flush_of t)
+unfolding flush_of
+flush_counted t why failure is = grind arith
 
 -- the terminal did not receive the oldest frame
 pub receive_failed : (e h g : PlainTermEndpoint) (frame : HFrame) (rest : List HFrame) (u : PlainTerminal) (why : EndpointFault TermStop) → e.waiting ≡ frame ∷ rest

@@ -1,5 +1,5 @@
 -- A terminal at one end of a stream of bytes each way, and what its calls do.
-use Rattle.std.specs.Prelude.{◌≡◌, ℕ, ◌+◌, ◌-◌, ◌^◌, ◌<◌, ◌≤◌, ◌⊎◌, List, [], ◌∷◌, ◌++◌, length, flat_map, true, false, Option, Some, None, Result, Ok, Err}
+use Rattle.std.specs.Prelude.{◌≡◌, ℕ, ◌+◌, ◌-◌, ◌^◌, ◌<◌, ◌≤◌, ◌⊎◌, List, [], ◌∷◌, ◌++◌, length, flat_map, true, false, Option, Some, None, Result, Ok, Err, IsOk}
 use Rattle.sam_mesg.specs.declared.tmesg.Tmesg.{Tmesg}
 use Rattle.sam_mesg.specs.declared.hmesg.HFrame.{HFrame}
 use Rattle.sam_frame.specs.Direction.{host, terminal}
@@ -214,7 +214,7 @@ abbrev pub FlushesIdle : PlainTermEndpoint → Result (Unit {0}) (EndpointFault 
 FlushesIdle e result g =
     ((u : PlainTerminal) × (composed : List Tmesg) × (flush_of e.term ≡ Ok (u, composed))
     × GoesOn (record e { term = u; unwritten = composed }) result g)
-    ⊎ (((result ≡ Err fault.OutOfMemory) × (g ≡ e))
+    ⊎ (((result ≡ Err fault.OutOfMemory) × IsOk (flush_of e.term) × (g ≡ e))
     ⊎ ((why : TermFault) × (flush_of e.term ≡ Err why) × (result ≡ Err (fault.Stopped (stop.Refused why)))
     × (g ≡ record e { stop = Some (stop.Refused why) })))
 

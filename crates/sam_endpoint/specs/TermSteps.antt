@@ -1,5 +1,5 @@
 -- What the steps of a terminal end do, of which its calls are made.
-use Rattle.std.specs.Prelude.{◌≡◌, ℕ, ◌+◌, ◌-◌, ◌^◌, ◌<◌, ◌≤◌, ◌⊎◌, List, [], ◌∷◌, ◌++◌, length, Bool, true, false, Some, None, Result, Ok, Err}
+use Rattle.std.specs.Prelude.{◌≡◌, ℕ, ◌+◌, ◌-◌, ◌^◌, ◌<◌, ◌≤◌, ◌⊎◌, List, [], ◌∷◌, ◌++◌, length, Bool, true, false, Some, None, Result, Ok, Err, IsOk}
 use Rattle.sam_mesg.specs.declared.tmesg.Tmesg.{Tmesg}
 use Rattle.sam_mesg.specs.declared.hmesg.HFrame.{HFrame}
 use Rattle.sam_frame.specs.Direction.{terminal}
@@ -172,7 +172,7 @@ abbrev pub Composes : PlainTermEndpoint → Answer → PlainTermEndpoint → Typ
 Composes e (Ok done) g =
     (term : PlainTerminal) × (composed : List Tmesg)
     × (flush_of e.term ≡ Ok (term, composed)) × (g ≡ record e { term = term; unwritten = composed })
-Composes e (Err fault.OutOfMemory) g = g ≡ e
+Composes e (Err fault.OutOfMemory) g = IsOk (flush_of e.term) × (g ≡ e)
 Composes e (Err (fault.Stopped (stop.Refused why))) g = (flush_of e.term ≡ Err why) × (g ≡ stopped e (stop.Refused why))
 Composes e (Err (fault.Stopped (stop.Stream why))) g = ⊥
 Composes e (Err fault.Unfinished) g = ⊥

@@ -1,6 +1,6 @@
 //! A terminal at one end of a stream of bytes each way.
 
-ghost use Rattle.std.specs.Prelude.{◌≡◌, ◌↔◌, IfOk, IsTrue, None, [], ◌<◌, ◌≤◌, true, false, drop, length, min, option_copied, take, slice_get, ◌++◌};
+ghost use Rattle.std.specs.Prelude.{◌≡◌, ◌↔◌, IfErr, IfOk, IsOk, IsTrue, None, [], ◌<◌, ◌≤◌, true, false, drop, length, min, option_copied, take, slice_get, ◌++◌};
 ghost use Rattle.sam_endpoint.specs.TermEndpoints.{Asks, Feeds, Finishes, Flushes, GoesOn, IsIdle, IsQuiet, Puts, decided, new_term_endpoint, under_way};
 ghost use Rattle.sam_endpoint.specs.TermSteps.{Acts, ActsAll, Composes, Gains, Holds, Receives, ReceivesAll, Resumes, Tries, Writes, end_fault, stopped_by};
 ghost use Rattle.sam_mesg.specs.HostKinds.{fits_h};
@@ -491,6 +491,7 @@ fn act_now(term: &mut Terminal) -> Result<Acted, EndpointFault<TermStop>>
 /// Has the terminal compose its unsent runes, and returns their message. After an error the terminal is as it was.
 fn flush_now(term: &mut Terminal) -> Result<Batch, EndpointFault<TermStop>>
     ensures tries { Tries term.old (flush_of term.old) result term.new }
+    ensures counted { IfErr result (λ why. why ≡ EndpointFault.Unfinished → IsOk (flush_of term.old)) }
     ensures fit { IfOk result AllFit }
 {
     match term.flush() {
