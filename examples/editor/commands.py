@@ -71,6 +71,18 @@ class Commands:
         if begun:
             self.texts.replace(COMMAND, begun)
 
+    def begun_line(self) -> str:
+        """The command line that is begun. While the host's answer is out, the last line comes before it, since that may not have run. Both
+        may be printed text: nobody knows the two apart."""
+        if not self.terminal.is_open(COMMAND):
+            return ""
+        end = self.terminal.len(COMMAND)
+        begun = line_at(self.command, end).lstrip(GAP)
+        end -= len(begun) + 1
+        if end < 0 or not self.terminal.command_locked:
+            return begun
+        return line_at(self.command, end).lstrip(GAP) + "\n" + begun
+
     def may_leave(self, key: str) -> bool:
         """Whether all is written, or the user is sure. If not, it is asked; the same key answers."""
         unwritten = ", ".join(self.name(tag) for tag in self.tags if self.is_changed(tag))

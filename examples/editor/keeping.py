@@ -80,9 +80,9 @@ class Keeping:
             self._dropped[tag] = (self.name(tag), rescue.loaded(self.terminal, tag))
 
     def keep_here(self, has_all: bool, has_ended_well: bool = False) -> List[str]:
-        """Writes to files of this machine what nobody has saved, as far as it is loaded, and what was typed and still waits. Returns what
-        to tell of them. What the host has saved lacks nothing only where it has got all that was sent (`has_all`). If it has ended well
-        then, it has saved all of it, also what it has told nothing of since a file has that text already."""
+        """Writes to files of this machine what nobody has saved, as far as it is loaded, and what was typed and still waits, the command
+        line that is begun too. Returns what to tell of them. What the host has saved lacks nothing only where it has got all that was sent
+        (`has_all`). If it has ended well then, it has saved all of it, also what it has told nothing of since a file has that text already."""
         texts, self._dropped = {} if has_all and has_ended_well else self._dropped, {}
         waiting = self.editor.typed_ahead
         for tag in filter(self.terminal.is_open, self.editor.tags):
@@ -92,7 +92,8 @@ class Keeping:
             if more or (self.editor.is_changed(tag) and not is_saved):
                 texts[tag] = (self.name(tag), rescue.loaded(self.terminal, tag) + more)
                 self._saved[tag] = self._changes[tag]
-        typed = [("typed", waiting)] if waiting else []
+        begun = "" if has_ended_well else self.editor.begun_line()
+        typed = [(name, text) for name, text in (("typed", waiting), ("command", begun)) if text]
         return [self._kept(name, text) for name, text in (*texts.values(), *typed)]
 
     def keep_late(self) -> List[str]:

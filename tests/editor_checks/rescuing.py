@@ -51,6 +51,25 @@ def check_typed_while_it_saves(folder):
         kept.expect([("file0", "xya\n")] if late else [], f"typed late: {late!r}, sent: {is_sent}")
 
 
+def check_begun_command_line(folder):
+    """A command line that is begun is written here, and so is one that the host has not answered. One that it has is not."""
+    waits = ("file0", "a\n\n[typed, and not put in yet:]\n,d")
+    rows = (
+        ("$a/a long draft/", [("command", "$a/a long draft/")]),
+        ("$a/b/\n", [("command", "$a/b/\n")]),
+        ("$a/b/\n,d", [("command", "$a/b/\n"), waits]),
+        ("", []),
+    )
+    for typed, wanted in rows:
+        pair, editor, key, text = opened("a\n")
+        pair.press(key("Esc"), text("1\n"))
+        for character in typed:
+            editor.take(text(character))
+        with Kept() as kept:
+            editor.lose("the host is gone")
+        kept.expect(wanted, f"after {typed!r}")
+
+
 def check_signal_before_a_key_arrives(folder):
     """The same with a real host, which tells that it has saved while the last key is on the way."""
     made(folder, a="one\n")
@@ -138,7 +157,7 @@ def check_file_called_typed(folder):
         editor.take(typed)
     with Kept() as kept:
         editor.lose("the host is gone")
-    kept.expect([("typed", "xa\n"), ("typed", "after")], "a file called typed")
+    kept.expect([("typed", "xa\n"), ("typed", "after"), ("command", "f typed\n")], "a file called typed")
 
 
 def check_typed_before_it_opens(folder):
