@@ -9,6 +9,8 @@ returns c =
     let cut_local = c.in_ok-cut.ensures.globals ∙ ap₂ either c.command_named.ensures.local c.option_named-piece.ensures.local in
     let cut_is = c.in_ok-cut.ensures.shape (search rules) ∙ ap₂ with_rule c.command_named.ensures.app c.option_named-piece.ensures.rule in
     IfOk-weaker c.arg-2.result _ _
-        (λ m h. (h.shape (search rules) ∙ ap₂ with_rule cut_is c.option_named-cap.ensures.rule
-            , h.globals ∙ ap₂ either cut_local c.option_named-cap.ensures.local))
-        c.arg-2.ensures
+    (λ m h. (
+      h.shape (search rules) ∙ ap₂ with_rule cut_is c.option_named-cap.ensures.rule,
+      h.globals ∙ ap₂ either cut_local c.option_named-cap.ensures.local,
+    ))
+    c.arg-2.ensures
