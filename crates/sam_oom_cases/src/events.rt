@@ -28,7 +28,7 @@ fn is_same_window(terminal: &Terminal, other: &Terminal, tag: u16) -> bool {
         && is_same_part(terminal.rasp(tag), other.rasp(tag))
 }
 
-/// Whether the readers of windows, locks, events and what was copied say the same of both terminals.
+/// Whether the readers say the same of both terminals, but for how many events are held.
 pub fn is_same_terminal(terminal: &Terminal, other: &Terminal) -> bool {
     for tag in 0..TAGS {
         if !is_same_window(terminal, other, tag) {
@@ -40,7 +40,6 @@ pub fn is_same_terminal(terminal: &Terminal, other: &Terminal) -> bool {
         && terminal.unsent() == other.unsent()
         && terminal.sent() == other.sent()
         && terminal.version() == other.version()
-        && terminal.held() == other.held()
         && terminal.has_unsent() == other.has_unsent()
         && terminal.current() == other.current()
         && terminal.pattern() == other.pattern()
