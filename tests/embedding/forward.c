@@ -1,6 +1,6 @@
 /* forward: edits that go forward through a file of which little is loaded, a few at each place. The terminal then keeps what it has in many
  * rows, in which a question for the first gap is answered on a small stack. */
-#include "sulgrevad.h"
+#include "must.h"
 
 #include <pthread.h>
 #include <stdio.h>
@@ -11,16 +11,6 @@ enum { LEN = 500000, LOADED = 8191, PLACES = 5000, STEP = 4, FIRST = 515, STACK 
 static sam_host host;
 static sam_term term;
 static uint16_t tag;
-
-static void must(sam_status status, const char *call)
-{
-    if (status == SAM_OK)
-        return;
-    printf("%s: %s\n", call, sam_status_text(status));
-    fflush(stdout);
-    _Exit(1);
-}
-#define MUST(call) must(call, #call)
 
 /* Carries all that is pending, both ways. */
 static void carry(void)

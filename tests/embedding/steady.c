@@ -1,21 +1,11 @@
 /* steady: a host and a terminal whose pending bytes are never all taken. What was sent leaves memory all the same: many rounds later no
  * more of it is in use. */
-#include "sulgrevad.h"
+#include "must.h"
 
 #include <malloc.h>
 #include <stdio.h>
 
 enum { FIRST_ROUNDS = 1000, ROUNDS = 50000, MOST_MORE = 16384 };
-
-static void must(sam_status status, const char *call)
-{
-    if (status == SAM_OK)
-        return;
-    printf("%s: %s\n", call, sam_status_text(status));
-    fflush(stdout);
-    _Exit(1);
-}
-#define MUST(call) must(call, #call)
 
 /* Feeds the host all that the terminal has pending but its last byte, and the terminal what the host has, in the same way. */
 static void carry(sam_term *term, sam_host *host)
