@@ -147,7 +147,7 @@ impl<P: Part> Row<P> {
 impl<P: Part> Part for Row<P> {
     ghost members = { λ r. r };
 
-    const MOST_IN_ROW: usize = 31;
+    const MOST_IN_ROW: usize = 32;
 
     #[tactic(auto, using(crate::proofs::Rows::one_facts))]
     fn of(alloc: Global, incoming: Incoming<'_>) -> Result<Row<P>, AllocError> {

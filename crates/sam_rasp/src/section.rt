@@ -228,8 +228,7 @@ impl Section {
 impl Part for Section {
     ghost members = { cells };
 
-    // A change brings two more at most, so a block of memory for 32 has room.
-    const MOST_IN_ROW: usize = 30;
+    const MOST_IN_ROW: usize = 16;
 
     fn of(alloc: Global, incoming: Incoming<'_>) -> Result<Section, AllocError> {
         incoming.section(alloc)

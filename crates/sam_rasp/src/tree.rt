@@ -12,9 +12,8 @@ use crate::section::{Incoming, Section};
 use std::alloc::{AllocError, Global};
 use std::marker::Model;
 
-/// Sections in order. The outermost row alone has no limit. `MAX_RUNES` sections make some 2,000 parts of it at most, or more where cuts
-/// have thinned the rows. Each call is that of the outermost row: a call of the nested type itself takes the prover seconds, wherever it
-/// stands.
+/// Sections in order. The outermost row alone has no limit. `MAX_RUNES` sections make at most 4,000 parts of it, or more where cuts have
+/// thinned the rows. Each call is that of the outermost row: a call of the nested type itself takes the prover seconds, wherever it stands.
 #[derive(Drop)]
 pub struct Tree {
     /// The sections, in four rows one in the other.
