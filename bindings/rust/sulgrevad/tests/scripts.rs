@@ -1,5 +1,6 @@
-//! Each script of tests/scripts that `sam_play replay` reads prints the output that is stored of it; docs/SCRIPTS.md says what the files
-//! of a pair are. `cargo test -- --include-ignored` runs it in the repository. It fails where the scripts are not there.
+//! Each script of tests/scripts that `sam_play replay` reads prints the output that is stored of it; the head of tests/run_scripts
+//! says what the files of a pair are. `cargo test -- --include-ignored` runs it in the repository. It fails where the scripts are not
+//! there.
 
 use std::collections::BTreeSet;
 use std::fs;
