@@ -8,19 +8,20 @@ use Rattle.sam_host.specs.declared.fault.HostFault.{HostFault}
 use Rattle.sam_endpoint.specs.declared.fault.EndpointFault.TheVariants as fault
 use Rattle.sam_endpoint.specs.declared.fault.HostStop.TheVariants as stop
 use Rattle.sam_endpoint.specs.HostEndpoints.{FeedsIdle, IsDone}
-use Rattle.sam_endpoint.specs.HostRuns.{Call, GoesOnAfter, HasServed, HasStopped, Runs, begun_with, came_in, went_out}
+use Rattle.std.specs.Prelude.{drop, option_to_list, slice_get}
+use Rattle.sam_endpoint.specs.HostRuns.{Call, Feed, TakeOut, NextWritten, GoesOnAfter, HasServed, HasStopped, Runs, begun_with, came_in, went_out, handed_out}
 use Rattle.sam_endpoint.proofs.HostEndpointGoing.{serves_more}
 
 -- what the run keeps: what it comes to, and the version and the place at this point of the stream
-pub record Kept (h : PlainHost) (stream out : List ℕ) (e : PlainHostEndpoint) : Type 0 where
-  pub served : HasServed h stream out e
+pub record Kept (h : PlainHost) (stream out handed : List ℕ) (e : PlainHostEndpoint) : Type 0 where
+  pub served : HasServed h stream out handed e
   pub version : e.framer.version ≡ version_after terminal 1 (served.answered ++ e.waiting)
   pub place : e.framer.offset + length e.framer.bytes ≡ length stream
 
 -- ## Steps
 
-kept_answers : (h : PlainHost) (stream out : List ℕ) (e g : PlainHostEndpoint) (ms : List Tmesg) → Answers e ms g → Kept h stream out e → Kept h stream out g
-kept_answers h stream out e g ms a kept = record { served = grind (arith, append_assoc, serves_more, bytes_on); version = grind (arith, append_assoc); place = grind arith }
+kept_answers : (h : PlainHost) (stream out handed : List ℕ) (e g : PlainHostEndpoint) (ms : List Tmesg) → Answers e ms g → Kept h stream out handed e → Kept h stream out handed g
+kept_answers h stream out handed e g ms a kept = record { served = grind (arith, append_assoc, serves_more, bytes_on); version = grind (arith, append_assoc); place = grind arith }
   where
     bytes_on : (out : List ℕ) (e g : PlainHostEndpoint) (frames more : List HFrame) → (out ++ e.pending_bytes) ++ stream_of host e.unwritten ≡ stream_of host frames
         → g.pending_bytes ++ stream_of host g.unwritten ≡ e.pending_bytes ++ stream_of host (e.unwritten ++ more)
@@ -50,61 +51,61 @@ place_more : (h k : Held) (stream piece : List ℕ) (ms : List Tmesg) (broken_by
 place_more h k stream piece ms None place gives = place_after h k stream piece ms place gives.gave.offset_is gives.gave.splits.whole
 place_more h k stream piece ms (Some why) place gives = place_after h k stream piece ms place gives.1.gave.offset_is gives.1.gave.splits.whole
 
-kept_piece : (h : PlainHost) (stream out piece : List ℕ) (e k : PlainHostEndpoint) → e.waiting ≡ [] → TakesIn e piece k → Kept h stream out e → Kept h (stream ++ piece) out k
-kept_piece h stream out piece e k none (messages, broken_by, rest, gives, is) kept =
+kept_piece : (h : PlainHost) (stream out handed piece : List ℕ) (e k : PlainHostEndpoint) → e.waiting ≡ [] → TakesIn e piece k → Kept h stream out handed e → Kept h (stream ++ piece) out handed k
+kept_piece h stream out handed piece e k none (messages, broken_by, rest, gives, is) kept =
     let s = kept.served in
     let all : s.answered ++ e.waiting ≡ s.answered = ap (λ (x : List Tmesg). s.answered ++ x) none ∙ append-nil s.answered in
     let splits : Splits terminal 1 stream s.answered e.framer.bytes =
     subst (λ (x : List Tmesg). Splits terminal 1 stream x e.framer.bytes) all s.reads.splits in
     let version : e.framer.version ≡ version_after terminal 1 s.answered = kept.version ∙ ap (λ (x : List Tmesg). version_after terminal 1 x) all in
     let more = reads_more e.framer rest stream piece s.answered messages broken_by splits version gives in
-    subst (λ (x : PlainHostEndpoint). Kept h (stream ++ piece) out x) (sym is) (record {
-      served = record { answered = s.answered; frames = s.frames; writes = s.writes; serves = s.serves; reads = more.0; bytes = s.bytes };
+    subst (λ (x : PlainHostEndpoint). Kept h (stream ++ piece) out handed x) (sym is) (record {
+      served = record { answered = s.answered; frames = s.frames; writes = s.writes; serves = s.serves; reads = more.0; bytes = s.bytes; written = s.written };
       version = more.1;
       place = place_more e.framer rest stream piece messages broken_by kept.place gives;
     })
 
-kept_goes_on : (h : PlainHost) (stream out : List ℕ) (e g : PlainHostEndpoint) (result : Answer) → GoesOnAfter result → GoesOn e result g → Kept h stream out e → Kept h stream out g
-kept_goes_on h stream out e g (Ok done) goes on kept = kept_answers h stream out e g e.waiting on.0 kept
-kept_goes_on h stream out e g (Err fault.Unfinished) goes (ms, a, going, left) kept = kept_answers h stream out e g ms a kept
-kept_goes_on h stream out e g result u w q = grind arith
+kept_goes_on : (h : PlainHost) (stream out handed : List ℕ) (e g : PlainHostEndpoint) (result : Answer) → GoesOnAfter result → GoesOn e result g → Kept h stream out handed e → Kept h stream out handed g
+kept_goes_on h stream out handed e g (Ok done) goes on kept = kept_answers h stream out handed e g e.waiting on.0 kept
+kept_goes_on h stream out handed e g (Err fault.Unfinished) goes (ms, a, going, left) kept = kept_answers h stream out handed e g ms a kept
+kept_goes_on h stream out handed e g result u w q = grind arith
 
-kept_same : (h : PlainHost) (stream out : List ℕ) (e g : PlainHostEndpoint) → g ≡ e → Kept h stream out e → Kept h (stream ++ []) out g
-kept_same h stream out e g is kept = grind (arith, append-nil)
+kept_same : (h : PlainHost) (stream out handed : List ℕ) (e g : PlainHostEndpoint) → g ≡ e → Kept h stream out handed e → Kept h (stream ++ []) out handed g
+kept_same h stream out handed e g is kept = grind (arith, append-nil)
 
-kept_idle : (h : PlainHost) (stream out piece : List ℕ) (e g : PlainHostEndpoint) (result : Answer) → GoesOnAfter result → e.waiting ≡ [] → FeedsIdle e piece result g
-    → Kept h stream out e → Kept h (stream ++ came_in (piece, Some result)) out g
-kept_idle h stream out piece e g (Ok done) goes none (inl (k, takes, on)) kept =
-    kept_goes_on h (stream ++ piece) out k g (Ok done) goes on (kept_piece h stream out piece e k none takes kept)
-kept_idle h stream out piece e g (Err fault.Unfinished) goes none (inl (k, takes, on)) kept =
-    kept_goes_on h (stream ++ piece) out k g (Err fault.Unfinished) goes on (kept_piece h stream out piece e k none takes kept)
-kept_idle h stream out piece e g (Err fault.OutOfMemory) goes none fed kept = kept_same h stream out e g (grind arith) kept
-kept_idle h stream out piece e g (Err fault.CountFull) goes none fed kept = kept_same h stream out e g (grind arith) kept
-kept_idle h stream out piece e g (Err (fault.Stopped why)) goes none fed kept = absurd goes
-kept_idle h stream out piece e g (Ok done) goes none (inr fed) kept = absurd (grind arith)
-kept_idle h stream out piece e g (Err fault.Unfinished) goes none (inr fed) kept = absurd (grind arith)
+kept_idle : (h : PlainHost) (stream out handed piece : List ℕ) (e g : PlainHostEndpoint) (result : Answer) → GoesOnAfter result → e.waiting ≡ [] → FeedsIdle e piece result g
+    → Kept h stream out handed e → Kept h (stream ++ came_in (Feed piece result)) out handed g
+kept_idle h stream out handed piece e g (Ok done) goes none (inl (k, takes, on)) kept =
+    kept_goes_on h (stream ++ piece) out handed k g (Ok done) goes on (kept_piece h stream out handed piece e k none takes kept)
+kept_idle h stream out handed piece e g (Err fault.Unfinished) goes none (inl (k, takes, on)) kept =
+    kept_goes_on h (stream ++ piece) out handed k g (Err fault.Unfinished) goes on (kept_piece h stream out handed piece e k none takes kept)
+kept_idle h stream out handed piece e g (Err fault.OutOfMemory) goes none fed kept = kept_same h stream out handed e g (grind arith) kept
+kept_idle h stream out handed piece e g (Err fault.CountFull) goes none fed kept = kept_same h stream out handed e g (grind arith) kept
+kept_idle h stream out handed piece e g (Err (fault.Stopped why)) goes none fed kept = absurd goes
+kept_idle h stream out handed piece e g (Ok done) goes none (inr fed) kept = absurd (grind arith)
+kept_idle h stream out handed piece e g (Err fault.Unfinished) goes none (inr fed) kept = absurd (grind arith)
 
 stopped_not : (result : Answer) (why : HostStop) → result ≡ Err (fault.Stopped why) → GoesOnAfter result → ⊥
 stopped_not result why is goes = subst GoesOnAfter is goes
 
-kept_after : (h : PlainHost) (stream out piece : List ℕ) (e k g : PlainHostEndpoint) (first result : Answer) → GoesOnAfter result → GoesOn e first k
-    → FeedsAfter first k piece result g → Kept h stream out e → Kept h (stream ++ came_in (piece, Some result)) out g
-kept_after h stream out piece e k g (Ok done) result goes on after kept =
-    kept_idle h stream out piece k g result goes on.1.waiting after (kept_goes_on h stream out e k (Ok done) tt on kept)
-kept_after h stream out piece e k g (Err fault.Unfinished) result goes on (is, same) kept =
-    grind (arith, (kept_same h stream out k g same (kept_goes_on h stream out e k (Err fault.Unfinished) tt on kept)))
-kept_after h stream out piece e k g first result u w q y = grind (arith, stopped_not)
+kept_after : (h : PlainHost) (stream out handed piece : List ℕ) (e k g : PlainHostEndpoint) (first result : Answer) → GoesOnAfter result → GoesOn e first k
+    → FeedsAfter first k piece result g → Kept h stream out handed e → Kept h (stream ++ came_in (Feed piece result)) out handed g
+kept_after h stream out handed piece e k g (Ok done) result goes on after kept =
+    kept_idle h stream out handed piece k g result goes on.1.waiting after (kept_goes_on h stream out handed e k (Ok done) tt on kept)
+kept_after h stream out handed piece e k g (Err fault.Unfinished) result goes on (is, same) kept =
+    grind (arith, (kept_same h stream out handed k g same (kept_goes_on h stream out handed e k (Err fault.Unfinished) tt on kept)))
+kept_after h stream out handed piece e k g first result u w q y = grind (arith, stopped_not)
 
-pub kept_feed : (h : PlainHost) (stream out piece : List ℕ) (e g : PlainHostEndpoint) (result : Answer) → GoesOnAfter result → Feeds e piece result g → Kept h stream out e
-    → Kept h (stream ++ came_in (piece, Some result)) out g
-kept_feed h stream out piece e g result goes (inl (why, stops, is, same)) kept = absurd (stopped_not result why is goes)
-kept_feed h stream out piece e g result goes (inr (going, k, first, on, after)) kept = kept_after h stream out piece e k g first result goes on after kept
+pub kept_feed : (h : PlainHost) (stream out handed piece : List ℕ) (e g : PlainHostEndpoint) (result : Answer) → GoesOnAfter result → Feeds e piece result g → Kept h stream out handed e
+    → Kept h (stream ++ came_in (Feed piece result)) out handed g
+kept_feed h stream out handed piece e g result goes (inl (why, stops, is, same)) kept = absurd (stopped_not result why is goes)
+kept_feed h stream out handed piece e g result goes (inr (going, k, first, on, after)) kept = kept_after h stream out handed piece e k g first result goes on after kept
 
-pub kept_out : (h : PlainHost) (stream out bytes rest : List ℕ) (e : PlainHostEndpoint) → e.pending_bytes ≡ bytes ++ rest → Kept h stream out e
-    → Kept h (stream ++ []) (out ++ bytes) (record e { pending_bytes = rest })
-kept_out h stream out bytes rest e is kept =
+pub kept_out : (h : PlainHost) (stream out handed bytes rest : List ℕ) (e : PlainHostEndpoint) → e.pending_bytes ≡ bytes ++ rest → Kept h stream out handed e
+    → Kept h (stream ++ []) (out ++ bytes) handed (record e { pending_bytes = rest })
+kept_out h stream out handed bytes rest e is kept =
     let s = kept.served in
-    subst (λ (x : List ℕ). Kept h x (out ++ bytes) (record e { pending_bytes = rest })) (sym (append-nil stream)) (record {
+    subst (λ (x : List ℕ). Kept h x (out ++ bytes) handed (record e { pending_bytes = rest })) (sym (append-nil stream)) (record {
       served = record {
         answered = s.answered;
         frames = s.frames;
@@ -112,6 +113,30 @@ kept_out h stream out bytes rest e is kept =
         serves = s.serves;
         reads = s.reads;
         bytes = ap (λ (x : List ℕ). x ++ stream_of host e.unwritten) (append_assoc out bytes rest ∙ ap (λ (x : List ℕ). out ++ x) (sym is)) ∙ s.bytes;
+        written = s.written;
+      };
+      version = kept.version;
+      place = kept.place;
+    })
+
+-- the oldest tag is handed out, if there is one
+first_out : (handed waiting told : List ℕ) → handed ++ waiting ≡ told → (handed ++ option_to_list (slice_get waiting 0)) ++ drop 1 waiting ≡ told
+first_out handed [] told is = grind (arith, append-nil)
+first_out handed (tag ∷ waiting) told is = append_assoc handed (tag ∷ []) waiting ∙ is
+
+kept_handed : (h : PlainHost) (stream out handed : List ℕ) (tag : Option ℕ) (e : PlainHostEndpoint) → tag ≡ slice_get e.writes 0 → Kept h stream out handed e
+    → Kept h stream out (handed ++ option_to_list tag) (record e { writes = drop 1 e.writes })
+kept_handed h stream out handed tag e is kept =
+    let s = kept.served in
+    subst (λ (x : Option ℕ). Kept h stream out (handed ++ option_to_list x) (record e { writes = drop 1 e.writes })) (sym is) (record {
+      served = record {
+        answered = s.answered;
+        frames = s.frames;
+        writes = s.writes;
+        serves = s.serves;
+        reads = s.reads;
+        bytes = s.bytes;
+        written = first_out handed e.writes s.writes s.written;
       };
       version = kept.version;
       place = kept.place;
@@ -120,9 +145,9 @@ kept_out h stream out bytes rest e is kept =
 -- ## Stops
 
 -- nothing was fed to an end of this host
-pub kept_begun : (h : PlainHost) → Kept h [] [] (begun_with h)
+pub kept_begun : (h : PlainHost) → Kept h [] [] [] (begun_with h)
 kept_begun h = record {
-  served = record { answered = []; frames = []; writes = []; serves = (refl, refl, refl); reads = record { splits = record { whole = refl; fit = tt }; ends = tt }; bytes = refl };
+  served = record { answered = []; frames = []; writes = []; serves = (refl, refl, refl); reads = record { splits = record { whole = refl; fit = tt }; ends = tt }; bytes = refl; written = refl };
   version = refl;
   place = refl;
 }
@@ -139,47 +164,48 @@ feed_goes e g piece result goes feeds = grind arith
 
 run_goes : (e g : PlainHostEndpoint) (calls : List Call) → e.stop ≡ None → Runs e calls g → g.stop ≡ None
 run_goes e g [] goes is = grind arith
-run_goes e g ((piece, Some answer) ∷ calls) goes (k, feeds, goes_on, runs) = run_goes k g calls (feed_goes e k piece answer goes_on feeds) runs
-run_goes e g ((bytes, None) ∷ calls) goes (rest, is, runs) = run_goes (record e { pending_bytes = rest }) g calls goes runs
+run_goes e g (Feed piece answer ∷ calls) goes (k, feeds, goes_on, runs) = run_goes k g calls (feed_goes e k piece answer goes_on feeds) runs
+run_goes e g (TakeOut bytes ∷ calls) goes (rest, is, runs) = run_goes (record e { pending_bytes = rest }) g calls goes runs
+run_goes e g (NextWritten tag ∷ calls) goes (is, runs) = run_goes (record e { writes = drop 1 e.writes }) g calls goes runs
 
 -- going on stopped the end
-pub record KeptStop (h : PlainHost) (stream piece out : List ℕ) (why : HostStop) (g : PlainHostEndpoint) : Type 0 where
+pub record KeptStop (h : PlainHost) (stream piece out handed : List ℕ) (why : HostStop) (g : PlainHostEndpoint) : Type 0 where
   pub taken : List ℕ
   pub whole : (taken ≡ piece) ⊎ (taken ≡ [])
-  pub kept : Kept h (stream ++ taken) out g
+  pub kept : Kept h (stream ++ taken) out handed g
   pub stops : HasStopped g why
   pub says : g.stop ≡ Some why
 
-went_on : (h : PlainHost) (stream out : List ℕ) (e g : PlainHostEndpoint) (why : HostStop) → GoesOn e (Err (fault.Stopped why)) g → Kept h stream out e
-    → Kept h stream out g × HasStopped g why × (g.stop ≡ Some why)
-went_on h stream out e g (stop.Stream why) (a, idle, broken_by, says) kept = (kept_answers h stream out e g e.waiting a kept, (idle, a.broken_by ∙ broken_by), says)
-went_on h stream out e g (stop.Refused why) (ms, m, rest, a, waits, refuses, written, says) kept = (kept_answers h stream out e g ms a kept, (m, rest, waits, refuses, written), says)
+went_on : (h : PlainHost) (stream out handed : List ℕ) (e g : PlainHostEndpoint) (why : HostStop) → GoesOn e (Err (fault.Stopped why)) g → Kept h stream out handed e
+    → Kept h stream out handed g × HasStopped g why × (g.stop ≡ Some why)
+went_on h stream out handed e g (stop.Stream why) (a, idle, broken_by, says) kept = (kept_answers h stream out handed e g e.waiting a kept, (idle, a.broken_by ∙ broken_by), says)
+went_on h stream out handed e g (stop.Refused why) (ms, m, rest, a, waits, refuses, written, says) kept = (kept_answers h stream out handed e g ms a kept, (m, rest, waits, refuses, written), says)
 
-stopped_after : (h : PlainHost) (stream out piece : List ℕ) (e k g : PlainHostEndpoint) (first : Answer) (why : HostStop) → GoesOn e first k
-    → FeedsAfter first k piece (Err (fault.Stopped why)) g → Kept h stream out e → KeptStop h stream piece out why g
-stopped_after h stream out piece e k g (Ok done) why on (inl (m, takes, last)) kept =
-    let s = went_on h (stream ++ piece) out m g why last (kept_piece h stream out piece k m on.1.waiting takes (kept_goes_on h stream out e k (Ok done) tt on kept)) in
+stopped_after : (h : PlainHost) (stream out handed piece : List ℕ) (e k g : PlainHostEndpoint) (first : Answer) (why : HostStop) → GoesOn e first k
+    → FeedsAfter first k piece (Err (fault.Stopped why)) g → Kept h stream out handed e → KeptStop h stream piece out handed why g
+stopped_after h stream out handed piece e k g (Ok done) why on (inl (m, takes, last)) kept =
+    let s = went_on h (stream ++ piece) out handed m g why last (kept_piece h stream out handed piece k m on.1.waiting takes (kept_goes_on h stream out handed e k (Ok done) tt on kept)) in
     record { taken = piece; whole = inl refl; kept = s.0; stops = s.1; says = s.2 }
-stopped_after h stream out piece e k g (Ok done) why on (inr fed) kept = absurd (grind arith)
-stopped_after h stream out piece e k g (Err fault.Unfinished) why on (is, same) kept = absurd (cc)
-stopped_after h stream out piece e k g (Err (fault.Stopped first)) why on (is, same) kept =
+stopped_after h stream out handed piece e k g (Ok done) why on (inr fed) kept = absurd (grind arith)
+stopped_after h stream out handed piece e k g (Err fault.Unfinished) why on (is, same) kept = absurd (cc)
+stopped_after h stream out handed piece e k g (Err (fault.Stopped first)) why on (is, same) kept =
     let one : first ≡ why = cc in
-    let s = went_on h stream out e k first on kept in
-    subst (λ (x : PlainHostEndpoint). KeptStop h stream piece out why x) (sym same) (subst (λ (w : HostStop). KeptStop h stream piece out w k) one (record {
+    let s = went_on h stream out handed e k first on kept in
+    subst (λ (x : PlainHostEndpoint). KeptStop h stream piece out handed why x) (sym same) (subst (λ (w : HostStop). KeptStop h stream piece out handed w k) one (record {
       taken = [];
       whole = inr refl;
-      kept = subst (λ (x : List ℕ). Kept h x out k) (sym (append-nil stream)) s.0;
+      kept = subst (λ (x : List ℕ). Kept h x out handed k) (sym (append-nil stream)) s.0;
       stops = s.1;
       says = s.2;
     }))
-stopped_after h stream out piece e k g (Err fault.OutOfMemory) why on after kept = absurd on
-stopped_after h stream out piece e k g (Err fault.CountFull) why on after kept = absurd on
+stopped_after h stream out handed piece e k g (Err fault.OutOfMemory) why on after kept = absurd on
+stopped_after h stream out handed piece e k g (Err fault.CountFull) why on after kept = absurd on
 
 -- a piece stopped an end that went on
-pub kept_stop : (h : PlainHost) (stream out piece : List ℕ) (e g : PlainHostEndpoint) (why : HostStop) → e.stop ≡ None → Feeds e piece (Err (fault.Stopped why)) g
-    → Kept h stream out e → KeptStop h stream piece out why g
-kept_stop h stream out piece e g why goes (inl (who, stops, is, same)) kept = absurd (cc)
-kept_stop h stream out piece e g why goes (inr (going, k, first, on, after)) kept = stopped_after h stream out piece e k g first why on after kept
+pub kept_stop : (h : PlainHost) (stream out handed piece : List ℕ) (e g : PlainHostEndpoint) (why : HostStop) → e.stop ≡ None → Feeds e piece (Err (fault.Stopped why)) g
+    → Kept h stream out handed e → KeptStop h stream piece out handed why g
+kept_stop h stream out handed piece e g why goes (inl (who, stops, is, same)) kept = absurd (cc)
+kept_stop h stream out handed piece e g why goes (inr (going, k, first, on, after)) kept = stopped_after h stream out handed piece e k g first why on after kept
 
 -- a piece that can be counted is no reason to refuse it
 pub none_full : (e g : PlainHostEndpoint) (piece : List ℕ) → HasRoom e.framer piece → Feeds e piece (Err fault.CountFull) g → ⊥
@@ -194,24 +220,34 @@ none_full e g piece room (inr (going, k, Err fault.CountFull, on, after)) = on
 
 -- ## Runs
 
-kept_run : (h : PlainHost) (stream out : List ℕ) (calls : List Call) (e g : PlainHostEndpoint) → Runs e calls g → Kept h stream out e
-    → Kept h (stream ++ flat_map came_in calls) (out ++ flat_map went_out calls) g
-kept_run h stream out [] e g is kept = grind (arith, append-nil)
-kept_run h stream out ((piece, Some answer) ∷ calls) e g (k, feeds, goes, runs) kept =
-    subst (λ (x : List ℕ). Kept h x (out ++ flat_map went_out calls) g) (append_assoc stream (came_in (piece, Some answer)) (flat_map came_in calls))
-    (kept_run h (stream ++ came_in (piece, Some answer)) out calls k g runs (kept_feed h stream out piece e k answer goes feeds kept))
-kept_run h stream out ((bytes, None) ∷ calls) e g (rest, is, runs) kept =
-    subst (λ (x : List ℕ). Kept h x (out ++ (bytes ++ flat_map went_out calls)) g) (append_assoc stream [] (flat_map came_in calls))
-    (subst (λ (x : List ℕ). Kept h ((stream ++ []) ++ flat_map came_in calls) x g) (append_assoc out bytes (flat_map went_out calls))
-    (kept_run h (stream ++ []) (out ++ bytes) calls (record e { pending_bytes = rest }) g runs (kept_out h stream out bytes rest e is kept)))
+kept_run : (h : PlainHost) (stream out handed : List ℕ) (calls : List Call) (e g : PlainHostEndpoint) → Runs e calls g → Kept h stream out handed e
+    → Kept h (stream ++ flat_map came_in calls) (out ++ flat_map went_out calls) (handed ++ flat_map handed_out calls) g
+kept_run h stream out handed [] e g is kept = grind (arith, append-nil)
+kept_run h stream out handed (Feed piece answer ∷ calls) e g (k, feeds, goes, runs) kept =
+    subst (λ (x : List ℕ). Kept h x (out ++ flat_map went_out calls) (handed ++ flat_map handed_out calls) g)
+    (append_assoc stream (came_in (Feed piece answer)) (flat_map came_in calls))
+    (kept_run h (stream ++ came_in (Feed piece answer)) out handed calls k g runs (kept_feed h stream out handed piece e k answer goes feeds kept))
+kept_run h stream out handed (TakeOut bytes ∷ calls) e g (rest, is, runs) kept =
+    subst (λ (x : List ℕ). Kept h x (out ++ (bytes ++ flat_map went_out calls)) (handed ++ flat_map handed_out calls) g)
+    (append_assoc stream [] (flat_map came_in calls))
+    (subst (λ (x : List ℕ). Kept h ((stream ++ []) ++ flat_map came_in calls) x (handed ++ flat_map handed_out calls) g)
+    (append_assoc out bytes (flat_map went_out calls))
+    (kept_run h (stream ++ []) (out ++ bytes) handed calls (record e { pending_bytes = rest }) g runs (kept_out h stream out handed bytes rest e is kept)))
+kept_run h stream out handed (NextWritten tag ∷ calls) e g (is, runs) kept =
+    subst (λ (x : List ℕ). Kept h (stream ++ flat_map came_in calls) (out ++ flat_map went_out calls) x g)
+    (append_assoc handed (option_to_list tag) (flat_map handed_out calls))
+    (kept_run h stream out (handed ++ option_to_list tag) calls (record e { writes = drop 1 e.writes }) g runs (kept_handed h stream out handed tag e is kept))
 
-pub runs_serve : (h : PlainHost) (calls : List Call) (g : PlainHostEndpoint) → Runs (begun_with h) calls g → HasServed h (flat_map came_in calls) (flat_map went_out calls) g
-runs_serve h calls g runs = (kept_run h [] [] calls (begun_with h) g runs (kept_begun h)).served
+pub runs_serve : (h : PlainHost) (calls : List Call) (g : PlainHostEndpoint) → Runs (begun_with h) calls g
+    → HasServed h (flat_map came_in calls) (flat_map went_out calls) (flat_map handed_out calls) g
+runs_serve h calls g runs = (kept_run h [] [] [] calls (begun_with h) g runs (kept_begun h)).served
 
 pub stops_serve : (h : PlainHost) (calls : List Call) (e g : PlainHostEndpoint) (piece : List ℕ) (why : HostStop) → Runs (begun_with h) calls e → Feeds e piece (Err (fault.Stopped why)) g
-    → (taken : List ℕ) × ((taken ≡ piece) ⊎ (taken ≡ [])) × HasServed h (flat_map came_in calls ++ taken) (flat_map went_out calls) g × HasStopped g why × (g.stop ≡ Some why)
+    → (taken : List ℕ) × ((taken ≡ piece) ⊎ (taken ≡ [])) × HasServed h (flat_map came_in calls ++ taken) (flat_map went_out calls) (flat_map handed_out calls) g
+    × HasStopped g why × (g.stop ≡ Some why)
 stops_serve h calls e g piece why runs feeds =
-    let s = kept_stop h (flat_map came_in calls) (flat_map went_out calls) piece e g why (run_goes (begun_with h) e calls refl runs) feeds (kept_run h [] [] calls (begun_with h) e runs (kept_begun h)) in
+    let s = kept_stop h (flat_map came_in calls) (flat_map went_out calls) (flat_map handed_out calls) piece e g why (run_goes (begun_with h) e calls refl runs) feeds
+    (kept_run h [] [] [] calls (begun_with h) e runs (kept_begun h)) in
     (s.taken, s.whole, s.kept.served, s.stops, s.says)
 
 -- ## One outcome
@@ -229,21 +265,21 @@ abbrev answered_frames : Result (PlainHost × List HFrame) HostFault → List HF
 answered_frames (Ok r) = r.1
 answered_frames (Err why) = []
 
-one_service : (h : PlainHost) (ms : List Tmesg) (a b : List HFrame) (v w : List ℕ) (g k : PlainHost) → Serves h ms a v g → Serves h ms b w k → (g ≡ k) × (a ≡ b)
-one_service h [] a b v w g k p q = (p.2 ∙ sym q.2, p.0 ∙ sym q.0)
+one_service : (h : PlainHost) (ms : List Tmesg) (a b : List HFrame) (v w : List ℕ) (g k : PlainHost) → Serves h ms a v g → Serves h ms b w k → (g ≡ k) × (a ≡ b) × (v ≡ w)
+one_service h [] a b v w g k p q = (p.2 ∙ sym q.2, p.0 ∙ sym q.0, p.1 ∙ sym q.1)
 one_service h (m ∷ ms) a b v w g k (h1, a1, a2, v2, ans1, af, vf, p) (k1, b1, b2, w2, ans2, bf, wf, q) = grind (arith, (one_service k1 ms a2 b2 v2 w2 g k))
 
 same_behind : (o p : Option StreamFault) → option_map mesg_fault o ≡ option_map mesg_fault p → o ≡ p
 same_behind o p e = grind arith
 
-idle_reads : (h : PlainHost) (stream out : List ℕ) (e : PlainHostEndpoint) (s : HasServed h stream out e) → e.waiting ≡ []
+idle_reads : (h : PlainHost) (stream out handed : List ℕ) (e : PlainHostEndpoint) (s : HasServed h stream out handed e) → e.waiting ≡ []
     → IsStream terminal 1 stream s.answered e.framer.bytes (option_map mesg_fault e.broken_by)
-idle_reads h stream out e s none = grind (arith, append-nil)
+idle_reads h stream out handed e s none = grind (arith, append-nil)
 
-pub one_outcome : Reads → (h : PlainHost) (stream a b : List ℕ) (e g : PlainHostEndpoint) → HasServed h stream a e → HasServed h stream b g → IsIdle e → IsIdle g
-    → (e.host ≡ g.host) × (a ++ e.pending_bytes ≡ b ++ g.pending_bytes) × (e.broken_by ≡ g.broken_by)
-one_outcome reads h stream a b e g s t i j =
-    let one = reads 1 stream s.answered t.answered e.framer.bytes g.framer.bytes (option_map mesg_fault e.broken_by) (option_map mesg_fault g.broken_by) (idle_reads h stream a e s i.waiting)
-    (idle_reads h stream b g t j.waiting) in
+pub one_outcome : Reads → (h : PlainHost) (stream a b v w : List ℕ) (e g : PlainHostEndpoint) → HasServed h stream a v e → HasServed h stream b w g → IsIdle e → IsIdle g
+    → (e.host ≡ g.host) × (a ++ e.pending_bytes ≡ b ++ g.pending_bytes) × (v ++ e.writes ≡ w ++ g.writes) × (e.broken_by ≡ g.broken_by)
+one_outcome reads h stream a b v w e g s t i j =
+    let one = reads 1 stream s.answered t.answered e.framer.bytes g.framer.bytes (option_map mesg_fault e.broken_by) (option_map mesg_fault g.broken_by) (idle_reads h stream a v e s i.waiting)
+    (idle_reads h stream b w g t j.waiting) in
     let same = one_service h t.answered s.frames t.frames s.writes t.writes e.host g.host (subst (λ (x : List Tmesg). Serves h x s.frames s.writes e.host) one.0 s.serves) t.serves in
-    (same.0, grind (arith, append-nil), same_behind e.broken_by g.broken_by one.2)
+    (same.0, grind (arith, append-nil), s.written ∙ same.2 ∙ sym t.written, same_behind e.broken_by g.broken_by one.2)

@@ -1,15 +1,17 @@
 -- What every run of a terminal end comes to.
-use Rattle.sam_endpoint.proofs.Common.{◌≡◌, ◌⊎◌, refl, sym, ap, subst, ◌∙◌, inl, inr, ℕ, List, [], ◌∷◌, ◌++◌, flat_map, flat_map-append, Option, None, Some, Ok, Err, append_assoc, append-nil, arith, option_map, Tmesg, HFrame, host, terminal, Splits, stream_of, version_after, Held, stream_of-append, version_after-append, Splits-then, PlainTerminal, Acted, flush_of, composed_in, UserEvent, TermStop, StreamFault, Gives, mesg_fault, PlainTermEndpoint, Acts, Calls, Moves}
+use Rattle.sam_endpoint.proofs.Common.{◌≡◌, ◌⊎◌, refl, sym, ap, subst, ◌∙◌, inl, inr, ℕ, List, [], ◌∷◌, ◌++◌, flat_map, flat_map-append, Option, None, Some, Ok, Err, append_assoc, append-nil, length-append, arith, option_map, Tmesg, HFrame, host, terminal, Splits, stream_of, version_after, Held, stream_of-append, version_after-append, Splits-then, PlainTerminal, Acted, flush_of, composed_in, UserEvent, TermStop, StreamFault, Gives, mesg_fault, PlainTermEndpoint, Acts, Calls, Moves}
 use Rattle.sam_frame.specs.Reading.{IsStream}
 use Rattle.sam_frame.proofs.Cuttings.{Splits-longer}
 use Rattle.sam_term.specs.Term.{new_terminal}
 use Rattle.sam_endpoint.specs.declared.fault.EndpointFault.TheVariants as fault
 use Rattle.sam_endpoint.specs.declared.fault.TermStop.TheVariants as stop
 use Rattle.sam_endpoint.specs.TermSteps.{Answer}
-use Rattle.sam_endpoint.specs.TermEndpoints.{Feeds, FeedsIdle, Flushes, FlushesIdle, GoesOn, IsDone, Puts, PutsIdle, Receives, TakesIn, composed_by, new_term_endpoint, with_event}
+use Rattle.sam_endpoint.specs.TermEndpoints.{Feeds, FeedsIdle, Flushes, FlushesIdle, GoesOn, IsDone, Puts, PutsIdle, Receives, TakesIn, composed_by, new_term_endpoint, oldest, refusals_from, with_event}
+use Rattle.sam_endpoint.proofs.TermEndpointHeld.{act_held, flush_held, take_held}
+use Rattle.std.specs.Prelude.{◌+◌, drop, length, option_to_list, slice_get}
 use Rattle.sam_endpoint.specs.declared.changes.Kept as changes
 use Rattle.sam_term.specs.declared.fault.Refusal.{Refusal}
-use Rattle.sam_endpoint.specs.TermRuns.{Call, GoesOnAfter, HasDone, HasStopped, Leads, Runs, Step, Stops, came_in, event_in, events_in, frame_in, frames_in, if_taken, put_in, went_out}
+use Rattle.sam_endpoint.specs.TermRuns.{Call, GoesOnAfter, HasDone, HasStopped, Leads, Runs, Step, Stops, act_in, acts_in, came_in, event_in, events_in, frame_in, frames_in, handed_out, if_taken, put_in, went_out}
 use Rattle.sam_endpoint.specs.TermRuns as run
 
 -- ## Steps one after another
@@ -56,17 +58,50 @@ events_decided : (acts : List Acted) → events_in (decided acts) ≡ []
 events_decided [] = refl
 events_decided (acted ∷ acts) = events_decided acts
 
--- ## What a run keeps: what it comes to, and the version at this place of the stream
+acts_received : (frames : List HFrame) → acts_in (received frames) ≡ []
+acts_received [] = refl
+acts_received (frame ∷ frames) = acts_received frames
 
-record Kept (stream : List ℕ) (events : List UserEvent) (out : List ℕ) (e : PlainTermEndpoint) : Type 0 where
-  pub done : HasDone stream events out e
+acts_decided : (acts : List Acted) → acts_in (decided acts) ≡ acts
+acts_decided [] = refl
+acts_decided (acted ∷ acts) = ap (λ (x : List Acted). acted ∷ x) (acts_decided acts)
+
+all_acts : (steps : List Step) (frames : List HFrame) (acts : List Acted) → acts_in (steps ++ (received frames ++ decided acts)) ≡ acts_in steps ++ acts
+all_acts steps frames acts =
+    grind (
+      arith,
+      (flat_map-append act_in steps (received frames ++ decided acts)),
+      (flat_map-append act_in (received frames) (decided acts)),
+      (acts_received frames),
+      (acts_decided acts),
+    )
+
+-- a frame leaves the held events, and an event that acts or is refused is held no longer
+receives_held : (t u : PlainTerminal) (frames : List HFrame) (composed : List Tmesg) → Receives t frames composed u → u.held ≡ t.held
+receives_held t u [] composed p = ap (λ (x : PlainTerminal). x.held) p.1
+receives_held t u (frame ∷ frames) composed (v, first, rest, took, is, receives) = receives_held v u frames rest receives ∙ take_held t v frame first took
+
+acts_held : (t u : PlainTerminal) (acts : List Acted) → Acts t acts u → length acts + length u.held ≡ length t.held
+acts_held t u [] p = omega (arith, ap (λ (x : PlainTerminal). length x.held) p)
+acts_held t u (acted ∷ acts) (v, acts_as, is_decided, rest) = omega (arith, acts_held v u acts rest, act_held t v acted acts_as is_decided)
+
+-- refusals are numbered on
+refusals_on : (n : ℕ) (first more : List Acted) → refusals_from n (first ++ more) ≡ refusals_from n first ++ refusals_from (n + length first) more
+refusals_on n [] more = ap (λ k. refusals_from k more) (omega arith)
+refusals_on n (acted ∷ first) more = grind (arith, (refusals_on (n + 1) first more))
+
+-- ## What a run keeps: what it comes to, the version at this place of the stream, and how many events became something
+
+record Kept (stream : List ℕ) (events : List UserEvent) (out : List ℕ) (told : List (ℕ × Refusal)) (e : PlainTermEndpoint) : Type 0 where
+  pub done : HasDone stream events out told e
   pub version : e.framer.version ≡ version_after host 1 (frames_in done.steps ++ e.waiting)
+  pub count : length (acts_in done.steps) + length e.term.held ≡ e.events
 
 -- ## One step of a run
 
-kept_moves : (stream : List ℕ) (events : List UserEvent) (out : List ℕ) (e g : PlainTermEndpoint) (frames : List HFrame) (acts : List Acted) → Moves e frames acts g
-    → Kept stream events out e → Kept stream events out g
-kept_moves stream events out e g frames acts m kept =
+kept_moves : (stream : List ℕ) (events : List UserEvent) (out : List ℕ) (told : List (ℕ × Refusal)) (e g : PlainTermEndpoint) (frames : List HFrame) (acts : List Acted) → Moves e frames acts g
+    → Kept stream events out told e → Kept stream events out told g
+kept_moves stream events out told e g frames acts m kept =
     let d = kept.done in
     let steps : List Step = d.steps ++ (received frames ++ decided acts) in
     let frames_are : frames_in steps ++ g.waiting ≡ frames_in d.steps ++ e.waiting =
@@ -81,10 +116,30 @@ kept_moves stream events out e g frames acts m kept =
         reads = reads_as stream e g (frames_in d.steps ++ e.waiting) (frames_in steps ++ g.waiting) frames_are m.framer m.broken_by d.reads;
         given = all_events d.steps frames acts ∙ d.given;
         bytes = bytes_on out e g d.composed m.composed (composed_by acts) d.bytes m.bytes;
+        refused =
+            refused_on told e g (acts_in d.steps) acts kept.count m.refusals d.refused
+            ∙ ap (refusals_from 1) (sym (all_acts d.steps frames acts));
       };
       version = ap (λ (x : Held). x.version) m.framer ∙ kept.version ∙ ap (λ (x : List HFrame). version_after host 1 x) (sym frames_are);
+      count = count_on e g m.middle (acts_in d.steps) acts (acts_in steps) (all_acts d.steps frames acts)
+          (receives_held e.term m.middle frames m.composed m.receives) (acts_held m.middle g.term acts m.acted) m.events kept.count;
     }
   where
+    refused_on : (told : List (ℕ × Refusal)) (e g : PlainTermEndpoint) (before acts : List Acted) → length before + length e.term.held ≡ e.events
+        → g.refusals ≡ e.refusals ++ refusals_from (oldest e) acts → told ++ e.refusals ≡ refusals_from 1 before
+        → told ++ g.refusals ≡ refusals_from 1 (before ++ acts)
+    refused_on told e g before acts count more is =
+        let next : oldest e ≡ 1 + length before = omega (arith, count) in
+        ap (λ (x : List (ℕ × Refusal)). told ++ x) more ∙ sym (append_assoc told e.refusals (refusals_from (oldest e) acts))
+        ∙ ap (λ (x : List (ℕ × Refusal)). x ++ refusals_from (oldest e) acts) is
+        ∙ ap (λ n. refusals_from 1 before ++ refusals_from n acts) next ∙ sym (refusals_on 1 before acts)
+
+    count_on : (e g : PlainTermEndpoint) (middle : PlainTerminal) (before acts all : List Acted) → all ≡ before ++ acts → middle.held ≡ e.term.held
+        → length acts + length g.term.held ≡ length middle.held → g.events ≡ e.events → length before + length e.term.held ≡ e.events
+        → length all + length g.term.held ≡ g.events
+    count_on e g middle before acts all is held fewer events count =
+        omega (arith, ap length is, length-append before acts, ap length held, fewer, events, count)
+
     all_frames : (steps : List Step) (frames : List HFrame) (acts : List Acted) (before after : List HFrame) → before ≡ frames ++ after
         → frames_in (steps ++ (received frames ++ decided acts)) ++ after ≡ frames_in steps ++ before
     all_frames steps frames acts before after is =
@@ -118,13 +173,13 @@ kept_moves stream events out e g frames acts m kept =
         → (out ++ g.pending_bytes) ++ stream_of terminal g.unwritten ≡ stream_of terminal (composed ++ (first ++ more))
     bytes_on out e g composed first more p q = grind (arith, append_assoc, stream_of-append)
 
-kept_goes_on : (stream : List ℕ) (events : List UserEvent) (out : List ℕ) (e g : PlainTermEndpoint) (result : Answer) → GoesOnAfter result → GoesOn e result g
-    → Kept stream events out e → Kept stream events out g
-kept_goes_on stream events out e g (Ok done) goes on kept = kept_moves stream events out e g e.waiting on.0 on.1 kept
-kept_goes_on stream events out e g (Err fault.Unfinished) goes on kept = kept_moves stream events out e g on.0 on.1 on.2 kept
-kept_goes_on stream events out e g (Err fault.OutOfMemory) goes on kept = absurd on
-kept_goes_on stream events out e g (Err fault.CountFull) goes on kept = absurd on
-kept_goes_on stream events out e g (Err (fault.Stopped why)) goes on kept = absurd goes
+kept_goes_on : (stream : List ℕ) (events : List UserEvent) (out : List ℕ) (told : List (ℕ × Refusal)) (e g : PlainTermEndpoint) (result : Answer) → GoesOnAfter result → GoesOn e result g
+    → Kept stream events out told e → Kept stream events out told g
+kept_goes_on stream events out told e g (Ok done) goes on kept = kept_moves stream events out told e g e.waiting on.0 on.1 kept
+kept_goes_on stream events out told e g (Err fault.Unfinished) goes on kept = kept_moves stream events out told e g on.0 on.1 on.2 kept
+kept_goes_on stream events out told e g (Err fault.OutOfMemory) goes on kept = absurd on
+kept_goes_on stream events out told e g (Err fault.CountFull) goes on kept = absurd on
+kept_goes_on stream events out told e g (Err (fault.Stopped why)) goes on kept = absurd goes
 
 -- ## Calls
 
@@ -140,28 +195,31 @@ reads_more h k stream piece before ms broken_by splits version gives =
       (Splits-then host 1 (stream ++ piece) before (h.bytes ++ piece) ms k.bytes),
     )
 
-kept_piece : (stream : List ℕ) (events : List UserEvent) (out piece : List ℕ) (e k : PlainTermEndpoint) → e.waiting ≡ [] → TakesIn e piece k
-    → Kept stream events out e → Kept (stream ++ piece) events out k
-kept_piece stream events out piece e k none (frames, broken_by, rest, gives, is) kept =
+kept_piece : (stream : List ℕ) (events : List UserEvent) (out : List ℕ) (told : List (ℕ × Refusal)) (piece : List ℕ) (e k : PlainTermEndpoint) → e.waiting ≡ [] → TakesIn e piece k
+    → Kept stream events out told e → Kept (stream ++ piece) events out told k
+kept_piece stream events out told piece e k none (frames, broken_by, rest, gives, is) kept =
     let d = kept.done in
     let all : frames_in d.steps ++ e.waiting ≡ frames_in d.steps = ap (λ (x : List HFrame). frames_in d.steps ++ x) none ∙ append-nil (frames_in d.steps) in
     let splits : Splits host 1 stream (frames_in d.steps) e.framer.bytes =
     subst (λ (x : List HFrame). Splits host 1 stream x e.framer.bytes) all d.reads.splits in
     let version : e.framer.version ≡ version_after host 1 (frames_in d.steps) = kept.version ∙ ap (λ (x : List HFrame). version_after host 1 x) all in
     let more = reads_more e.framer rest stream piece (frames_in d.steps) frames broken_by splits version gives in
-    subst (λ (x : PlainTermEndpoint). Kept (stream ++ piece) events out x) (sym is) (record {
-      done = record { steps = d.steps; composed = d.composed; leads = d.leads; reads = more.0; given = d.given; bytes = d.bytes };
+    subst (λ (x : PlainTermEndpoint). Kept (stream ++ piece) events out told x) (sym is) (record {
+      done = record { steps = d.steps; composed = d.composed; leads = d.leads; reads = more.0; given = d.given; bytes = d.bytes; refused = d.refused };
       version = more.1;
+      count = kept.count;
     })
 
 -- an event is held
-kept_held : (stream : List ℕ) (events : List UserEvent) (out : List ℕ) (e : PlainTermEndpoint) (event : UserEvent) → Kept stream events out e
-    → Kept stream (events ++ event ∷ []) out (with_event e event)
-kept_held stream events out e event kept =
+kept_held : (stream : List ℕ) (events : List UserEvent) (out : List ℕ) (told : List (ℕ × Refusal)) (e : PlainTermEndpoint) (event : UserEvent) → Kept stream events out told e
+    → Kept stream (events ++ event ∷ []) out told (with_event e event)
+kept_held stream events out told e event kept =
     let d = kept.done in
     let frames : frames_in (d.steps ++ run.Held event ∷ []) ≡ frames_in d.steps =
     flat_map-append frame_in d.steps (run.Held event ∷ []) ∙ append-nil (frames_in d.steps) in
     let composed : d.composed ++ [] ≡ d.composed = append-nil d.composed in
+    let acts : acts_in (d.steps ++ run.Held event ∷ []) ≡ acts_in d.steps =
+    flat_map-append act_in d.steps (run.Held event ∷ []) ∙ append-nil (acts_in d.steps) in
     record {
       done = record {
         steps = d.steps ++ run.Held event ∷ [];
@@ -170,16 +228,19 @@ kept_held stream events out e event kept =
         reads = subst (λ (x : List HFrame). IsStream host 1 stream (x ++ e.waiting) e.framer.bytes (option_map mesg_fault e.broken_by)) (sym frames) d.reads;
         given = flat_map-append event_in d.steps (run.Held event ∷ []) ∙ ap (λ (x : List UserEvent). x ++ event ∷ []) d.given;
         bytes = d.bytes ∙ ap (λ (x : List Tmesg). stream_of terminal x) (sym composed);
+        refused = d.refused ∙ ap (refusals_from 1) (sym acts);
       };
       version = kept.version ∙ ap (λ (x : List HFrame). version_after host 1 (x ++ e.waiting)) (sym frames);
+      count = omega (arith, ap length acts, length-append e.term.held (event ∷ []), kept.count);
     }
 
 -- the unsent runes were composed
-kept_sent : (stream : List ℕ) (events : List UserEvent) (out : List ℕ) (e : PlainTermEndpoint) (u : PlainTerminal) (composed : List Tmesg) → e.unwritten ≡ []
-    → flush_of e.term ≡ Ok (u, composed) → Kept stream events out e → Kept stream events out (record e { term = u; unwritten = composed })
-kept_sent stream events out e u composed none flushes kept =
+kept_sent : (stream : List ℕ) (events : List UserEvent) (out : List ℕ) (told : List (ℕ × Refusal)) (e : PlainTermEndpoint) (u : PlainTerminal) (composed : List Tmesg) → e.unwritten ≡ []
+    → flush_of e.term ≡ Ok (u, composed) → Kept stream events out told e → Kept stream events out told (record e { term = u; unwritten = composed })
+kept_sent stream events out told e u composed none flushes kept =
     let d = kept.done in
     let frames : frames_in (d.steps ++ run.Sent ∷ []) ≡ frames_in d.steps = flat_map-append frame_in d.steps (run.Sent ∷ []) ∙ append-nil (frames_in d.steps) in
+    let acts : acts_in (d.steps ++ run.Sent ∷ []) ≡ acts_in d.steps = flat_map-append act_in d.steps (run.Sent ∷ []) ∙ append-nil (acts_in d.steps) in
     record {
       done = record {
         steps = d.steps ++ run.Sent ∷ [];
@@ -188,8 +249,10 @@ kept_sent stream events out e u composed none flushes kept =
         reads = subst (λ (x : List HFrame). IsStream host 1 stream (x ++ e.waiting) e.framer.bytes (option_map mesg_fault e.broken_by)) (sym frames) d.reads;
         given = flat_map-append event_in d.steps (run.Sent ∷ []) ∙ append-nil (events_in d.steps) ∙ d.given;
         bytes = bytes_on out e.pending_bytes e.unwritten d.composed composed none d.bytes;
+        refused = d.refused ∙ ap (refusals_from 1) (sym acts);
       };
       version = kept.version ∙ ap (λ (x : List HFrame). version_after host 1 (x ++ e.waiting)) (sym frames);
+      count = omega (arith, ap length acts, ap length (flush_held e.term u composed flushes), kept.count);
     }
   where
     bytes_on : (out pending : List ℕ) (unwritten composed more : List Tmesg) → unwritten ≡ [] → (out ++ pending) ++ stream_of terminal unwritten ≡ stream_of terminal composed
@@ -203,81 +266,81 @@ as_it_was : {A : Type 0} (result : Answer) (given : List A) → (result ≡ Err 
 as_it_was result given (inl is) = ap (λ (x : Answer). if_taken x given) is
 as_it_was result given (inr is) = ap (λ (x : Answer). if_taken x given) is
 
-taken_on : (stream piece : List ℕ) (events : List UserEvent) (out : List ℕ) (k g : PlainTermEndpoint) (result : Answer) → GoesOnAfter result → GoesOn k result g
-    → Kept (stream ++ piece) events out k → Kept (stream ++ if_taken result piece) events out g
-taken_on stream piece events out k g (Ok done) goes on kept = kept_goes_on (stream ++ piece) events out k g (Ok done) goes on kept
-taken_on stream piece events out k g (Err fault.Unfinished) goes on kept = kept_goes_on (stream ++ piece) events out k g (Err fault.Unfinished) goes on kept
-taken_on stream piece events out k g (Err fault.OutOfMemory) goes on kept = absurd on
-taken_on stream piece events out k g (Err fault.CountFull) goes on kept = absurd on
-taken_on stream piece events out k g (Err (fault.Stopped why)) goes on kept = absurd goes
+taken_on : (stream piece : List ℕ) (events : List UserEvent) (out : List ℕ) (told : List (ℕ × Refusal)) (k g : PlainTermEndpoint) (result : Answer) → GoesOnAfter result → GoesOn k result g
+    → Kept (stream ++ piece) events out told k → Kept (stream ++ if_taken result piece) events out told g
+taken_on stream piece events out told k g (Ok done) goes on kept = kept_goes_on (stream ++ piece) events out told k g (Ok done) goes on kept
+taken_on stream piece events out told k g (Err fault.Unfinished) goes on kept = kept_goes_on (stream ++ piece) events out told k g (Err fault.Unfinished) goes on kept
+taken_on stream piece events out told k g (Err fault.OutOfMemory) goes on kept = absurd on
+taken_on stream piece events out told k g (Err fault.CountFull) goes on kept = absurd on
+taken_on stream piece events out told k g (Err (fault.Stopped why)) goes on kept = absurd goes
 
-held_on : (stream : List ℕ) (events more : List UserEvent) (out : List ℕ) (k g : PlainTermEndpoint) (result : Answer) → GoesOnAfter result → GoesOn k result g
-    → Kept stream (events ++ more) out k → Kept stream (events ++ if_taken result more) out g
-held_on stream events more out k g (Ok done) goes on kept = kept_goes_on stream (events ++ more) out k g (Ok done) goes on kept
-held_on stream events more out k g (Err fault.Unfinished) goes on kept = kept_goes_on stream (events ++ more) out k g (Err fault.Unfinished) goes on kept
-held_on stream events more out k g (Err fault.OutOfMemory) goes on kept = absurd on
-held_on stream events more out k g (Err fault.CountFull) goes on kept = absurd on
-held_on stream events more out k g (Err (fault.Stopped why)) goes on kept = absurd goes
+held_on : (stream : List ℕ) (events more : List UserEvent) (out : List ℕ) (told : List (ℕ × Refusal)) (k g : PlainTermEndpoint) (result : Answer) → GoesOnAfter result → GoesOn k result g
+    → Kept stream (events ++ more) out told k → Kept stream (events ++ if_taken result more) out told g
+held_on stream events more out told k g (Ok done) goes on kept = kept_goes_on stream (events ++ more) out told k g (Ok done) goes on kept
+held_on stream events more out told k g (Err fault.Unfinished) goes on kept = kept_goes_on stream (events ++ more) out told k g (Err fault.Unfinished) goes on kept
+held_on stream events more out told k g (Err fault.OutOfMemory) goes on kept = absurd on
+held_on stream events more out told k g (Err fault.CountFull) goes on kept = absurd on
+held_on stream events more out told k g (Err (fault.Stopped why)) goes on kept = absurd goes
 
-kept_fed : (stream : List ℕ) (events : List UserEvent) (out piece : List ℕ) (e g : PlainTermEndpoint) (result : Answer) → GoesOnAfter result → e.waiting ≡ []
-    → FeedsIdle e piece result g → Kept stream events out e → Kept (stream ++ if_taken result piece) events out g
-kept_fed stream events out piece e g result goes none (inl (k, takes, on)) kept =
-    taken_on stream piece events out k g result goes on (kept_piece stream events out piece e k none takes kept)
-kept_fed stream events out piece e g result goes none (inr (inl (is, room, same))) kept = grind (arith, append-nil, (as_it_was result piece (inl is)))
-kept_fed stream events out piece e g result goes none (inr (inr (is, full, same))) kept = grind (arith, append-nil, (as_it_was result piece (inr is)))
+kept_fed : (stream : List ℕ) (events : List UserEvent) (out : List ℕ) (told : List (ℕ × Refusal)) (piece : List ℕ) (e g : PlainTermEndpoint) (result : Answer) → GoesOnAfter result → e.waiting ≡ []
+    → FeedsIdle e piece result g → Kept stream events out told e → Kept (stream ++ if_taken result piece) events out told g
+kept_fed stream events out told piece e g result goes none (inl (k, takes, on)) kept =
+    taken_on stream piece events out told k g result goes on (kept_piece stream events out told piece e k none takes kept)
+kept_fed stream events out told piece e g result goes none (inr (inl (is, room, same))) kept = grind (arith, append-nil, (as_it_was result piece (inl is)))
+kept_fed stream events out told piece e g result goes none (inr (inr (is, full, same))) kept = grind (arith, append-nil, (as_it_was result piece (inr is)))
 
-kept_put : (stream : List ℕ) (events : List UserEvent) (out : List ℕ) (event : UserEvent) (e g : PlainTermEndpoint) (result : Answer) → GoesOnAfter result
-    → PutsIdle e event result g → Kept stream events out e → Kept stream (events ++ if_taken result (event ∷ [])) out g
-kept_put stream events out event e g result goes (inl on) kept =
-    held_on stream events (event ∷ []) out (with_event e event) g result goes on (kept_held stream events out e event kept)
-kept_put stream events out event e g result goes (inr (inl (is, room, same))) kept = grind (arith, append-nil, (as_it_was result (event ∷ []) (inl is)))
-kept_put stream events out event e g result goes (inr (inr (is, full, same))) kept = grind (arith, append-nil, (as_it_was result (event ∷ []) (inr is)))
+kept_put : (stream : List ℕ) (events : List UserEvent) (out : List ℕ) (told : List (ℕ × Refusal)) (event : UserEvent) (e g : PlainTermEndpoint) (result : Answer) → GoesOnAfter result
+    → PutsIdle e event result g → Kept stream events out told e → Kept stream (events ++ if_taken result (event ∷ [])) out told g
+kept_put stream events out told event e g result goes (inl on) kept =
+    held_on stream events (event ∷ []) out told (with_event e event) g result goes on (kept_held stream events out told e event kept)
+kept_put stream events out told event e g result goes (inr (inl (is, room, same))) kept = grind (arith, append-nil, (as_it_was result (event ∷ []) (inl is)))
+kept_put stream events out told event e g result goes (inr (inr (is, full, same))) kept = grind (arith, append-nil, (as_it_was result (event ∷ []) (inr is)))
 
-kept_flushed : (stream : List ℕ) (events : List UserEvent) (out : List ℕ) (e g : PlainTermEndpoint) (result : Answer) → GoesOnAfter result → e.unwritten ≡ []
-    → FlushesIdle e result g → Kept stream events out e → Kept stream events out g
-kept_flushed stream events out e g result goes none (inl (u, composed, flushes, on)) kept =
-    kept_goes_on stream events out (record e { term = u; unwritten = composed }) g result goes on (kept_sent stream events out e u composed none flushes kept)
-kept_flushed stream events out e g result goes none (inr (inl (is, counted, same))) kept = subst (λ (x : PlainTermEndpoint). Kept stream events out x) (sym same) kept
-kept_flushed stream events out e g result goes none (inr (inr (why, fails, is, same))) kept = absurd (stopped_not result _ is goes)
+kept_flushed : (stream : List ℕ) (events : List UserEvent) (out : List ℕ) (told : List (ℕ × Refusal)) (e g : PlainTermEndpoint) (result : Answer) → GoesOnAfter result → e.unwritten ≡ []
+    → FlushesIdle e result g → Kept stream events out told e → Kept stream events out told g
+kept_flushed stream events out told e g result goes none (inl (u, composed, flushes, on)) kept =
+    kept_goes_on stream events out told (record e { term = u; unwritten = composed }) g result goes on (kept_sent stream events out told e u composed none flushes kept)
+kept_flushed stream events out told e g result goes none (inr (inl (is, counted, same))) kept = subst (λ (x : PlainTermEndpoint). Kept stream events out told x) (sym same) kept
+kept_flushed stream events out told e g result goes none (inr (inr (why, fails, is, same))) kept = absurd (stopped_not result _ is goes)
 
-kept_feeds : (stream : List ℕ) (events : List UserEvent) (out piece : List ℕ) (e g : PlainTermEndpoint) (result : Answer) → GoesOnAfter result → Feeds e piece result g
-    → Kept stream events out e → Kept (stream ++ if_taken result piece) events out g
-kept_feeds stream events out piece e g result goes (inl (why, stops, is, same)) kept = absurd (stopped_not result why is goes)
-kept_feeds stream events out piece e g result goes (inr (going, k, Ok done, on, fed)) kept =
-    kept_fed stream events out piece k g result goes on.2.waiting fed (kept_goes_on stream events out e k (Ok done) tt on kept)
-kept_feeds stream events out piece e g result goes (inr (going, k, Err fault.Unfinished, on, (is, same))) kept =
-    let still : Kept stream events out k = kept_goes_on stream events out e k (Err fault.Unfinished) tt on kept in
+kept_feeds : (stream : List ℕ) (events : List UserEvent) (out : List ℕ) (told : List (ℕ × Refusal)) (piece : List ℕ) (e g : PlainTermEndpoint) (result : Answer) → GoesOnAfter result → Feeds e piece result g
+    → Kept stream events out told e → Kept (stream ++ if_taken result piece) events out told g
+kept_feeds stream events out told piece e g result goes (inl (why, stops, is, same)) kept = absurd (stopped_not result why is goes)
+kept_feeds stream events out told piece e g result goes (inr (going, k, Ok done, on, fed)) kept =
+    kept_fed stream events out told piece k g result goes on.2.waiting fed (kept_goes_on stream events out told e k (Ok done) tt on kept)
+kept_feeds stream events out told piece e g result goes (inr (going, k, Err fault.Unfinished, on, (is, same))) kept =
+    let still : Kept stream events out told k = kept_goes_on stream events out told e k (Err fault.Unfinished) tt on kept in
     grind (arith, append-nil, (as_it_was result piece (inl is)))
-kept_feeds stream events out piece e g result goes (inr (going, k, Err (fault.Stopped why), on, (is, same))) kept = absurd (stopped_not result why is goes)
-kept_feeds stream events out piece e g result goes (inr (going, k, Err fault.OutOfMemory, on, after)) kept = absurd on
-kept_feeds stream events out piece e g result goes (inr (going, k, Err fault.CountFull, on, after)) kept = absurd on
+kept_feeds stream events out told piece e g result goes (inr (going, k, Err (fault.Stopped why), on, (is, same))) kept = absurd (stopped_not result why is goes)
+kept_feeds stream events out told piece e g result goes (inr (going, k, Err fault.OutOfMemory, on, after)) kept = absurd on
+kept_feeds stream events out told piece e g result goes (inr (going, k, Err fault.CountFull, on, after)) kept = absurd on
 
-kept_puts : (stream : List ℕ) (events : List UserEvent) (out : List ℕ) (event : UserEvent) (e g : PlainTermEndpoint) (result : Answer) → GoesOnAfter result
-    → Puts e event result g → Kept stream events out e → Kept stream (events ++ if_taken result (event ∷ [])) out g
-kept_puts stream events out event e g result goes (inl (why, stops, is, same)) kept = absurd (stopped_not result why is goes)
-kept_puts stream events out event e g result goes (inr (going, k, Ok done, on, puts)) kept =
-    kept_put stream events out event k g result goes puts (kept_goes_on stream events out e k (Ok done) tt on kept)
-kept_puts stream events out event e g result goes (inr (going, k, Err fault.Unfinished, on, (is, same))) kept =
-    let still : Kept stream events out k = kept_goes_on stream events out e k (Err fault.Unfinished) tt on kept in
+kept_puts : (stream : List ℕ) (events : List UserEvent) (out : List ℕ) (told : List (ℕ × Refusal)) (event : UserEvent) (e g : PlainTermEndpoint) (result : Answer) → GoesOnAfter result
+    → Puts e event result g → Kept stream events out told e → Kept stream (events ++ if_taken result (event ∷ [])) out told g
+kept_puts stream events out told event e g result goes (inl (why, stops, is, same)) kept = absurd (stopped_not result why is goes)
+kept_puts stream events out told event e g result goes (inr (going, k, Ok done, on, puts)) kept =
+    kept_put stream events out told event k g result goes puts (kept_goes_on stream events out told e k (Ok done) tt on kept)
+kept_puts stream events out told event e g result goes (inr (going, k, Err fault.Unfinished, on, (is, same))) kept =
+    let still : Kept stream events out told k = kept_goes_on stream events out told e k (Err fault.Unfinished) tt on kept in
     grind (arith, append-nil, (as_it_was result (event ∷ []) (inl is)))
-kept_puts stream events out event e g result goes (inr (going, k, Err (fault.Stopped why), on, (is, same))) kept = absurd (stopped_not result why is goes)
-kept_puts stream events out event e g result goes (inr (going, k, Err fault.OutOfMemory, on, after)) kept = absurd on
-kept_puts stream events out event e g result goes (inr (going, k, Err fault.CountFull, on, after)) kept = absurd on
+kept_puts stream events out told event e g result goes (inr (going, k, Err (fault.Stopped why), on, (is, same))) kept = absurd (stopped_not result why is goes)
+kept_puts stream events out told event e g result goes (inr (going, k, Err fault.OutOfMemory, on, after)) kept = absurd on
+kept_puts stream events out told event e g result goes (inr (going, k, Err fault.CountFull, on, after)) kept = absurd on
 
-kept_flushes : (stream : List ℕ) (events : List UserEvent) (out : List ℕ) (e g : PlainTermEndpoint) (result : Answer) → GoesOnAfter result → Flushes e result g
-    → Kept stream events out e → Kept stream events out g
-kept_flushes stream events out e g result goes (inl (why, stops, is, same)) kept = absurd (stopped_not result why is goes)
-kept_flushes stream events out e g result goes (inr (going, k, Ok done, on, flushes)) kept =
-    kept_flushed stream events out k g result goes on.2.unwritten flushes (kept_goes_on stream events out e k (Ok done) tt on kept)
-kept_flushes stream events out e g result goes (inr (going, k, Err fault.Unfinished, on, (is, same))) kept =
-    subst (λ (x : PlainTermEndpoint). Kept stream events out x) (sym same) (kept_goes_on stream events out e k (Err fault.Unfinished) tt on kept)
-kept_flushes stream events out e g result goes (inr (going, k, Err (fault.Stopped why), on, (is, same))) kept = absurd (stopped_not result why is goes)
-kept_flushes stream events out e g result goes (inr (going, k, Err fault.OutOfMemory, on, after)) kept = absurd on
-kept_flushes stream events out e g result goes (inr (going, k, Err fault.CountFull, on, after)) kept = absurd on
+kept_flushes : (stream : List ℕ) (events : List UserEvent) (out : List ℕ) (told : List (ℕ × Refusal)) (e g : PlainTermEndpoint) (result : Answer) → GoesOnAfter result → Flushes e result g
+    → Kept stream events out told e → Kept stream events out told g
+kept_flushes stream events out told e g result goes (inl (why, stops, is, same)) kept = absurd (stopped_not result why is goes)
+kept_flushes stream events out told e g result goes (inr (going, k, Ok done, on, flushes)) kept =
+    kept_flushed stream events out told k g result goes on.2.unwritten flushes (kept_goes_on stream events out told e k (Ok done) tt on kept)
+kept_flushes stream events out told e g result goes (inr (going, k, Err fault.Unfinished, on, (is, same))) kept =
+    subst (λ (x : PlainTermEndpoint). Kept stream events out told x) (sym same) (kept_goes_on stream events out told e k (Err fault.Unfinished) tt on kept)
+kept_flushes stream events out told e g result goes (inr (going, k, Err (fault.Stopped why), on, (is, same))) kept = absurd (stopped_not result why is goes)
+kept_flushes stream events out told e g result goes (inr (going, k, Err fault.OutOfMemory, on, after)) kept = absurd on
+kept_flushes stream events out told e g result goes (inr (going, k, Err fault.CountFull, on, after)) kept = absurd on
 
-kept_out : (stream : List ℕ) (events : List UserEvent) (out bytes rest : List ℕ) (e : PlainTermEndpoint) → e.pending_bytes ≡ bytes ++ rest → Kept stream events out e
-    → Kept stream events (out ++ bytes) (record e { pending_bytes = rest })
-kept_out stream events out bytes rest e is kept =
+kept_out : (stream : List ℕ) (events : List UserEvent) (out : List ℕ) (told : List (ℕ × Refusal)) (bytes rest : List ℕ) (e : PlainTermEndpoint) → e.pending_bytes ≡ bytes ++ rest → Kept stream events out told e
+    → Kept stream events (out ++ bytes) told (record e { pending_bytes = rest })
+kept_out stream events out told bytes rest e is kept =
     let d = kept.done in
     record {
       done = record {
@@ -287,42 +350,74 @@ kept_out stream events out bytes rest e is kept =
         reads = d.reads;
         given = d.given;
         bytes = ap (λ (x : List ℕ). x ++ stream_of terminal e.unwritten) (append_assoc out bytes rest ∙ ap (λ (x : List ℕ). out ++ x) (sym is)) ∙ d.bytes;
+        refused = d.refused;
       };
       version = kept.version;
+      count = kept.count;
     }
 
--- refusals or changes were asked for
-kept_asked : (stream : List ℕ) (events : List UserEvent) (out : List ℕ) (e : PlainTermEndpoint) (refusals : List (ℕ × Refusal)) (told : List changes.Kept) → Kept stream events out e
-    → Kept stream events out (record e { refusals = refusals; kept = told })
-kept_asked stream events out e refusals told kept =
+-- the oldest refusal is handed out, if there is one
+first_told : (told waiting all : List (ℕ × Refusal)) → told ++ waiting ≡ all → (told ++ option_to_list (slice_get waiting 0)) ++ drop 1 waiting ≡ all
+first_told told [] all is = grind (arith, append-nil)
+first_told told (refusal ∷ waiting) all is = append_assoc told (refusal ∷ []) waiting ∙ is
+
+kept_told : (stream : List ℕ) (events : List UserEvent) (out : List ℕ) (told : List (ℕ × Refusal)) (next : Option (ℕ × Refusal)) (e : PlainTermEndpoint) → next ≡ slice_get e.refusals 0
+    → Kept stream events out told e → Kept stream events out (told ++ option_to_list next) (record e { refusals = drop 1 e.refusals })
+kept_told stream events out told next e is kept =
+    let d = kept.done in
+    subst (λ (x : Option (ℕ × Refusal)). Kept stream events out (told ++ option_to_list x) (record e { refusals = drop 1 e.refusals })) (sym is) (record {
+      done = record {
+        steps = d.steps;
+        composed = d.composed;
+        leads = d.leads;
+        reads = d.reads;
+        given = d.given;
+        bytes = d.bytes;
+        refused = first_told told e.refusals (refusals_from 1 (acts_in d.steps)) d.refused;
+      };
+      version = kept.version;
+      count = kept.count;
+    })
+
+-- what changed was asked for
+kept_changed : (stream : List ℕ) (events : List UserEvent) (out : List ℕ) (told : List (ℕ × Refusal)) (e : PlainTermEndpoint) (now : List changes.Kept) → Kept stream events out told e
+    → Kept stream events out told (record e { kept = now })
+kept_changed stream events out told e now kept =
     let d = kept.done in
     record {
-      done = record { steps = d.steps; composed = d.composed; leads = d.leads; reads = d.reads; given = d.given; bytes = d.bytes };
+      done = record { steps = d.steps; composed = d.composed; leads = d.leads; reads = d.reads; given = d.given; bytes = d.bytes; refused = d.refused };
       version = kept.version;
+      count = kept.count;
     }
 
 -- ## Runs
 
-kept_run : (stream : List ℕ) (events : List UserEvent) (out : List ℕ) (calls : List Call) (e g : PlainTermEndpoint) → Runs e calls g → Kept stream events out e
-    → Kept (stream ++ flat_map came_in calls) (events ++ flat_map put_in calls) (out ++ flat_map went_out calls) g
-kept_run stream events out [] e g is kept = grind (arith, append-nil)
-kept_run stream events out (run.Feed piece answer ∷ calls) e g (k, feeds, goes, runs) kept =
-    subst (λ (x : List ℕ). Kept x (events ++ flat_map put_in calls) (out ++ flat_map went_out calls) g) (append_assoc stream (if_taken answer piece) (flat_map came_in calls))
-    (kept_run (stream ++ if_taken answer piece) events out calls k g runs (kept_feeds stream events out piece e k answer goes feeds kept))
-kept_run stream events out (run.Put event answer ∷ calls) e g (k, puts, goes, runs) kept =
-    subst (λ (x : List UserEvent). Kept (stream ++ flat_map came_in calls) x (out ++ flat_map went_out calls) g)
+kept_run : (stream : List ℕ) (events : List UserEvent) (out : List ℕ) (told : List (ℕ × Refusal)) (calls : List Call) (e g : PlainTermEndpoint) → Runs e calls g → Kept stream events out told e
+    → Kept (stream ++ flat_map came_in calls) (events ++ flat_map put_in calls) (out ++ flat_map went_out calls) (told ++ flat_map handed_out calls) g
+kept_run stream events out told [] e g is kept = grind (arith, append-nil)
+kept_run stream events out told (run.Feed piece answer ∷ calls) e g (k, feeds, goes, runs) kept =
+    subst (λ (x : List ℕ). Kept x (events ++ flat_map put_in calls) (out ++ flat_map went_out calls) (told ++ flat_map handed_out calls) g)
+    (append_assoc stream (if_taken answer piece) (flat_map came_in calls))
+    (kept_run (stream ++ if_taken answer piece) events out told calls k g runs (kept_feeds stream events out told piece e k answer goes feeds kept))
+kept_run stream events out told (run.Put event answer ∷ calls) e g (k, puts, goes, runs) kept =
+    subst (λ (x : List UserEvent). Kept (stream ++ flat_map came_in calls) x (out ++ flat_map went_out calls) (told ++ flat_map handed_out calls) g)
     (append_assoc events (if_taken answer (event ∷ [])) (flat_map put_in calls))
-    (kept_run stream (events ++ if_taken answer (event ∷ [])) out calls k g runs (kept_puts stream events out event e k answer goes puts kept))
-kept_run stream events out (run.Flush answer ∷ calls) e g (k, flushes, goes, runs) kept =
-    kept_run stream events out calls k g runs (kept_flushes stream events out e k answer goes flushes kept)
-kept_run stream events out (run.TakeOut bytes ∷ calls) e g (rest, is, runs) kept =
-    subst (λ (x : List ℕ). Kept (stream ++ flat_map came_in calls) (events ++ flat_map put_in calls) x g) (append_assoc out bytes (flat_map went_out calls))
-    (kept_run stream events (out ++ bytes) calls (record e { pending_bytes = rest }) g runs (kept_out stream events out bytes rest e is kept))
-kept_run stream events out (run.Ask refusals told ∷ calls) e g runs kept =
-    kept_run stream events out calls (record e { refusals = refusals; kept = told }) g runs (kept_asked stream events out e refusals told kept)
+    (kept_run stream (events ++ if_taken answer (event ∷ [])) out told calls k g runs (kept_puts stream events out told event e k answer goes puts kept))
+kept_run stream events out told (run.Flush answer ∷ calls) e g (k, flushes, goes, runs) kept =
+    kept_run stream events out told calls k g runs (kept_flushes stream events out told e k answer goes flushes kept)
+kept_run stream events out told (run.TakeOut bytes ∷ calls) e g (rest, is, runs) kept =
+    subst (λ (x : List ℕ). Kept (stream ++ flat_map came_in calls) (events ++ flat_map put_in calls) x (told ++ flat_map handed_out calls) g)
+    (append_assoc out bytes (flat_map went_out calls))
+    (kept_run stream events (out ++ bytes) told calls (record e { pending_bytes = rest }) g runs (kept_out stream events out told bytes rest e is kept))
+kept_run stream events out told (run.NextRefusal next ∷ calls) e g (is, runs) kept =
+    subst (λ (x : List (ℕ × Refusal)). Kept (stream ++ flat_map came_in calls) (events ++ flat_map put_in calls) (out ++ flat_map went_out calls) x g)
+    (append_assoc told (option_to_list next) (flat_map handed_out calls))
+    (kept_run stream events out (told ++ option_to_list next) calls (record e { refusals = drop 1 e.refusals }) g runs (kept_told stream events out told next e is kept))
+kept_run stream events out told (run.Changed now ∷ calls) e g runs kept =
+    kept_run stream events out told calls (record e { kept = now }) g runs (kept_changed stream events out told e now kept)
 
 -- nothing was fed or put
-kept_begun : Kept [] [] [] new_term_endpoint
+kept_begun : Kept [] [] [] [] new_term_endpoint
 kept_begun = record {
   done = record {
     steps = [];
@@ -331,13 +426,15 @@ kept_begun = record {
     reads = record { splits = record { whole = refl; fit = tt }; ends = tt };
     given = refl;
     bytes = refl;
+    refused = refl;
   };
   version = refl;
+  count = refl;
 }
 
 pub runs_lead : (calls : List Call) (g : PlainTermEndpoint) → Runs new_term_endpoint calls g
-    → HasDone (flat_map came_in calls) (flat_map put_in calls) (flat_map went_out calls) g
-runs_lead calls g runs = (kept_run [] [] [] calls new_term_endpoint g runs kept_begun).done
+    → HasDone (flat_map came_in calls) (flat_map put_in calls) (flat_map went_out calls) (flat_map handed_out calls) g
+runs_lead calls g runs = (kept_run [] [] [] [] calls new_term_endpoint g runs kept_begun).done
 
 -- ## Stops
 
@@ -356,67 +453,68 @@ run_goes e g (run.Feed piece answer ∷ calls) goes (k, feeds, goes_on, runs) = 
 run_goes e g (run.Put event answer ∷ calls) goes (k, puts, goes_on, runs) = run_goes k g calls (put_goes e k event answer goes_on puts) runs
 run_goes e g (run.Flush answer ∷ calls) goes (k, flushes, goes_on, runs) = run_goes k g calls (flush_goes e k answer goes_on flushes) runs
 run_goes e g (run.TakeOut bytes ∷ calls) goes (rest, is, runs) = run_goes (record e { pending_bytes = rest }) g calls goes runs
-run_goes e g (run.Ask refusals told ∷ calls) goes runs = run_goes (record e { refusals = refusals; kept = told }) g calls goes runs
+run_goes e g (run.NextRefusal next ∷ calls) goes (is, runs) = run_goes (record e { refusals = drop 1 e.refusals }) g calls goes runs
+run_goes e g (run.Changed now ∷ calls) goes runs = run_goes (record e { kept = now }) g calls goes runs
 
 -- what a run comes to that has stopped
-record Ended (stream : List ℕ) (events : List UserEvent) (out : List ℕ) (why : TermStop) (g : PlainTermEndpoint) : Type 0 where
-  pub done : HasDone stream events out g
+record Ended (stream : List ℕ) (events : List UserEvent) (out : List ℕ) (told : List (ℕ × Refusal)) (why : TermStop) (g : PlainTermEndpoint) : Type 0 where
+  pub done : HasDone stream events out told g
   pub stops : HasStopped g why
   pub says : g.stop ≡ Some why
 
-went_on : (stream : List ℕ) (events : List UserEvent) (out : List ℕ) (e g : PlainTermEndpoint) (why : TermStop) → GoesOn e (Err (fault.Stopped why)) g
-    → Kept stream events out e → Ended stream events out why g
-went_on stream events out e g (stop.Stream why) (m, idle, broken_by, says) kept =
-    record { done = (kept_moves stream events out e g e.waiting [] m kept).done; stops = (idle, m.broken_by ∙ broken_by); says = says }
-went_on stream events out e g (stop.Refused why) (inl (frames, frame, rest, m, waits, refuses, written, says)) kept =
-    record { done = (kept_moves stream events out e g frames [] m kept).done; stops = inl (frame, rest, waits, refuses, written); says = says }
-went_on stream events out e g (stop.Refused why) (inr (acts, m, idle, whole, refuses, says)) kept =
-    record { done = (kept_moves stream events out e g e.waiting acts m kept).done; stops = inr ((idle, m.broken_by ∙ whole), inl refuses); says = says }
+went_on : (stream : List ℕ) (events : List UserEvent) (out : List ℕ) (told : List (ℕ × Refusal)) (e g : PlainTermEndpoint) (why : TermStop) → GoesOn e (Err (fault.Stopped why)) g
+    → Kept stream events out told e → Ended stream events out told why g
+went_on stream events out told e g (stop.Stream why) (m, idle, broken_by, says) kept =
+    record { done = (kept_moves stream events out told e g e.waiting [] m kept).done; stops = (idle, m.broken_by ∙ broken_by); says = says }
+went_on stream events out told e g (stop.Refused why) (inl (frames, frame, rest, m, waits, refuses, written, says)) kept =
+    record { done = (kept_moves stream events out told e g frames [] m kept).done; stops = inl (frame, rest, waits, refuses, written); says = says }
+went_on stream events out told e g (stop.Refused why) (inr (acts, m, idle, whole, refuses, says)) kept =
+    record { done = (kept_moves stream events out told e g e.waiting acts m kept).done; stops = inr ((idle, m.broken_by ∙ whole), inl refuses); says = says }
 
 -- the end had gone on with what waited, and then does what the call brings
-record Ready (stream : List ℕ) (events : List UserEvent) (out : List ℕ) (Brings : PlainTermEndpoint → Type 0) : Type 0 where
+record Ready (stream : List ℕ) (events : List UserEvent) (out : List ℕ) (told : List (ℕ × Refusal)) (Brings : PlainTermEndpoint → Type 0) : Type 0 where
   pub middle : PlainTermEndpoint
-  pub kept : Kept stream events out middle
+  pub kept : Kept stream events out told middle
   pub whole : IsDone middle
   pub brings : Brings middle
 
 -- a call stops an end that went on: as what waited goes on, or as it does what the call brings
-call_stops : (stream : List ℕ) (events : List UserEvent) (out : List ℕ) (e g : PlainTermEndpoint) (why : TermStop) (Brings : PlainTermEndpoint → Type 0) → e.stop ≡ None
-    → Calls e (Err (fault.Stopped why)) g Brings → Kept stream events out e → Ended stream events out why g ⊎ Ready stream events out Brings
-call_stops stream events out e g why Brings goes (inl (who, stops, is, same)) kept = absurd (cc)
-call_stops stream events out e g why Brings goes (inr (going, k, Ok done, on, brings)) kept =
-    inr (record { middle = k; kept = kept_goes_on stream events out e k (Ok done) tt on kept; whole = (on.2, on.1.broken_by ∙ on.4); brings = brings })
-call_stops stream events out e g why Brings goes (inr (going, k, Err fault.Unfinished, on, (is, same))) kept = absurd (cc)
-call_stops stream events out e g why Brings goes (inr (going, k, Err (fault.Stopped first), on, (is, same))) kept =
+call_stops : (stream : List ℕ) (events : List UserEvent) (out : List ℕ) (told : List (ℕ × Refusal)) (e g : PlainTermEndpoint) (why : TermStop) (Brings : PlainTermEndpoint → Type 0) → e.stop ≡ None
+    → Calls e (Err (fault.Stopped why)) g Brings → Kept stream events out told e → Ended stream events out told why g ⊎ Ready stream events out told Brings
+call_stops stream events out told e g why Brings goes (inl (who, stops, is, same)) kept = absurd (cc)
+call_stops stream events out told e g why Brings goes (inr (going, k, Ok done, on, brings)) kept =
+    inr (record { middle = k; kept = kept_goes_on stream events out told e k (Ok done) tt on kept; whole = (on.2, on.1.broken_by ∙ on.4); brings = brings })
+call_stops stream events out told e g why Brings goes (inr (going, k, Err fault.Unfinished, on, (is, same))) kept = absurd (cc)
+call_stops stream events out told e g why Brings goes (inr (going, k, Err (fault.Stopped first), on, (is, same))) kept =
     let one : first ≡ why = cc in
-    inl (subst (λ (x : PlainTermEndpoint). Ended stream events out why x) (sym same)
-    (subst (λ (w : TermStop). Ended stream events out w k) one (went_on stream events out e k first on kept)))
-call_stops stream events out e g why Brings goes (inr (going, k, Err fault.OutOfMemory, on, after)) kept = absurd on
-call_stops stream events out e g why Brings goes (inr (going, k, Err fault.CountFull, on, after)) kept = absurd on
+    inl (subst (λ (x : PlainTermEndpoint). Ended stream events out told why x) (sym same)
+    (subst (λ (w : TermStop). Ended stream events out told w k) one (went_on stream events out told e k first on kept)))
+call_stops stream events out told e g why Brings goes (inr (going, k, Err fault.OutOfMemory, on, after)) kept = absurd on
+call_stops stream events out told e g why Brings goes (inr (going, k, Err fault.CountFull, on, after)) kept = absurd on
 
-fed_stops : (stream : List ℕ) (events : List UserEvent) (out piece : List ℕ) (e g : PlainTermEndpoint) (why : TermStop) → e.waiting ≡ []
-    → FeedsIdle e piece (Err (fault.Stopped why)) g → Kept stream events out e → Ended (stream ++ piece) events out why g
-fed_stops stream events out piece e g why none (inl (k, takes, on)) kept =
-    went_on (stream ++ piece) events out k g why on (kept_piece stream events out piece e k none takes kept)
-fed_stops stream events out piece e g why none (inr fed) kept = absurd (grind arith)
+fed_stops : (stream : List ℕ) (events : List UserEvent) (out : List ℕ) (told : List (ℕ × Refusal)) (piece : List ℕ) (e g : PlainTermEndpoint) (why : TermStop) → e.waiting ≡ []
+    → FeedsIdle e piece (Err (fault.Stopped why)) g → Kept stream events out told e → Ended (stream ++ piece) events out told why g
+fed_stops stream events out told piece e g why none (inl (k, takes, on)) kept =
+    went_on (stream ++ piece) events out told k g why on (kept_piece stream events out told piece e k none takes kept)
+fed_stops stream events out told piece e g why none (inr fed) kept = absurd (grind arith)
 
-put_stops : (stream : List ℕ) (events : List UserEvent) (out : List ℕ) (event : UserEvent) (e g : PlainTermEndpoint) (why : TermStop)
-    → PutsIdle e event (Err (fault.Stopped why)) g → Kept stream events out e → Ended stream (events ++ event ∷ []) out why g
-put_stops stream events out event e g why (inl on) kept =
-    went_on stream (events ++ event ∷ []) out (with_event e event) g why on (kept_held stream events out e event kept)
-put_stops stream events out event e g why (inr puts) kept = absurd (grind arith)
+put_stops : (stream : List ℕ) (events : List UserEvent) (out : List ℕ) (told : List (ℕ × Refusal)) (event : UserEvent) (e g : PlainTermEndpoint) (why : TermStop)
+    → PutsIdle e event (Err (fault.Stopped why)) g → Kept stream events out told e → Ended stream (events ++ event ∷ []) out told why g
+put_stops stream events out told event e g why (inl on) kept =
+    went_on stream (events ++ event ∷ []) out told (with_event e event) g why on (kept_held stream events out told e event kept)
+put_stops stream events out told event e g why (inr puts) kept = absurd (grind arith)
 
-flush_stops : (stream : List ℕ) (events : List UserEvent) (out : List ℕ) (e g : PlainTermEndpoint) (why : TermStop) → IsDone e
-    → FlushesIdle e (Err (fault.Stopped why)) g → Kept stream events out e → Ended stream events out why g
-flush_stops stream events out e g why whole (inl (u, composed, flushes, on)) kept =
-    went_on stream events out (record e { term = u; unwritten = composed }) g why on (kept_sent stream events out e u composed whole.0.unwritten flushes kept)
-flush_stops stream events out e g why whole (inr (inl (is, counted, same))) kept = absurd (cc)
-flush_stops stream events out e g why whole (inr (inr (who, fails, is, same))) kept =
+flush_stops : (stream : List ℕ) (events : List UserEvent) (out : List ℕ) (told : List (ℕ × Refusal)) (e g : PlainTermEndpoint) (why : TermStop) → IsDone e
+    → FlushesIdle e (Err (fault.Stopped why)) g → Kept stream events out told e → Ended stream events out told why g
+flush_stops stream events out told e g why whole (inl (u, composed, flushes, on)) kept =
+    went_on stream events out told (record e { term = u; unwritten = composed }) g why on (kept_sent stream events out told e u composed whole.0.unwritten flushes kept)
+flush_stops stream events out told e g why whole (inr (inl (is, counted, same))) kept = absurd (cc)
+flush_stops stream events out told e g why whole (inr (inr (who, fails, is, same))) kept =
     let one : stop.Refused who ≡ why = cc in
     let d = kept.done in
-    subst (λ (x : PlainTermEndpoint). Ended stream events out why x) (sym same)
-    (subst (λ (w : TermStop). Ended stream events out w (record e { stop = Some (stop.Refused who) })) one (record {
-      done = record { steps = d.steps; composed = d.composed; leads = d.leads; reads = d.reads; given = d.given; bytes = d.bytes };
+    subst (λ (x : PlainTermEndpoint). Ended stream events out told why x) (sym same)
+    (subst (λ (w : TermStop). Ended stream events out told w (record e { stop = Some (stop.Refused who) })) one (record {
+      done = record { steps = d.steps; composed = d.composed; leads = d.leads; reads = d.reads; given = d.given; bytes = d.bytes; refused = d.refused };
       stops = inr ((record { waiting = whole.0.waiting; unwritten = whole.0.unwritten }, whole.1), inr fails);
       says = refl;
     }))
@@ -425,43 +523,47 @@ flush_stops stream events out e g why whole (inr (inr (who, fails, is, same))) k
 last_brings : {A : Type 0} (brings : Call → List A) (calls : List Call) (last : Call) → flat_map brings (calls ++ last ∷ []) ≡ flat_map brings calls ++ brings last
 last_brings brings calls last = flat_map-append brings calls (last ∷ []) ∙ ap (λ (x : List _). flat_map brings calls ++ x) (append-nil (brings last))
 
-ended_as : (s r : List ℕ) (v w : List UserEvent) (o p : List ℕ) (why : TermStop) (g : PlainTermEndpoint) → r ≡ s → w ≡ v → p ≡ o → Ended s v o why g → Ended r w p why g
-ended_as s r v w o p why g a b c ended = grind arith
+ended_as : (s r : List ℕ) (v w : List UserEvent) (o p : List ℕ) (m n : List (ℕ × Refusal)) (why : TermStop) (g : PlainTermEndpoint) → r ≡ s → w ≡ v → p ≡ o → n ≡ m
+    → Ended s v o m why g → Ended r w p n why g
+ended_as s r v w o p m n why g a b c d ended = grind arith
 
 -- it was stopped before it took what the last call brought, or after
-last_stops : (stream : List ℕ) (events : List UserEvent) (out : List ℕ) (last : Call) (e g : PlainTermEndpoint) (why : TermStop) → e.stop ≡ None → Stops e last why g
-    → Kept stream events out e → Ended stream events out why g ⊎ Ended (stream ++ came_in last) (events ++ put_in last) (out ++ went_out last) why g
-last_stops stream events out (run.Feed piece answer) e g why goes (feeds, is) kept =
-    elim (call_stops stream events out e g why (λ middle. FeedsIdle middle piece (Err (fault.Stopped why)) g) goes (subst (λ (x : Answer). Feeds e piece x g) is feeds) kept) [
+last_stops : (stream : List ℕ) (events : List UserEvent) (out : List ℕ) (told : List (ℕ × Refusal)) (last : Call) (e g : PlainTermEndpoint) (why : TermStop) → e.stop ≡ None → Stops e last why g
+    → Kept stream events out told e
+    → Ended stream events out told why g ⊎ Ended (stream ++ came_in last) (events ++ put_in last) (out ++ went_out last) (told ++ handed_out last) why g
+last_stops stream events out told (run.Feed piece answer) e g why goes (feeds, is) kept =
+    elim (call_stops stream events out told e g why (λ middle. FeedsIdle middle piece (Err (fault.Stopped why)) g) goes (subst (λ (x : Answer). Feeds e piece x g) is feeds) kept) [
       | inl ended ↦ inl ended
-      | inr ready ↦ inr (ended_as (stream ++ piece) (stream ++ if_taken answer piece) events (events ++ []) out (out ++ []) why g
-          (ap (λ (x : Answer). stream ++ if_taken x piece) is) (append-nil events) (append-nil out)
-          (fed_stops stream events out piece ready.middle g why ready.whole.0.waiting ready.brings ready.kept))
+      | inr ready ↦ inr (ended_as (stream ++ piece) (stream ++ if_taken answer piece) events (events ++ []) out (out ++ []) told (told ++ []) why g
+          (ap (λ (x : Answer). stream ++ if_taken x piece) is) (append-nil events) (append-nil out) (append-nil told)
+          (fed_stops stream events out told piece ready.middle g why ready.whole.0.waiting ready.brings ready.kept))
     ]
-last_stops stream events out (run.Put event answer) e g why goes (puts, is) kept =
-    elim (call_stops stream events out e g why (λ middle. PutsIdle middle event (Err (fault.Stopped why)) g) goes (subst (λ (x : Answer). Puts e event x g) is puts) kept) [
+last_stops stream events out told (run.Put event answer) e g why goes (puts, is) kept =
+    elim (call_stops stream events out told e g why (λ middle. PutsIdle middle event (Err (fault.Stopped why)) g) goes (subst (λ (x : Answer). Puts e event x g) is puts) kept) [
       | inl ended ↦ inl ended
-      | inr ready ↦ inr (ended_as stream (stream ++ []) (events ++ event ∷ []) (events ++ if_taken answer (event ∷ [])) out (out ++ []) why g
-          (append-nil stream) (ap (λ (x : Answer). events ++ if_taken x (event ∷ [])) is) (append-nil out)
-          (put_stops stream events out event ready.middle g why ready.brings ready.kept))
+      | inr ready ↦ inr (ended_as stream (stream ++ []) (events ++ event ∷ []) (events ++ if_taken answer (event ∷ [])) out (out ++ []) told (told ++ []) why g
+          (append-nil stream) (ap (λ (x : Answer). events ++ if_taken x (event ∷ [])) is) (append-nil out) (append-nil told)
+          (put_stops stream events out told event ready.middle g why ready.brings ready.kept))
     ]
-last_stops stream events out (run.Flush answer) e g why goes (flushes, is) kept =
-    elim (call_stops stream events out e g why (λ middle. FlushesIdle middle (Err (fault.Stopped why)) g) goes (subst (λ (x : Answer). Flushes e x g) is flushes) kept) [
+last_stops stream events out told (run.Flush answer) e g why goes (flushes, is) kept =
+    elim (call_stops stream events out told e g why (λ middle. FlushesIdle middle (Err (fault.Stopped why)) g) goes (subst (λ (x : Answer). Flushes e x g) is flushes) kept) [
       | inl ended ↦ inl ended
-      | inr ready ↦ inl (flush_stops stream events out ready.middle g why ready.whole ready.brings ready.kept)
+      | inr ready ↦ inl (flush_stops stream events out told ready.middle g why ready.whole ready.brings ready.kept)
     ]
-last_stops stream events out (run.TakeOut bytes) e g why goes stops kept = absurd stops
-last_stops stream events out (run.Ask refusals told) e g why goes stops kept = absurd stops
+last_stops stream events out told (run.TakeOut bytes) e g why goes stops kept = absurd stops
+last_stops stream events out told (run.NextRefusal next) e g why goes stops kept = absurd stops
+last_stops stream events out told (run.Changed now) e g why goes stops kept = absurd stops
 
 pub stops_lead : (calls : List Call) (last : Call) (e g : PlainTermEndpoint) (why : TermStop) → Runs new_term_endpoint calls e → Stops e last why g
     → (taken : List Call) × ((taken ≡ calls ++ last ∷ []) ⊎ (taken ≡ calls))
-    × HasDone (flat_map came_in taken) (flat_map put_in taken) (flat_map went_out taken) g × HasStopped g why × (g.stop ≡ Some why)
+    × HasDone (flat_map came_in taken) (flat_map put_in taken) (flat_map went_out taken) (flat_map handed_out taken) g × HasStopped g why × (g.stop ≡ Some why)
 stops_lead calls last e g why runs stops =
-    elim (last_stops (flat_map came_in calls) (flat_map put_in calls) (flat_map went_out calls) last e g why (run_goes new_term_endpoint e calls refl runs) stops
-    (kept_run [] [] [] calls new_term_endpoint e runs kept_begun)) [
+    elim (last_stops (flat_map came_in calls) (flat_map put_in calls) (flat_map went_out calls) (flat_map handed_out calls) last e g why (run_goes new_term_endpoint e calls refl runs) stops
+    (kept_run [] [] [] [] calls new_term_endpoint e runs kept_begun)) [
       | inl ended ↦ (calls, inr refl, ended.done, ended.stops, ended.says)
       | inr ended ↦ let all = ended_as (flat_map came_in calls ++ came_in last) (flat_map came_in (calls ++ last ∷ [])) (flat_map put_in calls ++ put_in last)
-          (flat_map put_in (calls ++ last ∷ [])) (flat_map went_out calls ++ went_out last) (flat_map went_out (calls ++ last ∷ [])) why g
-          (last_brings came_in calls last) (last_brings put_in calls last) (last_brings went_out calls last) ended in
+          (flat_map put_in (calls ++ last ∷ [])) (flat_map went_out calls ++ went_out last) (flat_map went_out (calls ++ last ∷ []))
+          (flat_map handed_out calls ++ handed_out last) (flat_map handed_out (calls ++ last ∷ [])) why g
+          (last_brings came_in calls last) (last_brings put_in calls last) (last_brings went_out calls last) (last_brings handed_out calls last) ended in
           (calls ++ last ∷ [], inl refl, all.done, all.stops, all.says)
     ]

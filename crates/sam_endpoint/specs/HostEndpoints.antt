@@ -27,7 +27,7 @@ pub record PlainHostEndpoint : Type 0 where
   pub is_begun : Bool  -- it was fed, so no file can be added any more
   pub waiting : List Tmesg  -- messages that came and are not answered yet, since memory was refused
   pub broken_by : Option StreamFault  -- what is wrong with the stream after them
-  pub unwritten : List HFrame  -- frames that were answered and are not in the pending_bytes yet, since memory was refused
+  pub unwritten : List HFrame  -- frames that were answered and are not in the pending bytes yet, since memory was refused
   pub pending_bytes : List ℕ  -- bytes for the terminal that were not taken yet
   pub writes : List ℕ  -- the tags that the host was told to write and that were not asked for yet, in order
   pub stop : Option HostStop  -- why it has stopped for good

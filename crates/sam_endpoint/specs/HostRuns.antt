@@ -1,5 +1,5 @@
 -- A run of calls of a host end, and what it comes to.
-use Rattle.std.specs.Prelude.{◌≡◌, ◌⊎◌, ℕ, List, [], ◌∷◌, ◌++◌, flat_map, Option, Some, None, option_map, Ok, Err}
+use Rattle.std.specs.Prelude.{◌≡◌, ◌⊎◌, ℕ, List, [], ◌∷◌, ◌++◌, drop, flat_map, slice_get, Option, Some, option_map, option_to_list, Ok, Err}
 use Rattle.sam_mesg.specs.declared.tmesg.Tmesg.{Tmesg}
 use Rattle.sam_mesg.specs.declared.hmesg.HFrame.{HFrame}
 use Rattle.sam_frame.specs.Direction.{host, terminal}
@@ -13,9 +13,10 @@ use Rattle.sam_endpoint.specs.Streams.{mesg_fault}
 use Rattle.sam_endpoint.specs.HostEndpoints.{PlainHostEndpoint, Feeds, IsIdle, Serves, new_host_endpoint}
 use Rattle.sam_endpoint.specs.HostSteps.{Answer}
 
--- a call: a piece that was fed and what feeding it answered, or bytes that were taken out
-abbrev pub Call : Type 0
-Call = List ℕ × Option Answer
+pub data Call : Type 0 where
+  Feed : List ℕ → Answer → Call  -- a piece was fed
+  TakeOut : List ℕ → Call  -- these bytes were taken out
+  NextWritten : Option ℕ → Call  -- the next tag to write was asked for, and this one was handed out, or none
 
 -- the end goes on after this answer
 abbrev pub GoesOnAfter : Answer → Type 0
@@ -26,30 +27,38 @@ GoesOnAfter (Ok done) = Unit {0}
 -- these calls lead from one end to the other, and at none of them does it stop
 abbrev pub Runs : PlainHostEndpoint → List Call → PlainHostEndpoint → Type 0
 Runs e [] g = g ≡ e
-Runs e ((piece, Some answer) ∷ calls) g = (k : PlainHostEndpoint) × Feeds e piece answer k × GoesOnAfter answer × Runs k calls g
-Runs e ((bytes, None) ∷ calls) g = (rest : List ℕ) × (e.pending_bytes ≡ bytes ++ rest) × Runs (record e { pending_bytes = rest }) calls g
+Runs e (Feed piece answer ∷ calls) g = (k : PlainHostEndpoint) × Feeds e piece answer k × GoesOnAfter answer × Runs k calls g
+Runs e (TakeOut bytes ∷ calls) g = (rest : List ℕ) × (e.pending_bytes ≡ bytes ++ rest) × Runs (record e { pending_bytes = rest }) calls g
+Runs e (NextWritten tag ∷ calls) g = (tag ≡ slice_get e.writes 0) × Runs (record e { writes = drop 1 e.writes }) calls g
 
 -- the bytes of the call that the end has taken in: those of a piece, unless it was not taken
 abbrev pub came_in : Call → List ℕ
-came_in (piece, Some (Err fault.OutOfMemory)) = []
-came_in (piece, Some (Err fault.CountFull)) = []
-came_in (piece, Some answer) = piece
-came_in (bytes, None) = []
+came_in (Feed piece (Err fault.OutOfMemory)) = []
+came_in (Feed piece (Err fault.CountFull)) = []
+came_in (Feed piece answer) = piece
+came_in _ = []
 
 -- the bytes that the call took out
 abbrev pub went_out : Call → List ℕ
-went_out (bytes, None) = bytes
-went_out (piece, Some answer) = []
+went_out (TakeOut bytes) = bytes
+went_out _ = []
+
+-- the tag that the call handed out
+abbrev pub handed_out : Call → List ℕ
+handed_out (NextWritten tag) = option_to_list tag
+handed_out _ = []
 
 -- Of a stream that came in, the host has answered the first messages, and the others wait, with what is wrong after them. All frames
--- of the answers, in order, are what was taken out, what is pending and what is not written yet.
-pub record HasServed (first : PlainHost) (stream out : List ℕ) (e : PlainHostEndpoint) : Type 0 where
+-- of the answers, in order, are what was taken out, what is pending and what is not written yet. All tags that the host was told to
+-- write, in order, are those that were handed out and those that wait to be.
+pub record HasServed (first : PlainHost) (stream out handed : List ℕ) (e : PlainHostEndpoint) : Type 0 where
   pub answered : List Tmesg
   pub frames : List HFrame
   pub writes : List ℕ
   pub serves : Serves first answered frames writes e.host
   pub reads : IsStream terminal 1 stream (answered ++ e.waiting) e.framer.bytes (option_map mesg_fault e.broken_by)
   pub bytes : (out ++ e.pending_bytes) ++ stream_of host e.unwritten ≡ stream_of host frames
+  pub written : handed ++ e.writes ≡ writes
 
 -- why it has stopped: the stream shows this fault after messages that are all answered, or the host refuses the oldest that waits
 abbrev pub HasStopped : PlainHostEndpoint → HostStop → Type 0
@@ -66,7 +75,7 @@ begun_with h = record new_host_endpoint { host = h }
 abbrev pub RunsServe : Type 0
 RunsServe =
     (h : PlainHost) (calls : List Call) (g : PlainHostEndpoint) → Runs (begun_with h) calls g
-    → HasServed h (flat_map came_in calls) (flat_map went_out calls) g
+    → HasServed h (flat_map came_in calls) (flat_map went_out calls) (flat_map handed_out calls) g
 
 -- a run that a piece then stops, of which all was taken in or nothing
 abbrev pub StopsServe : Type 0
@@ -74,11 +83,13 @@ StopsServe =
     (h : PlainHost) (calls : List Call) (e g : PlainHostEndpoint) (piece : List ℕ) (why : HostStop) → Runs (begun_with h) calls e
     → Feeds e piece (Err (fault.Stopped why)) g
     → (taken : List ℕ) × ((taken ≡ piece) ⊎ (taken ≡ []))
-    × HasServed h (flat_map came_in calls ++ taken) (flat_map went_out calls) g × HasStopped g why × (g.stop ≡ Some why)
+    × HasServed h (flat_map came_in calls ++ taken) (flat_map went_out calls) (flat_map handed_out calls) g
+    × HasStopped g why × (g.stop ≡ Some why)
 
--- two ends to which the same stream came, in whatever pieces and however often they were out of memory, have the same host and
--- the same bytes
+-- two ends to which the same stream came, in whatever pieces and however often they were out of memory, have the same host, the same
+-- bytes and the same tags to write
 abbrev pub OneOutcome : Type 0
 OneOutcome =
-    (h : PlainHost) (stream a b : List ℕ) (e g : PlainHostEndpoint) → HasServed h stream a e → HasServed h stream b g → IsIdle e → IsIdle g
-    → (e.host ≡ g.host) × (a ++ e.pending_bytes ≡ b ++ g.pending_bytes) × (e.broken_by ≡ g.broken_by)
+    (h : PlainHost) (stream a b v w : List ℕ) (e g : PlainHostEndpoint) → HasServed h stream a v e → HasServed h stream b w g
+    → IsIdle e → IsIdle g
+    → (e.host ≡ g.host) × (a ++ e.pending_bytes ≡ b ++ g.pending_bytes) × (v ++ e.writes ≡ w ++ g.writes) × (e.broken_by ≡ g.broken_by)

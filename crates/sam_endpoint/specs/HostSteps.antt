@@ -23,7 +23,7 @@ pub record IsSound (e : PlainHostEndpoint) : Type 0 where
 abbrev pub Answer : Type 0
 Answer = Result (Unit {0}) (EndpointFault HostStop)
 
--- the frames of the last answer are in the pending_bytes
+-- the frames of the last answer are in the pending bytes
 abbrev pub written : PlainHostEndpoint → PlainHostEndpoint
 written e = record e { unwritten = []; pending_bytes = e.pending_bytes ++ stream_of host e.unwritten }
 

@@ -1,5 +1,5 @@
 -- A run of calls of a terminal end, and what it comes to.
-use Rattle.std.specs.Prelude.{◌≡◌, ◌⊎◌, ℕ, List, [], ◌∷◌, ◌++◌, flat_map, Some, option_map, Ok, Err}
+use Rattle.std.specs.Prelude.{◌≡◌, ◌⊎◌, ℕ, List, [], ◌∷◌, ◌++◌, drop, flat_map, slice_get, Option, Some, option_map, option_to_list, Ok, Err}
 use Rattle.sam_mesg.specs.declared.tmesg.Tmesg.{Tmesg}
 use Rattle.sam_mesg.specs.declared.hmesg.HFrame.{HFrame}
 use Rattle.sam_frame.specs.Direction.{host, terminal}
@@ -15,7 +15,7 @@ use Rattle.sam_endpoint.specs.declared.fault.TermStop.{TermStop}
 use Rattle.sam_endpoint.specs.declared.fault.TermStop.TheVariants as stop
 use Rattle.sam_endpoint.specs.declared.fault.EndpointFault.TheVariants as fault
 use Rattle.sam_endpoint.specs.Streams.{mesg_fault}
-use Rattle.sam_endpoint.specs.TermEndpoints.{PlainTermEndpoint, Feeds, Flushes, IsDecided, IsDone, IsIdle, Puts, new_term_endpoint}
+use Rattle.sam_endpoint.specs.TermEndpoints.{PlainTermEndpoint, Feeds, Flushes, IsDecided, IsDone, IsIdle, Puts, new_term_endpoint, refusals_from}
 use Rattle.sam_endpoint.specs.TermSteps.{Answer}
 
 -- ## What a terminal does
@@ -48,6 +48,10 @@ abbrev pub event_in : Step → List UserEvent
 event_in (Held event) = event ∷ []
 event_in _ = []
 
+abbrev pub act_in : Step → List Acted
+act_in (Decided acted) = acted ∷ []
+act_in _ = []
+
 -- the frames that were received, in order
 abbrev pub frames_in : List Step → List HFrame
 frames_in steps = flat_map frame_in steps
@@ -56,6 +60,10 @@ frames_in steps = flat_map frame_in steps
 abbrev pub events_in : List Step → List UserEvent
 events_in steps = flat_map event_in steps
 
+-- what became of the events, in order
+abbrev pub acts_in : List Step → List Acted
+acts_in steps = flat_map act_in steps
+
 -- ## Calls
 
 pub data Call : Type 0 where
@@ -63,7 +71,8 @@ pub data Call : Type 0 where
   Put : UserEvent → Answer → Call  -- the user did something
   Flush : Answer → Call
   TakeOut : List ℕ → Call  -- these bytes were taken out
-  Ask : List (ℕ × Refusal) → List Kept → Call  -- refusals or changes were asked for, and these are kept
+  NextRefusal : Option (ℕ × Refusal) → Call  -- the next refusal was asked for, and this one was handed out, or none
+  Changed : List Kept → Call  -- what changed was asked for, and from then on so much is kept
 
 -- the end goes on after this answer
 abbrev pub GoesOnAfter : Answer → Type 0
@@ -78,7 +87,8 @@ Runs e (Feed piece answer ∷ calls) g = (k : PlainTermEndpoint) × Feeds e piec
 Runs e (Put event answer ∷ calls) g = (k : PlainTermEndpoint) × Puts e event answer k × GoesOnAfter answer × Runs k calls g
 Runs e (Flush answer ∷ calls) g = (k : PlainTermEndpoint) × Flushes e answer k × GoesOnAfter answer × Runs k calls g
 Runs e (TakeOut bytes ∷ calls) g = (rest : List ℕ) × (e.pending_bytes ≡ bytes ++ rest) × Runs (record e { pending_bytes = rest }) calls g
-Runs e (Ask refusals kept ∷ calls) g = Runs (record e { refusals = refusals; kept = kept }) calls g
+Runs e (NextRefusal told ∷ calls) g = (told ≡ slice_get e.refusals 0) × Runs (record e { refusals = drop 1 e.refusals }) calls g
+Runs e (Changed kept ∷ calls) g = Runs (record e { kept = kept }) calls g
 
 -- this call stops the end for this reason
 abbrev pub Stops : PlainTermEndpoint → Call → TermStop → PlainTermEndpoint → Type 0
@@ -86,7 +96,8 @@ Stops e (Feed piece answer) why g = Feeds e piece answer g × (answer ≡ Err (f
 Stops e (Put event answer) why g = Puts e event answer g × (answer ≡ Err (fault.Stopped why))
 Stops e (Flush answer) why g = Flushes e answer g × (answer ≡ Err (fault.Stopped why))
 Stops e (TakeOut bytes) why g = ⊥
-Stops e (Ask refusals kept) why g = ⊥
+Stops e (NextRefusal told) why g = ⊥
+Stops e (Changed kept) why g = ⊥
 
 -- the call brought what it was given, unless it was not taken
 abbrev pub if_taken : {A : Type 0} → Answer → List A → List A
@@ -109,18 +120,26 @@ abbrev pub went_out : Call → List ℕ
 went_out (TakeOut bytes) = bytes
 went_out _ = []
 
+-- the refusal that the call handed out
+abbrev pub handed_out : Call → List (ℕ × Refusal)
+handed_out (NextRefusal told) = option_to_list told
+handed_out _ = []
+
 -- ## The laws
 
 -- The terminal has done steps. In them it received the first frames of the stream that came in, and the others wait, with what is wrong
 -- after them; and it was given these events, in order. All messages that it composed, in order, are what was taken out, what is pending
--- and what is not written yet.
-pub record HasDone (stream : List ℕ) (events : List UserEvent) (out : List ℕ) (e : PlainTermEndpoint) : Type 0 where
+-- and what is not written yet. All refusals of events, in order, each with the number of its event, are those that were handed out and
+-- those that wait to be.
+pub record HasDone (stream : List ℕ) (events : List UserEvent) (out : List ℕ) (handed : List (ℕ × Refusal)) (e : PlainTermEndpoint)
+    : Type 0 where
   pub steps : List Step
   pub composed : List Tmesg
   pub leads : Leads new_terminal steps composed e.term
   pub reads : IsStream host 1 stream (frames_in steps ++ e.waiting) e.framer.bytes (option_map mesg_fault e.broken_by)
   pub given : events_in steps ≡ events
   pub bytes : (out ++ e.pending_bytes) ++ stream_of terminal e.unwritten ≡ stream_of terminal composed
+  pub refused : handed ++ e.refusals ≡ refusals_from 1 (acts_in steps)
 
 -- why it has stopped: the stream shows this fault after frames that are all received; or the terminal refuses the oldest that waits; or
 -- none waits, and it refuses its oldest event or to compose its unsent runes
@@ -133,11 +152,12 @@ HasStopped e (stop.Refused why) =
 abbrev pub RunsLead : Type 0
 RunsLead =
     (calls : List Call) (g : PlainTermEndpoint) → Runs new_term_endpoint calls g
-    → HasDone (flat_map came_in calls) (flat_map put_in calls) (flat_map went_out calls) g
+    → HasDone (flat_map came_in calls) (flat_map put_in calls) (flat_map went_out calls) (flat_map handed_out calls) g
 
 -- a run, and then a call that stops it; all that this call brought was taken in, or nothing of it
 abbrev pub StopsLead : Type 0
 StopsLead =
     (calls : List Call) (last : Call) (e g : PlainTermEndpoint) (why : TermStop) → Runs new_term_endpoint calls e → Stops e last why g
     → (taken : List Call) × ((taken ≡ calls ++ last ∷ []) ⊎ (taken ≡ calls))
-    × HasDone (flat_map came_in taken) (flat_map put_in taken) (flat_map went_out taken) g × HasStopped g why × (g.stop ≡ Some why)
+    × HasDone (flat_map came_in taken) (flat_map put_in taken) (flat_map went_out taken) (flat_map handed_out taken) g
+    × HasStopped g why × (g.stop ≡ Some why)

@@ -30,7 +30,7 @@ pub record IsSound (e : PlainTermEndpoint) : Type 0 where
 abbrev pub Answer : Type 0
 Answer = Result (Unit {0}) (EndpointFault TermStop)
 
--- what was composed is in the pending_bytes
+-- what was composed is in the pending bytes
 abbrev pub written : PlainTermEndpoint → PlainTermEndpoint
 written e = record e { unwritten = []; pending_bytes = e.pending_bytes ++ stream_of terminal e.unwritten }
 

@@ -8,7 +8,7 @@ use sam_frame::one_reading_t;
 
 /// States what every run of a host endpoint that does not stop comes to, whatever the pieces are and whenever memory is refused. The host
 /// has answered the first messages of the stream in order, and the others wait; the frames of its answers are what was taken out, what is
-/// pending, and what is not written yet.
+/// pending, and what is not written yet; the tags that these messages had it write were handed out, each once, or wait to be.
 #[tactic(auto, using(crate::proofs::HostEndpointRuns::runs_serve))]
 pub fn host_runs_serve()
     ensures { RunsServe }
@@ -20,8 +20,8 @@ pub fn host_stops_serve()
     ensures { StopsServe }
 {}
 
-/// States that two host endpoints to which the same stream came have the same host and the same bytes for the terminal, once nothing waits,
-/// whatever the pieces were and whenever memory was refused.
+/// States that two host endpoints to which the same stream came have the same host, the same bytes for the terminal and the same tags to
+/// write, once nothing waits, whatever the pieces were and whenever memory was refused.
 pub fn host_one_outcome()
     ensures { OneOutcome }
 {
@@ -29,8 +29,9 @@ pub fn host_one_outcome()
 }
 
 /// States what every run of a terminal endpoint that does not stop comes to, whatever the pieces are and whenever memory is refused. The
-/// terminal has received the first frames of the stream in order, and the others wait; it was given each event that was put, in order; and
-/// the messages that it composed are what was taken out, what is pending, and what is not written yet.
+/// terminal has received the first frames of the stream in order, and the others wait; it was given each event that was put, in order; the
+/// messages that it composed are what was taken out, what is pending, and what is not written yet; and each refusal of an event, with the
+/// event's number, was handed out once or waits to be.
 #[tactic(auto, using(crate::proofs::TermEndpointRuns::runs_lead))]
 pub fn term_runs_lead()
     ensures { RunsLead }

@@ -21,7 +21,8 @@ use std::fmt::Write;
 /// composed and taken, how many runes are unsent, and how much is under way each way. Held events are not shown. A script may hold such
 /// lines, which say nothing there. The only error is `OutOfMemory`.
 pub fn show(alloc: Global, world: &World) -> Result<Vec<u8>, ScriptFault>
-    ensures { IfOk result (λ out. out.items ≡ show_lines world.now) }
+    ensures lines { IfOk result (λ out. out.items ≡ show_lines world.now) }
+    ensures memory { IfErr result (λ why. why ≡ ScriptFault.OutOfMemory) }
 {
     let mut out = String::new(alloc);
     push_world(&mut out, world)?;

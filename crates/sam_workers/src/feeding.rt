@@ -36,9 +36,9 @@ pub struct Fed {
 /// Stops, in this order:
 ///
 /// - `Frame(5)` if the framer had failed before, `Frame(7)` if the stream would be longer than 2^64-1 bytes, `Memory` if there is no
-///   memory for the piece. Nothing has changed; after `Memory` the piece may be fed again.
+///   memory for the piece. Nothing has changed.
 /// - For each frame: `Memory` if there is no memory for it, `Term` if the terminal refuses it. The frame is lost, and so are those after
-///   it.
+///   it. This `Memory` looks like the one above, so after either nothing more is to be fed.
 /// - `Frame(1)`, `Frame(2)` or `Frame(3)` if the stream shows a fault after the frames.
 ///
 /// The terminal is where the frames that it took leave it, and the framer is where its `feed` leaves it.
