@@ -2,7 +2,9 @@
 use Rattle.std.specs.Prelude.{encode_utf8, nat_le, option_to_list, ◌==◌, if◌then◌else◌}
 use Rattle.std.proofs.Common.{◌≡◌, ◌∙◌, refl, sym, ap, subst, ℕ, zero, suc, ◌+◌, ◌-◌, ◌<◌, ◌≤◌, List, [], ◌∷◌, ◌++◌, get_or, length, drop, take, ◌⊎◌, inl, inr, Option, Some, None, slice_get, arith, option_map}
 use Rattle.std.specs.Prelude.{slice_range}
-use Rattle.sam_c.specs.Measures.{after_lines, bytes_in, fitting, front_runes, gaps_in, newline}
+use Rattle.sam_runes.specs.Texts.{newline}
+use Rattle.sam_rasp.specs.Rows.{gaps_of}
+use Rattle.sam_c.specs.Measures.{after_lines, bytes_in, fitting, front_runes}
 
 -- the rest of a list from a place on, by what stands there
 pub rest-some : {X : Type 0} (xs : List X) (i : ℕ) (x : X) → slice_get xs i ≡ Some x → drop i xs ≡ x ∷ drop (i + 1) xs
@@ -120,7 +122,7 @@ bytes-append [] rest = omega arith
 bytes-append (None ∷ one) rest = bytes-append one rest
 bytes-append (Some c ∷ one) rest = omega (arith, bytes-append one rest)
 
-gaps-append : (one rest : List (Option ℕ)) → gaps_in (one ++ rest) ≡ gaps_in one + gaps_in rest
+gaps-append : (one rest : List (Option ℕ)) → gaps_of (one ++ rest) ≡ gaps_of one + gaps_of rest
 gaps-append [] rest = omega arith
 gaps-append (None ∷ one) rest = omega (arith, gaps-append one rest)
 gaps-append (Some c ∷ one) rest = gaps-append one rest
@@ -130,8 +132,8 @@ pub bytes-step : (cells : List (Option ℕ)) (i to : ℕ) (o : Option (Option �
 bytes-step cells i to o is within less = ap bytes_in (in-range cells i to o is within less) ∙ bytes-append (option_to_list o) (slice_range cells (i + 1) to)
 
 pub gaps-step : (cells : List (Option ℕ)) (i to : ℕ) (o : Option (Option ℕ)) → o ≡ slice_get cells i → i < length cells → i < to
-    → gaps_in (slice_range cells i to) ≡ gaps_in (option_to_list o) + gaps_in (slice_range cells (i + 1) to)
-gaps-step cells i to o is within less = ap gaps_in (in-range cells i to o is within less) ∙ gaps-append (option_to_list o) (slice_range cells (i + 1) to)
+    → gaps_of (slice_range cells i to) ≡ gaps_of (option_to_list o) + gaps_of (slice_range cells (i + 1) to)
+gaps-step cells i to o is within less = ap gaps_of (in-range cells i to o is within less) ∙ gaps-append (option_to_list o) (slice_range cells (i + 1) to)
 
 -- ## The runes in front
 

@@ -1,7 +1,8 @@
 -- What a partial text measures: its runes up to a gap, their bytes and their lines.
 use Rattle.std.specs.Prelude.{◌≡◌, ℕ, zero, suc, ◌+◌, ◌-◌, ◌==◌, nat_le, if◌then◌else◌, List, [], ◌∷◌, length, drop, Option, Some, None, option_map, encode_utf8}
-use Rattle.sam_runes.specs.Texts.{part}
+use Rattle.sam_runes.specs.Texts.{newline, part}
 use Rattle.sam_rasp.specs.Rasp.{PartialText}
+use Rattle.sam_rasp.specs.Rows.{gaps_of}
 
 -- the runes up to the first gap
 abbrev pub front_runes : PartialText → List ℕ
@@ -15,19 +16,10 @@ bytes_in [] = 0
 bytes_in (None ∷ cells) = bytes_in cells
 bytes_in (Some c ∷ cells) = length (encode_utf8 c) + bytes_in cells
 
--- how many runes are not loaded
-abbrev pub gaps_in : PartialText → ℕ
-gaps_in [] = 0
-gaps_in (None ∷ cells) = 1 + gaps_in cells
-gaps_in (Some c ∷ cells) = gaps_in cells
-
 -- how many of the first runes so many bytes hold whole
 abbrev pub fitting : List ℕ → ℕ → ℕ
 fitting [] n = 0
 fitting (c ∷ cs) n = if nat_le (length (encode_utf8 c)) n then 1 + fitting cs (n - length (encode_utf8 c)) else 0
-
-abbrev pub newline : ℕ
-newline = 10
 
 -- the place after so many line ends, if there are so many
 abbrev pub after_lines : ℕ → List ℕ → Option ℕ
@@ -37,7 +29,7 @@ after_lines (suc n) (c ∷ cs) = option_map suc (after_lines (if c == newline th
 
 -- the bytes and the gaps of what stands from p to q
 abbrev pub sizes : PartialText → ℕ → ℕ → ℕ × ℕ
-sizes text p q = (bytes_in (part text p q), gaps_in (part text p q))
+sizes text p q = (bytes_in (part text p q), gaps_of (part text p q))
 
 -- the place that so many bytes of loaded runes lead to, and the one that so many line ends do
 abbrev pub place_after : PartialText → ℕ → ℕ → ℕ

@@ -1,10 +1,10 @@
 -- What the calls of a terminal do.
-use Rattle.std.specs.Prelude.{◌≡◌, ◌⊎◌, ◌≤◌, ℕ, List, [], ◌∷◌, length, Bool, true, false, ◌||◌, nat_lt, Option, option_map, Some, None, Result}
+use Rattle.std.specs.Prelude.{◌≡◌, ◌⊎◌, ◌≤◌, ℕ, List, [], ◌∷◌, length, Bool, true, false, Option, option_map, Some, None, Result}
 use Rattle.std.specs.Str.{encode_utf8_all, IsUtf8}
 use Rattle.sam_runes.specs.Reading.{AreRunes}
 use Rattle.sam_runes.specs.Slots.{slot}
 use Rattle.sam_rasp.specs.Rasp.{hole_within}
-use Rattle.sam_term.specs.Term.{is_open, rasp_at, view_end, window_at, window_of}
+use Rattle.sam_term.specs.Term.{is_open, rasp_at, view_end, window_of}
 use Rattle.sam_term.specs.declared.event.UserEvent.{UserEvent}
 use Rattle.sam_term.specs.declared.fault.Refusal.{Refusal}
 use Rattle.sam_term.specs.declared.records.KnownFile.{KnownFile}
@@ -86,10 +86,6 @@ HandsChange e tag true before status after g =
 abbrev pub TermChanged : Option PlainTermEndpoint → ℕ → ℕ × ℕ × ℕ → ℕ → ℕ × ℕ × ℕ → Option PlainTermEndpoint → Type 0
 TermChanged None tag before status after g = (status ≡ no_handle) × (after ≡ before) × (g ≡ None)
 TermChanged (Some e) tag before status after g = HandsChange e tag (is_open e.term tag) before status after g
-
--- an edit of the file would wait
-abbrev pub is_held_back : PlainTermEndpoint → ℕ → Bool
-is_held_back e tag = e.term.command_lock || nat_lt 0 (window_at e.term tag).locks
 
 abbrev pub dot_of : PlainTermEndpoint → ℕ → Option (ℕ × ℕ)
 dot_of e tag = option_map (λ w. w.dot) (window_of e.term tag)

@@ -4,7 +4,8 @@
 ghost use Rattle.std.specs.Prelude.{◌≡◌, ◌^◌, ◌<◌, ◌≤◌, drop, option_to_list, Some};
 ghost use Rattle.sam_c.specs.Buffers.{Fills};
 ghost use Rattle.sam_c.specs.Calls.{Writes, written};
-ghost use Rattle.sam_c.specs.Measures.{bytes_in, front_runes, gaps_in, line_after, place_after, sizes};
+ghost use Rattle.sam_rasp.specs.Rows.{gaps_of};
+ghost use Rattle.sam_c.specs.Measures.{bytes_in, front_runes, line_after, place_after, sizes};
 
 use crate::status::OK;
 use crate::utf8::{Filled, put_rune};
@@ -60,7 +61,7 @@ pub(crate) fn tell_front(
 /// Returns how much one member has, if there is one.
 fn size_of(member: Option<Option<char>>) -> Sizes
     ensures bytes { result.bytes ≡ bytes_in (option_to_list member) }
-    ensures gaps { result.gaps ≡ gaps_in (option_to_list member) }
+    ensures gaps { result.gaps ≡ gaps_of (option_to_list member) }
     ensures most { result.bytes ≤ 4 }
     ensures few { result.gaps ≤ 1 }
 {

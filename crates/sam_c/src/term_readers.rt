@@ -4,10 +4,11 @@
 
 ghost use Rattle.std.specs.Prelude.{◌≡◌, Some, drop, is_some, length, option_and_then, option_copied, option_map};
 ghost use Rattle.sam_c.specs.Calls.{Reports, ReportsCells, ReportsName, ReportsSome, ReportsText, written};
-ghost use Rattle.sam_c.specs.Terms.{dot_of, gap_from, is_held_back, known_of, open_of, rasp_of, shown_of};
+ghost use Rattle.sam_c.specs.Terms.{dot_of, gap_from, known_of, open_of, rasp_of, shown_of};
 ghost use Rattle.sam_c.specs.Buffers.{countable};
 ghost use Rattle.sam_endpoint.specs.Drawing.{Shows};
 ghost use Rattle.sam_endpoint.specs.TermEndpoints.{decided, under_way};
+ghost use Rattle.sam_crossing.specs.World.{is_locked};
 ghost use Rattle.sam_rasp.specs.Rasp.{hole_within};
 ghost use Rattle.sam_term.specs.Sound.{unsent_length};
 ghost use Rattle.sam_term.specs.Term.{is_changed};
@@ -59,7 +60,7 @@ pub extern "C" fn sam_term_locked(
     locked: &mut bool,
     alloc: Global,
 ) -> u32
-    ensures told { Reports term.old.held.end result locked.old locked.new (λ e. is_held_back e tag) }
+    ensures told { Reports term.old.held.end result locked.old locked.new (λ e. is_locked e.term tag) }
     ensures kept { term.new.held.end ≡ term.old.held.end }
 {
     with_end!(term alloc end { *locked = end.term().locked(tag); OK })

@@ -111,15 +111,15 @@ all_users : (script : PlainScript) (refuses : ℕ → Type 0) (must : ℕ → Op
 all_users script refuses must s session none =
     let e : Ends = session.ends in
     let told = session.told in
-    let whole = session.whole none in
-    let unstopped = users_unstopped e (sym session.stops ∙ none) in
+    let whole = session.settled.whole none in
+    let unstopped = users_unstopped e (sym session.settled.stops ∙ none) in
     let posts : List (PostView Input) = e.keyboard.post ∷ e.mouse.post ∷ e.reader.post ∷ [] in
-    let reader = parts_of e.term.take posts session.headline.events 2 e.reader.post refl (omega arith) told.reader.number_is in
+    let reader = parts_of e.term.take posts session.settled.headline.events 2 e.reader.post refl (omega arith) told.reader.number_is in
     let frames = split_map Host (items_of 2 e.term.take.taken) reader.left told.reader.passed (reader.items ∙ told.reader.put) in
     let many : e.term.take.line.senders ≡ 3 = ap (λ (l : LineView). l.senders) told.term.take_is ∙ told.lines_are.2 in
-    let within = subst (λ n. Each (λ (x : Entry Input). x.sender < n) e.term.take.taken) many (senders_within e.term.take posts session.headline.events) in
-    let keys = session.drained.keyboard ∙ session.all_keys unstopped.0 in
-    let clicks = session.drained.mouse ∙ session.all_clicks unstopped.1 in (
+    let within = subst (λ n. Each (λ (x : Entry Input). x.sender < n) e.term.take.taken) many (senders_within e.term.take posts session.settled.headline.events) in
+    let keys = session.settled.drained.keyboard ∙ session.all_keys unstopped.0 in
+    let clicks = session.settled.drained.mouse ∙ session.all_clicks unstopped.1 in (
       users_in e.term.take.taken,
       whole.events.0,
       whole.events.1,
@@ -134,7 +134,7 @@ pub printed : (script left : PlainScript) (s : Settled) (lines : List ℕ) → I
     → lines ≡ run_lines_of left.files s.schedule.items ++ show_lines s.world → PrintsSession lines script
 printed script left s lines session used unstopped is =
     let none = none_stopped s.stops.items unstopped in
-    let whole = session.whole none in (
+    let whole = session.settled.whole none in (
       s.schedule.items,
       s.world,
       subst (λ (l : PlainScript). lines ≡ run_lines_of l.files s.schedule.items ++ show_lines s.world) used is,
@@ -142,7 +142,7 @@ printed script left s lines session used unstopped is =
         run = session.run;
         users = all_users script (λ _. ⊥) (λ _ _. ⊥) s session none;
         exited = whole.exited;
-        settled = session.headline.quiet s.schedule.items [] s.world (sym (append-nil s.schedule.items)) session.headline.run whole.quiet;
+        settled = session.settled.headline.quiet s.schedule.items [] s.world (sym (append-nil s.schedule.items)) session.settled.headline.run whole.quiet;
         local = whole.local ∙ ap (λ files. carried_all files (user_events s.schedule.items)) session.files;
       },
     )

@@ -42,24 +42,15 @@ session_of tasks script refuses must e s tasks_told tasks_files begun gates let_
       told = told;
       begun = begun;
       files = files;
-      headline = came.headline;
+      settled = came;
       run = ap (λ f. run_of (new_world f) s.schedule.items) (sym files) ∙ came.headline.run;
-      schedule = came.schedule;
-      streams = came.streams;
-      users = came.users;
       keys = puts_first 0 (keys_of script.lines) tasks.lines.now.events e.keyboard told.keyboard;
       all_keys = puts_all 0 (keys_of script.lines) tasks.lines.now.events e.keyboard told.keyboard;
       clicks = puts_first 1 (mouse_of script.lines) tasks.lines.now.events e.mouse told.mouse;
       all_clicks = puts_all 1 (mouse_of script.lines) tasks.lines.now.events e.mouse told.mouse;
-      left = came.left;
-      drained = came.drained;
-      stops = came.stops;
-      full = came.full;
-      misses = came.misses;
       gates = gates;
       let_in = let_in;
       let_on = let_on;
-      whole = came.whole;
     }
 
 -- so it is of each such script

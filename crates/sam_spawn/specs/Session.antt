@@ -17,43 +17,6 @@ use Rattle.sam_spawn.specs.declared.run.RunFault.{RunFault}
 use Rattle.sam_spawn.specs.declared.run.RunFault.TheVariants.{GateTimedOut, NoThread, OutOfMemory}
 use Rattle.sam_spawn.specs.declared.tasks.Tasks.{Tasks}
 
--- It was settled from the ends of a session in which each worker began and told this, the host began with the script's files, and keyboard
--- and mouse put the first events that the script has of each: all of them where nothing stopped that worker. A gate stopped only workers
--- that it may refuse (`refuses`), and let nobody pass where it never does (`must`)
-pub record IsSession (script : PlainScript) (refuses : ℕ → Type 0) (must : ℕ → Option ℕ → Type 0) (s : Settled) : Type 0 where
-  pub ends : Ends
-  pub lines : LinesView
-  pub told : Told (keys_of script.lines) (mouse_of script.lines) lines ends
-  pub begun : AllPassed ends
-  pub files : ends.host.files.items ≡ script.files
-  pub headline : Headline ends s
-  pub run : run_of (new_world script.files) s.schedule.items ≡ Some s.world
-  pub schedule : s.schedule.items ≡ merged ends.term.log.items ends.host.host.taken
-  pub streams : HasStreams ends s
-  pub users : HasUsers ends s
-  pub keys : Begins ends.keyboard.post.put (map User (keys_of script.lines))
-  pub all_keys : ends.keyboard.stop ≡ None → ends.keyboard.post.put ≡ map User (keys_of script.lines)
-  pub clicks : Begins ends.mouse.post.put (map User (mouse_of script.lines))
-  pub all_clicks : ends.mouse.stop ≡ None → ends.mouse.post.put ≡ map User (mouse_of script.lines)
-  pub left : s.left.items ≡ counts_left ends
-  pub drained : IsDrained ends s
-  pub stops : s.stops.items ≡ stops_of ends
-  pub full : AreFull s
-  pub misses : ends.term.stop ≡ Some stop.PeerGone → MissesHost ends s
-  pub gates : GatesTold refuses ends
-  pub let_in : GatesLetIn must
-  pub let_on : GatesLetOn must ends
-  pub whole : s.stops.items ≡ [] → IsWhole ends s
-
--- What a session that uses a script up leaves of it where it comes to this fault. Memory may be short before the lines are taken, and where
--- the session is settled
-abbrev pub IsLeft : PlainScript → PlainScript → RunFault → Type 0
-IsLeft old new GateTimedOut = new ≡ without_lines old
-IsLeft old new NoThread = new ≡ without_lines old
-IsLeft old new OutOfMemory = (new ≡ old) ⊎ (new ≡ without_lines old)
-
--- ## What the private functions say
-
 -- what `settle` says of what these ends came to
 pub record IsSettled (e : Ends) (s : Settled) : Type 0 where
   pub headline : Headline e s
@@ -66,6 +29,34 @@ pub record IsSettled (e : Ends) (s : Settled) : Type 0 where
   pub full : AreFull s
   pub misses : e.term.stop ≡ Some stop.PeerGone → MissesHost e s
   pub whole : s.stops.items ≡ [] → IsWhole e s
+
+-- It was settled from the ends of a session in which each worker began and told this, the host began with the script's files, and keyboard
+-- and mouse put the first events that the script has of each: all of them where nothing stopped that worker. A gate stopped only workers
+-- that it may refuse (`refuses`), and let nobody pass where it never does (`must`)
+pub record IsSession (script : PlainScript) (refuses : ℕ → Type 0) (must : ℕ → Option ℕ → Type 0) (s : Settled) : Type 0 where
+  pub ends : Ends
+  pub lines : LinesView
+  pub told : Told (keys_of script.lines) (mouse_of script.lines) lines ends
+  pub begun : AllPassed ends
+  pub files : ends.host.files.items ≡ script.files
+  pub settled : IsSettled ends s
+  pub run : run_of (new_world script.files) s.schedule.items ≡ Some s.world
+  pub keys : Begins ends.keyboard.post.put (map User (keys_of script.lines))
+  pub all_keys : ends.keyboard.stop ≡ None → ends.keyboard.post.put ≡ map User (keys_of script.lines)
+  pub clicks : Begins ends.mouse.post.put (map User (mouse_of script.lines))
+  pub all_clicks : ends.mouse.stop ≡ None → ends.mouse.post.put ≡ map User (mouse_of script.lines)
+  pub gates : GatesTold refuses ends
+  pub let_in : GatesLetIn must
+  pub let_on : GatesLetOn must ends
+
+-- What a session that uses a script up leaves of it where it comes to this fault. Memory may be short before the lines are taken, and where
+-- the session is settled
+abbrev pub IsLeft : PlainScript → PlainScript → RunFault → Type 0
+IsLeft old new GateTimedOut = new ≡ without_lines old
+IsLeft old new NoThread = new ≡ without_lines old
+IsLeft old new OutOfMemory = (new ≡ old) ⊎ (new ≡ without_lines old)
+
+-- ## What the private functions say
 
 -- it is a session of each script that says what these tasks begin with
 abbrev pub SessionOf : Tasks → (ℕ → Type 0) → (ℕ → Option ℕ → Type 0) → Settled → Type 0
