@@ -17,6 +17,10 @@ use sam_world::TermLog;
 use std::alloc::Global;
 use std::marker::Model;
 
+/// How many entries a log has room for at first, if memory is at hand: what no entry has reached takes none of the machine's, and a log
+/// that grows is copied.
+const FIRST_ROOM: usize = 65_536;
+
 /// The terminal, and a log of what it did. Room for an entry of the log is made before the step, so that the log misses no step.
 #[derive(Drop)]
 pub(crate) struct LoggedTerminal {
@@ -37,15 +41,15 @@ impl Model for LoggedTerminal {
 }
 
 impl LoggedTerminal {
-    /// Begins the log of this terminal.
+    /// Begins the log of this terminal. Where memory is refused, it has no room yet.
     pub(crate) fn new(alloc: Global, term: Terminal) -> LoggedTerminal
         ensures { result ≡ record { term = term; log = [] } }
     {
-        LoggedTerminal {
-            alloc,
-            term,
-            log: Vec::new(alloc),
-        }
+        let log = match Vec::with_capacity(alloc, FIRST_ROOM) {
+            Ok(log) => log,
+            Err(_) => Vec::new(alloc),
+        };
+        LoggedTerminal { alloc, term, log }
     }
 
     /// Returns whether the host has ended the session.
