@@ -14,7 +14,6 @@
  */
 #define _XOPEN_SOURCE 700
 #include <fcntl.h>
-#include <stdarg.h>
 #include <stdio.h>
 #include <stdlib.h>
 #include <string.h>
@@ -22,37 +21,6 @@
 #include <unistd.h>
 
 #include "samhost.h"
-
-enum { LINE_ROOM = 16384 /* bytes of the longest line on standard error */ };
-
-/* The bytes of the control character that begins there, one of U+0080 to U+009F among them; 0 where none does. */
-static size_t control_len(const char *at)
-{
-    unsigned char first = (unsigned char)at[0];
-
-    if (first < ' ' || first == 0x7F)
-        return 1;
-    unsigned char second = (unsigned char)at[1];
-    return first == 0xC2 && second >= 0x80 && second <= 0x9F ? 2 : 0;
-}
-
-void say(const char *format, ...)
-{
-    char line[LINE_ROOM];
-    char *to = line;
-    va_list words;
-
-    va_start(words, format);
-    vsnprintf(line, sizeof line, format, words);
-    va_end(words);
-    for (const char *from = line; *from != '\0';) {
-        size_t len = control_len(from);
-        *to++ = len > 0 ? '?' : *from;
-        from += len > 0 ? len : 1;
-    }
-    *to = '\0';
-    fprintf(stderr, "samhost: %s\n", line);
-}
 
 size_t count_tags(struct session *session)
 {

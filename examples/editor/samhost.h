@@ -8,6 +8,7 @@
  *     aside.c     saves texts that are not written
  *     disk.c      puts a text into a file: by a new file in its place, or in place
  *     paths.c     names of files, and what stands in them
+ *     saying.c    writes lines to standard error
  *
  * Calls that can fail return 0 or an error number of errno.h, unless they say otherwise.
  */
@@ -145,9 +146,6 @@ struct request {
 
 /* samhost.c */
 
-/* Writes a line to standard error. Each control character in it comes out as a question mark. */
-void say(const char *format, ...);
-
 /* How many tags the host has given; 0 where there is no host. */
 size_t count_tags(struct session *session);
 
@@ -280,5 +278,10 @@ bool is_same(struct content one, struct content other);
 
 /* Reads all of an open file, of at most `most` bytes, into memory of the caller's. EFBIG where it has more. */
 int read_all(int file, size_t most, struct text *text);
+
+/* saying.c */
+
+/* Writes a line to standard error, unless nobody reads there. Each control character in it comes out as a question mark. */
+void say(const char *format, ...);
 
 #endif
