@@ -8,7 +8,7 @@
  * FILE.sam-saved; so they are while it runs, a few seconds after they were changed.
  *
  * Exit status: 0; 1 where a file can't be read; 2 where the words are wrong; 3 where the terminal's stream is wrong; 4 where it is out of
- * memory at the start; 5 where a text could not be saved anywhere. What went wrong it says on standard error.
+ * memory at the start; 5 where a text could not be saved anywhere; 6 where its line broke. What went wrong it says on standard error.
  *
  * samhost.h lists its parts.
  */
@@ -41,7 +41,7 @@ static int run(struct session *session)
     bool is_saved = save_last(session);
     send_the_rest(session, &mask);
     fcntl(STDOUT_FILENO, F_SETFL, flags);
-    return !is_saved ? STATUS_LOST : ending == FAULT ? STATUS_FAULT : STATUS_OK;
+    return !is_saved ? STATUS_LOST : ending == FAULT ? STATUS_FAULT : ending == LINE_BROKE ? STATUS_BROKEN : STATUS_OK;
 }
 
 static mode_t mode_of_new_files(void)

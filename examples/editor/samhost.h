@@ -35,10 +35,10 @@ enum {
     PIECE = 65536                /* bytes that are read or written at once */
 };
 
-enum { STATUS_OK = 0, STATUS_UNREADABLE = 1, STATUS_WORDS = 2, STATUS_FAULT = 3, STATUS_MEMORY = 4, STATUS_LOST = 5 };
+enum { STATUS_OK = 0, STATUS_UNREADABLE = 1, STATUS_WORDS = 2, STATUS_FAULT = 3, STATUS_MEMORY = 4, STATUS_LOST = 5, STATUS_BROKEN = 6 };
 
 /* Why a session ends. */
-enum ending { GOES_ON, LEFT, INPUT_ENDED, FAULT };
+enum ending { GOES_ON, LEFT, INPUT_ENDED, LINE_BROKE, FAULT };
 
 #define NOT_REGULAR EINVAL   /* the error number of what is there and is no regular file */
 #define IS_CHANGED ECANCELED /* the error number of a file that another program changed */
@@ -102,7 +102,8 @@ struct wire {
     uint16_t closing;        /* the file that was closed last */
     size_t sent, output_len; /* bytes of `output`: sent, and in all */
     bool is_short;           /* the host is out of memory */
-    bool is_broken;
+    int output_error;        /* the error number for which nothing more can be sent; else 0 */
+    enum ending end;         /* GOES_ON, or how the input has ended: INPUT_ENDED, LINE_BROKE */
 };
 
 /* When texts are saved aside by themselves. Times are milliseconds. */
