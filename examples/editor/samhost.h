@@ -104,6 +104,7 @@ struct wire {
     bool is_short;           /* the host is out of memory */
     int output_error;        /* the error number for which nothing more can be sent; else 0 */
     enum ending end;         /* GOES_ON, or how the input has ended: INPUT_ENDED, LINE_BROKE */
+    int64_t gone;            /* since when the terminal is known to be gone, where memory is out then; else 0 */
 };
 
 /* When texts are saved aside by themselves. Times are milliseconds. */

@@ -6,6 +6,7 @@
 #define _XOPEN_SOURCE 700
 #include <errno.h>
 #include <fcntl.h>
+#include <poll.h>
 #include <string.h>
 #include <sys/select.h>
 #include <unistd.h>
@@ -16,6 +17,7 @@ enum {
     IDLE = 2000,             /* milliseconds of quiet after which changed texts are saved aside */
     LONGEST_UNSAVED = 10000, /* milliseconds after which they are, while messages still come */
     PAUSE = 100,             /* milliseconds until memory is asked for again */
+    LONGEST_GONE = 5000,     /* milliseconds after which it isn't, where the terminal is gone */
     MOST_PIECES_LEFT = 64,   /* pieces of input that are still taken after a signal */
     HEADER = 3,              /* bytes of a message before its body: its kind, and the length of the body */
     TAG_LEN = 2,             /* bytes of a file's tag, with which the bodies of these begin: */
@@ -189,10 +191,10 @@ static enum ending take_input(struct session *session)
     return ending;
 }
 
-/* Whether more can be read: not after the end, nor while memory is out for what was read before. */
+/* Whether more can be read: not after the end, nor while memory is out and as much waits for it as there is room for. */
 static bool may_read(const struct wire *wire)
 {
-    return wire->end == GOES_ON && !wire->is_short;
+    return wire->end == GOES_ON && wire->input_len - wire->taken < PIECE;
 }
 
 /* Reads bytes, to stand behind those that wait, and notes how the input ends. Returns whether some have come. */
@@ -255,6 +257,24 @@ static bool wait_for_bytes(const struct session *session, const sigset_t *mask, 
     return FD_ISSET(STDIN_FILENO, &in);
 }
 
+/* Whether nobody can send any more, though bytes may still be there to read. */
+static bool has_hung_up(void)
+{
+    struct pollfd end = {.fd = STDIN_FILENO};
+
+    return poll(&end, 1, 0) > 0;
+}
+
+/* Whether all has come that will come, and was taken; or memory is out for that, and has been for a while since the terminal is gone. */
+static bool is_over(struct wire *wire)
+{
+    if (!wire->is_short)
+        return wire->end != GOES_ON;
+    if (wire->gone == 0 && (wire->end != GOES_ON || has_hung_up()))
+        wire->gone = now();
+    return wire->gone != 0 && now() - wire->gone > LONGEST_GONE;
+}
+
 /* Takes what was read, where memory was out for it. What can't be taken in a while is lost. */
 static enum ending take_again(struct session *session, int *tries)
 {
@@ -292,7 +312,7 @@ enum ending serve(struct session *session, const sigset_t *mask)
     struct wire *wire = &session->wire;
     enum ending ending = GOES_ON;
 
-    while (ending == GOES_ON && !was_signalled && wire->end == GOES_ON) {
+    while (ending == GOES_ON && !was_signalled && !is_over(wire)) {
         bool has_come = wait_for_bytes(session, mask, true) && read_bytes(wire);
         send_pending(session);
         if (has_come || wire->is_short)
