@@ -4,8 +4,8 @@
  * there a terminal keeps text for undo.
  *
  * It reads the files, answers the terminal's messages, and writes a file when the terminal says so. It ends when the terminal leaves, at
- * the end of its input, and at SIGTERM, SIGHUP or SIGINT, which do as the end of the input. Texts that were not written are then in
- * FILE.sam-saved; so they are while it runs, a few seconds after they were changed.
+ * the end of its input, and at a signal that asks it to end (SIGTERM and others), which does as the end of the input. Texts that were not
+ * written are then in FILE.sam-saved; so they are while it runs, a few seconds after they were changed.
  *
  * Exit status: 0; 1 where a file can't be read; 2 where the words are wrong; 3 where the terminal's stream is wrong; 4 where it is out of
  * memory at the start; 5 where a text could not be saved anywhere; 6 where its line broke. What went wrong it says on standard error.

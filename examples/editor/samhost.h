@@ -180,7 +180,7 @@ int add_folder(struct session *session, const char *path, struct marks *marks);
 
 /* serving.c */
 
-/* Lets SIGTERM, SIGHUP and SIGINT end the session, and no other signal that may come of its work. */
+/* Lets signals that ask for it end the session (SIGTERM, SIGHUP, SIGINT and others), and none that may come of its work. */
 void set_signals(sigset_t *mask);
 
 /* Carries bytes and does what they ask until the session ends. Returns why it ends. */

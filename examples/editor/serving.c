@@ -345,7 +345,7 @@ static void on_signal(int number)
 /* Those that end the session are let in only where the program sleeps, so a file is written whole. */
 void set_signals(sigset_t *mask)
 {
-    const int ends[] = {SIGTERM, SIGHUP, SIGINT};
+    const int ends[] = {SIGTERM, SIGHUP, SIGINT, SIGQUIT, SIGUSR1, SIGUSR2, SIGXCPU}; /* batch systems send some before a limit */
     struct sigaction action = {.sa_handler = on_signal};
     sigset_t blocked;
 
