@@ -227,7 +227,8 @@ struct document *owner_at(struct session *session, const char *path);
 /* Has a document's copy stand at another path than now, since another document is to be written there. */
 int move_aside(struct session *session, struct document *owner);
 
-/* Saves all changed texts aside, and says of a text once that it can't be saved. Returns whether all are. */
+/* Saves all changed texts aside, and those of closed files that are still held. Says of a text once that it can't be saved. Returns whether
+ * all are. */
 bool save_changed(struct session *session);
 
 /* Whether something that failed is to be tried once more: where memory is out, some times, and after a while. */
