@@ -134,22 +134,33 @@ static void sync_folder(const char *path)
     free(folder);
 }
 
-/* Makes a file beside a path, for what is to take that path when it is whole, and opens it. Hands out its path, in memory of the
- * caller's. */
+/* Makes a file in a folder, whose name nobody has and begins with a front, and opens it. Hands out its path, in memory of the caller's. */
+static int make_in(const char *folder, const char *front, char **temporary, int *file)
+{
+    *temporary = formatted("%s" TEMPORARY "%s%sXXXXXX", folder, front, *front == '\0' ? "" : "-");
+    *file = *temporary == NULL ? -1 : mkstemp(*temporary);
+    int error = *temporary == NULL ? ENOMEM : *file < 0 ? errno : 0;
+    if (error != 0) {
+        free(*temporary);
+        *temporary = NULL;
+    }
+    return error;
+}
+
+/* Makes a file beside a path, for what is to take that path when it is whole. Its name has the front of that path's name, unless the path
+ * is too long with it. */
 static int make_temporary(const char *path, char **temporary, int *file)
 {
     char base[BASE_ROOM];
     char *folder = folder_of(path);
 
     base_of(path, base);
-    *temporary = folder == NULL ? NULL : formatted("%s" TEMPORARY "%s-XXXXXX", folder, base);
-    *file = *temporary == NULL ? -1 : mkstemp(*temporary);
-    int error = *temporary == NULL ? ENOMEM : *file < 0 ? errno : 0;
+    *temporary = NULL;
+    *file = -1;
+    int error = folder == NULL ? ENOMEM : make_in(folder, base, temporary, file);
+    if (error == ENAMETOOLONG)
+        error = make_in(folder, "", temporary, file);
     free(folder);
-    if (error != 0) {
-        free(*temporary);
-        *temporary = NULL;
-    }
     return error;
 }
 
