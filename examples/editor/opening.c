@@ -61,34 +61,25 @@ static const char *why_not_added(uint32_t code)
     }
 }
 
-/* Gives a document what was read at its path. */
-static int note_read(struct document *document, const char *path, const struct text *text)
-{
-    char *end = NULL;
-    bool is_there = access(path, F_OK) == 0;
-    int error = end_of_links(path, &end);
-
-    if (error == 0)
-        error = note_known(document, end, is_there ? content_of(text) : (struct content){.kind = NOT_THERE});
-    free(end);
-    return error;
-}
-
 int add_text(struct session *session, const char *path, const struct text *text, uint32_t *code)
 {
     uint16_t tag = 0;
-    char *own = formatted("%s", path), *shown = shown_name(path);
+    char *own = formatted("%s", path), *shown = shown_name(path), *end = NULL;
+    int error = end_of_links(path, &end);
 
     *code = SAM_NO_MEMORY;
-    if (own != NULL && shown != NULL)
+    if (error == 0 && own != NULL && shown != NULL)
         *code = sam_host_add_file(&session->host, (const uint8_t *)shown, strlen(shown), text->bytes, text->len, &tag);
     if (*code == SAM_OK) {
+        struct content content = access(path, F_OK) == 0 ? content_of(text) : (struct content){.kind = NOT_THERE};
         session->documents[tag] = (struct document){.path = own, .shown = shown};
-        return note_read(&session->documents[tag], path, text);
+        error = note_known(&session->documents[tag], end, content);
+    } else {
+        free(own);
+        free(shown);
     }
-    free(own);
-    free(shown);
-    return 0;
+    free(end);
+    return error;
 }
 
 /* Reads one file into the host. Returns the exit status. */
