@@ -324,16 +324,20 @@ static void report_folder(struct session *session, struct seen *seen, char *path
     struct stat status;
     const char *name = path == NULL || *path != '\0' ? path : ".";
     bool is_there = name != NULL && stat(name, &status) == 0;
-    DIR *entries = is_there && !has_mark(&seen->folders, &status) ? opendir(name) : NULL;
+    bool is_new = is_there && !has_mark(&seen->folders, &status);
+    DIR *entries = is_new ? opendir(name) : NULL;
 
     seen->is_short |= path == NULL;
+    if (is_new && entries == NULL)
+        say("%s can't be looked through for what is left of earlier sessions: %s", name, cause(errno));
+    if (is_new)
+        (void)add_mark(&seen->folders, status.st_dev, status.st_ino); /* where memory is out, it may be reported twice */
     if (entries != NULL) {
         struct folder folder = {path, status.st_dev, status.st_ino, purpose == FOR_TEMPORARY_FILES, false};
         for (struct dirent *entry = readdir(entries); entry != NULL; entry = readdir(entries))
             report_entry(session, &folder, entry->d_name);
         closedir(entries);
         seen->is_short |= folder.is_short;
-        (void)add_mark(&seen->folders, status.st_dev, status.st_ino); /* where memory is out, it may be reported twice */
     }
     free(path);
 }
