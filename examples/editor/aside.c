@@ -84,6 +84,55 @@ static int save_aside(struct session *session, uint16_t tag)
     return error;
 }
 
+bool is_tried_again(int error, int *tries)
+{
+    const struct timespec pause = {0, PAUSE};
+
+    if (error != ENOMEM || ++*tries > MOST_TRIES)
+        return false;
+    nanosleep(&pause, NULL);
+    return true;
+}
+
+/* ---- Texts of closed files ---- */
+
+static void free_closed(struct closed *closed)
+{
+    free(closed->name);
+    free(closed->text.bytes);
+    free(closed);
+}
+
+/* Tries the texts again that could not be saved when their files were closed. The last time what can't be saved is lost; else it is held
+ * on. Returns whether all are saved. */
+static bool save_closed(struct session *session, bool is_last)
+{
+    struct closed **next = &session->closed;
+    bool all = true;
+
+    while (*next != NULL) {
+        struct closed *closed = *next;
+        struct copy copy;
+        int error, tries = 0;
+        do
+            error = keep(&closed->text, closed->name, SAVED, &copy);
+        while (is_last && is_tried_again(error, &tries));
+        if (error == 0)
+            say("%s was not written; its text is in %s", closed->name, copy.path);
+        else if (is_last)
+            say("the text of %s is lost: %s", closed->name, cause(error));
+        all &= error == 0;
+        free(copy.path);
+        if (error == 0 || is_last) {
+            *next = closed->next;
+            free_closed(closed);
+        } else {
+            next = &closed->next;
+        }
+    }
+    return all;
+}
+
 /* ---- Changed texts ---- */
 
 static bool has_file(struct session *session, size_t tag)
@@ -131,7 +180,7 @@ int secure(struct session *session, uint16_t tag, enum place *place)
 bool save_changed(struct session *session)
 {
     size_t tags = count_tags(session);
-    bool all = true;
+    bool all = save_closed(session, false);
     enum place place;
 
     for (size_t tag = 1; tag < tags; tag++) {
@@ -182,16 +231,6 @@ int move_aside(struct session *session, struct document *owner)
 
 /* ---- Closing and leaving ---- */
 
-bool is_tried_again(int error, int *tries)
-{
-    const struct timespec pause = {0, PAUSE};
-
-    if (error != ENOMEM || ++*tries > MOST_TRIES)
-        return false;
-    nanosleep(&pause, NULL);
-    return true;
-}
-
 /* Saves a text that will not be written any more, and reports where it is. */
 static int save_for_good(struct session *session, uint16_t tag, const char *name)
 {
@@ -206,7 +245,7 @@ static int save_for_good(struct session *session, uint16_t tag, const char *name
     return error;
 }
 
-/* Holds a text until the end, when it is tried again. */
+/* Holds a text that is tried again later, and at the end. */
 static void hold_closed(struct session *session, uint16_t tag, const char *name)
 {
     int error = take_text(session, tag);
@@ -260,36 +299,10 @@ void forget_closed(struct session *session, uint16_t tag)
         free_document(&session->documents[tag]);
 }
 
-/* Tries the texts again that could not be saved when their files were closed. */
-static bool save_closed(struct session *session)
-{
-    bool all = !session->is_lost;
-
-    while (session->closed != NULL) {
-        struct closed *closed = session->closed;
-        struct copy copy;
-        int error, tries = 0;
-        do
-            error = keep(&closed->text, closed->name, SAVED, &copy);
-        while (is_tried_again(error, &tries));
-        if (error == 0)
-            say("%s was not written; its text is in %s", closed->name, copy.path);
-        else
-            say("the text of %s is lost: %s", closed->name, cause(error));
-        all &= error == 0;
-        session->closed = closed->next;
-        free(copy.path);
-        free(closed->name);
-        free(closed->text.bytes);
-        free(closed);
-    }
-    return all;
-}
-
 bool save_last(struct session *session)
 {
     size_t tags = count_tags(session);
-    bool all = save_closed(session);
+    bool all = save_closed(session, true) && !session->is_lost;
 
     for (size_t tag = 1; tag < tags; tag++) {
         if (!is_changed(session, (uint16_t)tag))

@@ -11,8 +11,10 @@
 #include <stdlib.h>
 #include <string.h>
 #include <sys/stat.h>
+#include <time.h>
 #include <unistd.h>
 #ifdef __linux__
+#include <sys/file.h>
 #include <sys/xattr.h>
 #endif
 
@@ -20,6 +22,8 @@
 
 enum {
     MOST_KEPT = 1000,      /* names that are tried for a copy */
+    MOST_TRIES = 200,      /* attempts to lock a folder */
+    PAUSE = 10000000,      /* nanoseconds between two of them */
     ATTRIBUTES_ROOM = 4096 /* bytes of the names of a file's attributes */
 };
 
@@ -121,35 +125,83 @@ static int close_written(int file, int error)
     return error != 0 ? error : closed;
 }
 
-/* Has the disk keep the names of the folder of a path. Not every kind of file system can. */
-static void sync_folder(const char *path)
+/* Opens the folder of a path. -1 where it can't be opened. */
+static int open_folder(const char *path)
 {
     char *folder = folder_of(path);
     int file = folder == NULL ? -1 : open(*folder == '\0' ? "." : folder, O_RDONLY | O_DIRECTORY | O_CLOEXEC);
+
+    free(folder);
+    return file;
+}
+
+/* Has the disk keep the names of the folder of a path. Not every kind of file system can. */
+static void sync_folder(const char *path)
+{
+    int file = open_folder(path);
 
     if (file >= 0) {
         fsync(file);
         close(file);
     }
-    free(folder);
 }
 
-/* Makes a file beside a path, for what is to take that path when it is whole, and opens it. Hands out its path, in memory of the
- * caller's. */
+/* Locks an open folder, unless another host has it locked. Not every kind of file system can. */
+static bool is_locked_elsewhere(int file)
+{
+#ifdef __linux__
+    return flock(file, LOCK_EX | LOCK_NB) != 0 && errno == EWOULDBLOCK;
+#else
+    (void)file;
+    return false;
+#endif
+}
+
+/* Opens and locks the folder of a path, so that no other host changes a file there between this one's look at it and its write. Where that
+ * takes long it goes without. */
+static int lock_folder(const char *path)
+{
+    const struct timespec pause = {0, PAUSE};
+    int file = open_folder(path);
+
+    for (int tries = 0; file >= 0 && tries < MOST_TRIES && is_locked_elsewhere(file); tries++)
+        nanosleep(&pause, NULL);
+    return file;
+}
+
+static void unlock_folder(int file)
+{
+    if (file >= 0)
+        close(file);
+}
+
+/* Makes a file in a folder, whose name nobody has and begins with a front, and opens it. Hands out its path, in memory of the caller's. */
+static int make_in(const char *folder, const char *front, char **temporary, int *file)
+{
+    *temporary = formatted("%s" TEMPORARY "%s%sXXXXXX", folder, front, *front == '\0' ? "" : "-");
+    *file = *temporary == NULL ? -1 : mkstemp(*temporary);
+    int error = *temporary == NULL ? ENOMEM : *file < 0 ? errno : 0;
+    if (error != 0) {
+        free(*temporary);
+        *temporary = NULL;
+    }
+    return error;
+}
+
+/* Makes a file beside a path, for what is to take that path when it is whole. Its name has the front of that path's name, unless the path
+ * is too long with it. */
 static int make_temporary(const char *path, char **temporary, int *file)
 {
     char base[BASE_ROOM];
     char *folder = folder_of(path);
 
     base_of(path, base);
-    *temporary = folder == NULL ? NULL : formatted("%s" TEMPORARY "%s-XXXXXX", folder, base);
-    *file = *temporary == NULL ? -1 : mkstemp(*temporary);
-    int error = *temporary == NULL ? ENOMEM : *file < 0 ? errno : 0;
+    *temporary = NULL;
+    *file = -1;
+    int error = folder == NULL ? ENOMEM : make_in(folder, base, temporary, file);
+    if (error == ENAMETOOLONG)
+        error = make_in(folder, "", temporary, file);
     free(folder);
-    if (error != 0) {
-        free(*temporary);
-        *temporary = NULL;
-    }
     return error;
 }
 
@@ -296,10 +348,14 @@ static int put_new(struct request *request, const struct stat *old)
             error = old != NULL ? take_access(file, old) : fchmod(file, request->mode) != 0 ? errno : 0;
         error = close_written(file, sync_written(file, error));
     }
-    if (error == 0 && !may_replace(request, content_at(request->path)))
-        error = IS_CHANGED;
-    if (error == 0 && rename(temporary, request->path) != 0)
-        error = errno;
+    if (error == 0) {
+        int folder = lock_folder(request->path);
+        if (!may_replace(request, content_at(request->path)))
+            error = IS_CHANGED;
+        else if (rename(temporary, request->path) != 0)
+            error = errno;
+        unlock_folder(folder);
+    }
     if (error == 0)
         sync_folder(request->path);
     drop_temporary(temporary, error == 0);
@@ -336,15 +392,17 @@ static int write_over(struct request *request, int file, const struct text *old)
 
     if (error != 0)
         return error;
+    int folder = lock_folder(request->path);
     request->found = content_at(request->path);
     if (!is_same(request->found, kept.content) || !is_at(file, request->path))
         error = IS_CHANGED;
     else
         error = fill_again(file, request->text);
-    if (error != 0 && error != IS_CHANGED && fill_again(file, old) != 0) {
+    if (error != 0 && error != IS_CHANGED && fill_again(file, old) != 0)
         request->old = kept.path;
+    unlock_folder(folder);
+    if (request->old != NULL)
         return error;
-    }
     unlink(kept.path);
     free(kept.path);
     return error;

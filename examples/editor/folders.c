@@ -65,7 +65,7 @@ static void offer_file(struct offer *offer, const char *path)
     free(text.bytes);
     if (error == 0 && code == SAM_OK)
         error = add_mark(offer->marks, status.st_dev, status.st_ino);
-    if (error == ENOMEM || code == SAM_NO_MEMORY)
+    if (error == ENOMEM || (error == 0 && code == SAM_NO_MEMORY))
         offer->status = STATUS_MEMORY;
     else if (error == 0 && code == SAM_OK)
         offer->taken++;

@@ -61,34 +61,25 @@ static const char *why_not_added(uint32_t code)
     }
 }
 
-/* Gives a document what was read at its path. */
-static int note_read(struct document *document, const char *path, const struct text *text)
-{
-    char *end = NULL;
-    bool is_there = access(path, F_OK) == 0;
-    int error = end_of_links(path, &end);
-
-    if (error == 0)
-        error = note_known(document, end, is_there ? content_of(text) : (struct content){.kind = NOT_THERE});
-    free(end);
-    return error;
-}
-
 int add_text(struct session *session, const char *path, const struct text *text, uint32_t *code)
 {
     uint16_t tag = 0;
-    char *own = formatted("%s", path), *shown = shown_name(path);
+    char *own = formatted("%s", path), *shown = shown_name(path), *end = NULL;
+    int error = end_of_links(path, &end);
 
     *code = SAM_NO_MEMORY;
-    if (own != NULL && shown != NULL)
+    if (error == 0 && own != NULL && shown != NULL)
         *code = sam_host_add_file(&session->host, (const uint8_t *)shown, strlen(shown), text->bytes, text->len, &tag);
     if (*code == SAM_OK) {
+        struct content content = access(path, F_OK) == 0 ? content_of(text) : (struct content){.kind = NOT_THERE};
         session->documents[tag] = (struct document){.path = own, .shown = shown};
-        return note_read(&session->documents[tag], path, text);
+        error = note_known(&session->documents[tag], end, content);
+    } else {
+        free(own);
+        free(shown);
     }
-    free(own);
-    free(shown);
-    return 0;
+    free(end);
+    return error;
 }
 
 /* Reads one file into the host. Returns the exit status. */
@@ -333,16 +324,20 @@ static void report_folder(struct session *session, struct seen *seen, char *path
     struct stat status;
     const char *name = path == NULL || *path != '\0' ? path : ".";
     bool is_there = name != NULL && stat(name, &status) == 0;
-    DIR *entries = is_there && !has_mark(&seen->folders, &status) ? opendir(name) : NULL;
+    bool is_new = is_there && !has_mark(&seen->folders, &status);
+    DIR *entries = is_new ? opendir(name) : NULL;
 
     seen->is_short |= path == NULL;
+    if (is_new && entries == NULL)
+        say("%s can't be looked through for what is left of earlier sessions: %s", name, cause(errno));
+    if (is_new)
+        (void)add_mark(&seen->folders, status.st_dev, status.st_ino); /* where memory is out, it may be reported twice */
     if (entries != NULL) {
         struct folder folder = {path, status.st_dev, status.st_ino, purpose == FOR_TEMPORARY_FILES, false};
         for (struct dirent *entry = readdir(entries); entry != NULL; entry = readdir(entries))
             report_entry(session, &folder, entry->d_name);
         closedir(entries);
         seen->is_short |= folder.is_short;
-        (void)add_mark(&seen->folders, status.st_dev, status.st_ino); /* where memory is out, it may be reported twice */
     }
     free(path);
 }

@@ -69,9 +69,14 @@ int end_of_links(const char *path, char **end)
 
     for (int links = 0; at != NULL && links <= MOST_LINKS; links++) {
         ssize_t len = readlink(at, target, sizeof target - 1);
-        if (len < 0) { /* it is no link, or not there: what is wrong shows when it is used */
+        if (len < 0 && (errno == EINVAL || errno == ENOENT || errno == ENOTDIR)) { /* it is no link, or not there */
             *end = at;
             return 0;
+        }
+        if (len < 0) {
+            int error = errno;
+            free(at);
+            return error;
         }
         target[len] = '\0';
         char *folder = target[0] == '/' ? formatted("") : folder_of(at);

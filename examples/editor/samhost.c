@@ -4,17 +4,16 @@
  * there a terminal keeps text for undo.
  *
  * It reads the files, answers the terminal's messages, and writes a file when the terminal says so. It ends when the terminal leaves, at
- * the end of its input, and at SIGTERM, SIGHUP or SIGINT, which do as the end of the input. Texts that were not written are then in
- * FILE.sam-saved; so they are while it runs, a few seconds after they were changed.
+ * the end of its input, and at a signal that asks it to end (SIGTERM and others), which does as the end of the input. Texts that were not
+ * written are then in FILE.sam-saved; so they are while it runs, a few seconds after they were changed.
  *
  * Exit status: 0; 1 where a file can't be read; 2 where the words are wrong; 3 where the terminal's stream is wrong; 4 where it is out of
- * memory at the start; 5 where a text could not be saved anywhere. What went wrong it says on standard error.
+ * memory at the start; 5 where a text could not be saved anywhere; 6 where its line broke. What went wrong it says on standard error.
  *
  * samhost.h lists its parts.
  */
 #define _XOPEN_SOURCE 700
 #include <fcntl.h>
-#include <stdarg.h>
 #include <stdio.h>
 #include <stdlib.h>
 #include <string.h>
@@ -22,37 +21,6 @@
 #include <unistd.h>
 
 #include "samhost.h"
-
-enum { LINE_ROOM = 16384 /* bytes of the longest line on standard error */ };
-
-/* The bytes of the control character that begins there, one of U+0080 to U+009F among them; 0 where none does. */
-static size_t control_len(const char *at)
-{
-    unsigned char first = (unsigned char)at[0];
-
-    if (first < ' ' || first == 0x7F)
-        return 1;
-    unsigned char second = (unsigned char)at[1];
-    return first == 0xC2 && second >= 0x80 && second <= 0x9F ? 2 : 0;
-}
-
-void say(const char *format, ...)
-{
-    char line[LINE_ROOM];
-    char *to = line;
-    va_list words;
-
-    va_start(words, format);
-    vsnprintf(line, sizeof line, format, words);
-    va_end(words);
-    for (const char *from = line; *from != '\0';) {
-        size_t len = control_len(from);
-        *to++ = len > 0 ? '?' : *from;
-        from += len > 0 ? len : 1;
-    }
-    *to = '\0';
-    fprintf(stderr, "samhost: %s\n", line);
-}
 
 size_t count_tags(struct session *session)
 {
@@ -73,7 +41,7 @@ static int run(struct session *session)
     bool is_saved = save_last(session);
     send_the_rest(session, &mask);
     fcntl(STDOUT_FILENO, F_SETFL, flags);
-    return !is_saved ? STATUS_LOST : ending == FAULT ? STATUS_FAULT : STATUS_OK;
+    return !is_saved ? STATUS_LOST : ending == FAULT ? STATUS_FAULT : ending == LINE_BROKE ? STATUS_BROKEN : STATUS_OK;
 }
 
 static mode_t mode_of_new_files(void)

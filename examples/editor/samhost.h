@@ -8,6 +8,7 @@
  *     aside.c     saves texts that are not written
  *     disk.c      puts a text into a file: by a new file in its place, or in place
  *     paths.c     names of files, and what stands in them
+ *     saying.c    writes lines to standard error
  *
  * Calls that can fail return 0 or an error number of errno.h, unless they say otherwise.
  */
@@ -34,10 +35,10 @@ enum {
     PIECE = 65536                /* bytes that are read or written at once */
 };
 
-enum { STATUS_OK = 0, STATUS_UNREADABLE = 1, STATUS_WORDS = 2, STATUS_FAULT = 3, STATUS_MEMORY = 4, STATUS_LOST = 5 };
+enum { STATUS_OK = 0, STATUS_UNREADABLE = 1, STATUS_WORDS = 2, STATUS_FAULT = 3, STATUS_MEMORY = 4, STATUS_LOST = 5, STATUS_BROKEN = 6 };
 
 /* Why a session ends. */
-enum ending { GOES_ON, LEFT, INPUT_ENDED, FAULT };
+enum ending { GOES_ON, LEFT, INPUT_ENDED, LINE_BROKE, FAULT };
 
 #define NOT_REGULAR EINVAL   /* the error number of what is there and is no regular file */
 #define IS_CHANGED ECANCELED /* the error number of a file that another program changed */
@@ -101,7 +102,9 @@ struct wire {
     uint16_t closing;        /* the file that was closed last */
     size_t sent, output_len; /* bytes of `output`: sent, and in all */
     bool is_short;           /* the host is out of memory */
-    bool is_broken;
+    int output_error;        /* the error number for which nothing more can be sent; else 0 */
+    enum ending end;         /* GOES_ON, or how the input has ended: INPUT_ENDED, LINE_BROKE */
+    int64_t gone;            /* since when the terminal is known to be gone, where memory is out then; else 0 */
 };
 
 /* When texts are saved aside by themselves. Times are milliseconds. */
@@ -145,9 +148,6 @@ struct request {
 
 /* samhost.c */
 
-/* Writes a line to standard error. Each control character in it comes out as a question mark. */
-void say(const char *format, ...);
-
 /* How many tags the host has given; 0 where there is no host. */
 size_t count_tags(struct session *session);
 
@@ -180,7 +180,7 @@ int add_folder(struct session *session, const char *path, struct marks *marks);
 
 /* serving.c */
 
-/* Lets SIGTERM, SIGHUP and SIGINT end the session, and no other signal that may come of its work. */
+/* Lets signals that ask for it end the session (SIGTERM, SIGHUP, SIGINT and others), and none that may come of its work. */
 void set_signals(sigset_t *mask);
 
 /* Carries bytes and does what they ask until the session ends. Returns why it ends. */
@@ -227,7 +227,8 @@ struct document *owner_at(struct session *session, const char *path);
 /* Has a document's copy stand at another path than now, since another document is to be written there. */
 int move_aside(struct session *session, struct document *owner);
 
-/* Saves all changed texts aside, and says of a text once that it can't be saved. Returns whether all are. */
+/* Saves all changed texts aside, and those of closed files that are still held. Says of a text once that it can't be saved. Returns whether
+ * all are. */
 bool save_changed(struct session *session);
 
 /* Whether something that failed is to be tried once more: where memory is out, some times, and after a while. */
@@ -280,5 +281,10 @@ bool is_same(struct content one, struct content other);
 
 /* Reads all of an open file, of at most `most` bytes, into memory of the caller's. EFBIG where it has more. */
 int read_all(int file, size_t most, struct text *text);
+
+/* saying.c */
+
+/* Writes a line to standard error, unless nobody reads there. Each control character in it comes out as a question mark. */
+void say(const char *format, ...);
 
 #endif

@@ -6,6 +6,7 @@
 #define _XOPEN_SOURCE 700
 #include <errno.h>
 #include <fcntl.h>
+#include <poll.h>
 #include <string.h>
 #include <sys/select.h>
 #include <unistd.h>
@@ -16,6 +17,7 @@ enum {
     IDLE = 2000,             /* milliseconds of quiet after which changed texts are saved aside */
     LONGEST_UNSAVED = 10000, /* milliseconds after which they are, while messages still come */
     PAUSE = 100,             /* milliseconds until memory is asked for again */
+    LONGEST_GONE = 5000,     /* milliseconds after which it isn't, where the terminal is gone */
     MOST_PIECES_LEFT = 64,   /* pieces of input that are still taken after a signal */
     HEADER = 3,              /* bytes of a message before its body: its kind, and the length of the body */
     TAG_LEN = 2,             /* bytes of a file's tag, with which the bodies of these begin: */
@@ -69,12 +71,20 @@ static void keep_journal(struct session *session)
 
 /* ---- Bytes ---- */
 
+/* Notes that nothing more can be sent. The end of the input will come, and what stands before it still counts. */
+static void stop_sending(struct wire *wire, int error)
+{
+    wire->output_error = error;
+    if (error != EPIPE) /* else the terminal has gone */
+        say("standard output can't be written: %s", cause(error));
+}
+
 /* Sends pending bytes, as many as go without waiting. */
 static void send_pending(struct session *session)
 {
     struct wire *wire = &session->wire;
 
-    while (!wire->is_broken) {
+    while (wire->output_error == 0) {
         if (wire->sent == wire->output_len) {
             wire->sent = wire->output_len = 0;
             if (sam_host_take_out(&session->host, wire->output, PIECE, &wire->output_len) != SAM_OK || wire->output_len == 0)
@@ -86,7 +96,7 @@ static void send_pending(struct session *session)
         else if (errno == EAGAIN || errno == EINTR)
             return;
         else
-            wire->is_broken = true; /* the end of the input will come, and what stands before it still counts */
+            stop_sending(wire, errno);
     }
 }
 
@@ -181,21 +191,46 @@ static enum ending take_input(struct session *session)
     return ending;
 }
 
-/* Reads bytes and takes them. At the end of the input the host takes what is left of a message, too, and says whether it is wrong. */
-static enum ending read_input(struct session *session)
+/* Whether more can be read: not after the end, nor while memory is out and as much waits for it as there is room for. */
+static bool may_read(const struct wire *wire)
 {
-    struct wire *wire = &session->wire;
+    return wire->end == GOES_ON && wire->input_len - wire->taken < PIECE;
+}
 
+/* Reads bytes, to stand behind those that wait, and notes how the input ends. Returns whether some have come. */
+static bool read_bytes(struct wire *wire)
+{
+    if (!may_read(wire))
+        return false;
     memmove(wire->input, wire->input + wire->taken, wire->input_len - wire->taken);
     wire->input_len -= wire->taken;
     wire->taken = 0;
     ssize_t count = read(STDIN_FILENO, wire->input + wire->input_len, PIECE - wire->input_len);
-    if (count < 0 && (errno == EAGAIN || errno == EINTR))
-        return GOES_ON;
-    if (count <= 0)
-        return feed(session, wire->input_len) == FAULT ? FAULT : INPUT_ENDED;
-    wire->input_len += (size_t)count;
-    return take_input(session);
+    if (count == 0) {
+        wire->end = INPUT_ENDED;
+    } else if (count > 0) {
+        wire->input_len += (size_t)count;
+    } else if (errno != EAGAIN && errno != EINTR) {
+        say("standard input can't be read: %s", cause(errno));
+        wire->end = LINE_BROKE;
+    }
+    return count > 0;
+}
+
+/* How the session ends where no more comes. What is left of a message may be wrong. */
+static enum ending end_input(struct session *session)
+{
+    struct wire *wire = &session->wire;
+
+    if (wire->end == GOES_ON || wire->is_short)
+        return INPUT_ENDED; /* a signal ends it, or what is left is lost */
+    if (feed(session, wire->input_len - wire->taken) == FAULT)
+        return FAULT;
+    if (wire->end == INPUT_ENDED && sam_host_finish(&session->host) == SAM_TRUNCATED) {
+        say("standard input ends inside a message");
+        wire->end = LINE_BROKE;
+    }
+    return wire->output_error == 0 || wire->output_error == EPIPE ? wire->end : LINE_BROKE;
 }
 
 /* ---- Waiting ---- */
@@ -213,13 +248,31 @@ static bool wait_for_bytes(const struct session *session, const sigset_t *mask, 
     struct timespec pause = {left / 1000, left % 1000 * 1000000};
     FD_ZERO(&in);
     FD_ZERO(&out);
-    if (is_reading && !wire->is_short)
+    if (is_reading && may_read(wire))
         FD_SET(STDIN_FILENO, &in);
-    if (!wire->is_broken && wire->sent < wire->output_len)
+    if (wire->output_error == 0 && wire->sent < wire->output_len)
         FD_SET(STDOUT_FILENO, &out);
     if (pselect(STDOUT_FILENO + 1, &in, &out, NULL, is_waiting || wire->is_short ? &pause : NULL, mask) < 0)
         return errno != EINTR; /* what is wrong with the input shows when it is read */
     return FD_ISSET(STDIN_FILENO, &in);
+}
+
+/* Whether nobody can send any more, though bytes may still be there to read. */
+static bool has_hung_up(void)
+{
+    struct pollfd end = {.fd = STDIN_FILENO};
+
+    return poll(&end, 1, 0) > 0;
+}
+
+/* Whether all has come that will come, and was taken; or memory is out for that, and has been for a while since the terminal is gone. */
+static bool is_over(struct wire *wire)
+{
+    if (!wire->is_short)
+        return wire->end != GOES_ON;
+    if (wire->gone == 0 && (wire->end != GOES_ON || has_hung_up()))
+        wire->gone = now();
+    return wire->gone != 0 && now() - wire->gone > LONGEST_GONE;
 }
 
 /* Takes what was read, where memory was out for it. What can't be taken in a while is lost. */
@@ -237,42 +290,36 @@ static enum ending take_again(struct session *session, int *tries)
     return ending;
 }
 
-/* After a signal: takes what has come already. */
+/* At the end of the input, or after a signal: takes what has come already. */
 static enum ending take_the_rest(struct session *session)
 {
-    int tries = 0, flags = fcntl(STDIN_FILENO, F_GETFL);
+    int tries = 0, pieces = 0, flags = fcntl(STDIN_FILENO, F_GETFL);
     struct wire *wire = &session->wire;
-    enum ending ending = take_again(session, &tries);
-    bool has_come = true;
+    enum ending ending;
 
     fcntl(STDIN_FILENO, F_SETFL, flags | O_NONBLOCK);
-    for (int pieces = 0; ending == GOES_ON && has_come && !wire->is_short && pieces < MOST_PIECES_LEFT; pieces++) {
-        size_t before = wire->input_len - wire->taken;
-        ending = read_input(session);
-        has_come = wire->taken > 0 || wire->input_len != before;
+    do {
+        ending = take_input(session);
         if (ending == GOES_ON)
             ending = take_again(session, &tries);
-    }
+    } while (ending == GOES_ON && !wire->is_short && ++pieces <= MOST_PIECES_LEFT && read_bytes(wire));
     fcntl(STDIN_FILENO, F_SETFL, flags);
-    return ending == GOES_ON ? INPUT_ENDED : ending;
+    return ending == GOES_ON ? end_input(session) : ending;
 }
 
 enum ending serve(struct session *session, const sigset_t *mask)
 {
+    struct wire *wire = &session->wire;
     enum ending ending = GOES_ON;
 
-    while (ending == GOES_ON) {
-        bool has_come = wait_for_bytes(session, mask, true);
+    while (ending == GOES_ON && !was_signalled && !is_over(wire)) {
+        bool has_come = wait_for_bytes(session, mask, true) && read_bytes(wire);
         send_pending(session);
-        if (was_signalled)
-            return take_the_rest(session);
-        if (session->wire.is_short)
+        if (has_come || wire->is_short)
             ending = take_input(session);
-        else if (has_come)
-            ending = read_input(session);
         keep_journal(session);
     }
-    return ending;
+    return ending == GOES_ON ? take_the_rest(session) : ending;
 }
 
 void send_the_rest(struct session *session, const sigset_t *mask)
@@ -281,7 +328,7 @@ void send_the_rest(struct session *session, const sigset_t *mask)
 
     send_pending(session);
     wire->is_short = false;
-    while (!wire->is_broken && wire->sent < wire->output_len && !was_signalled) {
+    while (wire->output_error == 0 && wire->sent < wire->output_len && !was_signalled) {
         wait_for_bytes(session, mask, false);
         send_pending(session);
     }
@@ -298,7 +345,7 @@ static void on_signal(int number)
 /* Those that end the session are let in only where the program sleeps, so a file is written whole. */
 void set_signals(sigset_t *mask)
 {
-    const int ends[] = {SIGTERM, SIGHUP, SIGINT};
+    const int ends[] = {SIGTERM, SIGHUP, SIGINT, SIGQUIT, SIGUSR1, SIGUSR2, SIGXCPU}; /* batch systems send some before a limit */
     struct sigaction action = {.sa_handler = on_signal};
     sigset_t blocked;
 
