@@ -42,10 +42,11 @@
  * SAM_NO_MEMORY: both mean then that memory is still short. Only a fault of the other side's stream, a message or frame that is
  * refused, or a full count of messages stops a handle. Its readers and _take_out go on to work.
  *
- * What the caller owes, and no call can test: pointers other than handles are not NULL but for a length of 0, lengths are
+ * What the caller owes, and no call can test: pointers other than handles are not NULL but for a length or room of 0, lengths are
  * right, buffers don't overlap, and a handle is in one call at a time. A handle may not move between threads while it is in a
- * call. No call is made from a signal handler, or in the child of a fork of a program with threads. malloc, realloc and free are
- * those of one allocator.
+ * call. No call is made from a signal handler, or in the child of a fork of a program with threads. A call that has begun returns:
+ * no longjmp leaves it, and its thread is not ended in it, or what the handle held is lost. malloc, realloc and free are those of one
+ * allocator.
  */
 #ifndef SULGREVAD_H
 #define SULGREVAD_H
@@ -290,13 +291,15 @@ SAM_MUST_USE sam_status sam_term_flush_now(sam_term *term);
  * An event acts at once if it can, or is held until the locks that it waits for are free and the events before it have acted; each
  * call also lets events that are held act, in order. What is composed is then pending. SAM_OK says that the event was taken, and not
  * that it acted: sam_term_decided says whether it did, and sam_term_next_refusal reports an event that is refused by its number, now or
- * later. Each returns SAM_OK, SAM_NO_MEMORY, SAM_UNFINISHED, SAM_COUNT_FULL, SAM_NO_HANDLE, or why the terminal has stopped:
- * SAM_STREAM.., SAM_TERM_REFUSED... The three that bring a text return SAM_NOT_TEXT first of all but SAM_NO_HANDLE. */
+ * later; docs/PROTOCOL.md (user events) has the tests of all events in their order. Each returns SAM_OK, SAM_NO_MEMORY, SAM_UNFINISHED,
+ * SAM_COUNT_FULL, SAM_NO_HANDLE, or why the terminal has stopped: SAM_STREAM.., SAM_TERM_REFUSED... The three that bring a text return
+ * SAM_NOT_TEXT first of all but SAM_NO_HANDLE. */
 
 /* ---- Events: texts ---- */
 
-/* Types a text in the place of the dot. Refused by number: one of more than 512 runes (SAM_REFUSAL_TEXT_TOO_LONG), which can be cut into
- * pieces; and then one with which the file would have more than 1,000,000 (SAM_REFUSAL_TOO_LONG). */
+/* Types a text in the place of the dot. It is sent with what is typed after it, at the latest before anything else is. Refused by number:
+ * one of more than 512 runes (SAM_REFUSAL_TEXT_TOO_LONG), which can be cut into pieces; and then one with which the file would have more
+ * than 1,000,000 (SAM_REFUSAL_TOO_LONG). */
 SAM_MUST_USE sam_status sam_term_type(sam_term *term, uint16_t tag, const uint8_t *text, size_t len);
 
 /* Puts a text of any length in the place of the runes from start to end, all or nothing; an empty one takes them out. The places are
@@ -323,10 +326,10 @@ SAM_MUST_USE sam_status sam_term_flush(sam_term *term);
 
 /* ---- Events: the snarf buffer ---- */
 
-/* Cuts the dot into the snarf buffer. */
+/* Cuts the dot into the snarf buffer. Does nothing if the dot is empty. */
 SAM_MUST_USE sam_status sam_term_cut(sam_term *term, uint16_t tag);
 
-/* Copies the dot into the snarf buffer. */
+/* Copies the dot into the snarf buffer. Does nothing if the dot is empty. */
 SAM_MUST_USE sam_status sam_term_snarf(sam_term *term, uint16_t tag);
 
 /* Puts the snarf buffer in the place of the dot, and selects it. If the buffer is empty, or the file would have more than 1,000,000 runes,
@@ -408,7 +411,7 @@ SAM_MUST_USE sam_status sam_term_events(sam_term *term, uint64_t *events);
  * hands out, has acted or was refused if both numbers are the same, and is held if this one is smaller. */
 SAM_MUST_USE sam_status sam_term_decided(sam_term *term, uint64_t *events);
 
-/* How many events are held. */
+/* How many events are held. No call hands out what they brought. */
 SAM_MUST_USE sam_status sam_term_held(sam_term *term, uint64_t *events);
 
 /* Whether the command lock or a lock of this file is held: an edit of the file would wait. */

@@ -50,7 +50,8 @@ const char *sam_status_text(sam_status status)
         TEXT(SAM_REFUSAL_TOO_LONG, "the event was refused: the file would have more than 1,000,000 runes");
         TEXT(SAM_REFUSAL_TEXT_TOO_LONG,
              "the event was refused: more than 512 runes were typed, or the snarf buffer is too long for a message");
-        TEXT(SAM_REFUSAL_COMMAND_FILE, "the event was refused: the command file is never opened, closed, written, edited or made the work file so");
+        TEXT(SAM_REFUSAL_COMMAND_FILE,
+             "the event was refused: the command file is never opened, closed, written, edited or made the work file so");
         TEXT(SAM_REFUSAL_BAD_VERSION, "the event was refused: there is no version 0");
         TEXT(SAM_SCRIPT_LINE, "the script has a line that is wrong or can't be done");
         TEXT(SAM_SCRIPT_COUNT_FULL, "the script has a line that would count more than 2^64-1 messages");

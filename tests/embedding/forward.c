@@ -78,8 +78,8 @@ int main(void)
     uint32_t gap = 0;
     pthread_attr_t small;
     pthread_t thread;
-    if (pthread_attr_init(&small) != 0 || pthread_attr_setstacksize(&small, STACK) != 0 || pthread_create(&thread, &small, ask, &gap) != 0 ||
-        pthread_join(thread, NULL) != 0) {
+    if (pthread_attr_init(&small) != 0 || pthread_attr_setstacksize(&small, STACK) != 0 ||
+        pthread_create(&thread, &small, ask, &gap) != 0 || pthread_join(thread, NULL) != 0) {
         printf("there is no thread\n");
         return 1;
     }

@@ -36,6 +36,10 @@ The shared library is the first of these that is there:
 
 Each call of the library keeps the interpreter's lock, so threads may share a handle; a free-threaded Python has no such lock, so use one
 of your own there. `text`, `saved` and `snarfed` read a long text by several calls: let no other thread change it meanwhile.
+
+A signal's handler that raises, as Python's own for ^C does, may break in once the library has done a call. Then nobody knows whether a
+piece or an event was taken, and what `next_written`, `next_refusal` or `changed` was to hand out is lost. So a program that goes on after
+a signal has a handler that only notes it. A `MemoryError` of Python's own may lose what these three and `add_file` hand out, too.
 """
 from sulgrevad.scripts import replay
 from sulgrevad.sides import Change, Host, Refusal, Terminal

@@ -1,9 +1,10 @@
 """The two sides: what they share, the host, and the terminal."""
 import ctypes
 import operator
+from collections import deque
 from ctypes import byref, c_bool, c_size_t, c_uint16, c_uint32, c_uint64
 from types import TracebackType
-from typing import Any, Iterator, List, NamedTuple, NoReturn, Optional, Tuple, Type, TypeVar, Union
+from typing import Any, Deque, Iterator, List, NamedTuple, NoReturn, Optional, SupportsIndex, Tuple, Type, TypeVar, Union
 
 from sulgrevad._library import LIBRARY, PIECE, Handle, Text, bytes_of
 from sulgrevad.status import Missing, Status, error_of
@@ -12,6 +13,9 @@ MOST_IN_NAME = 256  # bytes of the longest name
 MOST_IN_PATTERN = 512  # bytes of the longest pattern
 LEAST_PIECE = 256  # bytes that are read of a text, where so few runes are wished for
 GAP = 2**32 - 1  # what stands for a rune that is not loaded
+
+# SAM_OK as a plain number: once a call is done nothing may want memory, and up to Python 3.11 to look up a Status does.
+_OK = int(Status.OK)
 
 # The first number that is too great for a type of an argument.
 _END = {c_uint16: 2**16, c_uint32: 2**32, c_size_t: 2 ** (8 * ctypes.sizeof(c_size_t))}
@@ -34,6 +38,14 @@ class Change(NamedTuple):
     came: int
 
 
+def _index(kind: Any, number: SupportsIndex) -> int:
+    """The number as an int, since ctypes takes no other. ValueError for one that C's type can't hold."""
+    index = operator.index(number)
+    if not 0 <= index < _END[kind]:
+        raise ValueError(f"{number} is not from 0 to {_END[kind] - 1}")
+    return index
+
+
 def _least(most: Optional[int], there: int) -> int:
     """The smaller of a wished number, if there is one, and of how many there are. ValueError for one below 0."""
     if most is None:
@@ -50,6 +62,8 @@ class _Side:
 
     def __init__(self) -> None:
         if not hasattr(self, "_handle"):  # else it is made already, which the library says
+            # What take_out moved out where an exception broke it off: a buffer, how much of it was returned, and how much it has.
+            self._left: Deque[Tuple[Any, int, c_size_t]] = deque()
             self._handle = Handle()
         self._call("new")
 
@@ -58,18 +72,20 @@ class _Side:
         raise TypeError(f"a {type(self).__name__} can't be copied or pickled")
 
     def _answer(self, name: str, *arguments: Any) -> int:
-        """Makes a call, and returns its status. ValueError for a number that C's type can't hold: ctypes would wrap it."""
+        """Makes a call, and returns its status. ValueError for a number that C's type can't hold: ctypes would wrap it. A
+        MemoryError comes only before the call is made."""
         function = getattr(LIBRARY, f"{self._prefix}_{name}")
-        for kind, argument in zip(function.argtypes[1:], arguments):
-            if kind in _END and not 0 <= operator.index(argument) < _END[kind]:
-                raise ValueError(f"{argument} is not from 0 to {_END[kind] - 1}")
-        status: int = function(byref(self._handle), *arguments)
+        words = [_index(kind, word) if kind in _END else word for kind, word in zip(function.argtypes[1:], arguments)]
+        try:
+            status: int = function(byref(self._handle), *words)
+        except ctypes.ArgumentError as error:  # all words are right, so this stands for a MemoryError
+            raise MemoryError from error
         return status
 
     def _call(self, name: str, *arguments: Any) -> None:
         """Makes a call. Raises what it answers other than SAM_OK."""
         code = self._answer(name, *arguments)
-        if code != Status.OK:
+        if code != _OK:
             raise error_of(code)
 
     def _number(self, name: str, kind: Any, *arguments: Any) -> int:
@@ -131,21 +147,36 @@ class _Side:
     @property
     def pending(self) -> int:
         """How many bytes are pending for the other side."""
-        return self._number("pending", c_size_t)
+        pending = self._number("pending", c_size_t)
+        for _, start, count in list(self._left):
+            pending += count.value - start
+        return pending
 
     def take_out(self, most: Optional[int] = None) -> bytes:
-        """Moves out the pending bytes, all or the first `most`; b"" if there are none. ValueError if `most` is below 0. If there is no
-        memory for them it raises MemoryError, and they are still pending."""
+        """Moves out the pending bytes, all or the first `most`; b"" if there are none. ValueError if `most` is below 0. Where another
+        exception breaks in, as a MemoryError, they are still pending, and may come by more than one call."""
         room = _least(most, self.pending)
         if room == 0:
             return b""
-        into, count, for_result = ctypes.create_string_buffer(room), c_size_t(), bytes(room)
-        self._call("take_out", into, room, byref(count))
-        del for_result  # what is moved out is pending no more, so memory for the result has to be had before
-        return ctypes.string_at(into, count.value)
+        moved = self._left.popleft() if self._left else (ctypes.create_string_buffer(room), 0, c_size_t())
+        into, start, count = moved
+        try:
+            if not count:
+                self._call("take_out", into, room, byref(count))
+            end = min(start + room, count.value)
+            taken: bytes = into[start:end]
+            rest = (into, end, count) if end < count.value else None
+        except BaseException:
+            if count:
+                self._left.appendleft(moved)  # which wants no memory
+            raise
+        if rest:
+            self._left.appendleft(rest)
+        return taken
 
     def free(self) -> None:
         """Frees it, with what was pending. Any later call but this one raises HandleFault."""
+        self._left.clear()
         self._answer("free")
 
     def __enter__(self: _AnySide) -> _AnySide:
@@ -175,7 +206,7 @@ class Host(_Side):
 
     def next_written(self) -> Optional[int]:
         """The tag of a file that the terminal asked the host to write: write `saved` of it to disk now. Each Twrite gives its tag once,
-        in order; None if there is none left."""
+        in order; None if there is none left. Ask after each feed: once the file is closed, its saved text is gone."""
         return self._number_if_any("next_written", c_uint16)
 
     def written(self) -> Iterator[int]:
@@ -220,7 +251,7 @@ class Host(_Side):
         return self._number("len", c_uint32, tag)
 
     def is_dirty(self, tag: int) -> bool:
-        """Whether a file has changed since it was made or written. Raises Missing."""
+        """Whether a file was edited since it was made or written; never for the command file, tag 0. Raises Missing."""
         return self._truth("is_dirty", tag)
 
     def text(self, tag: int, place: int = 0, runes: Optional[int] = None) -> str:
@@ -228,11 +259,11 @@ class Host(_Side):
         return self._long_text("text", place, runes, tag)
 
     def saved_len(self, tag: int) -> Optional[int]:
-        """The length in runes of what a file was when it was written last; None if it never was."""
+        """The length in runes of what a file was when it was written last; None if it never was, or the tag has no file."""
         return self._number_if_any("saved_len", c_uint32, tag)
 
     def saved(self, tag: int, place: int = 0, runes: Optional[int] = None) -> str:
-        """What a file was when it was written last, from a place on. Raises Missing if it never was."""
+        """What a file was when it was written last, from a place on. Raises Missing, also if it never was."""
         return self._long_text("saved", place, runes, tag)
 
     def dot(self, tag: int) -> Tuple[int, int]:
@@ -271,28 +302,30 @@ class Terminal(_Side):
         self._call("select", tag, start, end)
 
     def cut(self, tag: int) -> None:
-        """Cuts the dot into the snarf buffer."""
+        """Cuts the dot into the snarf buffer. Does nothing if the dot is empty."""
         self._call("cut", tag)
 
     def paste(self, tag: int) -> None:
-        """Puts the snarf buffer in the place of the dot. Where the file would have more than 1,000,000 runes, the dot is cut, nothing
-        comes in, and nothing is refused."""
+        """Puts the snarf buffer in the place of the dot, and selects it. If the buffer is empty, or the file would have more than 1,000,000
+        runes, only the dot goes, and nothing is refused."""
         self._call("paste", tag)
 
     def snarf(self, tag: int) -> None:
-        """Copies the dot into the snarf buffer."""
+        """Copies the dot into the snarf buffer. Does nothing if the dot is empty."""
         self._call("snarf", tag)
 
     def look(self, tag: int) -> None:
-        """Selects the next occurrence of the dot's text, which becomes the pattern."""
+        """Selects the next occurrence of the dot's text, which becomes the pattern. Does nothing if the dot is empty or has more than 128
+        runes."""
         self._call("look", tag)
 
     def search(self, tag: int) -> None:
-        """Selects the next occurrence of the pattern."""
+        """Selects the next occurrence of the pattern. Does nothing if there is no pattern or no occurrence."""
         self._call("search", tag)
 
     def send(self, tag: int) -> None:
-        """Prints the dot's text in the command file, and runs its last line as a command line."""
+        """Prints the dot's text in the command file, and runs its last line as a command line. Does nothing if the dot is empty, or the
+        command file would have more than 1,000,000 runes."""
         self._call("send", tag)
 
     def dclick(self, tag: int, place: int) -> None:
@@ -321,7 +354,7 @@ class Terminal(_Side):
         self._call("open_cmd")
 
     def new_file(self) -> None:
-        """Makes an empty file, and opens it; command lines work on it then."""
+        """Makes an empty file, and opens it; command lines work on it then. If all tags are given it makes none."""
         self._call("new_file")
 
     def write(self, tag: int) -> None:
@@ -351,7 +384,8 @@ class Terminal(_Side):
         self._call("set_snarf", text, len(text))
 
     def offer_version(self, version: int) -> None:
-        """Offers a version of the protocol, and asks for the names of all files."""
+        """Offers a version of the protocol, and asks for the names of all files. Before it the terminal knows none of them, and refuses
+        each event on one; events after it wait for the answer. Version 2 allows longer snarfed texts."""
         self._call("offer_version", version)
 
     def flush(self) -> None:
@@ -375,7 +409,7 @@ class Terminal(_Side):
         code = self._answer("next_refusal", byref(event), byref(why))
         if code == Status.NONE:
             return None
-        if code != Status.OK:
+        if code != _OK:
             raise error_of(code)
         return Refusal(event.value, Status(why.value))
 
@@ -441,7 +475,8 @@ class Terminal(_Side):
     def read(self, tag: int, place: int, count: int) -> List[Optional[str]]:
         """The runes of an open file from a place on, at most `count`; None stands for one that is not loaded. Raises Missing,
         and ValueError if a number is below 0."""
-        room = _least(count, max(0, self.len(tag) - place))
+        length = self.len(tag)
+        room = _least(count, max(0, length - max(0, place)))
         into, got = (c_uint32 * room)(), c_uint32()
         self._call("read", tag, place, into, room, byref(got))
         return [None if rune == GAP else chr(rune) for rune in into[: got.value]]
@@ -525,7 +560,8 @@ class Terminal(_Side):
         return self._short_text("pattern", MOST_IN_PATTERN)
 
     def snarfed(self, place: int = 0, runes: Optional[int] = None) -> str:
-        """The snarfed text that the host sent last (`get_snarf`), from a place on."""
+        """The snarfed text that the host sent last (`get_snarf`), from a place on. It may be only the front of the host's buffer: at most
+        4,096 bytes come, 32,000 in version 2."""
         return self._long_text("snarfed", place, runes)
 
     @property

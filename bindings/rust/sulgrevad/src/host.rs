@@ -4,7 +4,17 @@ use crate::{done, short_text, tells, told, whole_text, Error, PIECE};
 use std::cell::UnsafeCell;
 use sulgrevad_sys::{self as sys, sam_host};
 
-/// A host. It is dropped with what is pending.
+/// A host. It is dropped with what is pending. A thread may hand it to another, but two can't share it:
+///
+/// ```
+/// fn goes<T: Send>() {}
+/// goes::<sulgrevad::Host>();
+/// ```
+///
+/// ```compile_fail,E0277
+/// fn is_shared<T: Sync>() {}
+/// is_shared::<sulgrevad::Host>();
+/// ```
 #[derive(Debug)]
 pub struct Host {
     // Each call writes to the handle, those that only read included.
@@ -63,10 +73,15 @@ impl Host {
         })
     }
 
-    /// The files that the terminal asked the host to write since this was called last, one for each Twrite, in order: write `saved` of each
-    /// to disk.
+    /// The tag of a file that the terminal asked the host to write: write `saved` of it to disk now. Each Twrite gives its tag once, in
+    /// order; `None` if there is none left. Ask after each feed: once the file is closed, its saved text is gone.
+    pub fn next_written(&mut self) -> Option<u16> {
+        told(|tag| unsafe { sys::sam_host_next_written(self.at(), tag) })
+    }
+
+    /// The tags of `next_written`, up to the last.
     pub fn written(&mut self) -> impl Iterator<Item = u16> + '_ {
-        std::iter::from_fn(|| told(|tag| unsafe { sys::sam_host_next_written(self.at(), tag) }))
+        std::iter::from_fn(|| self.next_written())
     }
 
     /// Whether the session is over.
@@ -104,7 +119,7 @@ impl Host {
         told(|runes| unsafe { sys::sam_host_len(self.at(), tag, runes) })
     }
 
-    /// Whether a file has changed since it was made or written.
+    /// Whether a file was edited since it was made or written; never for the command file, tag 0.
     pub fn is_dirty(&self, tag: u16) -> Option<bool> {
         told(|dirty| unsafe { sys::sam_host_is_dirty(self.at(), tag, dirty) })
     }

@@ -1,6 +1,9 @@
 //! A proved host and a proved terminal for editors whose screen and text live apart, after Rob Pike's sam: safe Rust over the C library.
 //! `sulgrevad.h` and the page EMBEDDING of the repository have the whole story, and `sulgrevad-sys` says how the library is found.
 //!
+//! Where the library is out of memory, a call says so ([`Error::NoMemory`], [`Error::Unfinished`]). Where Rust has none for a `Vec` or a
+//! `String` that is handed out, the program ends, as always in Rust.
+//!
 //! ```
 //! use sulgrevad::{Host, Terminal};
 //!

@@ -18,7 +18,17 @@ pub struct Change {
     pub came: u32,
 }
 
-/// A terminal. It is dropped with what is pending.
+/// A terminal. It is dropped with what is pending. A thread may hand it to another, but two can't share it:
+///
+/// ```
+/// fn goes<T: Send>() {}
+/// goes::<sulgrevad::Terminal>();
+/// ```
+///
+/// ```compile_fail,E0277
+/// fn is_shared<T: Sync>() {}
+/// is_shared::<sulgrevad::Terminal>();
+/// ```
 ///
 /// Each event acts at once if it can, or is held until the locks that it waits for are free and the events before it have acted; each
 /// call also lets held events act. What is composed is then pending. Errors: `NoMemory`, `Unfinished`, `CountFull`, `Stream`,
@@ -62,33 +72,35 @@ impl Terminal {
         done(unsafe { sys::sam_term_set_snarf(self.at(), text.as_ptr(), text.len()) })
     }
 
-    /// Cuts the dot into the snarf buffer.
+    /// Cuts the dot into the snarf buffer. Does nothing if the dot is empty.
     pub fn cut(&mut self, tag: u16) -> Result<(), Error> {
         done(unsafe { sys::sam_term_cut(self.at(), tag) })
     }
 
-    /// Puts the snarf buffer in the place of the dot. Where the file would have more than 1,000,000 runes, the dot is cut, nothing comes
-    /// in, and nothing is refused.
+    /// Puts the snarf buffer in the place of the dot, and selects it. If the buffer is empty, or the file would have more than 1,000,000
+    /// runes, only the dot goes, and nothing is refused.
     pub fn paste(&mut self, tag: u16) -> Result<(), Error> {
         done(unsafe { sys::sam_term_paste(self.at(), tag) })
     }
 
-    /// Copies the dot into the snarf buffer.
+    /// Copies the dot into the snarf buffer. Does nothing if the dot is empty.
     pub fn snarf(&mut self, tag: u16) -> Result<(), Error> {
         done(unsafe { sys::sam_term_snarf(self.at(), tag) })
     }
 
-    /// Selects the next occurrence of the dot's text, which becomes the pattern.
+    /// Selects the next occurrence of the dot's text, which becomes the pattern. Does nothing if the dot is empty or has more than 128
+    /// runes.
     pub fn look(&mut self, tag: u16) -> Result<(), Error> {
         done(unsafe { sys::sam_term_look(self.at(), tag) })
     }
 
-    /// Selects the next occurrence of the pattern.
+    /// Selects the next occurrence of the pattern. Does nothing if there is no pattern or no occurrence.
     pub fn search(&mut self, tag: u16) -> Result<(), Error> {
         done(unsafe { sys::sam_term_search(self.at(), tag) })
     }
 
-    /// Prints the dot's text in the command file, and runs its last line as a command line.
+    /// Prints the dot's text in the command file, and runs its last line as a command line. Does nothing if the dot is empty, or the
+    /// command file would have more than 1,000,000 runes.
     pub fn send(&mut self, tag: u16) -> Result<(), Error> {
         done(unsafe { sys::sam_term_send(self.at(), tag) })
     }
@@ -123,7 +135,7 @@ impl Terminal {
         done(unsafe { sys::sam_term_open_cmd(self.at()) })
     }
 
-    /// Makes an empty file, and opens it; command lines work on it then.
+    /// Makes an empty file, and opens it; command lines work on it then. If all tags are given it makes none.
     pub fn new_file(&mut self) -> Result<(), Error> {
         done(unsafe { sys::sam_term_new_file(self.at()) })
     }
@@ -169,7 +181,8 @@ impl Terminal {
         done(unsafe { sys::sam_term_load(self.at(), tag, place, len) })
     }
 
-    /// Offers a version of the protocol, and asks for the names of all files. Version 2 allows longer snarfed texts.
+    /// Offers a version of the protocol, and asks for the names of all files. Before it the terminal knows none of them, and refuses each
+    /// event on one; events after it wait for the answer. Version 2 allows longer snarfed texts.
     pub fn offer_version(&mut self, version: u16) -> Result<(), Error> {
         done(unsafe { sys::sam_term_offer_version(self.at(), version) })
     }
@@ -209,14 +222,17 @@ impl Terminal {
         })
     }
 
-    /// The events that were refused since this was called last: which one, counted from 1 over all events, and why.
+    /// The oldest refused event that was not handed out yet: which one, counted from 1 over all events, and why. `None` if there is none.
     /// A reason that this crate doesn't know is `Err`, with its number in sulgrevad.h.
+    pub fn next_refusal(&mut self) -> Option<(u64, Result<Refusal, u32>)> {
+        let mut why = 0;
+        let event = told(|event| unsafe { sys::sam_term_next_refusal(self.at(), event, &mut why) })?;
+        Some((event, Refusal::of(why).ok_or(why)))
+    }
+
+    /// The refused events of `next_refusal`, up to the last.
     pub fn refusals(&mut self) -> impl Iterator<Item = (u64, Result<Refusal, u32>)> + '_ {
-        std::iter::from_fn(|| {
-            let mut why = 0;
-            let event = told(|event| unsafe { sys::sam_term_next_refusal(self.at(), event, &mut why) })?;
-            Some((event, Refusal::of(why).ok_or(why)))
-        })
+        std::iter::from_fn(|| self.next_refusal())
     }
 
     /// The runes of an open file from a place on, at most `most`: `None` for each that is not loaded. Nothing if it is not open.
@@ -392,7 +408,8 @@ impl Terminal {
         short_text(|into, len| unsafe { sys::sam_term_pattern(self.at(), into.as_mut_ptr(), into.len(), len) }).expect("the handle is made")
     }
 
-    /// The snarfed text that the host sent last.
+    /// The snarfed text that the host sent last (`get_snarf`). It may be only the front of the host's buffer: at most 4,096 bytes come,
+    /// 32,000 in version 2.
     pub fn snarfed(&self) -> String {
         whole_text(|place, into, bytes, runes| unsafe {
             sys::sam_term_snarfed(self.at(), place, into.as_mut_ptr(), into.len(), bytes, runes)

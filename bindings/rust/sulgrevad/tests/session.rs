@@ -138,6 +138,33 @@ fn a_written_file_is_told_once() -> Result<(), Error> {
 }
 
 #[test]
+fn what_was_written_is_read_as_it_is_told() -> Result<(), Error> {
+    let (mut host, mut term, file) = opened("one\n")?;
+    term.write(file)?;
+    term.type_(file, "é")?;
+    term.write(file)?;
+    carry(&mut term, &mut host)?;
+    let mut saved = Vec::new();
+    while let Some(tag) = host.next_written() {
+        saved.push((tag, host.saved(tag)));
+    }
+    assert_eq!(saved, vec![(file, Some("éone\n".to_owned())); 2]); // once for each Twrite, as it was at the last
+    Ok(())
+}
+
+#[test]
+fn refusals_are_told_one_by_one() -> Result<(), Error> {
+    let (_host, mut term, _) = opened("one\n")?;
+    let before = term.events();
+    term.cut(9)?;
+    term.offer_version(0)?;
+    assert_eq!(term.next_refusal(), Some((before + 1, Ok(Refusal::NoFile))));
+    assert_eq!(term.next_refusal(), Some((before + 2, Ok(Refusal::BadVersion))));
+    assert_eq!(term.next_refusal(), None);
+    Ok(())
+}
+
+#[test]
 fn a_typed_file_is_changed_until_it_is_written() -> Result<(), Error> {
     let (mut host, mut term, file) = opened("one\n")?;
     assert!(!term.is_changed(file));
