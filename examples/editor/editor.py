@@ -1,7 +1,7 @@
 """The editor: what comes from the host, and the keys that act. Windows stand in desk.py, keys that wait in waiting.py, and what a key does
 in actions.py."""
 import time
-from typing import Callable, List, Optional, Sequence, Tuple
+from typing import Callable, Iterable, List, Optional, Sequence, Tuple
 
 from actions import TOO_LONG, Actions
 from desk import Desk
@@ -243,7 +243,7 @@ class Editor(Desk, Waiting, Actions):
         key = pressed.key
         self.notes.take(pressed.has_read)
         if self.is_lost and not self._is_for_menu(key) and not reads(key):
-            self.keeping.typed_late += key.runes if isinstance(key, (Text, Paste)) else ""
+            self.take_late([key])
             return
         self._answered, self._acting, self._is_again = pressed.answers, key, pressed.is_again
         self.texts.left = ""
@@ -262,10 +262,20 @@ class Editor(Desk, Waiting, Actions):
         except SamError as error:
             self.lose(f"the session can't go on ({error})")
             self.keeping.typed_late += self.texts.left
+        except Exception:  # a fault of this program ends it
+            self.keeping.typed_late += self.texts.left
+            raise
         self._answered = ""
         if self._again is not None:
             self.deferred.appendleft(pressed._replace(key=self._again, answers="", has_read=False, is_again=True))
             self._again = None
+
+    def take_late(self, keys: Iterable[Input]) -> None:
+        """Keys that come too late to act: what was typed is told or written at the end."""
+        if self.is_lost:
+            self.keeping.typed_late += "".join(key.runes for key in keys if isinstance(key, (Text, Paste)))
+        else:
+            self.deferred.extend(Pressed(key, self.clock()) for key in keys)
 
     def act_again(self, why: str) -> None:
         """The key that acts now does so again, once the host has answered."""

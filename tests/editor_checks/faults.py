@@ -75,7 +75,8 @@ def check_suspend(folder):
 
 
 def check_exception(folder):
-    """A fault of the editor ends the host's link, sets the screen back, and shows what the host told."""
+    """A fault of the editor ends the host's link, sets the screen back, and shows what the host told. What was typed at once with the key
+    that meets it is written here."""
     made(folder, a="one\n")
     broken = folder / "broken.py"
     broken.write_text(
@@ -88,9 +89,10 @@ def check_exception(folder):
         session.wait_for("one")
         session.type("typed ")
         session.wait_for("typed one")
-        session.keys("F1")
+        session.tmux("send-keys", "-H", *(f"{byte:x}" for byte in b"\x1bOPafter"))  # F1 and a text
         session.wait_for_end(1)
         wait_for_text(folder / "a.txt.sam-saved", "typed one\n")
+        wait_for_text(folder / "a.txt.sam-here", "typed one\n\n[typed, and not put in yet:]\nafter")
     told = (folder / "stderr").read_text()
     expect("broken on purpose" in told and "a.txt.sam-saved" in told, f"it tells {told!r}")
 

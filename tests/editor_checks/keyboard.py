@@ -28,6 +28,9 @@ def check_sequences(folder):
     decoder = Decoder()
     got = decoder.feed(b"\x1b[200~a\r\nb\x1b[A", 0.0) + decoder.feed(b"c\x1b[20", 0.1) + decoder.feed(b"1~d", 0.2)
     expect([tuple(key) for key in got] == [("a\nb\x1b[Ac",), ("d",)], f"a paste is taken for {got}")
+    got = Decoder().feed(b"\x1b\x1b[200~a\x1b[201~\x1b\x1b[<0;2;3M\x1b\x1b[?62;1c", 5.0)
+    wanted = [("Esc",), ("a",), ("Esc",), ("press", 2, 1, 5.0), ("Esc",)]
+    expect([tuple(key) for key in got] == wanted, f"Esc at once with a paste, a click and an answer is taken for {got}")
     for alone, name in ((b"\x1b", "Esc"), (b"\x1b[", "Alt-["), (b"\x1bO", "Alt-O")):
         decoder = Decoder()
         got = decoder.feed(alone, 0.0) + decoder.flush(0.01) + decoder.flush(0.03)
@@ -110,6 +113,62 @@ def check_paste_of_the_screen(folder):
         wait_for_text(path, "  begin\n  x\n  y\n\tz\x1b[A\n")
         session.keys("C-z", "C-w")
         wait_for_text(path, "  begin\n  \n")
+        session.leave()
+
+
+def check_paste_that_stops(folder):
+    """What comes after a pause of a paste is part of it, whatever it is. Esc twice ends one whose end is lost, once it has stopped."""
+    from decode import Decoder
+
+    def taken(*pieces):
+        """What comes of pieces of bytes, with ten seconds after each."""
+        decoder, got = Decoder(), []
+        for at, piece in enumerate(pieces):
+            got += decoder.feed(piece, 10.0 * at)
+            while (left := decoder.delay(10.0 * at)) is not None and left < 10.0:
+                got += decoder.flush(10.0 * at + left)
+                if decoder.delay(10.0 * at + left) == 0.0:
+                    break
+        return [tuple(key) for key in got]
+
+    for pieces, wanted in (
+        ((b"\x1b[200~one\n", b"q\n\x11\x0b", b"\x1b[A\x1b", b"[20", b"1~x"), [("one\nq\n\x11\x0b\x1b[A",), ("x",)]),
+        ((b"\x1b[200~one", b"\x1b\x1b\x11"), []),
+        ((b"\x1b[200~one", b" two\x1b\x1b", b"\x11"), [("one two",), ("^Q",)]),
+        ((b"\x1b[200~one", b"\x1b", b"\x1b", b"x"), [("one",), ("x",)]),
+        ((b"\x1b[200~one\x1b", b"\x1b", b"\x1b", b"\x1b[201~x"), [("one\x1b",), ("x",)]),
+        ((b"\x1b[200~a\x1b\x1b", b"b\x1b[201~"), [("a\x1b\x1bb",)]),
+        ((b"\x1b[200~", b"\x1b\x1b", b"x"), [("x",)]),
+    ):  # fmt: skip
+        expect(taken(*pieces) == wanted, f"{pieces} are taken for {taken(*pieces)}, wanted {wanted}")
+
+
+def check_paste_over_a_bad_line(folder):
+    """A paste that stops for a while runs no command line and writes no file. The line at the bottom says how to end it."""
+    (path,) = made(folder, a="end\n")
+
+    def send(session, data):
+        session.tmux("send-keys", "-H", *(f"{byte:x}" for byte in data))
+
+    with Session(folder, "a.txt") as session:
+        session.wait_for("end")
+        session.switch()
+        send(session, b"\x1b[200~$a/one")
+        session.wait_for("Esc twice")
+        send(session, b"/\n,d\n\x17")
+        time.sleep(0.3)
+        expect(session.shows("Esc twice") and "end" in session.rows("a.txt"), "what comes after a pause acts")
+        send(session, b"/")
+        session.keys("Escape", "Escape")
+        wait_until(lambda: not session.shows("Esc twice"), "Esc twice doesn't end it")
+        wait_until(lambda: session.rows("a.txt")[0] == "", lambda: f"the lines are not run: {session.rows('a.txt')}")
+        session.wait_to_go_to("~~sam~~")
+        expect(path.read_text() == "end\n", f"the file is written: {path.read_text()!r}")
+        session.switch()
+        session.keys("C-z")
+        session.wait_for("one")
+        session.keys("C-w")
+        wait_for_text(path, "end\none")
         session.leave()
 
 
