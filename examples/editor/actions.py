@@ -174,6 +174,8 @@ class Actions(Commands, Moves):
         elif self._goes("^V"):
             self.log.comes = self._snarfed
             self.texts.paste(self.focus.tag)
+            if self.terminal.locked(self.focus.tag):
+                self._pasting.add(self.focus.tag)
 
     def do_look(self) -> None:
         self.terminal.look(self.focus.tag)

@@ -172,6 +172,41 @@ def check_paste_over_a_bad_line(folder):
         session.leave()
 
 
+def check_caret_after_a_paste(folder):
+    """The caret stands behind what was pasted, also for keys that come before the host has answered, of which some go by the selection."""
+    for keys, wanted, dot in (
+        (("^V",), "ababc\nabc\n", 2), (("^V", "x"), "abxabc\nabc\n", 3), (("^V", "^V", "y", "Left", "^V"), "abababyabc\nabc\n", 6),
+        (("Shift-Right", "^V", "Shift-Left", "x"), "axbc\nabc\n", 2), (("^V", "^L", "x"), "abxabc\nabc\n", 3),
+        (("Esc", "^V", "Esc", "x"), "xabc\nabc\n", 1),
+    ):  # fmt: skip
+        for waits in (True, False):
+            pair, editor, key, text = opened("abc\nabc\n")
+            pair.press(key("Shift-Right"), key("Shift-Right"), key("^C"), key("Home"))
+            for name in keys:
+                editor.take(text(name) if name.islower() else key(name))
+                if waits:
+                    pair.finish()
+            pair.finish()
+            got = pair.host.text(1), editor.focus.dot
+            expect(got == (wanted, (dot, dot)), f"{keys}, one by one: {waits}: it has {got}, wanted {wanted!r}, {dot}")
+            expect("Esc" not in keys or pair.host.text(0) == "ab", f"the command window has {pair.host.text(0)!r}")
+    pair, editor, key, text = opened("abc " * 2000)
+    pair.press(key("^A"), key("^C"), key("^V"), text("x"))
+    expect(pair.host.text(1) == "abc " * 2000 + "x" and editor.focus.dot == (8001, 8001), f"after a long paste: {editor.focus.dot}")
+    expect(pair.screen.cursor_of(editor) is not None, "after a long paste the caret is not on the screen")
+    pair.press(key("^Z"), key("^Z"))
+    expect(pair.host.text(1) == "abc " * 2000, f"it is not taken back: {editor.message}")
+
+
+def check_selection_after_a_paste(folder):
+    """A paste of nothing, and one that has an answer already, leave the selections that are made later."""
+    pair, editor, key, _ = opened("abc\n")
+    pair.press(key("^V"), key("^D"))
+    expect(editor.focus.dot == (0, 3), f"after a paste of nothing ^D selects {editor.focus.dot}")
+    pair.press(key("^C"), key("^V"), key("^D"), key("^W"))
+    expect(editor.focus.dot == (0, 3) and pair.host.text(1) == "abc\n", f"after a paste ^D selects {editor.focus.dot}")
+
+
 def check_indents(folder):
     """Enter repeats the blanks before the line above, unless that is turned off. Lines that come together are not indented."""
     for at, (words, wanted) in enumerate((((), "\tone\n\ttwo\n  x\n    y\n"), (("--no-indent",), "\tone\ntwo\n  x\n    y\n"))):
