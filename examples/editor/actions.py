@@ -77,7 +77,7 @@ class Actions(Commands, Moves):
 
     def do_menu(self) -> None:
         tags = self.tags
-        entries = [("* " if self.is_changed(tag) else "  ") + self.name(tag) for tag in tags]
+        entries = [("* " if self.is_changed(tag) else "  ", self.name(tag)) for tag in tags]
         if tags:
             chosen = tags.index(self.active.tag) if self.active.tag in tags else 0
             self.menu = Menu("Files", entries, chosen, lambda at: self.show(tags[at]))

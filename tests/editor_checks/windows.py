@@ -35,6 +35,39 @@ def check_unsplit(folder):
         expect(texts == ["ya\n", "xzb\n"], f"{name}: the texts are {texts}")
 
 
+def check_typing_at_the_menu(folder):
+    """What is typed at the menu leaves the files whose names have it, and chooses the first in which a part of the path begins so."""
+    names = ("notes.txt", "d/e/tab.txt", "Data/a.c", "extra.c")
+    pair, editor, key, text = opened(*(f"{name}\n" for name in names))
+    for tag, name in enumerate(names, 1):
+        editor.go_to(editor.window_of(tag))
+        pair.press(key("Esc"), text(f"f {name}\n"), key("Esc"))
+
+    def shown():
+        lines = [(line.strip(), is_chosen) for line, is_chosen in editor.menu.lines(20)]
+        return [name for name, _ in lines if name], next((name for name, is_chosen in lines if is_chosen), None)
+
+    for keys, wanted in (
+        ((text("t"),), (list(names), "d/e/tab.txt")),
+        ((text("a"),), (["d/e/tab.txt", "Data/a.c"], "d/e/tab.txt")),
+        ((key("Down"),), (["d/e/tab.txt", "Data/a.c"], "Data/a.c")),
+        ((key("Backspace"), key("Backspace"), text("d")), (["d/e/tab.txt", "Data/a.c"], "d/e/tab.txt")),
+        ((text("zz"), text("\n"), key("Down")), ([], None)),
+        ((key("Backspace"),) * 3, (list(names), "notes.txt")),
+        ((text("A.c"),), (["Data/a.c", "extra.c"], "Data/a.c")),
+    ):  # fmt: skip
+        if editor.menu is None:
+            pair.press(key("F2"))
+        pair.press(*keys)
+        expect(editor.menu is not None and shown() == wanted, f"after {keys}: {editor.menu and shown()}, wanted {wanted}")
+    pair.press(text("\nx"))
+    expect(editor.menu is None and pair.host.text(3) == "xData/a.c\n", f"Enter doesn't open it: {editor.focus.tag}, {pair.host.text(3)!r}")
+    pair.press(key("F2"), key("Backspace"))
+    expect(editor.menu is None, "Backspace doesn't go back where nothing was typed")
+    pair.press(key("F2"), text("x"), key("Esc"), key("F2"))
+    expect(editor.menu is not None and shown()[0] == ["notes.txt", "d/e/tab.txt", "* Data/a.c", "extra.c"], f"it shows {shown()}")
+
+
 def check_small_command_window(folder):
     made(folder, a="one\n")
     with Session(folder, "a.txt") as session:
