@@ -44,8 +44,19 @@ class Actions(Commands, Moves):
             runes = runes.replace("\n", "\n" + window.indentation(start))
         if "\n" in runes and window.newline(start) == "\r\n":
             runes = runes.replace("\n", "\r\n")
+        if not self._has_room(len(runes)):
+            return
         self.log.begin(window.tag, "" if is_paste or "\n" in runes else "type", start, end)
         self.texts.replace(window.tag, runes)
+
+    def _has_room(self, count: int) -> bool:
+        """Whether so many runes can take the place of the selection. Else the terminal would put in those of the last piece alone, and the
+        host nothing, without a word."""
+        start, end = self.focus.dot
+        if self.focus.length - (end - start) + count <= MOST_RUNES:
+            return True
+        self.message = TOO_LONG
+        return False
 
     def _may_go(self, window: Window, key: str) -> bool:
         """Whether what is selected may go: it can be brought back, or the user is sure."""
@@ -168,10 +179,7 @@ class Actions(Commands, Moves):
         self.terminal.snarf(self.focus.tag)
 
     def do_paste(self) -> None:
-        start, end = self.focus.dot
-        if self.focus.length - (end - start) + len(self._snarfed) > MOST_RUNES:  # the host would put in nothing, and not say so
-            self.message = TOO_LONG
-        elif self._goes("^V"):
+        if self._has_room(len(self._snarfed)) and self._goes("^V"):
             self.log.comes = self._snarfed
             self.texts.paste(self.focus.tag)
             if self.terminal.locked(self.focus.tag):

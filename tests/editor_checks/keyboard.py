@@ -381,6 +381,15 @@ def check_no_room_to_paste(folder):
     expect(len(pair.host.text(1)) == 600_000 and editor.message == "", f"it doesn't paste what has room: {editor.message!r}")
 
 
+def check_no_room_for_a_paste_of_the_screen(folder):
+    """So does a paste of the user's terminal: not even its end comes in."""
+    for count, is_room in ((601, False), (600, True)):
+        pair, editor, key, _ = opened("line\n" * 199_880)
+        pair.press(pair.keys.Paste("x" * count))
+        expect(pair.host.text(1) == "x" * count * is_room + "line\n" * 199_880, f"{count}: it begins with {pair.host.text(1)[:9]!r}")
+        expect(("more than 1,000,000 characters" in editor.message) != is_room, f"{count}: it tells {editor.message!r}")
+
+
 def check_words(folder):
     """The keys by words, with Shift too, and that which selects the word, as xterm sends them."""
     from decode import Decoder
