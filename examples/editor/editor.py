@@ -149,7 +149,7 @@ class Editor(Desk, Waiting, Actions):
             self.numbers.set(frame.tag, frame.place, self._sought[1])
 
     def _meet_unlock(self, _frame: Frame) -> None:
-        self._sought = None
+        self._sought, self._aside = None, ""
 
     def _meet_pasted(self, frame: Frame) -> None:
         """The host has answered what locked a file. What it has pasted it has selected: the caret goes behind that."""

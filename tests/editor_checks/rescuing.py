@@ -70,6 +70,19 @@ def check_begun_command_line(folder):
         kept.expect(wanted, f"after {typed!r}")
 
 
+def check_begun_line_while_it_searches(folder):
+    """So is one that was begun before a search, while the host's answer to that is out."""
+    for begun, is_answered in (("$a/draft/", False), ("$a/" + "long " * 300, False), ("$a/draft/", True)):
+        pair, editor, key, text = opened("a b\n")
+        pair.press(key("Esc"), text(begun), key("Esc"), key("^S"), text("b"))
+        editor.take(text("\n"))
+        if is_answered:
+            pair.finish()
+        with Kept() as kept:
+            editor.lose("the host is gone")
+        kept.expect([("command", begun if is_answered else f"/b/\n{begun}")], f"{begun[:9]!r}, answered: {is_answered}")
+
+
 def check_signal_before_a_key_arrives(folder):
     """The same with a real host, which tells that it has saved while the last key is on the way."""
     made(folder, a="one\n")
