@@ -149,7 +149,7 @@ class Screen:
 def frame_of(editor: Editor, rows: int, columns: int) -> Dict[int, List[Run]]:
     """What stands in each row of the screen, but for the status line."""
     frame: Dict[int, List[Run]] = {}
-    for window in editor.windows:
+    for window in editor.shown:
         frame.update(window_rows(editor, window))
     if editor.menu is not None and editor.menu.is_box:
         frame.update(menu_rows(editor.menu, max(1, rows - FOOT), columns))

@@ -68,6 +68,25 @@ def check_typing_at_the_menu(folder):
     expect(editor.menu is not None and shown()[0] == ["notes.txt", "d/e/tab.txt", "* Data/a.c", "extra.c"], f"it shows {shown()}")
 
 
+def check_tiny_screen(folder):
+    """A screen that has no room for all windows shows that to which the keys go, and takes clicks for it."""
+    pair, editor, key, text = opened("a\nb\n", "c\n")
+    first, second = editor.files
+    for rows, is_tiny in ((5, True), (6, False)):
+        editor.arrange(rows, 20)
+        for window, title, line in ((editor.command, "~~sam~~", ""), (first, "file0", "a"), (second, "file1", "c")):
+            editor.go_to(window)
+            pair.finish()
+            frame = pair.screen.frame_of(editor, rows + 2, 20)
+            shown = ["".join(part for part, _ in frame.get(y, [])).rstrip() for y in range(rows)]
+            at = shown.index(f">  {title}")
+            expect(shown[at + 1] == line, f"{rows} rows: below the title of {title} it shows {shown}")
+            expect(at == 0 or not is_tiny, f"{rows} rows: other windows are shown with {title}: {shown}")
+            expect(pair.screen.cursor_of(editor)[0] == at + 1, f"{rows} rows: the caret of {title} is at {pair.screen.cursor_of(editor)}")
+            editor.take(pair.keys.Mouse("press", at + 1, 0, 0.0))
+            expect(editor.focus is window, f"{rows} rows: a click on {title} goes elsewhere")
+
+
 def check_small_command_window(folder):
     made(folder, a="one\n")
     with Session(folder, "a.txt") as session:
