@@ -158,12 +158,12 @@ class Actions(Commands, Moves):
         self.focus.anchor = None
         return True
 
-    def _clip(self) -> None:
+    def _clip(self, is_cut: bool = False) -> None:
         """The user's clipboard is to have what is selected, where all of it is loaded."""
         start, end = self.focus.dot
         text = self.focus.read(start, end - start)
         if text:
-            self._snarfed = text
+            self._snarfed, self.cut_text = text, text if is_cut else ""
             if GAP not in text:
                 self.clip = text
             else:
@@ -171,7 +171,7 @@ class Actions(Commands, Moves):
 
     def do_cut(self) -> None:
         if self._goes("^X"):
-            self._clip()
+            self._clip(is_cut=True)
             self.texts.cut(self.focus.tag)
 
     def do_snarf(self) -> None:

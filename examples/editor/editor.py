@@ -73,6 +73,7 @@ class Editor(Desk, Waiting, Actions):
         self._sought_above: Optional[Tuple[int, int]] = None  # from where a search above goes on, and how much it loads next
         self._answered = ""  # the question that the key which acts now answers
         self._snarfed = ""  # what was cut or copied last, as far as it was loaded
+        self.cut_text = ""  # the same if it was cut, and the host has not pasted it since
         self._pasting: Set[int] = set()  # the files into which the host pastes
         self._sought: Optional[Tuple[int, int]] = None  # the file and the line that the host was told to select
         self._asks_at: List[float] = []  # when that may be asked for which the last update left, since keys came
@@ -155,6 +156,7 @@ class Editor(Desk, Waiting, Actions):
         """The host has answered what locked a file. What it has pasted it has selected: the caret goes behind that."""
         if frame.tag in self._pasting:
             self._pasting.remove(frame.tag)
+            self.cut_text = ""
             window = self.window_of(frame.tag)
             window.select(window.dot[1])
 
