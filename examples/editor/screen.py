@@ -79,7 +79,8 @@ class Screen:
 
     def redraw(self) -> None:
         """Sets the terminal up again, and draws all of it."""
-        curses.reset_prog_mode()
+        with contextlib.suppress(curses.error):  # of a screen that is gone
+            curses.reset_prog_mode()
         self._open()
         self.screen.clearok(True)
         self.screen.erase()

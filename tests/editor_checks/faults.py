@@ -7,7 +7,7 @@ import subprocess
 import sys
 from pathlib import Path
 
-from .support import ROOT, SAMHOST, SAMTERM, Failed, Session, expect, made, wait_for_text, wait_until
+from .support import ROOT, SAMHOST, SAMTERM, Failed, Session, expect, made, stat_of, wait_for_text, wait_until
 
 
 def check_signals(folder):
@@ -72,6 +72,25 @@ def check_suspend(folder):
             session.type("x")
             session.wait_for("xone")
             session.leave_unwritten()
+
+
+def check_hangup_while_suspended(folder):
+    """The user's screen is gone while the program is stopped: it ends as by a hangup, and what came of a paste is saved, by the host if that
+    is still there."""
+    made(folder, a="one\n")
+    line = f"{SAMTERM} --host {SAMHOST} a.txt; echo back in the shell; read x; fg"
+    with Session(folder, "a.txt", program=f"bash --norc -ic 'set -m; {line}' --") as session:
+        session.wait_for("one")
+        session.tmux("send-keys", "-H", *(f"{byte:x}" for byte in b"\x1b[200~pasted "))
+        session.wait_for("Esc twice")
+        terminal = next(process for name, process in session.processes().items() if name.startswith("python"))
+        os.kill(terminal, signal.SIGTSTP)
+        session.wait_for("back in the shell")
+        session.tmux("kill-session")
+        wait_until(lambda: (stat_of(terminal) or "Z")[0] == "Z", "it doesn't end")
+        wait_until(lambda: "pasted one\n" in [path.read_text() for path in folder.glob("a.txt.sam-*")], "what came is saved nowhere")
+    told = (folder / "stderr").read_text()
+    expect("a.txt.sam-" in told and "Traceback" not in told, f"it tells {told!r}")
 
 
 def check_exception(folder):
