@@ -44,8 +44,19 @@ class Actions(Commands, Moves):
             runes = runes.replace("\n", "\n" + window.indentation(start))
         if "\n" in runes and window.newline(start) == "\r\n":
             runes = runes.replace("\n", "\r\n")
+        if not self._has_room(len(runes)):
+            return
         self.log.begin(window.tag, "" if is_paste or "\n" in runes else "type", start, end)
         self.texts.replace(window.tag, runes)
+
+    def _has_room(self, count: int) -> bool:
+        """Whether so many runes can take the place of the selection. Else the terminal would put in those of the last piece alone, and the
+        host nothing, without a word."""
+        start, end = self.focus.dot
+        if self.focus.length - (end - start) + count <= MOST_RUNES:
+            return True
+        self.message = TOO_LONG
+        return False
 
     def _may_go(self, window: Window, key: str) -> bool:
         """Whether what is selected may go: it can be brought back, or the user is sure."""
@@ -77,7 +88,7 @@ class Actions(Commands, Moves):
 
     def do_menu(self) -> None:
         tags = self.tags
-        entries = [("* " if self.is_changed(tag) else "  ") + self.name(tag) for tag in tags]
+        entries = [("* " if self.is_changed(tag) else "  ", self.name(tag)) for tag in tags]
         if tags:
             chosen = tags.index(self.active.tag) if self.active.tag in tags else 0
             self.menu = Menu("Files", entries, chosen, lambda at: self.show(tags[at]))
@@ -147,12 +158,12 @@ class Actions(Commands, Moves):
         self.focus.anchor = None
         return True
 
-    def _clip(self) -> None:
+    def _clip(self, is_cut: bool = False) -> None:
         """The user's clipboard is to have what is selected, where all of it is loaded."""
         start, end = self.focus.dot
         text = self.focus.read(start, end - start)
         if text:
-            self._snarfed = text
+            self._snarfed, self.cut_text = text, text if is_cut else ""
             if GAP not in text:
                 self.clip = text
             else:
@@ -160,7 +171,7 @@ class Actions(Commands, Moves):
 
     def do_cut(self) -> None:
         if self._goes("^X"):
-            self._clip()
+            self._clip(is_cut=True)
             self.texts.cut(self.focus.tag)
 
     def do_snarf(self) -> None:
@@ -168,12 +179,11 @@ class Actions(Commands, Moves):
         self.terminal.snarf(self.focus.tag)
 
     def do_paste(self) -> None:
-        start, end = self.focus.dot
-        if self.focus.length - (end - start) + len(self._snarfed) > MOST_RUNES:  # the host would put in nothing, and not say so
-            self.message = TOO_LONG
-        elif self._goes("^V"):
+        if self._has_room(len(self._snarfed)) and self._goes("^V"):
             self.log.comes = self._snarfed
             self.texts.paste(self.focus.tag)
+            if self.terminal.locked(self.focus.tag):
+                self._pasting.add(self.focus.tag)
 
     def do_look(self) -> None:
         self.terminal.look(self.focus.tag)

@@ -17,6 +17,8 @@ def line_at(window: Window, place: int, least: int = 0) -> str:
 class Commands:
     """The part of the editor that has the host run command lines."""
 
+    _aside = ""  # a line that is begun, and that the terminal holds until the host has run another before it
+
     def _run_line(self) -> None:
         """Ends the command line in which the caret stands. The host then runs it on the file that was used last."""
         self.command.select(self.command.line_end(self.command.dot[1]))
@@ -69,6 +71,7 @@ class Commands:
         self.terminal.select(COMMAND, end - len(begun), end)
         self.texts.replace(COMMAND, line + "\n")
         if begun:
+            self._aside = begun
             self.texts.replace(COMMAND, begun)
 
     def begun_line(self) -> str:
@@ -81,7 +84,7 @@ class Commands:
         end -= len(begun) + 1
         if end < 0 or not self.terminal.command_locked:
             return begun
-        return line_at(self.command, end).lstrip(GAP) + "\n" + begun
+        return line_at(self.command, end).lstrip(GAP) + "\n" + (begun or self._aside)
 
     def may_leave(self, key: str) -> bool:
         """Whether all is written, or the user is sure. If not, it is asked; the same key answers."""

@@ -9,8 +9,9 @@ from keys import Input, Key, Mouse, Paste, Text
 
 ESCAPE_DELAY = 0.025  # seconds after which an Esc was a key, and no sequence's begin
 REST_DELAY = 0.5  # the same for a sequence whose rest is missing
-PASTE_DELAY = 3.0  # the same for a paste whose end is missing
+PASTE_DELAY = 1.0  # seconds in which nothing comes, after which a paste counts as broken off: the user may end it then
 PASTE_END = b"\x1b[201~"
+PASTE_BREAK = b"\x1b\x1b"  # the keys by which the user ends it: no mark has two Esc, and few terminals paste one
 MOST_DIGITS = 8  # of a number in a sequence, which is greater than any that means something where it has more
 
 # How a string begins that a terminal answers with. What else comes after Alt with such a key was typed, and doesn't wait for an end.
@@ -94,11 +95,19 @@ class Decoder:
         self.known = known or {}  # sequences of this terminal, and their keys
         self._bytes = bytearray()
         self._pasted: Optional[bytearray] = None  # what was pasted so far
+        self._broken_at: Optional[int] = None  # how many bytes of it there were when nothing more came for a while
         self._runes = codecs.getincrementaldecoder(codec())("replace")  # keeps the first bytes of a rune until the others come
         self._since = 0.0
 
+    @property
+    def is_broken(self) -> bool:
+        """Whether a paste was broken off. What comes is part of it all the same, until its end comes or the user ends it."""
+        return self._broken_at is not None
+
     def delay(self, now: float) -> Optional[float]:
-        """Seconds until what is here is taken though it is not whole; None where nothing waits."""
+        """Seconds until what is here is taken though it is not whole, or a paste counts as broken off; None where nothing waits."""
+        if self.is_broken:
+            return None
         if self._pasted is not None:
             longest = PASTE_DELAY
         elif not self._bytes:
@@ -114,8 +123,13 @@ class Decoder:
         return self._taken(now, False)
 
     def flush(self, now: float) -> List[Input]:
-        """The keys of what stays alone."""
-        return self._taken(now, True) if self.delay(now) == 0.0 else []
+        """The keys of what stays alone. A paste waits for its end."""
+        if self.delay(now) != 0.0:
+            return []
+        if self._pasted is None:
+            return self._taken(now, True)
+        self._broken_at = len(self._pasted)
+        return []
 
     def finish(self, now: float) -> List[Input]:
         """The same where nothing comes any more."""
@@ -137,14 +151,16 @@ class Decoder:
     def _in_paste(self, is_over: bool) -> Optional[List[Input]]:
         self._pasted += self._bytes
         self._bytes.clear()
-        end = self._pasted.find(PASTE_END)
+        end, mark = self._pasted.find(PASTE_END), PASTE_END
+        if end < 0 and self.is_broken and self._pasted[self._broken_at :].endswith(PASTE_BREAK):
+            end, mark = len(self._pasted) - len(PASTE_BREAK), PASTE_BREAK
         if end < 0 and not is_over:
             return None
         if end >= 0:
-            self._bytes += self._pasted[end + len(PASTE_END) :]
+            self._bytes += self._pasted[end + len(mark) :]
             del self._pasted[end:]
         text = self._pasted.decode(codec(), "replace").replace("\r\n", "\n").replace("\r", "\n")
-        self._pasted = None
+        self._pasted = self._broken_at = None
         return [Paste(text)] if text else []
 
     def _cut(self, count: int) -> bytes:
@@ -172,7 +188,9 @@ class Decoder:
         if found:
             key = self._key_of(found, now)
             self._cut(found.end())
-            return [key._replace(name="Alt-" + key.name)] if at and isinstance(key, Key) and key.name else [key]
+            if not at:
+                return [key]
+            return [key._replace(name="Alt-" + key.name)] if isinstance(key, Key) and key.name else [Key("Esc"), key]
         if not is_over and BEGUN.fullmatch(self._bytes, at):
             return None
         if len(self._bytes) == 1 or at:
@@ -226,8 +244,8 @@ class Decoder:
             return mouse(numbers[0] - 32, numbers[1] - 1, numbers[2] - 1, False, now)
         if raw[:1] in (b"<", b"=", b">", b"?"):
             return Key("")
-        if final == "~" and first == 200:
-            self._pasted = bytearray()
+        if final == "~" and first in (200, 201):
+            self._pasted = bytearray() if first == 200 else None  # an end that comes late is of a paste that the user has ended
             return Key("")
         if final == "~" and first == 27 and len(numbers) == 3:
             return rune_with(numbers[2], modifiers)

@@ -4,7 +4,7 @@ from typing import Dict, List, Optional
 from texts import COMMAND, Change, Texts
 from windows import Window
 
-SMALL = 2  # rows of a small command window, with its title
+SMALL = 2  # rows of a small command window, with its title, and the fewest of any
 LEAST_LARGE = 5  # rows that a large one has at least, where the screen has them
 
 
@@ -19,6 +19,7 @@ class Desk:
         self.focus = self.active = self.command  # where keys go; the file window that they went to last
         self.rows, self.columns = 24, 80
         self.is_small = False  # whether the command window is
+        self.is_tiny = False  # the screen has room for one window alone
 
     def window_of(self, tag: int) -> Window:
         if tag not in self.all_windows:
@@ -29,11 +30,21 @@ class Desk:
     def windows(self) -> List[Window]:
         return [self.command, *self.files]
 
+    @property
+    def shown(self) -> List[Window]:
+        """The windows for which the screen has room: all, or that to which the keys go."""
+        return [self.focus] if self.is_tiny else self.windows
+
     def arrange(self, rows: int, columns: int) -> None:
-        """Shares so many rows among the windows."""
+        """Shares so many rows among the windows. Where these are too few each window has all of them."""
         self.rows, self.columns = rows, columns
+        self.is_tiny = rows < SMALL * len(self.windows)
+        if self.is_tiny:
+            for window in self.windows:
+                window.put(0, max(1, rows - 1), columns)
+            return
         share = SMALL if self.is_small and rows > SMALL else max(LEAST_LARGE, rows // 4)
-        command_rows = rows if not self.files else min(share, max(2, rows // 2))
+        command_rows = rows if not self.files else min(share, max(SMALL, rows // 2), rows - SMALL * len(self.files))
         self.command.put(0, max(1, command_rows - 1), columns)
         y, left = command_rows, rows - command_rows
         for at, window in enumerate(self.files):
@@ -73,4 +84,4 @@ class Desk:
 
     def window_at(self, row: int) -> Optional[Window]:
         """The window whose title or text stands in a row of the screen."""
-        return next((window for window in self.windows if window.y <= row <= window.y + window.height), None)
+        return next((window for window in self.shown if window.y <= row <= window.y + window.height), None)

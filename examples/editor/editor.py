@@ -1,7 +1,7 @@
 """The editor: what comes from the host, and the keys that act. Windows stand in desk.py, keys that wait in waiting.py, and what a key does
 in actions.py."""
 import time
-from typing import Callable, List, Optional, Sequence, Tuple
+from typing import Callable, Iterable, List, Optional, Sequence, Set, Tuple
 
 from actions import TOO_LONG, Actions
 from desk import Desk
@@ -11,7 +11,7 @@ from lines import Numbers
 from notes import REPEAT, Notes, said
 from pointing import Pointer
 from sulgrevad import Refusal, SamError, Status, Terminal
-from stream import CLEAN, CLOSE, DELNAME, MOVETO, NEWNAME, SETDOT, UNLOCK, Frame, Stream
+from stream import CLEAN, CLOSE, DELNAME, MOVETO, NEWNAME, SETDOT, UNLOCK, UNLOCKFILE, Frame, Stream
 from texts import COMMAND, COMMAND_NAME, Texts
 from undo import Undo
 from vault import Vault
@@ -56,7 +56,7 @@ class Editor(Desk, Waiting, Actions):
         self.vault = Vault(terminal, self.texts)
         self.log, self.numbers, self.keeping = Undo(terminal, self.texts, self.vault), Numbers(self.texts), Keeping(self)
         told = {CLEAN: self._meet_clean, CLOSE: self._meet_close, MOVETO: self._meet_move, SETDOT: self._meet_dot}
-        told.update({UNLOCK: self._meet_unlock, NEWNAME: self._meet_name, DELNAME: self._meet_name})
+        told.update({UNLOCK: self._meet_unlock, NEWNAME: self._meet_name, DELNAME: self._meet_name, UNLOCKFILE: self._meet_pasted})
         self.stream = Stream(terminal, self.texts, told)
         self.texts.listeners = [self.log.hear, self.numbers.hear, self.keeping.hear_changes, self.hear_changes]
         self._known: Optional[List[int]] = None  # all files, since thousands take long to ask for; None where some came or went
@@ -73,6 +73,8 @@ class Editor(Desk, Waiting, Actions):
         self._sought_above: Optional[Tuple[int, int]] = None  # from where a search above goes on, and how much it loads next
         self._answered = ""  # the question that the key which acts now answers
         self._snarfed = ""  # what was cut or copied last, as far as it was loaded
+        self.cut_text = ""  # the same if it was cut, and the host has not pasted it since
+        self._pasting: Set[int] = set()  # the files into which the host pastes
         self._sought: Optional[Tuple[int, int]] = None  # the file and the line that the host was told to select
         self._asks_at: List[float] = []  # when that may be asked for which the last update left, since keys came
 
@@ -138,6 +140,7 @@ class Editor(Desk, Waiting, Actions):
     def _meet_close(self, frame: Frame) -> None:
         for memory in (self.log, self.numbers, self.keeping):
             memory.drop(frame.tag)
+        self._pasting.discard(frame.tag)
 
     def _meet_move(self, frame: Frame) -> None:
         self.window_of(frame.tag).follow()
@@ -147,7 +150,15 @@ class Editor(Desk, Waiting, Actions):
             self.numbers.set(frame.tag, frame.place, self._sought[1])
 
     def _meet_unlock(self, _frame: Frame) -> None:
-        self._sought = None
+        self._sought, self._aside = None, ""
+
+    def _meet_pasted(self, frame: Frame) -> None:
+        """The host has answered what locked a file. What it has pasted it has selected: the caret goes behind that."""
+        if frame.tag in self._pasting:
+            self._pasting.remove(frame.tag)
+            self.cut_text = ""
+            window = self.window_of(frame.tag)
+            window.select(window.dot[1])
 
     def pause(self) -> None:
         """The user pauses: sends what was typed, and asks the host by the command file whether it has arrived, unless a lock says that an
@@ -243,7 +254,7 @@ class Editor(Desk, Waiting, Actions):
         key = pressed.key
         self.notes.take(pressed.has_read)
         if self.is_lost and not self._is_for_menu(key) and not reads(key):
-            self.keeping.typed_late += key.runes if isinstance(key, (Text, Paste)) else ""
+            self.take_late([key])
             return
         self._answered, self._acting, self._is_again = pressed.answers, key, pressed.is_again
         self.texts.left = ""
@@ -262,10 +273,20 @@ class Editor(Desk, Waiting, Actions):
         except SamError as error:
             self.lose(f"the session can't go on ({error})")
             self.keeping.typed_late += self.texts.left
+        except Exception:  # a fault of this program ends it
+            self.keeping.typed_late += self.texts.left
+            raise
         self._answered = ""
         if self._again is not None:
             self.deferred.appendleft(pressed._replace(key=self._again, answers="", has_read=False, is_again=True))
             self._again = None
+
+    def take_late(self, keys: Iterable[Input]) -> None:
+        """Keys that come too late to act: what was typed is told or written at the end."""
+        if self.is_lost:
+            self.keeping.typed_late += "".join(key.runes for key in keys if isinstance(key, (Text, Paste)))
+        else:
+            self.deferred.extend(Pressed(key, self.clock()) for key in keys)
 
     def act_again(self, why: str) -> None:
         """The key that acts now does so again, once the host has answered."""

@@ -80,21 +80,34 @@ class Keeping:
             self._dropped[tag] = (self.name(tag), rescue.loaded(self.terminal, tag))
 
     def keep_here(self, has_all: bool, has_ended_well: bool = False) -> List[str]:
-        """Writes to files of this machine what nobody has saved, as far as it is loaded, and what was typed and still waits, the command
-        line that is begun too. Returns what to tell of them. What the host has saved lacks nothing only where it has got all that was sent
-        (`has_all`). If it has ended well then, it has saved all of it, also what it has told nothing of since a file has that text already."""
-        texts, self._dropped = {} if has_all and has_ended_well else self._dropped, {}
+        """Writes to files of this machine what nobody has saved, as far as it is loaded: texts, what was typed and still waits, the command
+        line that is begun, and what was cut and not pasted. Returns what to tell of them. What the host has saved lacks nothing only where
+        it has got all that was sent (`has_all`). If it has ended well then, it has saved all of it, also what it has told nothing of since
+        a file has that text already."""
+        if has_all and has_ended_well:
+            self._dropped.clear()
+        lines = []
+        while self._dropped:  # each goes once it is written
+            tag, (name, text) = next(iter(self._dropped.items()))
+            lines.append(self._kept(name, text))
+            del self._dropped[tag]
         waiting = self.editor.typed_ahead
         for tag in filter(self.terminal.is_open, self.editor.tags):
-            more, is_saved = "", has_all and (has_ended_well or self._saved.get(tag) == self._changes[tag])
-            if waiting and tag == self.editor.active.tag:
-                more, waiting = f"\n[typed, and not put in yet:]\n{waiting}", ""
+            more = f"\n[typed, and not put in yet:]\n{waiting}" if waiting and tag == self.editor.active.tag else ""
+            is_saved = has_all and (has_ended_well or self._saved.get(tag) == self._changes[tag])
             if more or (self.editor.is_changed(tag) and not is_saved):
-                texts[tag] = (self.name(tag), rescue.loaded(self.terminal, tag) + more)
+                try:
+                    text = rescue.loaded(self.terminal, tag, self.editor.vault.going)
+                    lines.append(self._kept(self.name(tag), text + more))
+                except Exception as error:  # whatever it is, the other texts are written
+                    self.is_hopeless = True
+                    lines.append(f"the text of {self.name(tag)} is lost: {error}")
+                    continue
                 self._saved[tag] = self._changes[tag]
+                waiting = "" if more else waiting
         begun = "" if has_ended_well else self.editor.begun_line()
-        typed = [(name, text) for name, text in (("typed", waiting), ("command", begun)) if text]
-        return [self._kept(name, text) for name, text in (*texts.values(), *typed)]
+        others = (("typed", waiting), ("command", begun), ("cut", rescue.told(self.editor.cut_text)))
+        return lines + [self._kept(name, text) for name, text in others if text]
 
     def keep_late(self) -> List[str]:
         """The same of what was typed when the host was lost already: some of it before the user could know."""
@@ -102,6 +115,9 @@ class Keeping:
         return [self._kept("typed", text)] if text else []
 
     def _kept(self, name: str, text: str) -> str:
-        path = rescue.keep(name, text)
+        try:
+            path = rescue.keep(name, text)
+        except Exception:  # out of memory, say: the other texts are written
+            path = None
         self.is_hopeless = self.is_hopeless or path is None
         return f"what is loaded of {name} is here in {path}" if path else f"the text of {name} is lost: no file can be written here"

@@ -15,7 +15,7 @@ BINDINGS = (
     Binding(("F1", "^G"), "help", "shows these keys; arrows scroll, any other key goes back"),
     Binding(("Esc",), "switch", "goes to the command window, and back to the file"),
     Binding(("^P", "F6"), "next_window", "goes to the next window"),
-    Binding(("^O", "F2"), "menu", "menu of files: arrows choose, Enter opens, Esc goes back"),
+    Binding(("^O", "F2"), "menu", "menu of files: type or use arrows, Enter opens, Esc ends"),
     Binding(("^T", "F3"), "split", "another window, for the next file without one"),
     Binding(("^Y", "F4"), "unsplit", "takes the window off the screen; its file stays open"),
     Binding(("F8",), "small", "makes the command window small, and large again"),

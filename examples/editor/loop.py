@@ -6,7 +6,8 @@ import os
 import select
 import signal
 import time
-from typing import Callable, Dict, List, Optional
+from collections import deque
+from typing import Callable, Deque, Dict, List, Optional
 
 from decode import Decoder
 from editor import Editor
@@ -21,6 +22,7 @@ SCREENS = (signal.SIGWINCH, signal.SIGCONT, signal.SIGTSTP)
 RETRY = 0.1  # seconds until that for which the memory was too small is tried again
 MOST_READ = 65_536  # bytes of keys that are read at once
 MOST_SIGNALS = 4096  # numbers of signals that are read at once
+BROKEN_PASTE = "the end of a paste has not come, so all keys are part of it. Esc twice ends it"
 
 
 class Loop:
@@ -29,6 +31,7 @@ class Loop:
     def __init__(self, terminal: Terminal, link: Link, screen: Screen, editor: Editor, hear: Callable[[str], None]):
         self.terminal, self.link, self.screen, self.editor, self.hear = terminal, link, screen, editor, hear
         self.decoder = Decoder(sequences())
+        self.keys: Deque[Input] = deque()  # those that the editor has not taken
         self.is_short = False  # memory was too small since the last pause
         self.ended_by = 0  # the signal that ended the session
         self.signals, wakes = os.pipe()
@@ -41,18 +44,24 @@ class Loop:
     def run(self) -> None:
         """Returns when the user has left, or can't be reached any more."""
         self.editor.arrange(*self.screen.size)
-        while not self.editor.is_over:
-            since = time.monotonic()
-            ready = self._ready(0)
-            if not ready:
-                self.editor.notes.settle(since)
-                ready = self._ready(self._idle())
-            self._take_keys(ready)
-            self._take_signals(ready)
-            self._take_bytes(ready)
-            self._send()
-        if self.ended_by:  # what came of a paste
-            self._act_on(self.decoder.finish(time.monotonic()))
+        try:
+            while not self.editor.is_over:
+                self._go_round()
+            if self.ended_by:  # what came of a paste
+                self._act_on(self.decoder.finish(time.monotonic()))
+        finally:
+            self.editor.take_late([*self.keys, *self.decoder.finish(time.monotonic())])
+
+    def _go_round(self) -> None:
+        since = time.monotonic()
+        ready = self._ready(0)
+        if not ready:
+            self.editor.notes.settle(since)
+            ready = self._ready(self._idle())
+        self._take_keys(ready)
+        self._take_signals(ready)
+        self._take_bytes(ready)
+        self._send()
 
     def _ready(self, seconds: Optional[float]) -> Dict[int, int]:
         """What is there to be read or written: events by descriptor. Sleeps until something is, or so long where a time is given."""
@@ -84,11 +93,10 @@ class Loop:
         now = time.monotonic()
         if ready.get(KEYBOARD, 0) & (select.POLLHUP | select.POLLERR | select.POLLNVAL):
             self._end(signal.SIGHUP)
-        elif KEYBOARD in ready:
-            data = self._read_keys()
-            self._act_on(self.decoder.feed(data, now))
-        else:
-            self._act_on(self.decoder.flush(now))
+            return
+        keys = self.decoder.feed(self._read_keys(), now) if KEYBOARD in ready else self.decoder.flush(now)
+        self.editor.notes.standing = BROKEN_PASTE if self.decoder.is_broken else ""
+        self._act_on(keys)
 
     def _read_keys(self) -> bytes:
         try:
@@ -102,8 +110,9 @@ class Loop:
         return data
 
     def _act_on(self, keys: List[Input]) -> None:
-        for key in keys:
-            self.editor.take(key)
+        self.keys.extend(keys)
+        while self.keys:
+            self.editor.take(self.keys.popleft())
         if self.editor.clip is not None:
             self.screen.put_on_clipboard(self.editor.clip)
             self.editor.clip = None
@@ -131,8 +140,11 @@ class Loop:
             self._fit()
 
     def _fit(self) -> None:
-        """Takes the size that the screen has now."""
-        columns, rows = os.get_terminal_size(KEYBOARD)
+        """Takes the size that the screen has now, where it is still there."""
+        try:
+            columns, rows = os.get_terminal_size(KEYBOARD)
+        except OSError:
+            return
         if rows > 0 and columns > 0:  # some terminals tell of no size while they are hidden
             self.screen.resize(rows, columns)
             self.editor.arrange(*self.screen.size)

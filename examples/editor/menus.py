@@ -34,27 +34,47 @@ class Help:
 
 
 class Menu:
-    """Entries of which one is chosen; `choose` is told which, as a number from 0."""
+    """Entries, each a mark and a name, of which one is chosen; `choose` is told which, as a number from 0. Those are shown whose names have
+    what was typed in them, in letters of any size."""
 
     is_box, goes_by_place = True, False
 
-    def __init__(self, title: str, entries: List[str], chosen: int, choose: Callable[[int], None]):
-        self.title, self.entries, self.choose = title, entries, choose
-        self.chosen, self.is_over = max(0, min(chosen, len(entries) - 1)), False
+    def __init__(self, what: str, entries: List[Tuple[str, str]], chosen: int, choose: Callable[[int], None]):
+        self.what, self.entries, self.choose = what, entries, choose
+        self.typed, self.is_over = "", False
+        self.shown = list(range(len(entries)))  # the numbers of those that are shown
+        self.chosen = max(0, min(chosen, len(entries) - 1))  # which of these
+
+    @property
+    def title(self) -> str:
+        return f"{self.what}: {self.typed}" if self.typed else self.what
 
     def lines(self, height: int) -> List[Line]:
-        first = max(0, min(self.chosen - height // 2, len(self.entries) - height))
-        shown = list(enumerate(self.entries))[first : first + height]
-        return [(entry, at == self.chosen) for at, entry in shown]
+        first = max(0, min(self.chosen - height // 2, len(self.shown) - height))
+        shown = list(enumerate(self.shown))[first : first + height]
+        lines = [("".join(self.entries[entry]), at == self.chosen) for at, entry in shown]
+        return lines + [("", False)] * (min(height, len(self.entries)) - len(lines))
 
     def take(self, key: Input) -> bool:
         """As the help does."""
         steps = {"Up": -1, "Down": 1, "Page Up": -MENU_PAGE, "Page Down": MENU_PAGE}
         if isinstance(key, Key) and key.name in steps:
-            self.chosen = max(0, min(self.chosen + steps[key.name], len(self.entries) - 1))
-        elif isinstance(key, Text) and key.runes == "\n":
+            self.chosen = max(0, min(self.chosen + steps[key.name], len(self.shown) - 1))
+        elif isinstance(key, Text) and key.runes.isprintable():
+            self._narrow(self.typed + key.runes)
+        elif isinstance(key, Text) and key.runes == "\n" and self.shown:
             self.is_over = True
-            self.choose(self.chosen)
+            self.choose(self.shown[self.chosen])
+        elif isinstance(key, Key) and key.name == "Backspace" and self.typed:
+            self._narrow(self.typed[:-1])
         elif isinstance(key, (Key, Paste)):
             self.is_over = True
         return isinstance(key, Paste)
+
+    def _narrow(self, typed: str) -> None:
+        """Shows the entries that have what was typed, and chooses the first in which a part of the path begins so; else the first."""
+        self.typed, sought = typed, typed.casefold()
+        names = [name.casefold() for _, name in self.entries]
+        self.shown = [at for at, name in enumerate(names) if sought in name]
+        begin = [names[at].startswith(sought) or f"/{sought}" in names[at] for at in self.shown]
+        self.chosen = begin.index(True) if True in begin else 0

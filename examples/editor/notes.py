@@ -52,12 +52,15 @@ class Notes:
         self.message = HINT
         self.question = ""  # the message, where a key answers it
         self.unread: List[Tuple[int, str]] = []  # what the host told, the worst first
+        self.standing = ""  # what hides all of these as long as it holds
         self._drawn, self._drawn_at = "", 0.0
         self._is_seen = False  # it stood there long enough while no key came
 
     @property
     def line(self) -> str:
         """What stands on the line: that a text was not written first, other words of the host last."""
+        if self.standing:
+            return self.standing
         if not self._shows_unread:
             return self.message
         more = f" (and {len(self.unread) - 1} more)" if len(self.unread) > 1 else ""

@@ -1,38 +1,36 @@
 """What can't go to the host is written to files here."""
 import contextlib
 import os
+import re
 import sys
 import tempfile
-from itertools import groupby
 from pathlib import Path
 from typing import Iterator, List, Optional
 
 from sulgrevad import Terminal
-from texts import GAP
+from texts import GAP, Change
 
 MOST_NAMES = 1000  # names that are tried
 MOST_IN_BASE = 200  # bytes of the front of a name that names of files here begin with
 MOST_READ = 65_536  # runes that are read at once
 
-
-def loaded(terminal: Terminal, tag: int) -> str:
-    """An open file's text, where each stretch that is not loaded is told in words. Each rune is read once, however many stretches there
-    are."""
-    parts: List[str] = []
-    place, missing = 0, 0
-    while runes := terminal.read(tag, place, MOST_READ):
-        place += len(runes)
-        for is_missing, stretch in groupby(runes, key=lambda rune: rune is None):
-            if is_missing:
-                missing += len(list(stretch))
-                continue
-            parts += [_told(missing), "".join(stretch)]
-            missing = 0
-    return "".join([*parts, _told(missing)])
+GAPS = re.compile(f"{GAP}+")
 
 
-def _told(missing: int) -> str:
-    return f"[{missing} characters that were not loaded]" if missing else ""
+def loaded(terminal: Terminal, tag: int, going: Optional[Change] = None) -> str:
+    """An open file's text as far as it is loaded. Each rune is read once, however many stretches are not. What is going stands where it
+    went."""
+    runes: List[str] = []
+    while piece := terminal.read(tag, len(runes), MOST_READ):
+        runes += [rune or GAP for rune in piece]
+    if going is not None and going.tag == tag:
+        runes.insert(going.place, going.gone)
+    return told("".join(runes))
+
+
+def told(text: str) -> str:
+    """A text in which each stretch that is not loaded is told in words."""
+    return GAPS.sub(lambda found: f"[{len(found[0])} characters that were not loaded]", text)
 
 
 def keep(name: str, text: str) -> Optional[str]:
@@ -73,6 +71,6 @@ def _write(path: Path, text: str) -> None:
             sink.write(text.replace(GAP, "").encode("utf-8", "replace"))
             sink.flush()
             os.fsync(sink.fileno())
-    except OSError:
+    except BaseException:
         os.unlink(path)
         raise

@@ -79,7 +79,8 @@ class Screen:
 
     def redraw(self) -> None:
         """Sets the terminal up again, and draws all of it."""
-        curses.reset_prog_mode()
+        with contextlib.suppress(curses.error):  # of a screen that is gone
+            curses.reset_prog_mode()
         self._open()
         self.screen.clearok(True)
         self.screen.erase()
@@ -149,7 +150,7 @@ class Screen:
 def frame_of(editor: Editor, rows: int, columns: int) -> Dict[int, List[Run]]:
     """What stands in each row of the screen, but for the status line."""
     frame: Dict[int, List[Run]] = {}
-    for window in editor.windows:
+    for window in editor.shown:
         frame.update(window_rows(editor, window))
     if editor.menu is not None and editor.menu.is_box:
         frame.update(menu_rows(editor.menu, max(1, rows - FOOT), columns))

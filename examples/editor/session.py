@@ -5,7 +5,7 @@ import os
 import shlex
 import signal
 import sys
-from typing import List
+from typing import List, Optional
 
 from editor import Editor
 from link import SECONDS_TO_END, Link
@@ -100,6 +100,8 @@ class Session:
 
     def _tell_of_leaving(self) -> None:
         """The user has left: what was typed since, and where he didn't wait for the host, that it still has some time."""
+        if self.editor.is_over and not self.ended_by:
+            self.editor.cut_text = ""
         if self.terminal.exited:
             if self.editor.typed_ahead:
                 say(f"samterm: typed while the host was left, and put in nowhere: {self.editor.typed_ahead!r}")
@@ -108,13 +110,27 @@ class Session:
             say(f"samterm: the host has {SECONDS_TO_END} seconds to save what it got; ^C doesn't wait for it")
 
     def _end(self) -> int:
-        """Ends the link, and writes here what nobody has saved. Returns the exit status."""
+        """Ends the link, and writes here what nobody has saved, also where a fault ends that. Returns the exit status."""
         keeping = self.editor.keeping
         for line in self.told:
             say(line)
         self.told.clear()
         self._tell_of_leaving()
         status = None
+        try:
+            status = self._end_link()
+        finally:
+            for line in self.told:
+                say(line)
+            self._keep_here(status == 0 and not keeping.is_hopeless)
+        if keeping.is_hopeless or status == STATUS_UNSAVED:
+            return STATUS_UNSAVED
+        if self.ended_by:
+            return STATUS_SIGNAL + self.ended_by
+        return STATUS_LOST if self.editor.is_lost else 0
+
+    def _end_link(self) -> Optional[int]:
+        """Sends what was typed, and waits for the host's end. Returns its status; None where it doesn't end, or the user doesn't wait."""
         with contextlib.suppress(SamError):  # of a terminal that has stopped, or has no memory
             try:
                 self.editor.way.send_last()
@@ -123,21 +139,19 @@ class Session:
         with contextlib.suppress(KeyboardInterrupt):  # the user doesn't wait for the host any longer
             try:
                 signal.signal(signal.SIGINT, signal.default_int_handler)
-                status = self.link.close(self._hear, self._take_last)
+                return self.link.close(self._hear, self._take_last)
             finally:
                 signal.signal(signal.SIGINT, signal.SIG_IGN)  # one more is not to stop what is written here
-        for line in self.told:
-            say(line)
-        with contextlib.suppress(SamError):
-            has_ended_well = status == 0 and not keeping.is_hopeless
-            kept = self.editor.kept_here
-            say_all(keeping.keep_here(self.editor.way.has_all, has_ended_well) if kept is None else kept)
-        say_all(keeping.keep_late())
-        if keeping.is_hopeless or status == STATUS_UNSAVED:
-            return STATUS_UNSAVED
-        if self.ended_by:
-            return STATUS_SIGNAL + self.ended_by
-        return STATUS_LOST if self.editor.is_lost else 0
+        return None
+
+    def _keep_here(self, has_ended_well: bool) -> None:
+        """Writes here what nobody has saved, unless that was done when the host was lost, and what was typed after that."""
+        keeping, kept = self.editor.keeping, self.editor.kept_here
+        try:
+            with contextlib.suppress(SamError):
+                say_all(keeping.keep_here(self.editor.way.has_all, has_ended_well) if kept is None else kept)
+        finally:
+            say_all(keeping.keep_late())
 
 
 def edit(command: List[str], files: List[str], indents: bool = True) -> int:

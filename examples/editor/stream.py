@@ -7,8 +7,8 @@ from sulgrevad import SamError, Terminal, Unfinished
 from texts import GAP, Change, Texts
 
 # Kinds of frames.
-BINDNAME, NEWNAME, GROW, UNLOCK, DATA, SETDOT, GROWDATA, MOVETO, CLEAN, CUT = 66, 68, 70, 72, 73, 76, 77, 78, 79, 81
-DELNAME, CLOSE = 83, 84
+BINDNAME, NEWNAME, GROW, UNLOCK, DATA, UNLOCKFILE, SETDOT, GROWDATA, MOVETO, CLEAN = 66, 68, 70, 72, 73, 75, 76, 77, 78, 79
+CUT, DELNAME, CLOSE = 81, 83, 84
 HEAD = 3  # bytes before a frame's body
 FIRST = bytes.fromhex("41000a00000000000000010002")  # the frame that answers the first message, which offers version 2
 

@@ -6,7 +6,7 @@ from collections import deque
 from typing import Callable, Deque, List, NamedTuple, Optional
 
 from sulgrevad import Terminal, Unfinished
-from texts import MOST_RUNES, Texts
+from texts import MOST_RUNES, Change, Texts
 
 NAME = "~~undo~~"  # the vault's name in the session
 
@@ -40,6 +40,7 @@ class Vault:
         self.tag: Optional[int] = None  # None where the host has no vault
         self.live: Callable[[], List[Part]] = list  # the parts that undo needs
         self.kept: Optional[Kept] = None  # what was kept last, until undo takes it over
+        self.going: Optional[Change] = None  # what goes for what is put back, until the host has answered
         self.has_lost_copied = False  # there was no room for what the user has copied
         self._parts: List[Part] = []
         self._steps: Deque[Callable[[], None]] = deque()
@@ -95,7 +96,7 @@ class Vault:
         self._steps += [
             lambda: self._snarf(self.tag, kept.part.start, kept.part.end),
             lambda: self.terminal.select(tag, kept.start, end),
-            lambda: self.texts.paste(tag),
+            lambda: self._replace(tag, kept.start, end),
             self._give_copied_back,
             lambda: self.terminal.select(tag, place, place),
             then,
@@ -172,8 +173,15 @@ class Vault:
         self._select(tag, start, end)
         self.terminal.snarf(tag)
 
+    def _replace(self, tag: int, start: int, end: int) -> None:
+        """Puts the snarf buffer in the place of a text. That goes at once, so it is known nowhere until the host has answered."""
+        gone = self.texts.read(tag, start, end - start)
+        self.texts.paste(tag)
+        self.going = Change(tag, start, gone, "")
+
     def _give_copied_back(self) -> None:
         """Makes what the user has copied the snarf buffer again."""
+        self.going = None
         if self._copied > 0:
             self._select(self.tag, self._length, self._length + self._copied)
             self.terminal.cut(self.tag)

@@ -23,6 +23,8 @@ BY_PLACE = {
 }  # fmt: skip
 # Actions that go by the rows on the screen. These wait until all that is shown is loaded, and so lead to the same place over any link.
 BY_PLACES = BY_PLACE | {"page_up", "page_down"}
+# Actions that the terminal itself would hold while the host pastes, and do before the caret has gone behind what was pasted.
+BY_CARET = {"look", "search"}
 # Actions that ask first where a file was not written. What is held or not answered yet may still change one, so these wait for it.
 ASKING = {"close", "leave", "send"}
 
@@ -128,7 +130,7 @@ class Waiting:
             return True
         if self._is_for_menu(key):
             return self.menu.goes_by_place and not self.focus.is_settled
-        if self._are_windows_due:
+        if self._are_windows_due or (action in BY_CARET and self.focus.tag in self._pasting):
             return True
         is_line = isinstance(key, (Text, Paste)) and "\n" in key.runes and self.focus is self.command
         if action in ASKING or is_line:

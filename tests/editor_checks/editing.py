@@ -80,7 +80,7 @@ def check_on_the_way(folder):
 
 
 def check_crossing(folder):
-    """A paste is under way: what is typed into the file meanwhile waits, and takes the place of what was pasted."""
+    """A paste is under way: what is typed into the file meanwhile waits, and comes in behind what was pasted."""
     (path,) = made(folder, a="abc\n")
     with Session(folder, "a.txt") as session:
         session.wait_for("abc")
@@ -93,7 +93,7 @@ def check_crossing(folder):
             expect(session.rows("a.txt")[0] == "c", f"the text is {session.rows('a.txt')}")
         session.wait_for_quiet()
         session.keys("C-w")
-        wait_for_text(path, "typedc\n")
+        wait_for_text(path, "ababtypedc\n")
         session.leave()
 
 
@@ -110,7 +110,7 @@ def check_moves_wait(folder):
         session.type("!")
         session.wait_for_quiet()
         session.keys("C-w")
-        wait_for_text(path, "aa!bc\n")
+        wait_for_text(path, "abac!\n")
         session.leave()
 
 

@@ -87,6 +87,22 @@ def check_typed_while_it_leaves(folder):
     expect(not left, f"there are {left}")
 
 
+def check_paste_while_it_leaves(folder):
+    """So is what came of a paste whose end has not come yet."""
+    made(folder, a="one\n")
+    with Session(folder, "a.txt") as session:
+        session.wait_for("one")
+        session.wait_for_quiet()
+        with session.stopped_host():
+            session.keys("C-q")
+            session.wait_for("leaving")
+            session.tmux("send-keys", "-H", *(f"{byte:x}" for byte in b"\x1b[200~late\nword"))
+            session.wait_for("Esc twice")
+        session.wait_for_end(0)
+    told = (folder / "stderr").read_text()
+    expect("'late\\nword'" in told, f"it tells {told!r}")
+
+
 def check_leave_without_the_host(folder):
     """Who leaves without waiting is told how long the host has, and `^C` ends that."""
     made(folder, a="one\n")

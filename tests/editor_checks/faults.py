@@ -7,7 +7,7 @@ import subprocess
 import sys
 from pathlib import Path
 
-from .support import ROOT, SAMHOST, SAMTERM, Failed, Session, expect, made, wait_for_text, wait_until
+from .support import ROOT, SAMHOST, SAMTERM, Failed, Session, expect, made, stat_of, wait_for_text, wait_until
 
 
 def check_signals(folder):
@@ -74,8 +74,28 @@ def check_suspend(folder):
             session.leave_unwritten()
 
 
+def check_hangup_while_suspended(folder):
+    """The user's screen is gone while the program is stopped: it ends as by a hangup, and what came of a paste is saved, by the host if that
+    is still there."""
+    made(folder, a="one\n")
+    line = f"{SAMTERM} --host {SAMHOST} a.txt; echo back in the shell; read x; fg"
+    with Session(folder, "a.txt", program=f"bash --norc -ic 'set -m; {line}' --") as session:
+        session.wait_for("one")
+        session.tmux("send-keys", "-H", *(f"{byte:x}" for byte in b"\x1b[200~pasted "))
+        session.wait_for("Esc twice")
+        terminal = next(process for name, process in session.processes().items() if name.startswith("python"))
+        os.kill(terminal, signal.SIGTSTP)
+        session.wait_for("back in the shell")
+        session.tmux("kill-session")
+        wait_until(lambda: (stat_of(terminal) or "Z")[0] == "Z", "it doesn't end")
+        wait_until(lambda: "pasted one\n" in [path.read_text() for path in folder.glob("a.txt.sam-*")], "what came is saved nowhere")
+    told = (folder / "stderr").read_text()
+    expect("a.txt.sam-" in told and "Traceback" not in told, f"it tells {told!r}")
+
+
 def check_exception(folder):
-    """A fault of the editor ends the host's link, sets the screen back, and shows what the host told."""
+    """A fault of the editor ends the host's link, sets the screen back, and shows what the host told. What was typed at once with the key
+    that meets it is written here."""
     made(folder, a="one\n")
     broken = folder / "broken.py"
     broken.write_text(
@@ -88,9 +108,10 @@ def check_exception(folder):
         session.wait_for("one")
         session.type("typed ")
         session.wait_for("typed one")
-        session.keys("F1")
+        session.tmux("send-keys", "-H", *(f"{byte:x}" for byte in b"\x1bOPafter"))  # F1 and a text
         session.wait_for_end(1)
         wait_for_text(folder / "a.txt.sam-saved", "typed one\n")
+        wait_for_text(folder / "a.txt.sam-here", "typed one\n\n[typed, and not put in yet:]\nafter")
     told = (folder / "stderr").read_text()
     expect("broken on purpose" in told and "a.txt.sam-saved" in told, f"it tells {told!r}")
 

@@ -28,6 +28,9 @@ def check_sequences(folder):
     decoder = Decoder()
     got = decoder.feed(b"\x1b[200~a\r\nb\x1b[A", 0.0) + decoder.feed(b"c\x1b[20", 0.1) + decoder.feed(b"1~d", 0.2)
     expect([tuple(key) for key in got] == [("a\nb\x1b[Ac",), ("d",)], f"a paste is taken for {got}")
+    got = Decoder().feed(b"\x1b\x1b[200~a\x1b[201~\x1b\x1b[<0;2;3M\x1b\x1b[?62;1c", 5.0)
+    wanted = [("Esc",), ("a",), ("Esc",), ("press", 2, 1, 5.0), ("Esc",)]
+    expect([tuple(key) for key in got] == wanted, f"Esc at once with a paste, a click and an answer is taken for {got}")
     for alone, name in ((b"\x1b", "Esc"), (b"\x1b[", "Alt-["), (b"\x1bO", "Alt-O")):
         decoder = Decoder()
         got = decoder.feed(alone, 0.0) + decoder.flush(0.01) + decoder.flush(0.03)
@@ -111,6 +114,97 @@ def check_paste_of_the_screen(folder):
         session.keys("C-z", "C-w")
         wait_for_text(path, "  begin\n  \n")
         session.leave()
+
+
+def check_paste_that_stops(folder):
+    """What comes after a pause of a paste is part of it, whatever it is. Esc twice ends one whose end is lost, once it has stopped."""
+    from decode import Decoder
+
+    def taken(*pieces):
+        """What comes of pieces of bytes, with ten seconds after each."""
+        decoder, got = Decoder(), []
+        for at, piece in enumerate(pieces):
+            got += decoder.feed(piece, 10.0 * at)
+            while (left := decoder.delay(10.0 * at)) is not None and left < 10.0:
+                got += decoder.flush(10.0 * at + left)
+                if decoder.delay(10.0 * at + left) == 0.0:
+                    break
+        return [tuple(key) for key in got]
+
+    for pieces, wanted in (
+        ((b"\x1b[200~one\n", b"q\n\x11\x0b", b"\x1b[A\x1b", b"[20", b"1~x"), [("one\nq\n\x11\x0b\x1b[A",), ("x",)]),
+        ((b"\x1b[200~one", b"\x1b\x1b\x11"), []),
+        ((b"\x1b[200~one", b" two\x1b\x1b", b"\x11"), [("one two",), ("^Q",)]),
+        ((b"\x1b[200~one", b"\x1b", b"\x1b", b"x"), [("one",), ("x",)]),
+        ((b"\x1b[200~one\x1b", b"\x1b", b"\x1b", b"\x1b[201~x"), [("one\x1b",), ("x",)]),
+        ((b"\x1b[200~a\x1b\x1b", b"b\x1b[201~"), [("a\x1b\x1bb",)]),
+        ((b"\x1b[200~", b"\x1b\x1b", b"x"), [("x",)]),
+    ):  # fmt: skip
+        expect(taken(*pieces) == wanted, f"{pieces} are taken for {taken(*pieces)}, wanted {wanted}")
+
+
+def check_paste_over_a_bad_line(folder):
+    """A paste that stops for a while runs no command line and writes no file. The line at the bottom says how to end it."""
+    (path,) = made(folder, a="end\n")
+
+    def send(session, data):
+        session.tmux("send-keys", "-H", *(f"{byte:x}" for byte in data))
+
+    with Session(folder, "a.txt") as session:
+        session.wait_for("end")
+        session.switch()
+        send(session, b"\x1b[200~$a/one")
+        session.wait_for("Esc twice")
+        send(session, b"/\n,d\n\x17")
+        time.sleep(0.3)
+        expect(session.shows("Esc twice") and "end" in session.rows("a.txt"), "what comes after a pause acts")
+        send(session, b"/")
+        session.keys("Escape", "Escape")
+        wait_until(lambda: not session.shows("Esc twice"), "Esc twice doesn't end it")
+        wait_until(lambda: session.rows("a.txt")[0] == "", lambda: f"the lines are not run: {session.rows('a.txt')}")
+        session.wait_to_go_to("~~sam~~")
+        expect(path.read_text() == "end\n", f"the file is written: {path.read_text()!r}")
+        session.switch()
+        session.keys("C-z")
+        session.wait_for("one")
+        session.keys("C-w")
+        wait_for_text(path, "end\none")
+        session.leave()
+
+
+def check_caret_after_a_paste(folder):
+    """The caret stands behind what was pasted, also for keys that come before the host has answered, of which some go by the selection."""
+    for keys, wanted, dot in (
+        (("^V",), "ababc\nabc\n", 2), (("^V", "x"), "abxabc\nabc\n", 3), (("^V", "^V", "y", "Left", "^V"), "abababyabc\nabc\n", 6),
+        (("Shift-Right", "^V", "Shift-Left", "x"), "axbc\nabc\n", 2), (("^V", "^L", "x"), "abxabc\nabc\n", 3),
+        (("Esc", "^V", "Esc", "x"), "xabc\nabc\n", 1),
+    ):  # fmt: skip
+        for waits in (True, False):
+            pair, editor, key, text = opened("abc\nabc\n")
+            pair.press(key("Shift-Right"), key("Shift-Right"), key("^C"), key("Home"))
+            for name in keys:
+                editor.take(text(name) if name.islower() else key(name))
+                if waits:
+                    pair.finish()
+            pair.finish()
+            got = pair.host.text(1), editor.focus.dot
+            expect(got == (wanted, (dot, dot)), f"{keys}, one by one: {waits}: it has {got}, wanted {wanted!r}, {dot}")
+            expect("Esc" not in keys or pair.host.text(0) == "ab", f"the command window has {pair.host.text(0)!r}")
+    pair, editor, key, text = opened("abc " * 2000)
+    pair.press(key("^A"), key("^C"), key("^V"), text("x"))
+    expect(pair.host.text(1) == "abc " * 2000 + "x" and editor.focus.dot == (8001, 8001), f"after a long paste: {editor.focus.dot}")
+    expect(pair.screen.cursor_of(editor) is not None, "after a long paste the caret is not on the screen")
+    pair.press(key("^Z"), key("^Z"))
+    expect(pair.host.text(1) == "abc " * 2000, f"it is not taken back: {editor.message}")
+
+
+def check_selection_after_a_paste(folder):
+    """A paste of nothing, and one that has an answer already, leave the selections that are made later."""
+    pair, editor, key, _ = opened("abc\n")
+    pair.press(key("^V"), key("^D"))
+    expect(editor.focus.dot == (0, 3), f"after a paste of nothing ^D selects {editor.focus.dot}")
+    pair.press(key("^C"), key("^V"), key("^D"), key("^W"))
+    expect(editor.focus.dot == (0, 3) and pair.host.text(1) == "abc\n", f"after a paste ^D selects {editor.focus.dot}")
 
 
 def check_indents(folder):
@@ -285,6 +379,15 @@ def check_no_room_to_paste(folder):
     expect("more than 1,000,000 characters" in editor.message, f"it tells {editor.message!r}")
     pair.press(key("Shift-Left"), key("^C"), key("^V"))
     expect(len(pair.host.text(1)) == 600_000 and editor.message == "", f"it doesn't paste what has room: {editor.message!r}")
+
+
+def check_no_room_for_a_paste_of_the_screen(folder):
+    """So does a paste of the user's terminal: not even its end comes in."""
+    for count, is_room in ((601, False), (600, True)):
+        pair, editor, key, _ = opened("line\n" * 199_880)
+        pair.press(pair.keys.Paste("x" * count))
+        expect(pair.host.text(1) == "x" * count * is_room + "line\n" * 199_880, f"{count}: it begins with {pair.host.text(1)[:9]!r}")
+        expect(("more than 1,000,000 characters" in editor.message) != is_room, f"{count}: it tells {editor.message!r}")
 
 
 def check_words(folder):

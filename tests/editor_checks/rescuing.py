@@ -8,7 +8,7 @@ import tempfile
 import time
 from pathlib import Path
 
-from .pairs import Pair, opened
+from .pairs import Pair, in_a_small_window, opened
 from .support import LINK, SAMHOST, SECONDS, Failed, Session, change_two, expect, made, stat_of, wait_for_text, wait_until
 
 
@@ -68,6 +68,64 @@ def check_begun_command_line(folder):
         with Kept() as kept:
             editor.lose("the host is gone")
         kept.expect(wanted, f"after {typed!r}")
+
+
+def check_begun_line_while_it_searches(folder):
+    """So is one that was begun before a search, while the host's answer to that is out."""
+    for begun, is_answered in (("$a/draft/", False), ("$a/" + "long " * 300, False), ("$a/draft/", True)):
+        pair, editor, key, text = opened("a b\n")
+        pair.press(key("Esc"), text(begun), key("Esc"), key("^S"), text("b"))
+        editor.take(text("\n"))
+        if is_answered:
+            pair.finish()
+        with Kept() as kept:
+            editor.lose("the host is gone")
+        kept.expect([("command", begun if is_answered else f"/b/\n{begun}")], f"{begun[:9]!r}, answered: {is_answered}")
+
+
+def check_cut_text(folder):
+    """What was cut is written here, unless the host has pasted it since, something else was copied, or the user leaves."""
+    for names, answered, wanted in (
+        (("^X",), True, ["ab"]), (("^X", "End", "^V"), True, []), (("^X", "End", "^V"), False, ["ab"]), (("^C",), True, []),
+        (("^X", "Shift-Right", "^C"), True, []), (("^X", "^C"), True, ["ab"]), (("^X", "Shift-Right", "^X"), True, ["c"]),
+    ):  # fmt: skip
+        pair, editor, key, _ = opened("abc\n")
+        pair.press(key("Shift-Right"), key("Shift-Right"))
+        for name in names:
+            editor.take(key(name))
+            if answered:
+                pair.finish()
+        with Kept() as kept:
+            editor.lose("the host is gone")
+        cut = [text for name, text in kept.texts if name == "cut"]
+        expect(cut == wanted, f"{names}, answered: {answered}: it keeps {cut}, wanted {wanted}")
+    for leaves in (True, False):
+        pair, editor, key, _ = opened("abc\n")
+        pair.press(key("Shift-Right"), key("^X"))
+        editor.is_over = leaves
+        ended(pair, None, (), 0).expect([] if leaves else [("cut", "a")], f"the user leaves: {leaves}")
+
+
+def check_undo_while_the_host_is_lost(folder):
+    """A step is taken back by a text that the host keeps. What stands there goes at once, and is written here if the host is lost then."""
+    pair, editor, key, text = in_a_small_window(True)
+    pair.press(text("typed "), key("Esc"), text("81,2500d\n"), key("Esc"))
+    length = pair.terminal.len(1)
+    editor.take(key("^Z"))
+    for _ in range(20):
+        if pair.terminal.len(1) < length:
+            break
+        pair.trip()
+    expect(pair.terminal.len(1) < length and editor.vault.is_busy, "this test is wrong: nothing goes")
+    with Kept() as kept:
+        editor.lose("the host is gone")
+    got = dict(kept.texts)["file0"]
+    expect(got.startswith("typed line 0 foo\nline 1 foo\n"), f"it keeps {got[:60]!r}")
+    pair, editor, key, text = in_a_small_window(True)
+    pair.press(text("typed "), key("Esc"), text("81,2500d\n"), key("Esc"), key("^Z"))
+    with Kept() as kept:
+        editor.lose("the host is gone")
+    expect(dict(kept.texts)["file0"].count("typed line 0 foo\n") == 1, "what went stands there after the host's answer, too")
 
 
 def check_signal_before_a_key_arrives(folder):
@@ -303,6 +361,33 @@ def check_fault_while_it_is_lost(folder):
         editor.lose("the host is gone")
     editor.keeping.keep_here = keep_here
     ended(pair, 0, (), None).expect([("file0", "xa\n")], "a fault")
+
+
+def check_fault_in_one_text(folder):
+    """Where one text can't be read, the others are written here, with what was typed; also what was dropped with open eyes."""
+    pair, editor, key, text = opened("a\n", "b\n", "c\n", "d\n")
+    for window in editor.files:
+        editor.go_to(window)
+        pair.press(text("x"))
+    pair.press(key("^K"), key("^K"))
+    editor.go_to(editor.files[1])
+    pair.press(key("Home"), key("Shift-Right"), key("^C"))
+    editor.take(key("^V"))
+    editor.take(text("waits"))
+    read = pair.terminal.read
+
+    def broken(tag, *words):
+        if tag == 2:
+            raise MemoryError("no room")
+        return read(tag, *words)
+
+    pair.terminal.read = broken
+    with Kept() as kept:
+        editor.lose("the host is gone")
+    kept.expect([("file0", "xa\n"), ("file2", "xc\n"), ("file3", "xd\n"), ("typed", "waits")], "a fault in file1")
+    lines = [line for _, line in editor.notes.unread]
+    expect(any("the text of file1 is lost: no room" in line for line in lines), f"it tells {lines}")
+    expect(editor.keeping.is_hopeless, "the status doesn't say that a text is lost")
 
 
 def check_paste_broken_off(folder):

@@ -35,6 +35,58 @@ def check_unsplit(folder):
         expect(texts == ["ya\n", "xzb\n"], f"{name}: the texts are {texts}")
 
 
+def check_typing_at_the_menu(folder):
+    """What is typed at the menu leaves the files whose names have it, and chooses the first in which a part of the path begins so."""
+    names = ("notes.txt", "d/e/tab.txt", "Data/a.c", "extra.c")
+    pair, editor, key, text = opened(*(f"{name}\n" for name in names))
+    for tag, name in enumerate(names, 1):
+        editor.go_to(editor.window_of(tag))
+        pair.press(key("Esc"), text(f"f {name}\n"), key("Esc"))
+
+    def shown():
+        lines = [(line.strip(), is_chosen) for line, is_chosen in editor.menu.lines(20)]
+        return [name for name, _ in lines if name], next((name for name, is_chosen in lines if is_chosen), None)
+
+    for keys, wanted in (
+        ((text("t"),), (list(names), "d/e/tab.txt")),
+        ((text("a"),), (["d/e/tab.txt", "Data/a.c"], "d/e/tab.txt")),
+        ((key("Down"),), (["d/e/tab.txt", "Data/a.c"], "Data/a.c")),
+        ((key("Backspace"), key("Backspace"), text("d")), (["d/e/tab.txt", "Data/a.c"], "d/e/tab.txt")),
+        ((text("zz"), text("\n"), key("Down")), ([], None)),
+        ((key("Backspace"),) * 3, (list(names), "notes.txt")),
+        ((text("A.c"),), (["Data/a.c", "extra.c"], "Data/a.c")),
+    ):  # fmt: skip
+        if editor.menu is None:
+            pair.press(key("F2"))
+        pair.press(*keys)
+        expect(editor.menu is not None and shown() == wanted, f"after {keys}: {editor.menu and shown()}, wanted {wanted}")
+    pair.press(text("\nx"))
+    expect(editor.menu is None and pair.host.text(3) == "xData/a.c\n", f"Enter doesn't open it: {editor.focus.tag}, {pair.host.text(3)!r}")
+    pair.press(key("F2"), key("Backspace"))
+    expect(editor.menu is None, "Backspace doesn't go back where nothing was typed")
+    pair.press(key("F2"), text("x"), key("Esc"), key("F2"))
+    expect(editor.menu is not None and shown()[0] == ["notes.txt", "d/e/tab.txt", "* Data/a.c", "extra.c"], f"it shows {shown()}")
+
+
+def check_tiny_screen(folder):
+    """A screen that has no room for all windows shows that to which the keys go, and takes clicks for it."""
+    pair, editor, key, text = opened("a\nb\n", "c\n")
+    first, second = editor.files
+    for rows, is_tiny in ((5, True), (6, False)):
+        editor.arrange(rows, 20)
+        for window, title, line in ((editor.command, "~~sam~~", ""), (first, "file0", "a"), (second, "file1", "c")):
+            editor.go_to(window)
+            pair.finish()
+            frame = pair.screen.frame_of(editor, rows + 2, 20)
+            shown = ["".join(part for part, _ in frame.get(y, [])).rstrip() for y in range(rows)]
+            at = shown.index(f">  {title}")
+            expect(shown[at + 1] == line, f"{rows} rows: below the title of {title} it shows {shown}")
+            expect(at == 0 or not is_tiny, f"{rows} rows: other windows are shown with {title}: {shown}")
+            expect(pair.screen.cursor_of(editor)[0] == at + 1, f"{rows} rows: the caret of {title} is at {pair.screen.cursor_of(editor)}")
+            editor.take(pair.keys.Mouse("press", at + 1, 0, 0.0))
+            expect(editor.focus is window, f"{rows} rows: a click on {title} goes elsewhere")
+
+
 def check_small_command_window(folder):
     made(folder, a="one\n")
     with Session(folder, "a.txt") as session:
