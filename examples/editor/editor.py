@@ -153,7 +153,7 @@ class Editor(Desk, Waiting, Actions):
         self._sought, self._aside = None, ""
 
     def _meet_pasted(self, frame: Frame) -> None:
-        """The host has answered what locked a file. What it has pasted it has selected: the caret goes behind that."""
+        """The host has answered what locked a file. What it has pasted it has selected: the caret goes after that."""
         if frame.tag in self._pasting:
             self._pasting.remove(frame.tag)
             self.cut_text = ""

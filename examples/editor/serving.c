@@ -197,7 +197,7 @@ static bool may_read(const struct wire *wire)
     return wire->end == GOES_ON && wire->input_len - wire->taken < PIECE;
 }
 
-/* Reads bytes, to stand behind those that wait, and notes how the input ends. Returns whether some have come. */
+/* Reads bytes, to stand after those that wait, and notes how the input ends. Returns whether some have come. */
 static bool read_bytes(struct wire *wire)
 {
     if (!may_read(wire))

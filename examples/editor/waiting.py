@@ -23,7 +23,7 @@ BY_PLACE = {
 }  # fmt: skip
 # Actions that go by the rows on the screen. These wait until all that is shown is loaded, and so lead to the same place over any link.
 BY_PLACES = BY_PLACE | {"page_up", "page_down"}
-# Actions that the terminal itself would hold while the host pastes, and do before the caret has gone behind what was pasted.
+# Actions that the terminal itself would hold while the host pastes, and do before the caret has gone after what was pasted.
 BY_CARET = {"look", "search"}
 # Actions that ask first where a file was not written. What is held or not answered yet may still change one, so these wait for it.
 ASKING = {"close", "leave", "send"}

@@ -80,7 +80,7 @@ def check_on_the_way(folder):
 
 
 def check_crossing(folder):
-    """A paste is under way: what is typed into the file meanwhile waits, and comes in behind what was pasted."""
+    """A paste is under way: what is typed into the file meanwhile waits, and comes in after what was pasted."""
     (path,) = made(folder, a="abc\n")
     with Session(folder, "a.txt") as session:
         session.wait_for("abc")

@@ -173,7 +173,7 @@ def check_paste_over_a_bad_line(folder):
 
 
 def check_caret_after_a_paste(folder):
-    """The caret stands behind what was pasted, also for keys that come before the host has answered, of which some go by the selection."""
+    """The caret stands after what was pasted, also for keys that come before the host has answered, of which some go by the selection."""
     for keys, wanted, dot in (
         (("^V",), "ababc\nabc\n", 2), (("^V", "x"), "abxabc\nabc\n", 3), (("^V", "^V", "y", "Left", "^V"), "abababyabc\nabc\n", 6),
         (("Shift-Right", "^V", "Shift-Left", "x"), "axbc\nabc\n", 2), (("^V", "^L", "x"), "abxabc\nabc\n", 3),
