@@ -10,7 +10,7 @@ pub fn files_can_be_added()
 {}
 
 /// Says that a host which is made with names and texts within their limits is sound: its texts and names are within their limits, each dot
-/// is a range of its text, and its version is 1.
+/// is a range of its text, and its version is 1 or 2.
 #[tactic(auto, using(crate::proofs::SoundLaws::starts_sound))]
 pub fn hosts_start_sound()
     ensures { StartsSound }

@@ -64,7 +64,7 @@ abbrev pub is_bad_version : UserEvent → Bool
 is_bad_version (Version v) = v == 0
 is_bad_version _ = false
 
--- the event is not for the command file
+-- the event names the command file, which takes none of its kind
 abbrev pub is_for_command_file : UserEvent → Bool
 is_for_command_file (Open f) = f == 0
 is_for_command_file (Close f) = f == 0
