@@ -40,6 +40,28 @@
         (7 (keys "C-t")))
     ((beginning-of-buffer end-of-buffer) nil)))
 
+(defun wait-for (is-there)
+  "Wait until IS-THERE returns non-nil, but no more than 20 seconds.  Return what it does."
+  (let ((end (+ (float-time) 20)) found)
+    (while (and (not (setq found (funcall is-there))) (< (float-time) end)) (accept-process-output nil 0.05))
+    found))
+
+(defvar room nil "The folder of the files, in which the sessions begin.")
+
+(defun kept (name)
+  "The texts that stand here of the file NAME.  Their files are removed."
+  (mapcar (lambda (file)
+            (check "a text that is kept is for its owner alone" (= (file-modes file) #o600) (file-modes file))
+            (prog1 (disk file) (delete-file file)))
+          (directory-files room t (concat "\\`" (regexp-quote name) "\\.sam-here"))))
+
+(defmacro asked (answer &rest body)
+  "Do BODY with a user there, who answers each question with ANSWER.  Return the questions."
+  (declare (indent 1))
+  `(let ((questions nil) (noninteractive nil))
+     (cl-letf (((symbol-function 'yes-or-no-p) (lambda (question) (push question questions) ,answer))) ,@body)
+     questions))
+
 (defun said (act)
   "What is said while ACT is called, last first."
   (let (words)
@@ -79,6 +101,14 @@
     (check "no part of it runs" (equal (sulgrevad--text) text) (sulgrevad--text))
     (same "at the terminal neither")))
 
+(defun check-hidden ()
+  "Changes of a locked file reach the terminal, whether a hook tells of them or not."
+  (sulgrevad--write sulgrevad--term sulgrevad--tag)
+  (let ((inhibit-modification-hooks t) (inhibit-read-only t)) (goto-char (point-max)) (insert "hidden"))
+  (sulgrevad--wait #'sulgrevad--is-free)
+  (check "a change of a locked file that no hook reports stays" (string-suffix-p "hidden" (sulgrevad--text)) (sulgrevad--text))
+  (same "and reaches the terminal"))
+
 (defun check-edits ()
   "Edits go as one event each, and what the host changes comes as that stretch alone."
   (sulgrevad-command ",c/one two three four/")
@@ -99,12 +129,7 @@
     (check "the host's change alone is put in" (equal seen '((5 7 0) (5 5 3))) seen)
     (check "markers beside it stay with their text" (equal (list (char-after before) (char-after after)) '(?n ?u)) before after))
 
-  ;; Changes that no hook tells of, while the file is locked.
-  (sulgrevad--write sulgrevad--term sulgrevad--tag)
-  (let ((inhibit-modification-hooks t) (inhibit-read-only t)) (goto-char (point-max)) (insert "hidden"))
-  (sulgrevad--wait #'sulgrevad--is-free)
-  (check "a change of a locked file that no hook reports stays" (string-suffix-p "hidden" (sulgrevad--text)) (sulgrevad--text))
-  (same "and reaches the terminal")
+  (check-hidden)
 
   ;; What is no text, though Emacs has a character for it.
   (insert #xD800)
@@ -166,6 +191,136 @@
   (let ((sulgrevad-patience 2)) (sulgrevad-start (append host (list file))))
   (check "a long text comes" (= (buffer-size) 60000) (buffer-size))
   (sulgrevad-quit))
+
+(defun stop ()
+  "Have the buffer's file be locked, and the link carry nothing."
+  (signal-process sulgrevad--process 'STOP)
+  (sulgrevad--write sulgrevad--term sulgrevad--tag)
+  (sulgrevad--pump t))
+
+(defun go-on ()
+  (signal-process sulgrevad--process 'CONT))
+
+(defun insert-waiting (text)
+  "Put TEXT at the front, as code does that knows nothing of locks."
+  (goto-char (point-min))
+  (let ((inhibit-read-only t)) (insert text)))
+
+(defun check-killing (host file)
+  "No edit that waits is lost where the buffer of FILE at HOST is killed."
+  (sulgrevad-start (append host (list file)))
+  (let ((buffer (current-buffer)) (text (disk file)))
+    (stop)
+    (insert-waiting "waits ")
+    (check "an edit waits" (equal (theirs) text) (theirs))
+    (let ((sulgrevad-patience 0.2))
+      (check "who kills its buffer is asked" (asked nil (kill-buffer)))
+      (check "and may keep it" (buffer-live-p buffer)))
+    (run-with-timer 0.1 nil (lambda () (setq quit-flag t)))
+    (check "C-g keeps it, too" (condition-case nil (ignore (asked t (kill-buffer))) (quit (buffer-live-p buffer))))
+    (run-with-timer 0.2 nil #'go-on)
+    (check "once the edit may go nobody is asked" (null (asked nil (kill-buffer))))
+    (check "the buffer is gone" (not (buffer-live-p buffer)))
+    (sulgrevad-find file)
+    (check "the host has the edit" (equal (sulgrevad--text) (concat "waits " text)) (sulgrevad--text))
+    (sulgrevad-save)
+    (check "and so has the disk" (equal (disk file) (concat "waits " text)) (disk file))
+    (setq text (disk file)))
+  (dolist (kill (list (lambda () (let ((sulgrevad-patience 0.2)) (asked t (kill-buffer))))
+                      (lambda () (let ((kill-buffer-query-functions nil)) (kill-buffer)))))
+    (let ((text (disk file)))
+      (stop)
+      (insert-waiting "kept é\0 ")
+      (funcall kill)
+      (check "what a killed buffer had is here" (equal (kept (file-name-nondirectory file)) (list (concat "kept é\0 " text)))
+             text)
+      (go-on)
+      (sulgrevad-find file)))
+  (stop)
+  (insert-waiting "leaves ")
+  (let ((sulgrevad-patience 0.2)) (check "who leaves is asked" (asked nil (sulgrevad-quit))))
+  (check "and may stay" sulgrevad--term)
+  (go-on)
+  (asked t (sulgrevad-quit)))
+
+(defun check-keeping (host one other)
+  "What a host that is lost or ends badly may not have is here, of files ONE and OTHER."
+  (sulgrevad-start (append host (list one other)))
+  (let ((text (concat "buried " (disk one))) (long (concat "typed " (make-string 60000 ?l))))
+    (insert "buried ")
+    (kill-buffer)
+    (write-region (substring long 6) nil other nil 'silent)
+    (delete-process sulgrevad--process)
+    (wait-for (lambda () (null sulgrevad--term)))
+    (check "the text of a file without a buffer is here" (equal (kept (file-name-nondirectory one)) (list text)))
+    (check "that of a file that is not changed is not" (null (kept (file-name-nondirectory other))))
+    (sulgrevad-start (append host (list one other)))
+    (sulgrevad--open sulgrevad--term 2)
+    (sulgrevad--wait (lambda () (and (sulgrevad--is-open sulgrevad--term 2) (not (sulgrevad--locked sulgrevad--term 2)))))
+    (sulgrevad--edit sulgrevad--term 2 0 0 "typed ")
+    (delete-process sulgrevad--process)
+    (wait-for (lambda () (null sulgrevad--term)))
+    (let* ((found (or (car (kept (file-name-nondirectory other))) ""))
+           (gap (string-match "\\[\\([0-9]+\\) characters that were not loaded\\]" found))
+           (missing (if gap (string-to-number (match-string 1 found)) 0)))
+      (check "what is not loaded is told in words" (< 0 missing) found)
+      (check "the rest is here" (equal (if gap (replace-match (make-string missing ?l) t t found) found) long) (length found))))
+  (sulgrevad-start (append (list "sh" "-c" "\"$@\"; exit 5" "sh") host (list one)))
+  (let ((text (concat "bad " (disk one))))
+    (insert "bad ")
+    (check "who leaves is asked" (asked t (sulgrevad-quit)))
+    (check "a text that the host has not saved is here" (equal (kept (file-name-nondirectory one)) (list text))))
+  (sulgrevad-start (list (car (last host)) one))
+  (check-not-kept))
+
+(defun check-not-kept ()
+  "Where nothing can be written here, the buffer stays, and the kill ring has its text."
+  (insert "nowhere ")
+  (let ((text (sulgrevad--text)) (buffer (current-buffer)) (temporary-file-directory "/nowhere/"))
+    (setq sulgrevad--folder "/nowhere/")
+    (delete-process sulgrevad--process)
+    (wait-for (lambda () (null sulgrevad--term)))
+    (check "the kill ring has what can't be kept" (equal (car kill-ring) text))
+    (check "who kills its buffer is asked" (asked nil (kill-buffer)))
+    (check "and may keep it" (buffer-live-p buffer))
+    (check "Emacs offers to save it" buffer-offer-save)
+    (asked t (kill-buffer))))
+
+(defun child (ready host file &rest forms)
+  "Have another Emacs edit FILE at HOST, and do FORMS.  Once it prints READY it is terminated, where READY is a text.  Wait for its end."
+  (let* ((told "")
+         (process (make-process
+                   :name "child" :noquery t :filter (lambda (_ text) (setq told (concat told text)))
+                   :command (list (expand-file-name invocation-name invocation-directory) "-Q" "--batch" "-l" (symbol-file 'sulgrevad-start)
+                                  "--eval" (prin1-to-string `(progn (sulgrevad-start ',(append host (list file))) ,@forms))))))
+    (when ready
+      (wait-for (lambda () (string-search ready told)))
+      (signal-process process 'TERM))
+    (check "Emacs ends" (wait-for (lambda () (not (process-live-p process)))) told)))
+
+(defun check-leaving (host file)
+  "No edit is lost where Emacs ends while FILE at HOST was not written."
+  (let* ((text (disk file)) (name (file-name-nondirectory file)) (saved (concat file ".sam-saved")))
+    (mapc #'delete-file (directory-files room t "\\.sam-saved")) ; of earlier sessions
+    (child nil host file '(insert "leaves ") '(kill-emacs))
+    (check "the host has saved what was on its way when Emacs ended" (equal (disk saved) (concat "leaves " text)))
+    (check "so it is not here" (null (kept name)))
+    (delete-file saved)
+    (child "ready" host file '(insert "ends ") '(princ "ready\n") '(sleep-for 20))
+    (check "what was on its way when Emacs was terminated is there or here"
+           (equal (kept name) (list (concat "ends " text))))
+    (ignore-errors (delete-file saved))
+    (child nil host file '(advice-add 'sulgrevad--locked :override #'always) '(defconst sulgrevad-most-leaving 0.3) '(insert "waits ")
+           '(kill-emacs))
+    (check "what waited is here" (equal (kept name) (list (concat "waits " text))))
+    (sulgrevad-start (append host (list file)))
+    (insert "asks ")
+    (check "who leaves Emacs is asked"
+           (asked nil (check "and may stay" (not (run-hook-with-args-until-failure 'kill-emacs-query-functions)))))
+    (sulgrevad-save)
+    (check "but not where all is written"
+           (null (asked nil (check "and leaves" (run-hook-with-args-until-failure 'kill-emacs-query-functions)))))
+    (sulgrevad-quit)))
 
 (defun check-next-session (host file)
   "What is left of a lost session, the current buffer and its host's process, does nothing to one of HOST with FILE."
@@ -251,6 +406,8 @@
        (one (expand-file-name "one.txt" folder)) (other (expand-file-name "other.txt" folder)))
   (setq command-line-args-left nil)
   (random "sulgrevad")
+  (setq room (file-name-as-directory folder) temporary-file-directory room)
+  (dolist (buffer (buffer-list)) (with-current-buffer buffer (setq default-directory room)))
   (sulgrevad-start (append host (list one other)))
   (check "the first file is shown" (equal (sulgrevad--text) (disk one)) (buffer-name))
   (check "it may be edited, and is not changed" (not (or buffer-read-only (buffer-modified-p))))
@@ -368,8 +525,13 @@
     (check "the buffer is read-only" (eq buffer-read-only t) buffer-read-only)
     (condition-case nil (keys "z") (error nil))
     (check "the text stays" (equal (sulgrevad--text) text) (sulgrevad--text))
-    (check "it is known as changed" (buffer-modified-p)))
+    (check "it is known as changed" (buffer-modified-p))
+    (check "it is here" (equal (kept "other.txt") (list text))))
   (check-next-session host one)
   (check-wrong-stream one)
+  (check "the text is here, too" (= (length (kept "one.txt")) 1))
+  (check-killing host one)
+  (check-keeping host one other)
+  (check-leaving host one)
   (check-beginning host (expand-file-name "more.txt" folder))
   (princ (format "%d passed, %d failed\n" passed failed)))
