@@ -56,9 +56,10 @@
 (dolist (name '(sulgrevad--tag sulgrevad--self sulgrevad--tick sulgrevad--has-drifted sulgrevad-mode))
   (put name 'permanent-local t))
 (defconst sulgrevad--hooks
-  '((before-change-functions sulgrevad--before-change) (after-change-functions sulgrevad--after-change)
+  '((before-change-functions sulgrevad--before-change 100) (after-change-functions sulgrevad--after-change -100)
     (kill-buffer-query-functions sulgrevad--may-kill) (kill-buffer-hook sulgrevad--at-kill))
-  "What is called in the buffer of an open file, with the hooks that call it.")
+  "What is called in the buffer of an open file, with the hooks that call it and how late they do.
+Functions of others on these hooks may change the buffer, too: of that the first learns after them, the second before them.")
 (defconst sulgrevad--global-hooks
   '((post-command-hook sulgrevad--after-command) (pre-command-hook sulgrevad--before-command)
     (kill-emacs-query-functions sulgrevad--may-end) (kill-emacs-hook sulgrevad--break-off))
@@ -134,11 +135,16 @@ It signals no error, since Emacs would not call it again."
     (condition-case nil
         (let ((is-known (not sulgrevad--has-drifted)))
           (setq sulgrevad--has-drifted t)
-          (when (and is-known (sulgrevad--is-free))
+          (when (and is-known (sulgrevad--is-free) (sulgrevad--is-alone start end old))
             (setq sulgrevad--has-drifted
                   (sulgrevad--give (1- start) (+ (1- start) old) (buffer-substring-no-properties start end)))))
       (error nil))
     (setq sulgrevad--tick (buffer-chars-modified-tick))))
+
+(defun sulgrevad--is-alone (start end old)
+  "Whether the buffer may differ from the terminal's text only in that START to END took the place of OLD characters.
+Another change, which no hook has reported, seldom leaves the length as it is."
+  (= (buffer-size) (+ (sulgrevad--len sulgrevad--term sulgrevad--tag) (- end start old))))
 
 (defun sulgrevad--kill-text (text)
   "Have the kill ring hold TEXT, though the functions of others that `kill-new' calls fail."
@@ -179,13 +185,17 @@ Return whether they did."
   "Have the terminal's text take the place of the buffer's.  Return whether they differed."
   (sulgrevad--put 0 (buffer-size) (sulgrevad--len sulgrevad--term sulgrevad--tag)))
 
+(defun sulgrevad--differs ()
+  "Whether the buffer is not as the terminal's text: hooks of others may have changed what was put in."
+  (not (null (sulgrevad--difference 0 (buffer-size) (sulgrevad--len sulgrevad--term sulgrevad--tag)))))
+
 (defun sulgrevad--take-over (&optional whole)
   "Change the buffer where the terminal's text has changed, and say whether it may be edited.
 With WHOLE change it wherever the two differ: what was not handed over goes."
   (let ((is-free (sulgrevad--is-free)) (inhibit-quit t)) ; the terminal says only once what changed
+    (unless whole (sulgrevad--before-change)) ; when another buffer was changed, a hook may have changed this one
     (when (and is-free (or whole (not sulgrevad--has-drifted)))
-      (sulgrevad--take whole)
-      (setq sulgrevad--has-drifted nil
+      (setq sulgrevad--has-drifted (and (sulgrevad--take whole) (/= sulgrevad--tag 0) (sulgrevad--differs))
             sulgrevad--tick (buffer-chars-modified-tick))
       (restore-buffer-modified-p (and (/= sulgrevad--tag 0) (sulgrevad--is-changed sulgrevad--term sulgrevad--tag))))
     (setq buffer-read-only (or (not is-free) (= sulgrevad--tag 0)))))
@@ -322,9 +332,14 @@ Where the session is over and the host has ended in peace, it has saved all that
 ;;; The stream
 
 (defun sulgrevad--each (function)
-  "Call FUNCTION in each buffer of an open file."
+  "Call FUNCTION in each buffer of an open file, and then signal the first error of it."
   (setq sulgrevad--buffers (cl-remove-if-not #'buffer-live-p sulgrevad--buffers))
-  (dolist (buffer sulgrevad--buffers) (with-current-buffer buffer (funcall function))))
+  (let (first)
+    (dolist (buffer sulgrevad--buffers)
+      (when (buffer-live-p buffer)      ; a hook of another may have killed it
+        (condition-case why (with-current-buffer buffer (funcall function))
+          (error (setq first (or first why))))))
+    (when first (signal (car first) (cdr first)))))
 
 (defun sulgrevad--let-go ()
   "Have the buffer stay readable, and be of no file of a later session."
@@ -416,9 +431,10 @@ With MOST wait that many seconds in all."
     found))
 
 (defun sulgrevad--before-command ()
-  "Wait until the buffer may be edited, so that no key is lost."
-  (when (and (sulgrevad--is-ours) (/= sulgrevad--tag 0) (not (sulgrevad--is-free)))
-    (with-local-quit (sulgrevad--wait #'sulgrevad--is-free))))
+  "Wait until the buffer may be edited, so that no key is lost; a buffer that shares its text, too."
+  (with-current-buffer (or (buffer-base-buffer) (current-buffer))
+    (when (and (sulgrevad--is-ours) (/= sulgrevad--tag 0) (not (sulgrevad--is-free)))
+      (with-local-quit (sulgrevad--wait #'sulgrevad--is-free)))))
 
 (defun sulgrevad--after-command ()
   "Send what the command did, typed text too where no other key waits."
@@ -466,7 +482,7 @@ With MOST wait that many seconds in all."
         (sulgrevad--take-over t)
         (setq buffer-undo-list (= tag 0))
         (goto-char (point-min))
-        (dolist (hook sulgrevad--hooks) (add-hook (car hook) (cadr hook) nil t))
+        (dolist (hook sulgrevad--hooks) (add-hook (car hook) (cadr hook) (caddr hook) t))
         (sulgrevad-mode)
         (push (current-buffer) sulgrevad--buffers)
         (current-buffer))))
