@@ -36,6 +36,7 @@
 (defconst sulgrevad-most-names 1000 "How many names are tried for a file that keeps a text here.")
 (defconst sulgrevad-most-in-base 50 "How many characters of a file's name such a name begins with; those of four bytes have room, too.")
 (defconst sulgrevad-most-leaving 10 "How many seconds at most each step takes when the session is to end.")
+(defconst sulgrevad-most-unsent 0.5 "After how many seconds an edit is sent that no command has made.")
 (defvar sulgrevad-patience 30 "How many seconds to wait for an answer of the host.")
 
 (defvar sulgrevad--term nil "The terminal of the session, or nil.")
@@ -45,6 +46,7 @@
 (defvar sulgrevad--told nil "What the host has told since it was last to write a file.")
 (defvar sulgrevad--buffers nil "The buffers of open files.")
 (defvar sulgrevad--folder nil "The folder in which the session began.")
+(defvar sulgrevad--timer nil "What sends edits that no command has made, or nil.")
 (defvar sulgrevad--is-pumping nil "Whether bytes are being fed and sent.")
 (defvar sulgrevad--is-taking nil "Whether a buffer is being changed to what the terminal has.")
 (defvar-local sulgrevad--tag nil "The tag of the buffer's file.")
@@ -130,16 +132,24 @@ Return why it can't, or nil.  It may signal `sulgrevad-no-memory'."
 
 (defun sulgrevad--after-change (start end old)
   "Hand over that the text from START to END took the place of OLD characters.
-It signals no error, since Emacs would not call it again."
+It signals no error and no quit, since Emacs would not call it again."
   (when (and (sulgrevad--is-ours) (not sulgrevad--is-taking))
-    (condition-case nil
-        (let ((is-known (not sulgrevad--has-drifted)))
-          (setq sulgrevad--has-drifted t)
-          (when (and is-known (sulgrevad--is-free) (sulgrevad--is-alone start end old))
-            (setq sulgrevad--has-drifted
-                  (sulgrevad--give (1- start) (+ (1- start) old) (buffer-substring-no-properties start end)))))
-      (error nil))
-    (setq sulgrevad--tick (buffer-chars-modified-tick))))
+    (let ((inhibit-quit t))
+      (condition-case nil
+          (let ((is-known (not sulgrevad--has-drifted)))
+            (setq sulgrevad--has-drifted t)
+            (when (and is-known (sulgrevad--is-free) (sulgrevad--is-alone start end old))
+              (setq sulgrevad--has-drifted
+                    (sulgrevad--give (1- start) (+ (1- start) old) (buffer-substring-no-properties start end)))))
+        (error nil))
+      (setq sulgrevad--tick (buffer-chars-modified-tick))
+      (unless sulgrevad--timer
+        (setq sulgrevad--timer (run-with-timer sulgrevad-most-unsent nil #'sulgrevad--on-time))))))
+
+(defun sulgrevad--on-time ()
+  "Send what a timer or a process of another has edited: no command ends then."
+  (setq sulgrevad--timer nil)
+  (sulgrevad--pump t))
 
 (defun sulgrevad--is-alone (start end old)
   "Whether the buffer may differ from the terminal's text only in that START to END took the place of OLD characters.
@@ -156,6 +166,7 @@ Another change, which no hook has reported, seldom leaves the length as it is."
 (defun sulgrevad--hand-over (&optional whole)
   "Hand over what no hook has reported; with WHOLE also where there is no sign of it.
 It may signal `sulgrevad-no-memory': then it is to be called again."
+  (unless enable-multibyte-characters (set-buffer-multibyte t)) ; places are those of characters, not of bytes
   (sulgrevad--before-change)
   (when (and (or whole sulgrevad--has-drifted) (sulgrevad--is-free))
     (setq sulgrevad--has-drifted t)
@@ -376,7 +387,8 @@ With IS-PAUSING what was typed is sent, too."
             (when is-pausing (sulgrevad--flush-now sulgrevad--term))
             (sulgrevad--send)))
       (sulgrevad-no-memory (message "Sulgrevad: %s" (cadr why)))
-      (sulgrevad-error (sulgrevad--lose (cadr why))))))
+      (sulgrevad-error (sulgrevad--lose (cadr why)))
+      (error (message "Sulgrevad: %s" (error-message-string why)))))) ; a hook that signals one is not called again
 
 (defun sulgrevad--feed-next ()
   "Feed what came first.  Where memory is out, what is left to do of it stays the first."
@@ -474,7 +486,7 @@ With MOST wait that many seconds in all."
         (setq sulgrevad--tag tag sulgrevad--self (current-buffer) buffer-read-only t buffer-undo-list t)
         (unless (or (= tag 0) (sulgrevad--is-open sulgrevad--term tag)) (sulgrevad--open sulgrevad--term tag))
         (sulgrevad--load sulgrevad--term tag 0 sulgrevad-most-runes)
-        (unless (sulgrevad--wait #'sulgrevad--is-free)
+        (unless (condition-case nil (sulgrevad--wait #'sulgrevad--is-free) (quit (kill-buffer) (signal 'quit nil)))
           (kill-buffer)
           (accept-process-output nil 0.1) ; what a host told that is gone
           (error "%s" (if (process-live-p sulgrevad--process) "The host does not answer"
