@@ -178,6 +178,8 @@
     (check "that another program changed a file is said" (string-search "another program changed it" (or (car words) "")) words)
     (check "and not that it is written" (not (cl-some (lambda (one) (string-search "has written" one)) words)) words))
   (check "it is as it was" (equal (disk file) "another's\n") (disk file))
+  (check "the buffer is known as changed" (buffer-modified-p))
+  (check "who leaves is asked" (asked nil (sulgrevad-quit)))
   (check "the next write is said" (string-search "has written" (or (car (said #'sulgrevad-save)) "")))
   (check "the disk has it" (equal (disk file) (sulgrevad--text)) (disk file)))
 

@@ -44,6 +44,8 @@
 (defvar sulgrevad--inbox nil "What came from the host and is not fed yet, oldest first; \"\" to go on with what waits for memory.")
 (defvar sulgrevad--unsent nil "Bytes that were taken out and not sent, since the host was stopped, or nil.")
 (defvar sulgrevad--told nil "What the host has told since it was last to write a file.")
+(defvar sulgrevad--writing nil "The tag of the file that the host was to write last.")
+(defvar sulgrevad--unwritten nil "The tags of files that the host could not write, though the terminal takes them for written.")
 (defvar sulgrevad--buffers nil "The buffers of open files.")
 (defvar sulgrevad--folder nil "The folder in which the session began.")
 (defvar sulgrevad--timer nil "What sends edits that no command has made, or nil.")
@@ -100,6 +102,10 @@ nil, or a list: where it begins, where it ends in the buffer and at the terminal
              (back (sulgrevad--same-front (reverse (substring mine front)) (reverse (substring theirs front)))))
         (list (+ start front) (- end back) (- their-end back)
               (substring mine front (- (length mine) back)) (substring theirs front (- (length theirs) back)))))))
+
+(defun sulgrevad--is-unwritten (tag)
+  "Whether the file TAG may differ from what the host has written."
+  (or (sulgrevad--is-changed sulgrevad--term tag) (memq tag sulgrevad--unwritten)))
 
 (defun sulgrevad--is-ours ()
   "Whether the buffer is that of a file of the session."
@@ -208,7 +214,7 @@ With WHOLE change it wherever the two differ: what was not handed over goes."
     (when (and is-free (or whole (not sulgrevad--has-drifted)))
       (setq sulgrevad--has-drifted (and (sulgrevad--take whole) (/= sulgrevad--tag 0) (sulgrevad--differs))
             sulgrevad--tick (buffer-chars-modified-tick))
-      (restore-buffer-modified-p (and (/= sulgrevad--tag 0) (sulgrevad--is-changed sulgrevad--term sulgrevad--tag))))
+      (restore-buffer-modified-p (and (/= sulgrevad--tag 0) (sulgrevad--is-unwritten sulgrevad--tag))))
     (setq buffer-read-only (or (not is-free) (= sulgrevad--tag 0)))))
 
 (defun sulgrevad--take (whole)
@@ -291,7 +297,7 @@ Where the session is over and the host has ended in peace, it has saved all that
     (cl-loop for (name . tag) in (sulgrevad--names)
              for buffer = (sulgrevad--buffer-of tag)
              when (or (and buffer (with-current-buffer buffer (sulgrevad--waits)))
-                      (and (not has-all) (sulgrevad--is-open sulgrevad--term tag) (sulgrevad--is-changed sulgrevad--term tag)))
+                      (and (not has-all) (sulgrevad--is-open sulgrevad--term tag) (sulgrevad--is-unwritten tag)))
              collect (if buffer (with-current-buffer buffer (sulgrevad--keep-buffer name)) (sulgrevad--keep-file name tag)))))
 
 (defun sulgrevad--keep-modified ()
@@ -322,7 +328,7 @@ Where the session is over and the host has ended in peace, it has saved all that
   (cond ((null sulgrevad--term) t)
         ((progn (sulgrevad--wait #'sulgrevad--is-handed-over) (null sulgrevad--term)) nil) ; what became of the texts is to be read
         ((not (sulgrevad--is-handed-over)) (yes-or-no-p "Some edits did not get to the host; leave, and keep them here? "))
-        ((cl-some (lambda (file) (sulgrevad--is-changed sulgrevad--term (cdr file))) (sulgrevad--names))
+        ((cl-some (lambda (file) (sulgrevad--is-unwritten (cdr file))) (sulgrevad--names))
          (yes-or-no-p "Some files were not written; leave? "))
         (t)))
 
@@ -422,6 +428,10 @@ With IS-PAUSING what was typed is sent, too."
 (defun sulgrevad--tell (_process text)
   "Show TEXT, which the host tells."
   (setq sulgrevad--told (concat sulgrevad--told text))
+  (when (and sulgrevad--writing (string-search "? write " sulgrevad--told))
+    (cl-pushnew sulgrevad--writing sulgrevad--unwritten)
+    (let ((buffer (sulgrevad--buffer-of sulgrevad--writing)))
+      (when buffer (with-current-buffer buffer (restore-buffer-modified-p t)))))
   (message "%s" (string-trim text)))
 
 (defun sulgrevad--ended (_process _event)
@@ -460,7 +470,7 @@ With MOST wait that many seconds in all."
   (when (and sulgrevad--term (process-live-p sulgrevad--process)) (user-error "There is a session already"))
   (sulgrevad--lose "the host is gone")
   (setq sulgrevad--inbox nil sulgrevad--unsent nil sulgrevad--buffers nil
-        sulgrevad--told nil sulgrevad--folder default-directory)
+        sulgrevad--told nil sulgrevad--writing nil sulgrevad--unwritten nil sulgrevad--folder default-directory)
   (setq sulgrevad--process
         (make-process :name "samhost" :command (if (listp command) command (list "/bin/sh" "-c" command))
                       :coding 'latin-1-unix :connection-type 'pipe :noquery t
@@ -551,12 +561,11 @@ With MOST wait that many seconds in all."
   (interactive)
   (sulgrevad--settle)
   (sulgrevad--hand-over t)
-  (setq sulgrevad--told nil)
+  (setq sulgrevad--told nil sulgrevad--writing sulgrevad--tag sulgrevad--unwritten (delq sulgrevad--tag sulgrevad--unwritten))
   (sulgrevad--write sulgrevad--term sulgrevad--tag)
   (cond ((not (sulgrevad--wait (lambda () (and (sulgrevad--is-free) (not (sulgrevad--is-changed sulgrevad--term sulgrevad--tag))))))
          (message "The host has not said that it wrote %s" (buffer-name)))
-        ((string-search "? write " (or sulgrevad--told "")) ; the terminal takes it for written all the same
-         (message "%s" (string-trim sulgrevad--told)))
+        ((memq sulgrevad--tag sulgrevad--unwritten) (message "%s" (string-trim sulgrevad--told)))
         (t (message "The host has written %s" (buffer-name)))))
 
 (defun sulgrevad-quit ()
