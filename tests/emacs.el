@@ -107,7 +107,19 @@
   (let ((inhibit-modification-hooks t) (inhibit-read-only t)) (goto-char (point-max)) (insert "hidden"))
   (sulgrevad--wait #'sulgrevad--is-free)
   (check "a change of a locked file that no hook reports stays" (string-suffix-p "hidden" (sulgrevad--text)) (sulgrevad--text))
-  (same "and reaches the terminal"))
+  (same "and reaches the terminal")
+
+  ;; The same while the host changes it.
+  (sulgrevad--work sulgrevad--term sulgrevad--tag)
+  (sulgrevad--type sulgrevad--term 0 ",x/hidden/c/the host's/\n")
+  (let ((words (said (lambda ()
+                       (let ((inhibit-read-only t)) (goto-char (point-max)) (insert " buffer's"))
+                       (sulgrevad--wait #'sulgrevad--is-free)))))
+    (check "a change of a file that the host changes stays" (string-suffix-p "hidden buffer's" (sulgrevad--text)) (sulgrevad--text))
+    (same "and reaches the terminal, too")
+    (check "that is said" (is-said "take the place" words) words)
+    (check "the kill ring has what the host made" (string-suffix-p "the host's" (car kill-ring)) (car kill-ring)))
+  (sulgrevad-command ",x/ buffer's/d"))
 
 (defun check-edits ()
   "Edits go as one event each, and what the host changes comes as that stretch alone."

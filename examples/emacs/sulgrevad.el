@@ -12,7 +12,8 @@
 ;; - Some code changes a buffer without that hook (`inhibit-modification-hooks'). So the buffer's tick is compared before each change and
 ;;   round each feed, and the whole text before a file is written: what was not handed over is found, and goes as one edit.
 ;; - A hook can't refuse a change: Emacs takes off a hook that signals an error. So a buffer is read-only while its file is locked or not
-;;   all loaded, and a command first waits until it is free. Code that changes it all the same wins over what the host did meanwhile.
+;;   all loaded, and a command first waits until it is free. Code that changes it all the same wins over what the host did meanwhile, which
+;;   the kill ring has then.
 ;; - Where memory is out, an edit is not handed over and nothing is fed. The next command tries again.
 ;; - What waits goes to the host before a buffer is killed or Emacs ends; who can't wait is asked. What the host may not have when a buffer
 ;;   or the session goes all the same is kept here, in NAME.sam-here: in the folder in which the session began, or in that for temporary
@@ -54,10 +55,11 @@
 (defvar-local sulgrevad--tag nil "The tag of the buffer's file.")
 (defvar-local sulgrevad--self nil "The buffer itself.  A clone of it has its variables, and is no buffer of the file.")
 (defvar-local sulgrevad--tick nil "The buffer's tick after the last change that the terminal knows.")
+(defvar-local sulgrevad--is-held nil "Whether the terminal may hold an edit of the buffer, since memory was out for it.")
 (defvar-local sulgrevad--has-drifted nil
   "Whether the terminal may not know all changes of the buffer.  When the session is over: whether its text stands nowhere else.")
 ;; They outlive a change of the major mode.
-(dolist (name '(sulgrevad--tag sulgrevad--self sulgrevad--tick sulgrevad--has-drifted sulgrevad-mode))
+(dolist (name '(sulgrevad--tag sulgrevad--self sulgrevad--tick sulgrevad--is-held sulgrevad--has-drifted sulgrevad-mode))
   (put name 'permanent-local t))
 (defconst sulgrevad--hooks
   '((before-change-functions sulgrevad--before-change 100) (after-change-functions sulgrevad--after-change -100)
@@ -127,7 +129,8 @@ Return why it can't, or nil.  It may signal `sulgrevad-no-memory'."
       (progn (sulgrevad--edit sulgrevad--term sulgrevad--tag start end text)
              (or (sulgrevad--next-refusal sulgrevad--term)
                  (ignore (sulgrevad--changed sulgrevad--term sulgrevad--tag)))) ; the buffer has it
-    (sulgrevad-unfinished (push "" sulgrevad--inbox)
+    (sulgrevad-unfinished (setq sulgrevad--is-held t)
+                          (push "" sulgrevad--inbox)
                           (signal (car why) (cdr why)))
     ((wrong-type-argument sulgrevad-not-text) "the buffer has what is no Unicode text")))
 
@@ -169,6 +172,12 @@ Another change, which no hook has reported, seldom leaves the length as it is."
     (push text kill-ring)
     (setq kill-ring-yank-pointer kill-ring)))
 
+(defun sulgrevad--overrule ()
+  "Say that the buffer wins over what the host has changed, unless it was a change of the buffer's own that the terminal held."
+  (unless (or sulgrevad--is-held (= sulgrevad--tag 0))
+    (sulgrevad--kill-text (sulgrevad--part sulgrevad--term sulgrevad--tag 0 (sulgrevad--len sulgrevad--term sulgrevad--tag)))
+    (message "Sulgrevad: edits of %s that waited take the place of what the host changed; the kill ring has its text" (buffer-name))))
+
 (defun sulgrevad--hand-over (&optional whole)
   "Hand over what no hook has reported; with WHOLE also where there is no sign of it.
 It may signal `sulgrevad-no-memory': then it is to be called again."
@@ -176,12 +185,16 @@ It may signal `sulgrevad-no-memory': then it is to be called again."
   (sulgrevad--before-change)
   (when (and (or whole sulgrevad--has-drifted) (sulgrevad--is-free))
     (setq sulgrevad--has-drifted t)
-    (let ((why (pcase (sulgrevad--difference 0 (buffer-size) (sulgrevad--len sulgrevad--term sulgrevad--tag))
-                 (`(,start ,_ ,end ,mine ,_) (sulgrevad--give start end mine)))))
+    (let* ((changed (sulgrevad--changed sulgrevad--term sulgrevad--tag))
+           (why (pcase (sulgrevad--difference 0 (buffer-size) (sulgrevad--len sulgrevad--term sulgrevad--tag))
+                  (`(,start ,_ ,end ,mine ,_)
+                   (when changed (sulgrevad--overrule))
+                   (sulgrevad--give start end mine)))))
       (when why
         (sulgrevad--kill-text (sulgrevad--text))
         (message "Sulgrevad: %s; the kill ring has the buffer's text" why)))
-    (sulgrevad--take-over t)))
+    (sulgrevad--take-over t)
+    (setq sulgrevad--is-held nil)))
 
 (defun sulgrevad--put (start end their-end)
   "Have the terminal's text from START to THEIR-END take the place of the buffer's from START to END, where they differ.
