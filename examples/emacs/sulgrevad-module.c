@@ -345,6 +345,19 @@ static emacs_value reader(emacs_env *env, ptrdiff_t count, emacs_value *words, v
     return reader->other(env, term, tag);
 }
 
+/* How many runes of an open file from a place on are not loaded; of a long stretch its front. */
+static emacs_value missing(emacs_env *env, ptrdiff_t count, emacs_value *words, void *data)
+{
+    (void)count, (void)data;
+    static uint32_t runes[PIECE];
+    uint32_t found = 0, gaps = 0;
+    sam_status status =
+        sam_term_read(term_of(env, words[0]), tag_of(env, words[1]), u32(env, words[2], UINT32_MAX), runes, PIECE, &found);
+    while (status == SAM_OK && gaps < found && runes[gaps] == SAM_GAP)
+        gaps++;
+    return number(env, status, gaps);
+}
+
 /* The text of an open file from a place to a place, or to the first gap between them. */
 static emacs_value part(emacs_env *env, ptrdiff_t count, emacs_value *words, void *data)
 {
@@ -380,6 +393,7 @@ int emacs_module_init(struct emacs_runtime *runtime)
     define(env, "take-out", 1, 1, take_out, NULL);
     define(env, "type", 3, 3, type, NULL);
     define(env, "edit", 5, 5, edit, NULL);
+    define(env, "missing", 3, 3, missing, NULL);
     define(env, "part", 4, 4, part, NULL);
     for (size_t i = 0; i < sizeof events / sizeof events[0]; i++) {
         ptrdiff_t count = events[i].plain != NULL ? 1 : events[i].of_tag != NULL ? 2 : 4;
