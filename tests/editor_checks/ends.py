@@ -69,8 +69,8 @@ def check_host_dies_at_the_end(folder):
     expect(here.exists() and here.read_text() == "typed more one\n", "what was typed is lost")
 
 
-def check_typed_while_it_leaves(folder):
-    """What is typed while the host answers that the user left is told on standard error, and is written nowhere."""
+def type_while_it_leaves(folder, types, shown):
+    """A session in which something is typed while the host answers that the user left. It is told on standard error."""
     made(folder, a="one\n")
     with Session(folder, "a.txt") as session:
         session.wait_for("one")
@@ -78,29 +78,24 @@ def check_typed_while_it_leaves(folder):
         with session.stopped_host():
             session.keys("C-q")
             session.wait_for("leaving")
-            session.type("late\nword")
-            session.wait_for("| held")
+            types(session)
+            session.wait_for(shown)
         session.wait_for_end(0)
     told = (folder / "stderr").read_text()
     expect("'late\\nword'" in told, f"it tells {told!r}")
+
+
+def check_typed_while_it_leaves(folder):
+    """What is typed while the host answers that the user left is told, and is written nowhere."""
+    type_while_it_leaves(folder, lambda session: session.type("late\nword"), "| held")
     left = {entry.name for entry in folder.iterdir()} - {"a.txt", "status", "stderr", ".tmux"}
     expect(not left, f"there are {left}")
 
 
 def check_paste_while_it_leaves(folder):
     """So is what came of a paste whose end has not come yet."""
-    made(folder, a="one\n")
-    with Session(folder, "a.txt") as session:
-        session.wait_for("one")
-        session.wait_for_quiet()
-        with session.stopped_host():
-            session.keys("C-q")
-            session.wait_for("leaving")
-            session.tmux("send-keys", "-H", *(f"{byte:x}" for byte in b"\x1b[200~late\nword"))
-            session.wait_for("Esc twice")
-        session.wait_for_end(0)
-    told = (folder / "stderr").read_text()
-    expect("'late\\nword'" in told, f"it tells {told!r}")
+    begun = [f"{byte:x}" for byte in b"\x1b[200~late\nword"]
+    type_while_it_leaves(folder, lambda session: session.tmux("send-keys", "-H", *begun), "Esc twice")
 
 
 def check_leave_without_the_host(folder):
