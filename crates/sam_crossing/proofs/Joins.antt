@@ -50,14 +50,14 @@ was_typed h f p s r d e = grind arith
 
 -- ## Two typings, and the same at once
 
-record Joined (h : PlainHost) (f p : ℕ) (s w : List ℕ) (r1 r2 : Reply) : Type 0 where
-  reply : Reply
-  now : reply_of h (Ttype f p (s ++ w)) ≡ Some reply
-  silent : r1.1 ≡ []
-  alike : AreAlike r2.0 reply.0
-  frames : r2.1 ≡ reply.1
+pub record Joined (h : PlainHost) (f p : ℕ) (s w : List ℕ) (r1 r2 : Reply) : Type 0 where
+  pub reply : Reply
+  pub now : reply_of h (Ttype f p (s ++ w)) ≡ Some reply
+  pub silent : r1.1 ≡ []
+  pub alike : AreAlike r2.0 reply.0
+  pub frames : r2.1 ≡ reply.1
 
-joined : (h : PlainHost) (f p c : ℕ) (s u : List ℕ) (r1 r2 : Reply) (done : Bool) → h.is_done ≡ done → ((f == 0) && ends_line s) ≡ false → reply_of h (Ttype f p s) ≡ Some r1
+pub joined : (h : PlainHost) (f p c : ℕ) (s u : List ℕ) (r1 r2 : Reply) (done : Bool) → h.is_done ≡ done → ((f == 0) && ends_line s) ≡ false → reply_of h (Ttype f p s) ≡ Some r1
     → reply_of r1.0 (Ttype f (p + length s) (c ∷ u)) ≡ Some r2 → Joined h f p s (c ∷ u) r1 r2
 joined h f p c s u r1 r2 true d plain e1 e2 = record { reply = (counted h, []); now = grind arith; silent = grind arith; alike = grind arith; frames = grind arith }
 joined h f p c s u r1 r2 false d plain e1 e2 =

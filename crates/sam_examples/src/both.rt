@@ -61,22 +61,32 @@ fn agree(host: &HostEndpoint, terminal: &TermEndpoint, tag: u16) -> Result<()> {
     Ok(())
 }
 
-/// A new host and a new terminal, whose bytes are cut at one place.
-fn session(alloc: Global, cut: usize) -> Result<usize> {
-    let mut host = HostEndpoint::new(alloc)?;
+/// The user edits a file of the host's, until both sides agree. Returns the most bytes that went at a time.
+fn session(
+    alloc: Global,
+    host: &mut HostEndpoint,
+    terminal: &mut TermEndpoint,
+    cut: usize,
+) -> Result<usize> {
     host.add_file(b"notes", b"hello world")?;
-    let mut terminal = TermEndpoint::new(alloc);
-    edit(alloc, &mut terminal)?;
-    let most = carry(alloc, &mut host, &mut terminal, cut)?;
-    agree(&host, &terminal, 1)?;
+    edit(alloc, terminal)?;
+    let most = carry(alloc, host, terminal, cut)?;
+    agree(host, terminal, 1)?;
     Ok(most)
 }
 
-/// Runs the session once for each place where its bytes can be cut.
+/// A session of a new host and a new terminal, whose bytes are cut at one place.
+fn new_session(alloc: Global, cut: usize) -> Result<usize> {
+    let mut host = HostEndpoint::new(alloc)?;
+    let mut terminal = TermEndpoint::new(alloc);
+    session(alloc, &mut host, &mut terminal, cut)
+}
+
+/// Runs a session for each place where its bytes can be cut.
 pub fn run(rt: &(impl Print + AllocGlobal)) -> Result<()> {
-    let most = session(rt.alloc(), 0)?;
+    let most = new_session(rt.alloc(), 0)?;
     for cut in 1..=most {
-        session(rt.alloc(), cut)?;
+        new_session(rt.alloc(), cut)?;
     }
     println!(rt; "host and terminal agree, cut at each place from 0 to {most}")?;
     Ok(())
