@@ -8,14 +8,11 @@ import sys
 import time
 from pathlib import Path
 
-from checks import SECONDS, Failed, expect, wait_until
+from checks import LIBRARY, ROOT, SAMHOST, SECONDS, Failed, expect, wait_until
 
-ROOT = Path(__file__).resolve().parent.parent.parent
 SAMTERM = ROOT / "examples" / "editor" / "samterm"
 SLOW = ROOT / "tools" / "slow"
 PAGE = ROOT / "docs" / "EDITOR.md"
-LIBRARY = Path(os.environ.get("SAM_LIBRARY") or ROOT / "out" / "libsulgrevad.so")
-SAMHOST = Path(os.environ.get("SAMHOST") or ROOT / "out" / "samhost")
 sys.path[:0] = [str(SAMTERM.parent), str(ROOT / "bindings" / "python")]
 
 LINK = 300  # milliseconds each way
