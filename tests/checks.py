@@ -1,7 +1,22 @@
-"""What the tests in Python have in common: how a check fails or is skipped, and how it waits."""
+"""What the tests in Python have in common: how a check fails or is skipped, how it waits, and a place of its own."""
+import contextlib
+import ctypes
+import os
+import re
+import shutil
+import tempfile
 import time
+from collections import Counter
+from pathlib import Path
 
-SECONDS = 20  # how long something may take on a busy machine
+SECONDS = 20  # how long something may take; on a busy machine `wait_until` waits longer
+MOST_TIMES = 10
+ROOT = Path(__file__).resolve().parent.parent
+LIBRARY = Path(os.environ.get("SAM_LIBRARY") or ROOT / "out" / "libsulgrevad.so").resolve()
+SAMHOST = Path(os.environ.get("SAMHOST") or ROOT / "out" / "samhost").resolve()
+TMP = Path("/tmp")
+CLONE_NEWNS, MS_BIND, MS_REC, MS_PRIVATE, MNT_DETACH = 0x20000, 0x1000, 0x4000, 0x40000, 2  # of <sched.h> and <sys/mount.h>
+libc = ctypes.CDLL(None)
 
 
 class Failed(Exception):
@@ -17,12 +32,124 @@ def expect(holds, told):
         raise Failed(told)
 
 
-def wait_until(holds, told, seconds=SECONDS):
-    """Waits until something holds; answers what it was."""
-    until = time.monotonic() + seconds
+# ---- Checks, which are functions of modules
+
+
+def checks_of(modules):
+    """The checks by their names."""
+    return {name[6:]: check for module in modules for name, check in vars(module).items() if name.startswith("check_")}
+
+
+def named_twice(modules):
+    """The names that more than one check has: only the last of these would run."""
+    names = [name for module in modules for name in re.findall(r"^def check_(\w+)", Path(module.__file__).read_text(), re.MULTILINE)]
+    return [name for name, count in Counter(names).items() if count > 1]
+
+
+# ---- Waiting
+
+
+def times_longer():
+    """How many times longer a piece of work takes at this moment by the clock than it takes the processor."""
+    clock, processor = time.monotonic(), time.process_time()
+    while time.process_time() - processor < 0.3:
+        pass
+    return min(MOST_TIMES, (time.monotonic() - clock) / (time.process_time() - processor))
+
+
+def wait_until(holds, told, seconds=None):
+    """Waits until something holds; answers what it was. Where no limit is promised, it waits as much longer as the machine is busy."""
+    until = time.monotonic() + (seconds or SECONDS)
     while True:
         got = holds()
         if got:
             return got
+        if seconds is None and time.monotonic() >= until:
+            seconds = SECONDS * times_longer()
+            until += seconds
         expect(time.monotonic() < until, told() if callable(told) else told)
         time.sleep(0.01)
+
+
+# ---- A place of its own
+
+
+def mount(source, target, kind, flags):
+    return libc.mount(os.fsencode(source), os.fsencode(target), kind, flags, None) == 0
+
+
+def cover_tmp(kept):
+    """Gives this process, and those that it starts, a /tmp of its own, where the system lets it: what others have there under the bare name
+    of a file shows nowhere. Of the old one these folders stay. Returns whether it is there."""
+    kept = [path for path in map(Path.resolve, kept) if TMP in path.parents]
+    if libc.unshare(CLONE_NEWNS) != 0 or not mount("none", "/", None, MS_REC | MS_PRIVATE):
+        return False
+    places = [(path, os.open(path, os.O_PATH)) for path in kept]
+    is_there = mount("none", TMP, b"tmpfs", 0)
+    for path, place in places:
+        path.mkdir(parents=True, exist_ok=True)
+        expect(not is_there or mount(f"/proc/self/fd/{place}", path, None, MS_BIND), f"{path} is not there in a /tmp of its own")
+        os.close(place)
+    return is_there
+
+
+def uncover_tmp():
+    libc.umount2(os.fsencode(TMP), MNT_DETACH)
+
+
+def set_home(folder):
+    """Has programs find a home and a folder for temporary files in this folder, and the tools of the user where they were."""
+    old = Path(os.environ.get("HOME") or "/")
+    for name in [name for name in os.environ if name.startswith("XDG_")]:
+        del os.environ[name]
+    for name, place in (("CARGO_HOME", ".cargo"), ("RUSTUP_HOME", ".rustup"), ("PYTHONUSERBASE", ".local")):
+        os.environ.setdefault(name, str(old / place))
+    for name, place in (("HOME", "home"), ("TMPDIR", "tmp")):
+        (folder / place).mkdir(mode=0o755)
+        os.environ[name] = str(folder / place)
+    tempfile.tempdir = None
+
+
+def remove(folder):
+    """Removes a folder. A host whose session was cut off may still save a text there, so it is tried until the folder is gone."""
+    end = time.monotonic() + SECONDS
+    while folder.exists() and time.monotonic() < end:
+        for entry in folder.rglob("*"):
+            if entry.is_dir() and not entry.is_symlink():
+                entry.chmod(0o755)
+        shutil.rmtree(folder, ignore_errors=True)
+
+
+@contextlib.contextmanager
+def own_room():
+    """A folder that every user can reach, in which checks have their places. It goes at the end."""
+    room = Path(tempfile.mkdtemp(prefix="sam-")).resolve()
+    room.chmod(0o755)
+    try:
+        yield room
+    finally:
+        remove(room)
+
+
+@contextlib.contextmanager
+def own_place(room):
+    """A folder in the room for what runs meanwhile in this process: with a home, a folder for temporary files, and where the system lets it
+    a /tmp, that are no other's."""
+    before = dict(os.environ)
+    folder, beside = (Path(tempfile.mkdtemp("", "", room)) for _ in range(2))
+    for place in (folder, beside):
+        place.chmod(0o755)
+    is_covered = cover_tmp([room, ROOT, LIBRARY.parent, SAMHOST.parent, Path.cwd()])
+    set_home(beside)
+    if is_covered:
+        os.environ["TMP_IS_OWN"] = "1"
+    try:
+        yield folder
+    finally:
+        os.environ.clear()
+        os.environ.update(before)
+        tempfile.tempdir = None
+        for place in (folder, beside):
+            remove(place)
+        if is_covered:
+            uncover_tmp()

@@ -391,14 +391,7 @@ def check_words_at_the_start(folder):
     host = host_that(folder, "echo Welcome to A box", "echo 'samhost: a.txt.sam-saved is there' >&2", f"exec {SAMHOST} \"$@\"")
     with Session(folder, "a.txt", host=host) as session:
         session.wait_for("one")
-        shown = []
-        for _ in range(2):
-            shown.append(session.screen()[-1])
-            time.sleep(READ_AFTER)
-            session.keys("Left")
-            time.sleep(0.2)
-        expect(any("a.txt.sam-saved is there" in line for line in shown), f"the host's words are not shown: {shown}")
-        expect(any("printed: Welcome to A box" in line for line in shown), f"the noise is not shown: {shown}")
+        session.read("samhost: a.txt.sam-saved is there", "printed: Welcome to A box")
         session.type("x")
         session.keys("C-w")
         wait_for_text(path, "xone\n")

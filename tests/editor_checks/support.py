@@ -8,14 +8,11 @@ import sys
 import time
 from pathlib import Path
 
-from checks import SECONDS, Failed, expect, wait_until
+from checks import LIBRARY, ROOT, SAMHOST, SECONDS, Failed, expect, wait_until
 
-ROOT = Path(__file__).resolve().parent.parent.parent
 SAMTERM = ROOT / "examples" / "editor" / "samterm"
 SLOW = ROOT / "tools" / "slow"
 PAGE = ROOT / "docs" / "EDITOR.md"
-LIBRARY = Path(os.environ.get("SAM_LIBRARY") or ROOT / "out" / "libsulgrevad.so")
-SAMHOST = Path(os.environ.get("SAMHOST") or ROOT / "out" / "samhost")
 sys.path[:0] = [str(SAMTERM.parent), str(ROOT / "bindings" / "python")]
 
 LINK = 300  # milliseconds each way
@@ -143,7 +140,7 @@ class Session:
     def shows(self, text):
         return any(text in line for line in self.screen())
 
-    def wait_for(self, text, seconds=SECONDS):
+    def wait_for(self, text, seconds=None):
         wait_until(lambda: self.shows(text), lambda: f"no {text!r} on the screen:\n" + "\n".join(self.screen()), seconds)
 
     def wait_for_quiet(self):
@@ -195,14 +192,25 @@ class Session:
         time.sleep(READ_AFTER)
         self.keys(key)
 
-    def read(self):
-        """Reads what the host told, line after line. Answers the lines."""
+    def told(self):
+        """The line that the host told, or another program in its place, where one stands there; else empty."""
+        return next((line for line in self.screen() if line.startswith(("samhost: ", "the host's command printed: "))), "")
+
+    def read(self, *wanted):
+        """Reads what the host told, line after line, until nothing more stands there, and each of these words has come. Answers the lines.
+        An editor that was held up takes a key for an early one: then it is pressed again."""
         lines = []
-        while told := next((line for line in self.screen() if line.startswith("samhost: ")), ""):
-            lines.append(told)
+
+        def missing():
+            return [words for words in wanted if not any(words in line for line in lines)]
+
+        while self.told() or missing():
+            line = wait_until(self.told, lambda: f"nobody tells {missing()}, but {lines}:\n" + "\n".join(self.screen()))
+            lines += [line] if line not in lines else []
             time.sleep(READ_AFTER)
             self.keys("Left")
-            time.sleep(0.1)
+            with contextlib.suppress(Failed):
+                wait_until(lambda: self.told() != line, "it stays", 2)
         return lines
 
     def leave_unwritten(self):

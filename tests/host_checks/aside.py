@@ -1,0 +1,296 @@
+"""What the host saves by itself, and what it says is left of earlier sessions."""
+import os
+import resource
+import signal
+import subprocess
+import threading
+import time
+from pathlib import Path
+
+from checks import SECONDS, expect, wait_until
+
+from .support import (
+    IDLE, IS_ROOT, LATE, LONGEST_UNSAVED, NOBODY, SAMHOST, Session, as_nobody, expect_equal, expect_line, expect_only, made,
+    own_lines, stop, text_of,
+)  # fmt: skip
+
+
+def check_journal(folder):
+    """A changed text is saved after some quiet seconds, is there after a kill, and is reported at the next start; it is never replaced."""
+    (path,) = made(folder, a="one\n")
+    copy = folder / "a.txt.sam-saved"
+    with Session(folder, "a.txt") as session:
+        begin = time.monotonic()
+        session.type("two\n")
+        wait_until(copy.exists, "the text is not saved", IDLE + LATE)
+        expect(time.monotonic() - begin > IDLE / 2, "it is saved at once: this costs a write for each key")
+        inode = copy.stat().st_ino
+        session.type("three\n")
+        wait_until(lambda: text_of(copy) == "one\ntwo\nthree\n", "a later text is not saved", IDLE + LATE)
+        inode = copy.stat().st_ino
+        session.command("1")
+        session.let_pass(IDLE + 0.5)
+        expect_equal(copy.stat().st_ino, inode, "the file of a copy that was up to date")
+        expect_equal(session.told(), [], "what it says")
+        session.kill()
+    with Session(folder, "a.txt") as session:
+        expect_line(session.lines, "a.txt has a text that was not written: it is in a.txt.sam-saved")
+        session.type("four\n")
+        session.end("exit")
+        expect_line(session.lines, "a.txt was not written; its text is in a.txt.sam-saved.2")
+    expect_equal(text_of(copy), "one\ntwo\nthree\n", "the copy of the session that was killed")
+    expect_equal(text_of(folder / "a.txt.sam-saved.2"), "one\nfour\n", "the copy of the next session")
+    expect_equal(text_of(path), "one\n", "the file")
+
+
+def check_journal_is_removed(folder):
+    """Once a text is written, or is again what its file has, its copy goes."""
+    (path,) = made(folder, a="one\n")
+    copy = folder / "a.txt.sam-saved"
+    with Session(folder, "a.txt") as session:
+        session.type("two\n")
+        wait_until(copy.exists, "the text is not saved", IDLE + LATE)
+        session.write()
+        expect_only(folder, "a.txt")
+        session.type("x")
+        wait_until(copy.exists, "a later text is not saved", IDLE + LATE)
+        end = session.terminal.len(1)
+        session.terminal.select(1, end - 1, end)
+        session.terminal.cut(1)
+        session.settle()
+        wait_until(lambda: not copy.exists(), "the copy stays though the file has the text", IDLE + LATE)
+        expect_equal(session.end(), 0, "the status")
+        expect_equal(session.lines, [], "what it says")
+    expect_equal(text_of(path), "one\ntwo\n", "the file")
+    expect_only(folder, "a.txt")
+
+
+def check_journal_while_typing(folder):
+    """While the user types on and on the text is saved all the same."""
+    made(folder, a="one\n")
+    copy = folder / "a.txt.sam-saved"
+    with Session(folder, "a.txt") as session:
+        start = time.monotonic()
+        while not copy.exists():
+            expect(time.monotonic() - start < LONGEST_UNSAVED + LATE, "the text is not saved")
+            session.type("x")
+            session.let_pass(0.1)
+        session.kill()
+    expect(text_of(copy).startswith("one\nxx"), f"the copy has {text_of(copy)!r}")
+
+
+def check_journal_without_room(folder):
+    """That a changed text can't be saved is said once. It is tried again, also where nobody types any more."""
+    made(folder, a="one\n")
+    copy = folder / "a.txt.sam-saved"
+    with Session(folder, "a.txt", limit=1000) as session:
+        session.type("x" * 2000)
+        wait_until(lambda: session.receive(0.1) and session.lines, "it doesn't say that there is no room", IDLE + LATE)
+        session.type("y")
+        session.let_pass(IDLE + 1)
+        expect_equal(session.told(), ["samhost: the text of a.txt can't be saved aside: File too large"], "what it says")
+        resource.prlimit(session.process.pid, resource.RLIMIT_FSIZE, (resource.RLIM_INFINITY, resource.RLIM_INFINITY))
+        wait_until(copy.exists, "the text is not saved once there is room", LONGEST_UNSAVED + LATE)
+        expect_equal(text_of(copy), "one\n" + "x" * 2000 + "y", "the copy")
+
+
+def check_copy_of_the_user(folder):
+    """A copy that the user changed, or took away, is his: the text goes elsewhere."""
+    made(folder, a="one\n")
+    copy = folder / "a.txt.sam-saved"
+    with Session(folder, "a.txt") as session:
+        session.type("two\n")
+        wait_until(copy.exists, "the text is not saved", IDLE + LATE)
+        copy.write_text("mine\n")
+        session.type("three\n")
+        second = folder / "a.txt.sam-saved.2"
+        wait_until(second.exists, "the text is not saved elsewhere", IDLE + LATE)
+        second.unlink()
+        session.type("four\n")
+        wait_until(second.exists, "the text is not saved again", IDLE + LATE)
+        session.write()
+        session.end()
+    expect_equal(text_of(copy), "mine\n", "the file of the user")
+    expect_only(folder, "a.txt", "a.txt.sam-saved")
+
+
+def check_left(folder):
+    """What writes left that were broken off is reported, and stays."""
+    made(folder, a="one\n")
+    (folder / "d").mkdir()
+    (folder / "link").symlink_to("d/b.txt")
+    left = {".sam-Ab12Cd": "", ".sam-a.txt-Ab12Cd": "half", "a.txt.sam-old": "old", "a.txt.sam-saved.7": "seven", "d/b.txt.sam-old.2": "b"}
+    left.update({"b.txt.sam-saved": "another's", "a.txt.sam-saved.x": "another's", "unnamed-3.sam-saved": "nameless"})
+    for name, text in left.items():
+        (folder / name).write_text(text)
+    (folder / "temporary" / "a.txt.sam-saved").write_text("temporary")
+    if IS_ROOT:  # what another user has left in the folder for temporary files means nothing
+        (folder / "temporary" / ".sam-Ab12Cd").write_text("")
+        os.chown(folder / "temporary" / ".sam-Ab12Cd", NOBODY, NOBODY)
+    with Session(folder, "a.txt", "link") as session:
+        lines = session.told()
+        for pattern in (
+            r"\.sam-Ab12Cd is left of a write that was broken off",
+            r"\.sam-a\.txt-Ab12Cd is left of a write that was broken off",
+            r"a\.txt may be broken: what it was before a write is in a\.txt\.sam-old",
+            r"a\.txt has a text that was not written: it is in a\.txt\.sam-saved\.7",
+            r"link may be broken: what it was before a write is in d/b\.txt\.sam-old\.2",
+            rf"a\.txt, or another file of that name, has a text that was not written: it is in {folder}/temporary/a\.txt\.sam-saved",
+            r"a file without a name was not written: its text is in unnamed-3\.sam-saved",
+        ):
+            expect_line(lines, pattern)
+        expect_equal(len(lines), 7, "how many lines it says")
+        session.type("two\n", 1)
+        session.write(1)
+        session.end()
+    for name, text in left.items():
+        expect_equal(text_of(folder / name), text, name)
+
+
+def check_left_in_a_closed_folder(folder):
+    """A folder that may not be listed, but may have copies, is said to be so."""
+    made(folder)
+    (folder / "place").mkdir()
+    (folder / "place" / "a.txt").write_text("one\n")
+    prefix = as_nobody(folder)
+    if IS_ROOT:
+        os.chown(folder / "place", NOBODY, NOBODY)
+    (folder / "place").chmod(0o300)
+    with Session(folder, "place/a.txt", prefix=prefix) as session:
+        line = "samhost: place/ can't be looked through for what is left of earlier sessions: Permission denied"
+        expect_equal(session.told(), [line], "what it says")
+        session.end()
+
+
+def check_ends(folder):
+    """However a session ends, the text is saved, and that is said."""
+    (path,) = made(folder, a="one\n")
+    copy = folder / "a.txt.sam-saved"
+    signals = (signal.SIGTERM, signal.SIGHUP, signal.SIGINT, signal.SIGQUIT, signal.SIGUSR1, signal.SIGUSR2, signal.SIGXCPU)
+    for how in ("input", "exit", "q", *signals):
+        with Session(folder, "a.txt") as session:
+            session.type("two\n")
+            expect_equal(session.end(how), 0, f"{how}: the status")
+            expect_line(session.lines, "a.txt was not written; its text is in a.txt.sam-saved", f"{how}: ")
+        expect_equal(text_of(copy), "one\ntwo\n", f"{how}: the copy")
+        copy.unlink()
+    with Session(folder, "a.txt") as session:
+        session.type("two\n")
+        session.give(b"\xff\xff\xff")
+        expect_equal(session.end(), 3, "the status after a wrong stream")
+    expect_equal(text_of(copy), "one\ntwo\n", "the copy after a wrong stream")
+    expect_equal(text_of(path), "one\n", "the file")
+
+
+def check_signal_after_bytes(folder):
+    """What has come before a signal still counts."""
+    made(folder, a="one\n")
+    with Session(folder, "a.txt") as session:
+        stop(session.process)
+        for word in ("two ", "three "):
+            session.terminal.type(1, word)
+            session.send()
+        session.process.send_signal(signal.SIGTERM)
+        session.process.send_signal(signal.SIGCONT)
+        while session.sources:
+            expect(session.receive(SECONDS), "it doesn't end")
+        expect_equal(session.process.wait(SECONDS), 0, "the status")
+    expect_equal(text_of(folder / "a.txt.sam-saved"), "two three one\n", "the copy")
+
+
+def check_closed_input(folder):
+    """An input that is closed from the start can't be read."""
+    made(folder, a="one\n")
+    words = ("sh", "-c", 'exec "$0" a.txt <&-', SAMHOST)
+    ended = subprocess.run(words, cwd=folder, capture_output=True, timeout=SECONDS)
+    expect_equal(own_lines(ended.stderr), ["samhost: standard input can't be read: Bad file descriptor"], "what it says")
+    expect_equal(ended.returncode, 6, "the status")
+
+
+def check_nothing_to_save(folder):
+    """A session in which nothing was changed says nothing, and leaves nothing."""
+    made(folder, a="one\n")
+    for how in ("input", "exit", signal.SIGTERM):
+        with Session(folder, "a.txt", "new.txt") as session:
+            expect_equal(session.end(how), 0, "the status")
+            expect_equal(session.lines, [], "what it says")
+    expect_only(folder, "a.txt")
+
+
+def check_closed(folder):
+    """What is closed unwritten is saved all the same."""
+    made(folder, a="one\n", b="b\n")
+    with Session(folder, "a.txt", "b.txt") as session:
+        session.type("two\n")
+        session.terminal.close(1)
+        session.terminal.close(2)
+        expect_line(session.told(), "a.txt was not written; its text is in a.txt.sam-saved")
+        expect_equal(session.end(), 0, "the status")
+    expect_equal(text_of(folder / "a.txt.sam-saved"), "one\ntwo\n", "the copy")
+    expect_only(folder, "a.txt", "a.txt.sam-saved", "b.txt")
+
+
+def check_temporary_folder(folder):
+    """TMPDIR that is empty, or names no folder, means /tmp."""
+    name = f"c-{os.getpid()}-{threading.get_ident()}.txt"
+    copy = Path("/tmp") / f"{name}.sam-saved"
+    for value in ("", str(folder / "no folder")):
+        made(folder, a="one\n")
+        with Session(folder, "a.txt", environment={"TMPDIR": value}) as session:
+            session.type("two\n")
+            session.rename(f"nowhere/{name}")
+            session.write()
+            lines, text = session.told(), text_of(copy)
+            copy.unlink(missing_ok=True)
+            expect_line(lines, rf"\? write nowhere/{name}: .*; its text is in {copy}")
+            expect_equal(text, "one\ntwo\n", "the copy")
+            session.write()
+            session.rename("a.txt")
+            session.write()
+            session.end()
+        expect_equal(text_of(copy), None, "the copy of a text that was written")
+
+
+def check_left_where_a_file_lies(folder):
+    """What is left in the folder for temporary files is reported also where a file of the session lies there, and what another user has
+    left of a write there is not."""
+    made(folder)
+    (folder / "etc").mkdir()
+    (folder / "etc" / "hosts").write_text("hosts\n")
+    place = folder / "temporary"
+    names = ("x", "hosts.sam-saved", "hosts.sam-old", "x.sam-saved", "other.sam-saved", ".sam-hosts-Ab12Cd", "unnamed-3.sam-saved")
+    for name in names:
+        (place / name).write_text(name)
+    if IS_ROOT:  # a copy beside a file may be its owner's
+        (place / ".sam-x-Ef34Gh").write_text("")
+        (place / "unnamed-4.sam-saved").write_text("")
+        (place / "x.sam-saved.2").write_text("")
+        (place / "hosts.sam-saved.2").write_text("")
+        for name in (".sam-x-Ef34Gh", "unnamed-4.sam-saved", "x.sam-saved.2", "hosts.sam-saved.2"):
+            os.chown(place / name, NOBODY, NOBODY)
+    for paths in (("temporary/x", "etc/hosts"), ("etc/hosts", "temporary/x")):
+        with Session(folder, *paths) as session:
+            lines = session.told()
+            for pattern in (
+                rf"etc/hosts, or another file of that name, has a text that was not written: it is in {place}/hosts\.sam-saved",
+                rf"etc/hosts, or another file of that name, may be broken: what it was before a write is in {place}/hosts\.sam-old",
+                r"temporary/x has a text that was not written: it is in temporary/x\.sam-saved",
+                rf"{place}/\.sam-hosts-Ab12Cd is left of a write that was broken off",
+                rf"a file without a name was not written: its text is in {place}/unnamed-3\.sam-saved",
+                *([r"temporary/x has a text that was not written: it is in temporary/x\.sam-saved\.2"] if IS_ROOT else []),
+            ):
+                expect_line(lines, pattern, f"{paths}: ")
+            expect_equal(len(lines), 6 if IS_ROOT else 5, f"{paths}: how many lines it says")
+
+
+def check_left_beside_a_full_folder(folder):
+    """What is left in /tmp is reported also where TMPDIR names a folder, which may have been full."""
+    name = f"left-{os.getpid()}-{threading.get_ident()}.txt"
+    copy = Path("/tmp") / f"{name}.sam-saved"
+    (folder / name).write_text("one\n")
+    copy.write_text("one\ntwo\n")
+    try:
+        with Session(folder, name) as session:
+            expect_line(session.told(), rf"{name}, or another file of that name, has a text that was not written: it is in {copy}")
+    finally:
+        copy.unlink()

@@ -1,0 +1,157 @@
+"""Writes that fail: what is said, and where the text is then."""
+import os
+import resource
+from pathlib import Path
+
+from checks import expect, wait_until
+
+from .support import LATE, LONGEST_UNSAVED, Session, expect_equal, expect_line, expect_only, made, names_in, text_of, with_mount
+
+
+def check_failed_write(folder):
+    """The text is saved before the terminal hears that the file is clean, and the line has the file, the cause and the copy."""
+    made(folder, a="one\n")
+    with Session(folder, "a.txt") as session:
+        session.type("two\n")
+        session.rename("nowhere/c.txt")
+        session.terminal.write(1)
+        session.send()
+        wait_until(lambda: session.receive(0.1) and (session.lines or not session.terminal.is_dirty(1)), "no answer")
+        expect(session.lines, "the terminal hears that the file is clean before the host says that it is not written")
+        copy = folder / "temporary" / "c.txt.sam-saved"
+        line = rf"\? write nowhere/c.txt: No such file or directory; its text is in {copy}"
+        expect_line(session.told(), line)
+        expect_equal(text_of(copy), "one\ntwo\n", "the copy")
+        status = session.end("exit")
+        expect_equal(status, 0, "the status")
+        expect_line(session.lines, f"nowhere/c.txt was not written; its text is in {copy}")
+    expect_equal(text_of(copy), "one\ntwo\n", "the copy after the end")
+
+
+def check_failed_then_written(folder):
+    """Once the text is written after all, its copy is gone."""
+    made(folder, a="one\n")
+    with Session(folder, "a.txt") as session:
+        session.type("two\n")
+        session.rename("c")
+        (folder / "c").mkdir()
+        session.write()
+        copy = folder / "c.sam-saved"
+        expect_line(session.told(), rf"\? write c: Is a directory; its text is in c.sam-saved")
+        expect_equal(text_of(copy), "one\ntwo\n", "the copy")
+        session.type("three\n")
+        session.rename("c.txt")
+        session.write()
+        expect_equal(session.told(), [], "what it says")
+        expect_equal(session.end(), 0, "the status")
+    expect_equal(text_of(folder / "c.txt"), "one\ntwo\nthree\n", "the file")
+    expect_only(folder, "a.txt", "c", "c.txt")
+
+
+def check_limit_of_a_file(folder):
+    """A limit of file sizes (SIGXFSZ) is a failed write. Without a place for the text the status says so; the file stays whole."""
+    (path,) = made(folder, a="one\n")
+    for is_lifted in (False, True):
+        with Session(folder, "a.txt", limit=1000) as session:
+            session.type("x" * 2000)
+            session.write()
+            lines = session.told()
+            expect_line(lines, r"\? write a.txt: File too large; its text could not be saved: File too large")
+            expect_equal(text_of(path), "one\n", "the file")
+            if is_lifted:
+                resource.prlimit(session.process.pid, resource.RLIMIT_FSIZE, (resource.RLIM_INFINITY, resource.RLIM_INFINITY))
+            status = session.end()
+            expect_equal(status, 0 if is_lifted else 5, "the status")
+            last = "a.txt was not written; its text is in a.txt.sam-saved" if is_lifted else "the text of a.txt is lost: File too large"
+            expect_line(session.lines, last)
+        expect_equal(text_of(path), "one\n", "the file after the end")
+        expect_equal(text_of(folder / "a.txt.sam-saved"), "one\n" + "x" * 2000 if is_lifted else None, "the copy")
+    expect_only(folder, "a.txt", "a.txt.sam-saved")
+
+
+def check_closed_and_not_saved(folder):
+    """A changed text whose file is closed while it can't be saved is tried again: after a while, and at the end."""
+    (path,) = made(folder, a="one\n")
+    copy = folder / "a.txt.sam-saved"
+    for lifted in ("never", "before the end", "a while before the end"):
+        with Session(folder, "a.txt", limit=1000) as session:
+            session.type("x" * 2000)
+            session.terminal.close(1)
+            expect_line(session.told(), "a.txt is closed, and its text can't be saved: File too large")
+            if lifted != "never":
+                resource.prlimit(session.process.pid, resource.RLIMIT_FSIZE, (resource.RLIM_INFINITY, resource.RLIM_INFINITY))
+            if lifted == "a while before the end":
+                wait_until(lambda: session.receive(0.1) and copy.exists(), "the text is not saved before the end", LONGEST_UNSAVED + LATE)
+            expect_equal(session.end(), 5 if lifted == "never" else 0, f"{lifted}: the status")
+            if lifted != "never":
+                expect_line(session.lines, "a.txt was not written; its text is in a.txt.sam-saved", f"{lifted}: ")
+        expect_equal(text_of(copy), None if lifted == "never" else "one\n" + "x" * 2000, f"{lifted}: the copy")
+        copy.unlink(missing_ok=True)
+    expect_equal(text_of(path), "one\n", "the file")
+    expect_only(folder, "a.txt")
+
+
+def check_full_disk(folder):
+    """A disk without room: the file is whole, the copy is on another disk, and once there is room the file is written."""
+    made(folder)
+    (folder / "full").mkdir()
+    prefix = with_mount(folder, "mount -t tmpfs -o size=64k none full && printf 'one\\n' >full/a.txt")
+    with Session(folder, "full/a.txt", prefix=prefix) as session:
+        inside = Path(f"/proc/{session.process.pid}/cwd/full")
+        (inside / "filler").write_bytes(bytes(40_000))
+        session.type("x" * 50_000)
+        session.write()
+        copy = folder / "temporary" / "a.txt.sam-saved"
+        expect_line(session.told(), rf"\? write full/a.txt: No space left on device; its text is in {copy}")
+        expect_equal(text_of(inside / "a.txt"), "one\n", "the file")
+        expect_equal(text_of(copy), "one\n" + "x" * 50_000, "the copy")
+        expect_equal(names_in(inside), ["a.txt", "filler"], "what is in the folder")
+        (inside / "filler").unlink()
+        session.write()
+        expect_equal(text_of(inside / "a.txt"), "one\n" + "x" * 50_000, "the file")
+        expect_equal(session.told(), [], "what it says")
+        expect_equal(session.end(), 0, "the status")
+    expect_only(folder, "full")
+
+
+def check_read_only_disk(folder):
+    """On a disk that is read only the text goes to the folder for temporary files."""
+    made(folder)
+    (folder / "disk").mkdir()
+    mount = "mount -t tmpfs none disk && printf 'one\\n' >disk/a.txt && mount -o remount,ro disk"
+    with Session(folder, "disk/a.txt", prefix=with_mount(folder, mount)) as session:
+        session.type("two\n")
+        session.write()
+        copy = folder / "temporary" / "a.txt.sam-saved"
+        expect_line(session.told(), rf"\? write disk/a.txt: Read-only file system; its text is in {copy}")
+        expect_equal(session.end(), 0, "the status")
+    expect_equal(text_of(copy), "one\ntwo\n", "the copy")
+
+
+def check_not_regular(folder):
+    """A name of what is no file: nothing is written there, and nothing waits for a reader."""
+    made(folder, a="one\n")
+    os.mkfifo(folder / "fifo")
+    with Session(folder, "a.txt") as session:
+        session.type("two\n")
+        session.rename("fifo")
+        session.write()
+        expect_line(session.told(), r"\? write fifo: it is not a regular file; its text is in fifo.sam-saved")
+        session.rename("no/where/")
+        session.write()
+        copy = folder / "temporary" / "unnamed.sam-saved"
+        expect_line(session.told(), r"\? write no/where/: No such file or directory; its text is in fifo.sam-saved")
+        (folder / "fifo.sam-saved").unlink()
+        session.write()
+        expect_line(session.told(), rf"\? write no/where/: No such file or directory; its text is in {copy}")
+        session.terminal.new_file()
+        session.settle()
+        tag = session.terminal.current
+        session.type("new\n", tag)
+        session.write(tag)
+        expect_line(session.told(), rf"\? write file {tag}: it has no name yet, or .*; its text is in unnamed-{tag}.sam-saved")
+        session.rename("nul\0name", tag)
+        session.write(tag)
+        expect_line(session.told(), rf"\? write file {tag}: .* no file can have; its text is in unnamed-{tag}.sam-saved")
+        expect_equal(session.end(), 0, "the status")
+    expect_equal(text_of(folder / f"unnamed-{tag}.sam-saved"), "new\n", "the copy")

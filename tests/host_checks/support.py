@@ -1,0 +1,270 @@
+"""What the checks of the host have in common: sessions, messages, and files."""
+import os
+import re
+import resource
+import select
+import shutil
+import signal
+import subprocess
+import sys
+import time
+from pathlib import Path
+
+from checks import ROOT, SECONDS, Skipped, expect, wait_until
+
+sys.path.insert(0, str(ROOT / "bindings" / "python"))
+
+SAMHOST = Path(os.environ["SAMHOST"])  # a copy that every user can reach
+IDLE = 2.0  # seconds of quiet after which the host saves changed texts aside
+LONGEST_UNSAVED = 10.0  # seconds after which it does while messages still come
+LATE = 3.0  # seconds that a busy machine may add
+NOBODY = 65534
+IS_ROOT = os.geteuid() == 0
+REQUEST, OPEN, CUT, WRITE, CLOSE, EXIT = 4, 6, 9, 13, 14, 22  # kinds of the terminal's messages
+# What a host that begins says of a /tmp that it shares with those of other checks.
+OF_OTHERS = re.compile(
+    r"samhost: (/tmp/\.sam-[^/]* is left of a write .*|a file without a name .* in /tmp/[^/]*"
+    r"|(?!left-)\S+, or another file .* in /tmp/[^/]*)"
+)
+
+
+def expect_equal(got, wanted, what):
+    expect(got == wanted, f"{what} is {got!r}, wanted {wanted!r}")
+
+
+def own_lines(said):
+    """The lines that a host has written, but for those that hosts of other checks are to blame for."""
+    has_own_tmp = "TMP_IS_OWN" in os.environ
+    return [line for line in said.decode().split("\n") if line and (has_own_tmp or not OF_OTHERS.fullmatch(line))]
+
+
+def text_of(path):
+    """What a file has; None where there is none."""
+    try:
+        return path.read_bytes().decode()
+    except FileNotFoundError:
+        return None
+
+
+def names_in(folder):
+    return sorted(entry.name for entry in folder.iterdir())
+
+
+class Session:
+    """A host's process, and a terminal that has opened its files; without `begin` a terminal that hears nothing."""
+
+    def __init__(self, folder, *files, prefix=(), options=(), environment=None, begin=True, limit=None):
+        import sulgrevad
+
+        self.folder, self.lines, self._line, self.terminal = folder, [], b"", sulgrevad.Terminal()
+        more = {"TMPDIR": str(folder / "temporary"), **(environment or {})}
+        pipe = subprocess.PIPE
+        set_limit = (lambda: resource.setrlimit(resource.RLIMIT_FSIZE, (limit, resource.RLIM_INFINITY))) if limit else None
+        self.process = subprocess.Popen(
+            [*prefix, SAMHOST, *options, "--", *files], cwd=folder, stdin=pipe, stdout=pipe, stderr=pipe, bufsize=0,
+            env={**os.environ, **more}, preexec_fn=set_limit,
+        )  # fmt: skip
+        self.sources, self.has_begun = [self.process.stdout, self.process.stderr], begin
+        if begin:
+            self.terminal.open_cmd()
+            self.terminal.offer_version(2)
+            self.settle()
+            for tag in self.terminal.files():
+                if tag != 0:
+                    self.terminal.open(tag)
+            self.settle()
+
+    def __enter__(self):
+        return self
+
+    def __exit__(self, *_):
+        self.process.kill()
+        self.process.wait()
+        for end in (self.process.stdin, *self.sources):
+            end.close()
+        self.terminal.free()
+
+    # Bytes
+
+    def send(self):
+        self.terminal.flush_now()
+        self.give(self.terminal.take_out())
+
+    def give(self, data):
+        if data:
+            os.write(self.process.stdin.fileno(), data)
+
+    def receive(self, seconds):
+        """Takes what comes in so long. Returns whether something came."""
+        ready, _, _ = select.select(self.sources, [], [], seconds)
+        for end in ready:
+            data = os.read(end.fileno(), 65536)
+            if not data:
+                self.sources.remove(end)
+            elif end is self.process.stdout:
+                if self.has_begun:
+                    self.terminal.feed(data)
+            else:
+                *lines, self._line = (self._line + data).split(b"\n")
+                self.lines += own_lines(b"\n".join(lines))
+        return bool(ready)
+
+    def is_quiet(self):
+        terminal = self.terminal
+        return not (terminal.held or terminal.under_way or terminal.unsent or terminal.command_locked)
+
+    def settle(self):
+        """Waits until the host has taken all, which it is asked for by a message that it answers."""
+        until, is_asked, terminal = time.monotonic() + SECONDS, False, self.terminal
+        self.send()
+        while not self.is_quiet():
+            if not (is_asked or terminal.held or terminal.command_locked):
+                terminal.check(0)
+                is_asked = True
+            self.send()
+            expect(self.process.stdout in self.sources, f"the host is gone; it says {self.lines}")
+            expect(time.monotonic() < until, f"it never gets quiet; it says {self.lines}")
+            is_asked = not self.receive(0.2) and is_asked
+        while self.receive(0):
+            pass
+
+    def let_pass(self, seconds):
+        until = time.monotonic() + seconds
+        while (left := until - time.monotonic()) > 0:
+            self.receive(left)
+
+    # What the user does
+
+    def type(self, text, tag=1):
+        """Types at the end of a file."""
+        end = self.terminal.len(tag)
+        self.terminal.select(tag, end, end)
+        for at in range(0, len(text), 500):
+            self.terminal.type(tag, text[at : at + 500])
+        self.settle()
+
+    def replace(self, text, tag=1):
+        """Types in the place of all that a file has."""
+        self.terminal.select(tag, 0, self.terminal.len(tag))
+        self.terminal.type(tag, text)
+        self.settle()
+
+    def write(self, tag=1):
+        self.terminal.write(tag)
+        self.settle()
+        expect(not self.terminal.is_dirty(tag), "this test is wrong: the host believes the file dirty")
+
+    def command(self, line, tag=1):
+        self.terminal.work(tag)
+        end = self.terminal.len(0)
+        self.terminal.select(0, end, end)
+        self.terminal.type(0, line + "\n")
+        self.settle()
+
+    def rename(self, name, tag=1):
+        self.command(f"f {name}", tag)
+
+    def told(self):
+        """The lines that the host has written since this was asked last."""
+        self.settle()
+        lines, self.lines = self.lines, []
+        return lines
+
+    # Ends
+
+    def end(self, how="input"):
+        """Ends the session; returns the exit status. The last lines are in `lines`."""
+        if how == "input":
+            self.process.stdin.close()
+        elif how == "exit":
+            self.terminal.exit()
+            self.send()
+        elif how == "q":
+            self.terminal.type(0, "q\n")
+            self.send()
+        else:
+            self.process.send_signal(how)
+        while self.sources:
+            expect(self.receive(SECONDS), "it doesn't end")
+        return self.process.wait(SECONDS)
+
+    def kill(self):
+        self.process.kill()
+        self.process.wait()
+
+    def wait_for_times(self):
+        """Waits for the end of the process, which has closed its output. Returns the exit status, and the seconds of the processor."""
+        _, status, used = os.wait4(self.process.pid, 0)
+        self.process.returncode = os.waitstatus_to_exitcode(status)
+        return self.process.returncode, used.ru_utime + used.ru_stime
+
+
+def made(folder, **texts):
+    """Files NAME.txt with their texts; answers their paths. A folder for temporary files stands beside them."""
+    (folder / "temporary").mkdir(exist_ok=True)
+    paths = []
+    for name, text in texts.items():
+        paths.append(folder / f"{name}.txt")
+        paths[-1].write_bytes(text.encode())
+    return paths
+
+
+def expect_line(lines, pattern, what=""):
+    """One line has just this form."""
+    found = [line for line in lines if re.fullmatch(f"samhost: {pattern}", line)]
+    expect(len(found) == 1, f"{what}no line, or several, {pattern!r} in {lines}")
+    return found[0]
+
+
+def expect_only(folder, *names):
+    """Nothing else is in the folder, and nothing in the one for temporary files."""
+    expect_equal(names_in(folder), sorted(["temporary", *names]), "what is in the folder")
+    expect_equal(names_in(folder / "temporary"), [], "what is in the folder for temporary files")
+
+
+def as_nobody(folder):
+    """Words that run a command as a user who may not do all; the folder is his."""
+    if not IS_ROOT:
+        return ()
+    if shutil.which("setpriv") is None:
+        raise Skipped("no setpriv, and root may do all")
+    for place in (folder, folder / "temporary"):
+        os.chown(place, NOBODY, NOBODY)
+    return ("setpriv", f"--reuid={NOBODY}", f"--regid={NOBODY}", "--clear-groups")
+
+
+def with_mount(folder, mount):
+    """Words that run a command where something is mounted that others don't see."""
+    ours = "mount --make-rprivate /"
+    words = ("unshare", "-m", "sh", "-c", f'{ours} && {mount} && exec "$@"', "sh")
+    if not IS_ROOT or shutil.which("unshare") is None:
+        raise Skipped("no unshare, or not root, so nothing can be mounted")
+    if subprocess.run([*words, "true"], cwd=folder, capture_output=True).returncode != 0:
+        raise Skipped("nothing can be mounted here")
+    return words
+
+
+def names_of(session):
+    return [session.terminal.name(tag) for tag in session.terminal.files() if tag != 0]
+
+
+def stop(process):
+    """Stops a process until SIGCONT."""
+    process.send_signal(signal.SIGSTOP)
+    status = Path(f"/proc/{process.pid}/status")
+    wait_until(lambda: re.search(r"^State:\s*T", status.read_text(), re.MULTILINE), "it doesn't stop")
+
+
+def message(kind, *fields):
+    body = b"".join(fields)
+    return bytes([kind]) + len(body).to_bytes(2, "big") + body
+
+
+def typed(tag, place, text):
+    return message(8, tag.to_bytes(2, "big"), place.to_bytes(4, "big"), text)
+
+
+def on_file(kind, tag=1):
+    return message(kind, tag.to_bytes(2, "big"))
+
+
