@@ -7,8 +7,14 @@ use Rattle.sam_term.specs.Term.{PlainTerminal, act_of, flush_of, take_of}
 use Rattle.sam_term.specs.declared.fault.TermFault.{TermFault}
 use Rattle.sam_term.specs.declared.event.Acted.{Acted}
 use Rattle.sam_term.specs.declared.event.Acted.TheVariants.{Idle, Locked, Done, Refused}
-use Rattle.sam_crossing.specs.World.{composed_by}
-use Rattle.sam_world.specs.Sides.{Steps}
+use Rattle.sam_sides.specs.Sides.{Steps}
+
+-- the messages that an event composed
+abbrev pub composed_by : Acted → List Tmesg
+composed_by Idle = []
+composed_by Locked = []
+composed_by (Done messages) = messages
+composed_by (Refused why) = []
 
 -- what was answered or composed, and none at a refusal
 abbrev pub unless_refused : {A E : Type 0} → Result A E → Option A

@@ -1,13 +1,15 @@
 -- The real sides count as the law of two sides asks, their frames are told apart, and their world is the plain world.
-use Rattle.sam_workers.proofs.Common.{◌≡◌, suc, ◌≤◌, List, [], ◌∷◌, Some, Result, Ok, refl, arith, option_map, All, FitsT, Tmesg, FitsH, HFrame, terminal, host, frame_of, PlainHost, PlainTerminal, Made, flush_of, take_of, TermFault, Acted, PlainWorld, composed_by, step_of, run_of, Each, Counts, TermRuns, TermLog, World, step, run, act_of, at_work, worked, sides, unless_refused, acted}
+use Rattle.sam_settle.proofs.Common.{◌≡◌, suc, ◌≤◌, List, [], ◌∷◌, Some, Result, Ok, refl, arith, FitsT, Tmesg, FitsH, HFrame, terminal, host, frame_of, PlainHost, PlainTerminal, Made, flush_of, take_of, TermFault, Acted, PlainWorld, composed_by, step_of, run_of, Each, Counts, TermRuns, TermLog, World, step, run, act_of, sides, unless_refused, acted}
+use Rattle.std.proofs.Common.{All, option_map}
 use Rattle.std.proofs.lemmas.Option.{same_Some}
 use Rattle.sam_mesg.proofs.TerminalLaws as upwards
 use Rattle.sam_mesg.proofs.HostLaws as downwards
 use Rattle.sam_frame.specs.Reading.{IsSound}
 use Rattle.sam_host.proofs.SoundLaws.{answers_are_counted}
 use Rattle.sam_crossing.specs.declared.event.Event.{Event}
-use Rattle.sam_world.specs.declared.event.TermLog.TheVariants as log
+use Rattle.sam_sides.specs.declared.log.TermLog.TheVariants as log
 use Rattle.sam_world.proofs.Carries.{PrefixFree}
+use Rattle.sam_sides.specs.RealSides.{at_work, worked}
 use Rattle.sam_crossing.proofs.RunLaws.{act-counts, flush-counts, take-counts}
 
 -- ## What a step of the sides was
@@ -87,17 +89,6 @@ did_is t u ms e = go (act_of t) e
 
 flushed_is : (t u : PlainTerminal) (ms : List Tmesg) → at_work.flush t ≡ Some (u, ms) → sides.flush t ≡ Some (u, ms)
 flushed_is t u ms e = grind arith
-
-pub counts_at_work : Counts at_work
-counts_at_work = record {
-  taken = counts.taken;
-  stamped = counts.stamped;
-  user = counts.user;
-  act = λ t u ms e. counts.act t u ms (did_is t u ms e);
-  flush = λ t u ms e. counts.flush t u ms (flushed_is t u ms e);
-  receive = counts.receive;
-  past = counts.past;
-}
 
 pub works : (es : List TermLog) (t u : PlainTerminal) (fs : List HFrame) (ms : List Tmesg) → TermRuns at_work t es fs ms u → TermRuns sides t es fs ms u
 works [] t u fs ms r = r
