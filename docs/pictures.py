@@ -68,17 +68,18 @@ PLACES = {
     "sam_play": (430, 0, "the program"),
     "sam_session": (430, 1, "the program by its modes"),
     "sam_spawn": (270, 2, "starts and joins them"),
-    "sam_c": (850, 2, "the library for C"),
+    "sam_modes": (740, 2, "words, inputs, faults"),
+    "sam_c": (900, 2, "the library for C"),
     "sam_rest": (100, 3, "no session is stuck"),
     "sam_settle": (270, 3, "five ends, one run"),
-    "sam_script": (620, 3, "scripts, read and shown"),
+    "sam_script": (655, 3, "scripts, read and shown"),
     "sam_workers": (270, 4, "five workers"),
     "sam_world": (450, 4, "both sides as one state"),
     "sam_queue": (100, 5, "lines between threads"),
     "sam_local": (450, 5, "as if no network"),
     "sam_crossing": (450, 6, "crossing messages agree"),
     "sam_sides": (360, 7, "what each side did"),
-    "sam_endpoint": (710, 7, "a side with its bytes"),
+    "sam_endpoint": (740, 7, "a side with its bytes"),
     "sam_frame": (100, 8, "streams of messages"),
     "sam_host": (280, 8, "the host"),
     "sam_term": (460, 8, "the terminal"),
@@ -134,7 +135,7 @@ def crates_picture():
         kind = "side" if name in ("sam_host", "sam_term") else "box"
         parts += [box(x - BOX_WIDTH / 2, y - BOX_HEIGHT / 2, BOX_WIDTH, BOX_HEIGHT, kind)]
         parts += [text(x, y - 3, name, "name"), text(x, y + 13, words, "grey")]
-    return picture("The crates and what each stands on", 950, FIRST_ROW + ROW_HEIGHT * 10 + 44, parts)
+    return picture("The crates and what each stands on", 1000, FIRST_ROW + ROW_HEIGHT * 10 + 44, parts)
 
 
 # ---- The threads
