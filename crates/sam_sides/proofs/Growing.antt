@@ -1,5 +1,5 @@
 -- What both sides did, with more at its end.
-use Rattle.std.proofs.Common.{◌≡◌, List, [], ◌∷◌, ◌++◌, append_assoc, arith}
+use Rattle.std.proofs.Common.{List, [], ◌∷◌, ◌++◌, append_assoc, arith}
 use Rattle.sam_sides.specs.Sides.{Each, Steps, HostRuns, TermRuns}
 use Rattle.sam_sides.specs.declared.log.TermLog.{TermLog}
 use Rattle.sam_sides.specs.declared.log.TermLog.TheVariants as log
