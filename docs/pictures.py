@@ -65,26 +65,28 @@ SPREAD = 0.16  # how far from the middle of a box its arrows meet it, by how far
 FURTHEST = BOX_WIDTH / 2 - 12
 # Where each crate stands (its middle, its row from the top), and what it has in a few words.
 PLACES = {
-    "sam_play": (520, 0, "the program"),
-    "sam_session": (520, 1, "the program by its modes"),
-    "sam_spawn": (520, 2, "starts and joins them"),
-    "sam_settle": (520, 3, "five ends, one run"),
-    "sam_workers": (520, 4, "five workers"),
-    "sam_script": (300, 4, "scripts, read and shown"),
-    "sam_rest": (110, 4, "no session is stuck"),
-    "sam_queue": (170, 5, "lines between threads"),
-    "sam_world": (350, 5, "both sides as one state"),
-    "sam_local": (350, 6, "as if no network"),
-    "sam_crossing": (350, 7, "crossing messages agree"),
-    "sam_c": (740, 3, "the library for C"),
+    "sam_play": (430, 0, "the program"),
+    "sam_session": (430, 1, "the program by its modes"),
+    "sam_spawn": (270, 2, "starts and joins them"),
+    "sam_modes": (740, 2, "words, inputs, faults"),
+    "sam_c": (900, 2, "the library for C"),
+    "sam_rest": (100, 3, "no session is stuck"),
+    "sam_settle": (270, 3, "five ends, one run"),
+    "sam_script": (655, 3, "scripts, read and shown"),
+    "sam_workers": (270, 4, "five workers"),
+    "sam_world": (450, 4, "both sides as one state"),
+    "sam_queue": (100, 5, "lines between threads"),
+    "sam_local": (450, 5, "as if no network"),
+    "sam_crossing": (450, 6, "crossing messages agree"),
+    "sam_sides": (360, 7, "what each side did"),
     "sam_endpoint": (740, 7, "a side with its bytes"),
-    "sam_host": (170, 8, "the host"),
-    "sam_term": (520, 8, "the terminal"),
-    "sam_frame": (700, 8, "streams of messages"),
-    "sam_text": (170, 9, "files, command lines"),
-    "sam_mesg": (350, 9, "messages and their bytes"),
-    "sam_rasp": (520, 9, "texts with gaps"),
-    "sam_runes": (350, 10, "texts as lists of runes"),
+    "sam_frame": (100, 8, "streams of messages"),
+    "sam_host": (280, 8, "the host"),
+    "sam_term": (460, 8, "the terminal"),
+    "sam_mesg": (190, 9, "messages and their bytes"),
+    "sam_text": (370, 9, "files, command lines"),
+    "sam_rasp": (550, 9, "texts with gaps"),
+    "sam_runes": (370, 10, "texts as lists of runes"),
 }
 LEFT_OUT = {
     *("sam_tests_whole", "sam_tests_codec", "sam_tests_files", "sam_tests_term", "sam_tests_modes", "sam_tests_session", "sam_test_support"),
@@ -133,7 +135,7 @@ def crates_picture():
         kind = "side" if name in ("sam_host", "sam_term") else "box"
         parts += [box(x - BOX_WIDTH / 2, y - BOX_HEIGHT / 2, BOX_WIDTH, BOX_HEIGHT, kind)]
         parts += [text(x, y - 3, name, "name"), text(x, y + 13, words, "grey")]
-    return picture("The crates and what each stands on", 840, FIRST_ROW + ROW_HEIGHT * 10 + 44, parts)
+    return picture("The crates and what each stands on", 1000, FIRST_ROW + ROW_HEIGHT * 10 + 44, parts)
 
 
 # ---- The threads

@@ -1,8 +1,7 @@
 -- Every run keeps both sides in order; so neither refuses the other, and they agree wherever nothing is under way.
 use Rattle.sam_crossing.proofs.Common.{◌≡◌, ℕ, ◌+◌, ◌≤◌, false, ◌==◌, List, [], ◌∷◌, ◌++◌, length, Option, Some, None, Ok, eqb-true, arith, length-append, unwrap_or, map-append, most_count, first_of_checks, PlainHost, Reply, answer, stamped, HostFault, window_at, PlainTerminal, Made, flushed, frame_outcome, frame_checks, known_at, put_window, blank_window, TermFault, UserEvent, Tmesg, Hmesg}
 use Rattle.std.proofs.Common.{Err}
-use Rattle.sam_term.specs.Term.{act_of, decided, flush_of, take_of}
-use Rattle.sam_term.specs.declared.event.Verdict.{Verdict}
+use Rattle.sam_term.specs.Term.{act_of, flush_of, take_of}
 use Rattle.sam_term.specs.declared.event.Acted.{Acted}
 use Rattle.sam_mesg.specs.declared.hmesg.HFrame.{HFrame}
 use Rattle.sam_crossing.specs.World.{new_world, PlainWorld, composed_by, step_of, host_after_all, mesgs}
@@ -24,6 +23,7 @@ use Rattle.sam_crossing.proofs.Ordered.{HostGoes, host_goes, mesgs_stamped, answ
 use Rattle.sam_crossing.proofs.Starting.{starts}
 use Rattle.sam_crossing.proofs.Streaming.{one_version, version_at_place}
 use Rattle.sam_term.proofs.TermLaws.{known-put}
+pub use Rattle.sam_sides.proofs.Refusing.{refused_act, refused_flush}
 use Rattle.sam_crossing.proofs.RunLaws.{run_keeps, act_is, counted-start, counted_step, answer-counts, counted-result}
 
 -- ## The start
@@ -102,17 +102,6 @@ refused_take t frame why seen passes e = grind arith
 
 pub terminal_never_refuses : TerminalNeverRefuses
 terminal_never_refuses w frame frames why i e a = grind (arith, (refused_take w.term frame why), (received w.host w.term w.up frame.msg (mesgs frames)))
-
-pub refused_act : (t : PlainTerminal) (why : TermFault) → act_of t ≡ Err why → why ≡ fault.CountFull
-unfolding act_of
-refused_act t why e = grind (arith, verdict)
-  where
-    verdict : (v : Option Verdict) (es : List UserEvent) (made : Made) → decided v t es made ≡ Err why → why ≡ fault.CountFull
-    verdict v es made e = grind arith
-
-pub refused_flush : (t : PlainTerminal) (why : TermFault) → flush_of t ≡ Err why → why ≡ fault.CountFull
-unfolding flush_of
-refused_flush t why e = grind arith
 
 pub only_counts_stop : OnlyCountsStop
 only_counts_stop t why = (refused_act t why, refused_flush t why)

@@ -1,7 +1,2 @@
 pub mod Common
-pub mod Serving
-pub mod Playing
-pub mod Unique
-pub mod Numbers
-pub mod Scripts
 pub mod Sessions

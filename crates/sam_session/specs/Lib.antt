@@ -1,9 +1,7 @@
-pub mod Limits
-pub mod Start
-pub mod Serving
-pub mod Outcome
-pub mod Pieces
-pub mod Status
-pub mod Words
-pub mod Replaying
+pub use Rattle.sam_modes.specs.Limits
+pub use Rattle.sam_modes.specs.Start
+pub use Rattle.sam_modes.specs.Outcome
+pub use Rattle.sam_modes.specs.Status
+pub use Rattle.sam_modes.specs.Words
+pub use Rattle.sam_modes.specs.Replaying
 pub mod Threading

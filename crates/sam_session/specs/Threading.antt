@@ -1,5 +1,5 @@
 -- What the program prints of a session of five threads, and what stops it.
-use Rattle.std.specs.Prelude.{◌≡◌, ◌⊎◌, ℕ, true, List, [], ◌∷◌, ◌++◌, Option, Some, None}
+use Rattle.std.specs.Prelude.{◌≡◌, ◌⊎◌, ℕ, true, List, [], ◌∷◌, ◌++◌, Some}
 use Rattle.sam_script.specs.Replay.{OfScript}
 use Rattle.sam_script.specs.RunLines.{run_lines_of}
 use Rattle.sam_script.specs.Script.{PlainScript, keys_of, mouse_of}
@@ -12,49 +12,18 @@ use Rattle.sam_crossing.specs.declared.event.Event.{Event}
 use Rattle.sam_local.specs.Local.{at_rest, carried_all}
 use Rattle.sam_spawn.specs.Session.{IsSession}
 use Rattle.sam_settle.specs.declared.settled.Settled.{Settled}
-use Rattle.sam_workers.specs.declared.stop.Stop.{Stop}
-use Rattle.sam_workers.specs.declared.stop.Stop.TheVariants as stop
 use Rattle.sam_spawn.specs.declared.run.RunFault.{RunFault}
 use Rattle.sam_spawn.specs.declared.run.RunFault.TheVariants as run
-use Rattle.sam_session.specs.Replaying.{IsShort}
-use Rattle.sam_session.specs.declared.fault.PlayFault.{PlayFault}
-use Rattle.sam_session.specs.declared.fault.PlayFault.TheVariants.{Script, Read, Write, Side, Threads, OutOfMemory}
+use Rattle.sam_modes.specs.Causes.{of_stops}
+use Rattle.sam_modes.specs.Replaying.{IsShort}
+use Rattle.sam_modes.specs.declared.fault.PlayFault.{PlayFault}
+use Rattle.sam_modes.specs.declared.fault.PlayFault.TheVariants.{Script, Read, Write, Side, Threads, OutOfMemory}
 
 -- what it is for the program that no session was run
 abbrev pub of_run : RunFault → PlayFault
 of_run run.GateTimedOut = Threads
 of_run run.NoThread = Threads
 of_run run.OutOfMemory = OutOfMemory
-
--- what a stop is for the program
-abbrev pub of_stop : Stop → PlayFault
-of_stop stop.Memory = OutOfMemory
-of_stop stop.Gate = Threads
-of_stop other = Side other
-
--- the first stop that has a cause of its own
-abbrev pub first_cause : List Stop → Option Stop
-first_cause [] = None
-first_cause (stop.PeerGone ∷ stops) = first_cause stops
-first_cause (stop.Frame n ∷ stops) = Some (stop.Frame n)
-first_cause (stop.Host n ∷ stops) = Some (stop.Host n)
-first_cause (stop.Term n ∷ stops) = Some (stop.Term n)
-first_cause (stop.Gate ∷ stops) = Some stop.Gate
-first_cause (stop.Memory ∷ stops) = Some stop.Memory
-
--- the other side is gone, where anything stopped
-abbrev pub gone : List Stop → Option PlayFault
-gone [] = None
-gone (why ∷ stops) = Some (Side stop.PeerGone)
-
-abbrev pub of_cause : Option Stop → List Stop → Option PlayFault
-of_cause (Some why) stops = Some (of_stop why)
-of_cause None stops = gone stops
-
--- the fault of a session with these stops: that of the first that has a cause of its own, and that the other side is gone where there is
--- no other
-abbrev pub of_stops : List Stop → Option PlayFault
-of_stops stops = of_cause (first_cause stops) stops
 
 -- ## Where it ends well
 
@@ -105,15 +74,6 @@ IsSessionFault script Threads = Unit {0}
 IsSessionFault script Read = ⊥
 IsSessionFault script Write = ⊥
 IsSessionFault script OutOfMemory = Unit {0}
-
--- Why an input is not read as a script. That a read failed, or that memory was short, no bytes can tell
-abbrev pub IsUnread : List ℕ → PlayFault → Type 0
-IsUnread input (Script line) = IsShort input × IsWrongLine input line
-IsUnread input (Side stop) = ⊥
-IsUnread input Threads = ⊥
-IsUnread input Write = ⊥
-IsUnread input Read = Unit {0}
-IsUnread input OutOfMemory = Unit {0}
 
 -- Which fault comes where. A first wrong line comes before any thread; where there is none, the threads can't be started, or a side stops
 abbrev pub IsThreadsFault : List ℕ → PlayFault → Type 0

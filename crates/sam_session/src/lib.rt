@@ -1,24 +1,16 @@
 //! The program `sam_play` by its modes: bytes in and bytes out, over any reader and writer.
 #![tactic(auto)]
 
-mod bytes;
-mod fault;
-mod input;
-mod law;
-mod reading;
-mod replaying;
 mod run;
-mod start;
 mod threading;
-mod words;
 
-pub use bytes::play_bytes;
-pub use fault::{PlayFault, status_of};
-pub use law::one_outcome;
-pub use reading::{MOST_INPUT, PIECE};
 pub use run::play;
 pub use sam_host::host::Host;
 pub use sam_mesg::{HFrame, Tmesg};
+pub use sam_modes::{
+    ArgFault, MOST_INPUT, Mode, PIECE, PlayFault, mode_of, one_outcome, play_bytes, status_of,
+    usage,
+};
 pub use sam_queue::{OutOfMemory, Post, Take};
 pub use sam_runes::Runes;
 pub use sam_script::{Line, Numbered, Script, ScriptFault};
@@ -31,4 +23,3 @@ pub use sam_workers::{
     UserEnd, feed_terminal,
 };
 pub use sam_world::{Event, TermLog, World};
-pub use words::{ArgFault, Mode, mode_of, usage};

@@ -2,19 +2,16 @@
 
 ghost use Rattle.std.specs.Prelude.{◌≤◌, ◌<◌, Some, None, IfErr, IfSome, OnOk, length};
 ghost use Rattle.sam_runes.specs.Texts.{max_runes};
-ghost use Rattle.sam_session.specs.Limits.{most_input};
-ghost use Rattle.sam_session.specs.Outcome.{OnSide, IsOfBytes, Plays, Written};
-ghost use Rattle.sam_session.specs.Start.{host_of};
-ghost use Rattle.sam_session.specs.Status.{IsTold};
-ghost use Rattle.sam_session.specs.Words.{OnBytes, OnReplay, OnThreads};
-ghost use Rattle.sam_session.specs.Replaying.{IsReplay, IsReplayFault};
+ghost use Rattle.sam_modes.specs.Limits.{most_input};
+ghost use Rattle.sam_modes.specs.Outcome.{OnSide, IsOfBytes, Plays, Written};
+ghost use Rattle.sam_modes.specs.Start.{host_of};
+ghost use Rattle.sam_modes.specs.Status.{IsTold};
+ghost use Rattle.sam_modes.specs.Words.{OnBytes, OnReplay, OnThreads};
+ghost use Rattle.sam_modes.specs.Replaying.{IsReplay, IsReplayFault};
 ghost use Rattle.sam_session.specs.Threading.{IsThreaded, IsThreadsFault};
 
-use crate::bytes::play_bytes;
-use crate::fault::PlayFault;
-use crate::replaying::play_replay;
 use crate::threading::play_threads;
-use crate::words::Mode;
+use sam_modes::{Mode, PlayFault, play_bytes, play_replay};
 use std::alloc::Global;
 use std::io::{Read, Write};
 use std::sync::Wait;

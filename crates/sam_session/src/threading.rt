@@ -1,21 +1,18 @@
 //! Mode `threads`: a script in; the schedule that its threads made, and what the end of that shows, out.
 
-ghost use Rattle.std.specs.Prelude.{◌≡◌, ◌≤◌, ◌<◌, ◌++◌, ◌⊎◌, OnOk, IfOk, IfErr, IfSome, Some, None, length};
+ghost use Rattle.std.specs.Prelude.{◌≡◌, ◌<◌, ◌++◌, ◌⊎◌, OnOk, IfOk, IfErr, IfSome, Some, None};
 ghost use Rattle.sam_script.specs.RunLines.{run_lines_of};
 ghost use Rattle.sam_script.specs.Show.{show_lines};
-ghost use Rattle.sam_script.specs.Spelling.{Spells};
-ghost use Rattle.sam_session.specs.Limits.{most_input};
-ghost use Rattle.sam_session.specs.Outcome.{Written};
-ghost use Rattle.sam_session.specs.Status.{IsTold};
-ghost use Rattle.sam_session.specs.Threading.{of_run, of_stops, IsThreaded, IsThreadsFault, IsSessionFault, IsUnread, PrintsSession};
+ghost use Rattle.sam_modes.specs.Causes.{of_stops};
+ghost use Rattle.sam_modes.specs.Outcome.{Written};
+ghost use Rattle.sam_modes.specs.Status.{IsTold};
+ghost use Rattle.sam_session.specs.Threading.{of_run, IsThreaded, IsThreadsFault, IsSessionFault, PrintsSession};
 
-use crate::fault::PlayFault;
-use crate::input::{read_all, write_or_tell};
-use crate::replaying::of_script;
+use sam_modes::{PlayFault, fault_of, script_in, write_or_tell};
 use sam_script::{Script, run_lines, show};
 use sam_settle::Settled;
 use sam_spawn::{RunFault, run_threads_once};
-use sam_workers::{OpenGate, Stop};
+use sam_workers::OpenGate;
 use std::alloc::Global;
 use std::io::{Read, Write};
 use std::sync::Wait;
@@ -23,7 +20,7 @@ use std::thread::Threads;
 
 /// Runs the session of the script that the reader gives on five threads, and writes what it came to, or in place of all that the line of
 /// the fault. The faults and their order stand at [`play`](crate::play).
-#[tactic(auto, using(crate::proofs::Scripts::written, crate::proofs::Scripts::faulted))]
+#[tactic(auto, using(sam_modes::proofs::Scripts::written, sam_modes::proofs::Scripts::faulted))]
 pub(crate) fn play_threads<T: Threads + Wait + Sync, R: Read, W: Write>(
     rt: &T,
     alloc: Global,
@@ -59,20 +56,6 @@ fn threads_lines<T: Threads + Wait + Sync, R: Read>(
 {
     let script = script_in(alloc, reader)?;
     session_lines(rt, alloc, script, piece, capacity)
-}
-
-/// Reads the script that the reader gives. The input is read whole before it is parsed, so the errors are those of the reading, and then
-/// those of the script.
-#[tactic(auto, using(crate::proofs::Scripts::script_read, crate::proofs::Scripts::script_wrong, crate::proofs::Scripts::input_failed))]
-fn script_in<R: Read>(alloc: Global, reader: &mut R) -> Result<Script, PlayFault>
-    ensures ok { IfOk result (λ script. IfSome (R.remaining reader.old) (λ input. (length input ≤ most_input) × Spells input script)) }
-    ensures fault { IfErr result (λ fault. IfSome (R.remaining reader.old) (λ input. IsUnread input fault)) }
-{
-    let input = read_all(alloc, reader)?;
-    match Script::read(alloc, input.as_slice()) {
-        Ok(script) => Ok(script),
-        Err(fault) => Err(of_script(fault)),
-    }
 }
 
 /// Runs the session of a script on five threads, and returns what is written of it. The script's events are moved to the threads.
@@ -119,27 +102,6 @@ fn lines_of(alloc: Global, script: &Script, settled: &Settled) -> Result<Vec<u8>
     match lines.extend_from_slice(shown.as_slice()) {
         Ok(()) => Ok(lines),
         Err(_) => Err(PlayFault::OutOfMemory),
-    }
-}
-
-/// Returns the fault of a session with these stops, or `None` if there are none: that of the first stop other than `PeerGone`, and
-/// `Side(Stop::PeerGone)` if there is no other.
-fn fault_of(stops: &[Stop]) -> Option<PlayFault>
-    ensures { result ≡ of_stops stops.now }
-{
-    for stop in stops {
-        match stop {
-            Stop::PeerGone => {}
-            Stop::Memory => return Some(PlayFault::OutOfMemory),
-            Stop::Gate => return Some(PlayFault::Threads),
-            Stop::Frame(n) => return Some(PlayFault::Side(Stop::Frame(*n))),
-            Stop::Host(n) => return Some(PlayFault::Side(Stop::Host(*n))),
-            Stop::Term(n) => return Some(PlayFault::Side(Stop::Term(*n))),
-        }
-    }
-    match stops.first() {
-        Some(_) => Some(PlayFault::Side(Stop::PeerGone)),
-        None => None,
     }
 }
 

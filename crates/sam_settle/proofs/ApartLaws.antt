@@ -1,11 +1,12 @@
 -- Two sides that worked apart are one run of the world; each read the other's stream, and neither refused the other.
-use Rattle.sam_settle.proofs.Common.{◌≡◌, ℕ, false, List, [], ◌∷◌, ◌++◌, Some, None, Err, refl, sym, append_assoc, arith, le-ltb, append-nil, or_from, append_cancel_left, MesgFault, FitsT, Tmesg, FitsH, HFrame, Direction, terminal, host, frame_of, FitInTurn, version_after, stream_of, IsOpen, Shows, stream_of-append, stream_of-one, PlainHost, answer, new_host, HostFault, starts_sound, PlainTerminal, new_terminal, take_of, TermFault, TermLog, PlainWorld, new_world, run_of, merged, is_bad_log, IsInOrder, HostRuns, TermRuns, world, Begins, settles, fits, each_append, users_merged_from, FitsUnder, starts_in_order, reached_in_order, host_never_refuses, terminal_never_refuses, sides, Apart, Joined, Understood, counts, up_sound, down_sound, up_free, down_free, plain_run, in_turn, each_t, each_h}
+use Rattle.sam_settle.proofs.Common.{◌≡◌, ℕ, false, List, [], ◌∷◌, ◌++◌, Some, None, Err, refl, sym, append_assoc, arith, le-ltb, append-nil, or_from, append_cancel_left, MesgFault, FitsT, Tmesg, FitsH, HFrame, Direction, terminal, host, frame_of, FitInTurn, version_after, stream_of, IsOpen, Shows, stream_of-append, stream_of-one, PlainHost, answer, new_host, HostFault, starts_sound, PlainTerminal, new_terminal, take_of, TermFault, TermLog, PlainWorld, new_world, run_of, merged, is_bad_log, IsInOrder, HostRuns, TermRuns, world, Begins, settles, fits, each_append, users_merged_from, FitsUnder, starts_in_order, reached_in_order, host_never_refuses, terminal_never_refuses, sides, Apart, Joined, Understood, in_turn, each_t, each_h}
 use Rattle.sam_frame.specs.Reading.{IsStream, IsSound}
 use Rattle.sam_frame.proofs.Unique.{one_reading}
 use Rattle.sam_frame.proofs.Cuttings.{Shows-longer}
 use Rattle.sam_host.specs.declared.fault.HostFault.TheVariants as hostfault
 use Rattle.sam_term.specs.declared.fault.TermFault.TheVariants as fault
 use Rattle.sam_world.proofs.Carries.{begins_from_bytes}
+use Rattle.sam_settle.proofs.RealLaws.{counts, up_sound, down_sound, up_free, down_free, plain_run}
 use Rattle.sam_settle.proofs.ApartKinds.{answers_turn}
 use Rattle.sam_settle.proofs.ApartWalk.{composed_turn}
 

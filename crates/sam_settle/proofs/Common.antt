@@ -31,9 +31,8 @@ pub use Rattle.sam_term.specs.declared.event.Acted.{Acted}
 pub use Rattle.sam_term.specs.declared.event.UserEvent.{UserEvent}
 pub use Rattle.sam_term.specs.declared.fault.TermFault.{TermFault}
 pub use Rattle.sam_workers.proofs.ApartTurns.{InTurn, InTurn-append, IsFree, each_h, each_t, free_turn, in_turn}
-pub use Rattle.sam_workers.proofs.RealLaws.{answered_as, counts, down_free, down_sound, each_of_all, plain_run, up_free, up_sound, works}
 pub use Rattle.sam_workers.specs.Inputs.{bytes_of, frame_of_load, frames_in}
-pub use Rattle.sam_workers.specs.RealSides.{acted, sides, unless_refused}
+pub use Rattle.sam_sides.specs.RealSides.{acted, sides, unless_refused}
 pub use Rattle.sam_workers.specs.WorkerEnds.{AreEnds, HostStopped, IsForeign, IsFullUp, ReaderStopped, RefusesFrame, TermStopped, Told}
 pub use Rattle.sam_workers.specs.declared.ends.Ends.{Ends}
 pub use Rattle.sam_workers.specs.declared.input.Input.{Input}
@@ -47,4 +46,4 @@ pub use Rattle.sam_world.specs.Sides.{Counts, Each, HostRuns, Steps, TermRuns, W
 pub use Rattle.sam_world.specs.Prefixes.{Begins}
 pub use Rattle.sam_world.specs.Merging.{is_bad_log, merged}
 pub use Rattle.sam_crossing.specs.declared.event.Event.{Event}
-pub use Rattle.sam_world.specs.declared.event.TermLog.{TermLog}
+pub use Rattle.sam_sides.specs.declared.log.TermLog.{TermLog}

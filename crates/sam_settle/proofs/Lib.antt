@@ -1,4 +1,5 @@
 pub mod Common
+pub mod RealLaws
 pub mod ApartKinds
 pub mod ApartWalk
 pub mod ApartLaws

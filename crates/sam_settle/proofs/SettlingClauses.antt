@@ -1,5 +1,5 @@
 -- What the five ends of a session and the audits of its lines come to.
-use Rattle.sam_settle.proofs.Common.{◌≡◌, ◌⊎◌, inl, inr, refl, sym, ap, ◌∙◌, subst, ℕ, ◌+◌, ◌<◌, ◌≤◌, true, false, List, [], ◌∷◌, ◌++◌, map, take, Option, Some, None, Err, append_assoc, append-nil, arith, IsTrue, same_Some, append_cancel_left, map-append, MesgFault, FitsT, fits_t, Tmesg, FitsH, fits_h, HFrame, terminal, host, frame_of, version_after, stream_of, Shows, answer, AreGiven, HostFault, UserEvent, Entry, items_of, PostView, IsSoundWorld, Each, PlainWorld, new_world, run_of, merged, reached_in_order, quiet_means_agreement, each_append, each_front, Apart, Joined, bytes_of, frames_in, Told, HostStopped, ReaderStopped, TermStopped, RefusesFrame, IsForeign, IsFullUp, Headline, LinesGive, counts_left, as_list, stops_of, IsFull, count_gone, AreFull, HasStreams, HasUsers, IsDrained, IsWhole, MissesHost, Input, User, Ends, Host, Settled, each_of_all, AreEnds, Understood, ComesTo, IsScheduled, each_h, new_terminal, works}
+use Rattle.sam_settle.proofs.Common.{◌≡◌, ◌⊎◌, inl, inr, refl, sym, ap, ◌∙◌, subst, ℕ, ◌+◌, ◌<◌, ◌≤◌, true, false, List, [], ◌∷◌, ◌++◌, map, take, Option, Some, None, Err, append_assoc, append-nil, arith, IsTrue, same_Some, append_cancel_left, map-append, MesgFault, FitsT, fits_t, Tmesg, FitsH, fits_h, HFrame, terminal, host, frame_of, version_after, stream_of, Shows, answer, AreGiven, HostFault, UserEvent, Entry, items_of, PostView, IsSoundWorld, Each, PlainWorld, new_world, run_of, merged, reached_in_order, quiet_means_agreement, each_append, each_front, Apart, Joined, bytes_of, frames_in, Told, HostStopped, ReaderStopped, TermStopped, RefusesFrame, IsForeign, IsFullUp, Headline, LinesGive, counts_left, as_list, stops_of, IsFull, count_gone, AreFull, HasStreams, HasUsers, IsDrained, IsWhole, MissesHost, Input, User, Ends, Host, Settled, AreEnds, Understood, ComesTo, IsScheduled, each_h, new_terminal}
 use Rattle.std.proofs.lemmas.Grind.{flat_map-append}
 use Rattle.std.proofs.lemmas.List.Elements.{All-nil}
 use Rattle.sam_host.specs.declared.fault.HostFault.TheVariants as refusal
@@ -11,6 +11,7 @@ use Rattle.sam_queue.proofs.Sorts.{items_of-append}
 use Rattle.sam_term.specs.Faults.{term_fault_number}
 use Rattle.sam_workers.specs.declared.stop.Stop.{Stop}
 use Rattle.sam_workers.specs.declared.stop.Stop.TheVariants as stop
+use Rattle.sam_settle.proofs.RealLaws.{each_of_all, works}
 use Rattle.sam_settle.proofs.SettlingLists.{Parts, parts_of, senders_within, nothing_joined, split_map, frames_taken, all_before_mark, none_left, items_mine}
 use Rattle.sam_settle.proofs.ApartLaws.{joins, understood}
 use Rattle.std.proofs.lemmas.List.Sums.{sum_by-cons}

@@ -1,10 +1,11 @@
 -- What an audited line says of its posts, and what the line of events carries.
-use Rattle.sam_settle.proofs.Common.{◌≡◌, ◌≢◌, ℕ, zero, suc, ◌+◌, ◌^◌, ◌<◌, ◌≤◌, ◌==◌, true, eqb-true, List, [], ◌∷◌, ◌++◌, length, map, Option, Some, None, slice_get, Vec, refl, ap, append-nil, append_assoc, arith, length-append, sum_by, Global, nil_from_length, HFrame, UserEvent, Entry, loads, items_of, has_left, all_of, PostView, TakeView, Each, each_front, frames_in, frame_of_load, Gives, left_of, left_in, Input, User, Host, each_of_all}
+use Rattle.sam_settle.proofs.Common.{◌≡◌, ◌≢◌, ℕ, zero, suc, ◌+◌, ◌^◌, ◌<◌, ◌≤◌, ◌==◌, true, eqb-true, List, [], ◌∷◌, ◌++◌, length, map, Option, Some, None, slice_get, Vec, refl, ap, append-nil, append_assoc, arith, length-append, sum_by, Global, nil_from_length, HFrame, UserEvent, Entry, loads, items_of, has_left, all_of, PostView, TakeView, Each, each_front, frames_in, frame_of_load, Gives, left_of, left_in, Input, User, Host}
 use Rattle.std.proofs.lemmas.Bool.Decides.{eqb_tells}
 use Rattle.std.proofs.lemmas.List.Sums.{sum_by-cons}
 use Rattle.sam_queue.specs.Audits.{AllAccounted, HasHistory}
 use Rattle.sam_queue.proofs.Histories.{loads_mine, loads_other, loads-append, none_after_mark, items_said}
 use Rattle.sam_queue.proofs.Lists.{found_at}
+use Rattle.sam_settle.proofs.RealLaws.{each_of_all}
 
 -- ## Lists
 

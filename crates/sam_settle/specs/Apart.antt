@@ -14,10 +14,10 @@ use Rattle.sam_host.specs.declared.fault.HostFault.TheVariants as refusal
 use Rattle.sam_term.specs.Term.{PlainTerminal, new_terminal, take_of}
 use Rattle.sam_term.specs.declared.fault.TermFault.{TermFault}
 use Rattle.sam_term.specs.declared.fault.TermFault.TheVariants as fault
-use Rattle.sam_world.specs.declared.event.TermLog.{TermLog}
+use Rattle.sam_sides.specs.declared.log.TermLog.{TermLog}
 use Rattle.sam_world.specs.Logs.{logged_users}
 use Rattle.sam_crossing.specs.World.{user_events, PlainWorld, new_world, run_of}
-use Rattle.sam_workers.specs.RealSides.{sides}
+use Rattle.sam_sides.specs.RealSides.{sides}
 use Rattle.sam_world.specs.Sides.{Each, HostRuns, TermRuns}
 use Rattle.sam_world.specs.Prefixes.{Begins}
 use Rattle.sam_world.specs.Merging.{merged, is_bad_log}

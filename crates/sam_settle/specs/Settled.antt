@@ -14,7 +14,7 @@ use Rattle.sam_crossing.specs.World.{user_events, is_quiet}
 use Rattle.sam_local.specs.Local.{at_rest, carried_all}
 use Rattle.sam_world.specs.Sides.{Each, HostRuns, TermRuns}
 use Rattle.sam_world.specs.Prefixes.{Begins}
-use Rattle.sam_workers.specs.RealSides.{at_work, sides}
+use Rattle.sam_sides.specs.RealSides.{at_work, sides}
 use Rattle.sam_workers.specs.Inputs.{bytes_of, users_in}
 use Rattle.sam_workers.specs.WorkerEnds.{IsOwnExit}
 use Rattle.sam_workers.specs.declared.input.Input.{Input}

@@ -3,7 +3,7 @@ use Rattle.std.specs.Prelude.{◌≡◌, ◌⊎◌, ℕ, ◌^◌, ◌<◌, ◌�
 use Rattle.sam_host.specs.Host.{PlainHost}
 use Rattle.sam_term.specs.Term.{PlainTerminal}
 use Rattle.sam_queue.specs.Views.{LineView, sizes_of}
-use Rattle.sam_world.specs.declared.event.TermLog.{TermLog}
+use Rattle.sam_sides.specs.declared.log.TermLog.{TermLog}
 use Rattle.sam_crossing.specs.declared.event.Event.{Event}
 use Rattle.sam_crossing.specs.World.{PlainWorld, new_world, run_of}
 use Rattle.sam_world.specs.Merging.{merged, is_bad_log, IsRoomForMerge}

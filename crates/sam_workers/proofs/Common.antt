@@ -1,5 +1,5 @@
 -- What the proofs of this crate cite most from its definitions and from the crates below.
-pub use Rattle.std.proofs.Common.{All, Bool, Err, IsTrue, List, MatchBool, None, Ok, Option, Result, Some, [], ap, append-nil, append_assoc, arith, drop, false, inl, inr, is_some, length, length-append, map, option_map, refl, rules, subst, suc, sym, take, true, ℕ, ◌++◌, ◌+◌, ◌∙◌, ◌∷◌, ◌≡◌, ◌≤◌, ◌⊎◌}
+pub use Rattle.std.proofs.Common.{All, Bool, Err, IsTrue, List, MatchBool, None, Ok, Option, Result, Some, [], ap, append-nil, append_assoc, arith, drop, false, inl, inr, is_some, length, length-append, map, option_map, refl, rules, subst, sym, take, true, ℕ, ◌++◌, ◌+◌, ◌∙◌, ◌∷◌, ◌≡◌, ◌≤◌, ◌⊎◌}
 pub use Rattle.std.proofs.lemmas.List.{map-append}
 pub use Rattle.std.proofs.lemmas.List.Concat.{flat_map-append}
 pub use Rattle.std.proofs.lemmas.List.Elements.{All-cons, All-nil, All-tail}
@@ -27,7 +27,6 @@ pub use Rattle.sam_queue.specs.Views.{Answers, CanBeFull, LineView, PostView, Ta
 pub use Rattle.sam_queue.specs.declared.rule.Entry.{Entry}
 pub use Rattle.sam_term.specs.Term.{Made, PlainTerminal, flush_of, frame_outcome, made_unless, new_terminal, sends, sends_if, unchanged}
 unfoldable pub use Rattle.sam_term.specs.Term.{act_of, flushed, requested, take_of}
-pub use Rattle.sam_term.specs.declared.event.Acted.{Acted}
 pub use Rattle.sam_term.specs.declared.event.UserEvent.{UserEvent}
 pub use Rattle.sam_term.specs.declared.event.UserEvent.TheVariants.{Exit}
 pub use Rattle.sam_term.specs.declared.fault.TermFault.{TermFault}
@@ -37,12 +36,11 @@ pub use Rattle.sam_workers.specs.Handling.{Ends, StopsAtRest, Handled, HandledFr
 pub use Rattle.sam_workers.specs.Inputs.{bytes_of, frame_of_load, frames_in, user_of_load, users_in}
 pub use Rattle.sam_workers.specs.Numbers.{of_fault, of_refusal, of_unfed}
 pub use Rattle.sam_workers.specs.Passing.{Passes, PassesPiece, Sends, sent_on}
-pub use Rattle.sam_workers.specs.RealSides.{acted, at_work, worked, sides, unless_refused}
+pub use Rattle.sam_sides.specs.RealSides.{at_work, sides}
 pub use Rattle.sam_workers.specs.TermMoments.{Did, Goes, IsDone, IsFound, IsOfUser, IsQuiet, LoggedView, MayExit, Ran, SideView, SoFar, WasNotHandled}
 pub use Rattle.sam_workers.specs.WorkerEnds.{HostStopped, HostTold, ReaderTold, TermTold}
 pub use Rattle.sam_workers.specs.declared.input.Input.{Input}
 pub use Rattle.sam_workers.specs.declared.stop.Stop.{Stop}
-pub use Rattle.sam_world.proofs.ComesToSync.{each_append, host_more, term_more}
-pub use Rattle.sam_world.specs.Sides.{Counts, Each, TermRuns, World, run, step}
-pub use Rattle.sam_crossing.specs.World.{PlainWorld, composed_by, run_of, step_of}
-pub use Rattle.sam_world.specs.declared.event.TermLog.{TermLog}
+pub use Rattle.sam_sides.proofs.Growing.{each_append, host_more, term_more}
+pub use Rattle.sam_sides.specs.Sides.{Each, TermRuns}
+pub use Rattle.sam_sides.specs.declared.log.TermLog.{TermLog}

@@ -6,7 +6,6 @@ use Rattle.sam_host.specs.declared.fault.HostFault.{HostFault}
 use Rattle.sam_host.specs.declared.fault.HostFault.TheVariants as refusal
 use Rattle.sam_workers.specs.declared.stop.Stop.TheVariants as stop
 use Rattle.sam_workers.proofs.ApartTurns.{each_t, front_fits}
-use Rattle.sam_workers.proofs.RealLaws.{counts}
 
 -- ## Messages that fit
 
@@ -26,7 +25,7 @@ handled_nothing h p = record { runs = (refl, refl); answers_fit = tt; put = refl
 
 pub handled_on : (h j k : PlainHost) (p q r : PostView (Vec ℕ)) (ms ns : List Tmesg) (fs gs : List HFrame) (unput : List ℕ)
     → Handled h j p q ms fs [] → Handled j k q r ns gs unput → Handled h k p r (ms ++ ns) (fs ++ gs) unput
-handled_on h j k p q r ms ns fs gs unput a b = grind (arith, (host_more sides counts h j k ms fs ns gs a.runs b.runs), each_append, append-nil, append_assoc, stream_of-append)
+handled_on h j k p q r ms ns fs gs unput a b = grind (arith, (host_more sides h j k ms fs ns gs a.runs b.runs), each_append, append-nil, append_assoc, stream_of-append)
 
 -- ## Messages in turn
 

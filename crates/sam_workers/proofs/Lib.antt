@@ -5,7 +5,6 @@ pub mod TermKeeping
 pub mod TermTaking
 pub mod HostWhole
 pub mod Passes
-pub mod RealLaws
 pub mod Feeds
 pub mod ApartTurns
 pub mod HostSide

@@ -1,7 +1,6 @@
 -- What is kept of the terminal's worker, step by step.
 use Rattle.sam_workers.proofs.Common.{◌≡◌, ◌⊎◌, refl, flat_map-append, ℕ, Bool, true, false, List, [], ◌∷◌, ◌++◌, Option, Some, None, is_some, append_assoc, append-nil, arith, MatchBool, Vec, HFrame, FitsT, Tmesg, terminal, stream_of, stream_of-append, PlainTerminal, new_terminal, UserEvent, Exit, TermLog, Each, TermRuns, term_more, each_append, IsEnded, has_left, TakeView, PostView, CanBeFull, closed_post, new_take, new_post, at_work, frames_in, users_in, LoggedView, Did, SideView, SoFar, Ran, Goes, IsDone, IsQuiet, IsFound, PutSome, Input, Stop, TermTold}
-use Rattle.sam_world.specs.Logs.{logged_users}
-use Rattle.sam_workers.proofs.RealLaws.{counts_at_work}
+use Rattle.sam_sides.specs.Logs.{logged_users}
 use Rattle.sam_workers.proofs.TermSteps.{did_nothing}
 use Rattle.sam_workers.specs.declared.term_side.Found.{Found}
 use Rattle.sam_workers.specs.Gates.{TermHandled}
@@ -16,7 +15,7 @@ users_append (e ∷ es) fs = grind (arith, (users_append es fs))
 -- the run with what the logged did after it
 pub runs_on : (v : SideView) (logged : LoggedView) (events : List UserEvent) (frames : List HFrame) (ms : List Tmesg) (r : Ran v) → Did v.logged logged events frames ms
     → TermRuns at_work new_terminal logged.log (frames_in r.handled ++ frames) (r.composed ++ ms) logged.term
-runs_on v logged events frames ms r d = grind (arith, (term_more at_work counts_at_work v.logged.log new_terminal v.logged.term logged.term (frames_in r.handled) r.composed d.entries frames ms r.runs d.runs))
+runs_on v logged events frames ms r d = grind (arith, (term_more at_work v.logged.log new_terminal v.logged.term logged.term (frames_in r.handled) r.composed d.entries frames ms r.runs d.runs))
 
 pub users_on : (v : SideView) (logged : LoggedView) (events : List UserEvent) (frames : List HFrame) (ms : List Tmesg) (r : Ran v) → Did v.logged logged events frames ms
     → logged_users logged.log ≡ (users_in r.handled ++ r.own) ++ events

@@ -3,7 +3,7 @@ use Rattle.sam_workers.proofs.Common.{◌≡◌, List, [], ◌∷◌, ◌++◌, 
 use Rattle.sam_term.specs.Sound.{IsSound}
 use Rattle.sam_term.specs.declared.event.Acted.TheVariants.{Idle, Locked, Done, Refused}
 use Rattle.sam_term.specs.declared.fault.Refusal.{Refusal}
-use Rattle.sam_world.specs.declared.event.TermLog.TheVariants as log
+use Rattle.sam_sides.specs.declared.log.TermLog.TheVariants as log
 use Rattle.sam_term.proofs.ActLaws.{idle_still, locked_still}
 use Rattle.sam_term.proofs.Fits.{act_fits, flushed_fits, taken_fits}
 

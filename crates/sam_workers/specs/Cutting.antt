@@ -1,7 +1,7 @@
 -- Bytes put into a line piece by piece.
 use Rattle.std.specs.Prelude.{◌≡◌, ℕ, ◌<◌, ◌≤◌, List, [], ◌++◌, length, Result, Ok, Err}
 use Rattle.std.specs.Global.{Vec}
-use Rattle.sam_world.specs.Sides.{Each}
+use Rattle.sam_sides.specs.Sides.{Each}
 use Rattle.sam_queue.specs.Views.{PostView}
 use Rattle.sam_workers.specs.Inputs.{bytes_of}
 

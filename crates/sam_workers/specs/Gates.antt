@@ -4,10 +4,10 @@ use Rattle.std.specs.Prelude.{◌≡◌, ℕ, ◌+◌, ◌-◌, ◌^◌, ◌<◌
 use Rattle.sam_mesg.specs.declared.tmesg.Tmesg.{Tmesg}
 use Rattle.sam_term.specs.Term.{new_terminal}
 use Rattle.sam_term.specs.declared.event.UserEvent.{UserEvent}
-use Rattle.sam_world.specs.Logs.{logged_users}
-use Rattle.sam_world.specs.Sides.{TermRuns}
+use Rattle.sam_sides.specs.Logs.{logged_users}
+use Rattle.sam_sides.specs.Sides.{TermRuns}
 use Rattle.sam_queue.specs.declared.rule.Entry.{Entry}
-use Rattle.sam_workers.specs.RealSides.{at_work}
+use Rattle.sam_sides.specs.RealSides.{at_work}
 use Rattle.sam_workers.specs.Inputs.{frames_in, users_in}
 use Rattle.sam_workers.specs.WorkerEnds.{IsOwnExit}
 use Rattle.sam_workers.specs.declared.input.Input.{Input}

@@ -13,8 +13,8 @@ use Rattle.sam_host.specs.declared.fault.HostFault.{HostFault}
 use Rattle.sam_queue.specs.declared.rule.Entry.{Entry}
 use Rattle.sam_queue.specs.History.{items_of, IsEnded}
 use Rattle.sam_queue.specs.Views.{PostView}
-use Rattle.sam_world.specs.Sides.{Each, HostRuns}
-use Rattle.sam_workers.specs.RealSides.{sides}
+use Rattle.sam_sides.specs.Sides.{Each, HostRuns}
+use Rattle.sam_sides.specs.RealSides.{sides}
 use Rattle.sam_workers.specs.Numbers.{StopsWith}
 use Rattle.sam_workers.specs.Inputs.{bytes_of}
 use Rattle.sam_workers.specs.WorkerEnds.{RefusesNext}

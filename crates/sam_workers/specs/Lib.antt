@@ -1,4 +1,3 @@
-pub mod RealSides
 pub mod Lines
 pub mod Numbers
 pub mod Inputs

@@ -11,13 +11,13 @@ use Rattle.sam_term.specs.Term.{PlainTerminal, new_terminal, take_of}
 use Rattle.sam_term.specs.declared.event.UserEvent.{UserEvent}
 use Rattle.sam_term.specs.declared.event.UserEvent.TheVariants.{Exit}
 use Rattle.sam_term.specs.declared.fault.TermFault.{TermFault}
-use Rattle.sam_world.specs.declared.event.TermLog.{TermLog}
-use Rattle.sam_world.specs.Logs.{logged_users}
-use Rattle.sam_world.specs.Sides.{Each, TermRuns}
+use Rattle.sam_sides.specs.declared.log.TermLog.{TermLog}
+use Rattle.sam_sides.specs.Logs.{logged_users}
+use Rattle.sam_sides.specs.Sides.{Each, TermRuns}
 use Rattle.sam_queue.specs.declared.rule.Entry.{Entry}
 use Rattle.sam_queue.specs.History.{has_left, IsEnded}
 use Rattle.sam_queue.specs.Views.{TakeView, PostView}
-use Rattle.sam_workers.specs.RealSides.{at_work}
+use Rattle.sam_sides.specs.RealSides.{at_work}
 use Rattle.sam_workers.specs.Gates.{IsCount}
 use Rattle.sam_term.specs.Faults.{term_fault_number}
 use Rattle.sam_workers.specs.Inputs.{bytes_of, frames_in, users_in}

@@ -16,10 +16,10 @@ use Rattle.sam_term.specs.declared.fault.TermFault.{TermFault}
 use Rattle.sam_term.specs.declared.fault.TermFault.TheVariants.{CountFull}
 use Rattle.sam_term.specs.declared.event.UserEvent.{UserEvent}
 use Rattle.sam_term.specs.declared.event.UserEvent.TheVariants.{Exit}
-use Rattle.sam_world.specs.Given.{IsFile}
-use Rattle.sam_world.specs.Logs.{logged_users}
-use Rattle.sam_world.specs.Sides.{Each, HostRuns, TermRuns}
-use Rattle.sam_workers.specs.RealSides.{at_work, sides}
+use Rattle.sam_sides.specs.Given.{IsFile}
+use Rattle.sam_sides.specs.Logs.{logged_users}
+use Rattle.sam_sides.specs.Sides.{Each, HostRuns, TermRuns}
+use Rattle.sam_sides.specs.RealSides.{at_work, sides}
 use Rattle.sam_queue.specs.declared.rule.Entry.{Entry}
 use Rattle.sam_queue.specs.History.{items_of, has_left, IsEnded}
 use Rattle.sam_queue.specs.Views.{LineView}

@@ -5,8 +5,8 @@ use crate::stop::Stop;
 use sam_host::host::Host;
 use sam_queue::{Post, Take};
 use sam_runes::Runes;
+use sam_sides::TermLog;
 use sam_term::term::Terminal;
-use sam_world::TermLog;
 
 /// What the worker of the keyboard or of the mouse hands back. Its post is closed, and has put the first of the worker's events, in order.
 #[derive(Drop)]

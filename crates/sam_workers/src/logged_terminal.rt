@@ -3,7 +3,7 @@
 ghost use Rattle.std.specs.Prelude.{◌≡◌, ◌⊎◌, [], ◌∷◌, ◌<◌, IsTrue, IfOk, IfErr, OnOk, OnErr, Ok, Some, None, is_some, true};
 ghost use Rattle.sam_mesg.specs.HostKinds.{fits_h};
 ghost use Rattle.sam_term.specs.Term.{new_terminal, act_of, take_of};
-ghost use Rattle.sam_crossing.specs.World.{composed_by};
+ghost use Rattle.sam_sides.specs.RealSides.{composed_by};
 ghost use Rattle.sam_workers.specs.Inputs.{frame_of_load, user_of_load};
 ghost use Rattle.sam_workers.specs.WorkerEnds.{IsFullUp};
 ghost use Rattle.sam_workers.specs.TermMoments.{Did, WasNotHandled, IsRefusedWith, IsOfUser};
@@ -11,9 +11,9 @@ ghost use Rattle.sam_workers.specs.TermMoments.{Did, WasNotHandled, IsRefusedWit
 use crate::input::Input;
 use crate::stop::Stop;
 use sam_mesg::{Batch, HFrame, fits_h};
+use sam_sides::TermLog;
 use sam_term::event::{Acted, UserEvent};
 use sam_term::term::Terminal;
-use sam_world::TermLog;
 use std::alloc::Global;
 use std::marker::Model;
 

@@ -5,7 +5,7 @@ ghost use Rattle.std.specs.Bool.{OnFalse};
 ghost use Rattle.sam_mesg.specs.TerminalKinds.{FitsT};
 ghost use Rattle.sam_frame.specs.Direction.{terminal};
 ghost use Rattle.sam_frame.specs.Stream.{CanEncode, stream_of};
-ghost use Rattle.sam_world.specs.Sides.{Each};
+ghost use Rattle.sam_sides.specs.Sides.{Each};
 ghost use Rattle.sam_workers.specs.Cutting.{PutSome};
 ghost use Rattle.sam_workers.specs.PiecesUp.{piece_bytes, IsCut};
 

@@ -1,8 +1,9 @@
 -- The merged schedule of two logs is a run that ends in the two sides' states.
 use Rattle.sam_world.proofs.Common.{◌≡◌, ℕ, zero, suc, ◌+◌, ◌-◌, ◌<◌, ◌≤◌, max, List, [], ◌∷◌, ◌++◌, length, replicate, Some, ◌⊎◌, inl, inr, ap, subst, refl, arith, append_assoc, append-nil, length-append, nil_from_length, Event, merged_from, merged, Each, Steps, Counts, HostRuns, TermRuns, world, run}
 use Rattle.std.specs.Prelude.{⊤}
-use Rattle.sam_world.specs.declared.event.TermLog.{TermLog}
-use Rattle.sam_world.specs.declared.event.TermLog.TheVariants as log
+pub use Rattle.sam_sides.proofs.Growing.{each_append}
+use Rattle.sam_sides.specs.declared.log.TermLog.{TermLog}
+use Rattle.sam_sides.specs.declared.log.TermLog.TheVariants as log
 use Rattle.sam_crossing.specs.declared.event.Event.TheVariants as event
 use Rattle.sam_world.specs.Logs.{takes, logged_users}
 use Rattle.sam_crossing.specs.World.{user_events}
@@ -17,10 +18,6 @@ FitsUnder [] n = ⊤
 FitsUnder (e ∷ es) n = EntryFits e n × FitsUnder es n
 
 module _ {X : Type 0} where
-  pub each_append : (P : X → Type 0) (xs ys : List X) → Each P xs → Each P ys → Each P (xs ++ ys)
-  each_append P [] ys a b = b
-  each_append P (x ∷ xs) ys a b = (a.0, each_append P xs ys a.1 b)
-
   each_weaker : (P Q : X → Type 0) (xs : List X) → ((x : X) → P x → Q x) → Each P xs → Each Q xs
   each_weaker P Q [] f a = tt
   each_weaker P Q (x ∷ xs) f a = (f x a.0, each_weaker P Q xs f a.1)
@@ -163,18 +160,3 @@ module _ {H T M F : Type 0} (s : Steps H T M F) (laws : Counts s) where
       → HostRuns s h handled (frames ++ below) k → TermRuns s t es frames ms u → FitsUnder es (s.taken k)
   fits es h k t u handled ms frames below hr tr =
       fits_from s (s.taken k) es t u frames ms (each_front (λ f. s.seen f ≤ s.taken k) frames below (stamps (λ f. s.seen f ≤ s.taken k) h handled (frames ++ below) k hr (λ f a b. b))) tr
-
-  -- the host's log grows at its end
-  pub host_more : (h j k : H) (ms : List M) (fs : List F) (ms' : List M) (fs' : List F)
-      → HostRuns s h ms fs j → HostRuns s j ms' fs' k → HostRuns s h (ms ++ ms') (fs ++ fs') k
-  host_more h j k [] fs ms' fs' r q = grind arith
-  host_more h j k (m ∷ ms) fs ms' fs' r q = grind (arith, append_assoc, (host_more r.0 j k ms r.2 ms' fs' r.5 q))
-
-  -- the terminal's log grows at its end
-  pub term_more : (es : List TermLog) (t u v : T) (fs : List F) (ms : List M) (es' : List TermLog) (fs' : List F) (ms' : List M)
-      → TermRuns s t es fs ms u → TermRuns s u es' fs' ms' v → TermRuns s t (es ++ es') (fs ++ fs') (ms ++ ms') v
-  term_more [] t u v fs ms es' fs' ms' r q = grind arith
-  term_more (log.User e ∷ es) t u v fs ms es' fs' ms' r q = term_more es (s.user t e) u v fs ms es' fs' ms' r q
-  term_more (log.Act ∷ es) t u v fs ms es' fs' ms' r q = grind (arith, append_assoc, (term_more es r.0 u v fs r.2 es' fs' ms' r.5 q))
-  term_more (log.Flush ∷ es) t u v fs ms es' fs' ms' r q = grind (arith, append_assoc, (term_more es r.0 u v fs r.2 es' fs' ms' r.5 q))
-  term_more (log.Take n ∷ es) t u v fs ms es' fs' ms' r q = grind (arith, append_assoc, (term_more es r.2 u v r.1 r.4 es' fs' ms' r.9 q))

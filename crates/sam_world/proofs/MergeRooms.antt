@@ -1,7 +1,7 @@
 -- How long the schedule of a log is.
 use Rattle.sam_world.proofs.Common.{◌≡◌, ℕ, ◌+◌, ◌-◌, ◌≤◌, List, [], ◌∷◌, length, false, arith, length-append, merged, merged_from, is_bad_log, HostTake}
 use Rattle.std.proofs.lemmas.List.{length-replicate}
-use Rattle.sam_world.specs.declared.event.TermLog.{TermLog}
+use Rattle.sam_sides.specs.declared.log.TermLog.{TermLog}
 
 -- an event for each entry that is left, and for each message that the host has still to take
 long_from : (done n : ℕ) (entries : List TermLog) → done ≤ n → is_bad_log entries n ≡ false

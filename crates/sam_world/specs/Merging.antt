@@ -2,8 +2,8 @@
 use Rattle.std.specs.Prelude.{◌≡◌, ◌≤◌, ℕ, ◌-◌, max, Bool, false, ◌||◌, nat_lt, List, [], ◌∷◌, ◌++◌, length, replicate}
 use Rattle.sam_crossing.specs.declared.event.Event.{Event}
 use Rattle.sam_crossing.specs.declared.event.Event.TheVariants.{User, Act, Flush, HostTake, TermTake}
-use Rattle.sam_world.specs.declared.event.TermLog.{TermLog}
-use Rattle.sam_world.specs.declared.event.TermLog.TheVariants as log
+use Rattle.sam_sides.specs.declared.log.TermLog.{TermLog}
+use Rattle.sam_sides.specs.declared.log.TermLog.TheVariants as log
 
 -- ## One entry by itself
 

@@ -1,26 +1,9 @@
--- Two sides that hand messages to each other, and the world that they make up.
-use Rattle.std.specs.Prelude.{◌≡◌, ℕ, ◌+◌, ◌≤◌, List, [], ◌∷◌, ◌++◌, length, Option, Some, None}
+-- The world that two sides make up which hand messages to each other.
+use Rattle.std.specs.Prelude.{◌≡◌, ◌+◌, ◌≤◌, List, [], ◌∷◌, ◌++◌, length, Option, Some, None}
 use Rattle.sam_term.specs.declared.event.UserEvent.{UserEvent}
-use Rattle.sam_world.specs.declared.event.TermLog.{TermLog}
-use Rattle.sam_world.specs.declared.event.TermLog.TheVariants as log
+pub use Rattle.sam_sides.specs.Sides.{Each, Steps, HostRuns, TermRuns}
 use Rattle.sam_crossing.specs.declared.event.Event.{Event}
 use Rattle.sam_crossing.specs.declared.event.Event.TheVariants as event
-
--- P holds of each member
-abbrev pub Each : {X : Type 0} → (X → Type 0) → List X → Type 0
-Each P [] = Unit {0}
-Each P (x ∷ xs) = P x × Each P xs
-
--- The steps of a host H and a terminal T over messages M and frames F. None is a refusal.
-pub record Steps (H T M F : Type 0) : Type 0 where
-  pub handle : H → M → Option (H × List F)
-  pub taken : H → ℕ
-  pub user : T → UserEvent → T
-  pub act : T → Option (T × List M)
-  pub flush : T → Option (T × List M)
-  pub receive : T → F → Option (T × List M)
-  pub sent : T → ℕ
-  pub seen : F → ℕ
 
 -- What the law asks of the steps: the counts count, each frame bears the count of its message, and no frame is taken from the future.
 pub record Counts {H T M F : Type 0} (s : Steps H T M F) : Type 0 where
@@ -31,25 +14,6 @@ pub record Counts {H T M F : Type 0} (s : Steps H T M F) : Type 0 where
   pub flush : (t u : T) (ms : List M) → s.flush t ≡ Some (u, ms) → s.sent u ≡ s.sent t + length ms
   pub receive : (t u : T) (f : F) (ms : List M) → s.receive t f ≡ Some (u, ms) → s.sent u ≡ s.sent t + length ms
   pub past : (t u : T) (f : F) (ms : List M) → s.receive t f ≡ Some (u, ms) → s.seen f ≤ s.sent t
-
-module _ {H T M F : Type 0} (s : Steps H T M F) where
-  -- the host handles the messages in order, and answers the frames
-  abbrev pub HostRuns : H → List M → List F → H → Type 0
-  HostRuns h [] fs k = (fs ≡ []) × (k ≡ h)
-  HostRuns h (m ∷ ms) fs k =
-      (j : H) × (answer : List F) × (rest : List F) × (s.handle h m ≡ Some (j, answer)) × (fs ≡ answer ++ rest) × HostRuns j ms rest k
-
-  -- the terminal goes through its log, takes the frames in order, each Take bearing its frame's stamp, and composes the messages
-  abbrev pub TermRuns : T → List TermLog → List F → List M → T → Type 0
-  TermRuns t [] fs ms u = (fs ≡ []) × (ms ≡ []) × (u ≡ t)
-  TermRuns t (log.User e ∷ es) fs ms u = TermRuns (s.user t e) es fs ms u
-  TermRuns t (log.Act ∷ es) fs ms u =
-      (v : T) × (some : List M) × (rest : List M) × (s.act t ≡ Some (v, some)) × (ms ≡ some ++ rest) × TermRuns v es fs rest u
-  TermRuns t (log.Flush ∷ es) fs ms u =
-      (v : T) × (some : List M) × (rest : List M) × (s.flush t ≡ Some (v, some)) × (ms ≡ some ++ rest) × TermRuns v es fs rest u
-  TermRuns t (log.Take k ∷ es) fs ms u =
-      (f : F) × (gs : List F) × (v : T) × (some : List M) × (rest : List M)
-      × (fs ≡ f ∷ gs) × (s.seen f ≡ k) × (s.receive t f ≡ Some (v, some)) × (ms ≡ some ++ rest) × TermRuns v es gs rest u
 
 -- a host, a terminal, the messages under way up and the frames under way down
 pub record World (H T M F : Type 0) : Type 0 where

@@ -1,5 +1,0 @@
-use Rattle.sam_session.proofs.Unique.{one_outcome_of}
-use Rattle.sam_session.proofs.law.one_outcome.Goals as goal
-
-pub returns : goal.returns
-returns c = one_outcome_of (record { says = c.frame_says_t.ensures; one = c.one_frame_t.ensures })

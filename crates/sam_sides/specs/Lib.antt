@@ -1,0 +1,4 @@
+pub mod Given
+pub mod Logs
+pub mod Sides
+pub mod RealSides
