@@ -7,7 +7,8 @@ from .trying import answers, code_of, expect_equal, five_gaps, host_with, take
 # Each kind of the terminal, with the bytes of its numbers and the most bytes of its text in version 1.
 TERMINAL = (
     (1, 2, 0), (2, 0, 0), (3, 2, 0), (4, 8, 0), (5, 10, 0), (6, 2, 0), (7, 10, 0), (8, 6, 2048), (9, 10, 0), (10, 6, 0), (11, 10, 0),
-    (12, 0, 0), (13, 2, 0), (14, 2, 0), (15, 10, 0), (16, 10, 0), (17, 10, 0), (18, 6, 0), (19, 0, 0), (20, 0, 4096), (21, 0, 0), (22, 0, 0),
+    (12, 0, 0), (13, 2, 0), (14, 2, 0), (15, 10, 0), (16, 10, 0), (17, 10, 0), (18, 6, 0), (19, 0, 0), (20, 0, 4096), (21, 0, 0),
+    (22, 0, 0),
 )  # fmt: skip
 # The same of the host. The stamp counts as a number.
 HOST = (

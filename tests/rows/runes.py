@@ -65,18 +65,14 @@ def test_a_text_has_a_million_runes_and_no_more():
 
 
 def test_nothing_is_printed_where_the_command_file_would_be_too_long():
-    host = command_host("text")
-    pasted = "p" + "a" * (MOST - 4)
-    answers(host, "Tsetsnarf", pasted[1:4_000])
-    while host.len(0) < MOST - 4_000:
-        answers(host, "Tpaste", 0, 0)
-    rest = MOST - 5 - host.len(0)
-    for start in range(0, rest, 512):
-        answers(host, "Ttype", 0, 0, "a" * min(512, rest - start))
-    answers(host, "Ttype", 0, host.len(0), "\n")
-    expect_equal((host.len(0), host.dot(0)), (MOST - 4, (MOST - 4,) * 2))
-    runs(host, "f")  # its line and what it would print, `file` and a newline, have seven runes
+    host = command_host("a" * (MOST - 5) + "\n")
+    answers(host, "Tsnarf", 1, 0, MOST - 4)
+    answers(host, "Tpaste", 0, 0)
+    expect_equal(runs(host, "f"), [("Hunlock",)])  # its line and what it would print, `file` and a newline, have seven runes
     expect_equal(host.len(0), MOST - 2)
+    answers(host, "Tcut", 0, 0, 5)
+    told = runs(host, "f")
+    expect_equal((told[-1], host.len(0), host.text(0, MOST - 7)), (("Hunlock",), MOST, "f\nfile\n"))
 
 
 def test_the_snarf_buffer_goes_out_in_whole_runes():
