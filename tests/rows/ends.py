@@ -28,9 +28,9 @@ def test_an_event_that_is_held_acts_behind_its_frame():
     terminal.offer_version(2)
     terminal.open_cmd()
     gives(terminal, "01 0002 0002")
-    feed(terminal, UNLOCK[:9])
+    feed(terminal, UNLOCK[:10])
     gives(terminal, "")
-    feed(terminal, UNLOCK[9:])
+    feed(terminal, UNLOCK[10:])
     gives(terminal, "02 0000")
 
 
@@ -100,8 +100,8 @@ def test_a_stream_may_end_between_two_frames():
     terminal.offer_version(2)
     terminal.open_cmd()
     expect_equal((terminal.events, terminal.decided), (2, 1))
-    feed(terminal, UNLOCK[:9])
+    feed(terminal, UNLOCK[:10])
     expect_equal(code_of(terminal.finish), "TRUNCATED")
-    feed(terminal, UNLOCK[9:])
+    feed(terminal, UNLOCK[10:])
     terminal.finish()
     expect_equal((terminal.events, terminal.decided), (2, 2))

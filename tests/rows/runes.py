@@ -49,7 +49,7 @@ def test_several_edits_leave_the_saved_copy():
     expect_equal((host.text(1), host.saved(1), host.is_dirty(1)), ("X,X,X,X", "a,b,,c", True))
     cuts = [("Hcut", 1, 5, 1), ("Hgrowdata", 1, 5, "X"), ("Hgrowdata", 1, 4, "X"), ("Hcut", 1, 2, 1)]
     cuts += [("Hgrowdata", 1, 2, "X"), ("Hcut", 1, 0, 1), ("Hgrowdata", 1, 0, "X")]
-    expect_equal(told, [*cuts, ("Hdirty", 1), ("Hsetdot", 1, 0, 7), ("Hcheck", 1), ("Hunlock",)])
+    expect_equal(told, [*cuts, ("Hdirty", 1), ("Hsetpat", ","), ("Hsetdot", 1, 0, 7), ("Hcheck", 1), ("Hunlock",)])
 
 
 def test_a_text_has_a_million_runes_and_no_more():
