@@ -17,6 +17,10 @@ def expect(holds, told):
         raise Failed(told)
 
 
+def expect_equal(got, wanted):
+    expect(got == wanted, f"{got!r}, wanted {wanted!r}")
+
+
 def wait_until(holds, told, seconds=SECONDS):
     """Waits until something holds; answers what it was."""
     until = time.monotonic() + seconds

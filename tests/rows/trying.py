@@ -1,11 +1,7 @@
 """What the rows share: a terminal that is fed frames by hand, and what it composes; a host that is fed messages, and what it answers."""
-from checks import Failed, expect
+from checks import Failed, expect_equal
 from frames import frame, messages
 from sulgrevad import Host, SamError, Terminal
-
-
-def expect_equal(got, wanted):
-    expect(got == wanted, f"{got!r}, wanted {wanted!r}")
 
 
 def code_of(call, *arguments):
