@@ -32,6 +32,10 @@ def expect(holds, told):
         raise Failed(told)
 
 
+def expect_equal(got, wanted):
+    expect(got == wanted, f"{got!r}, wanted {wanted!r}")
+
+
 # ---- Checks, which are functions of modules
 
 

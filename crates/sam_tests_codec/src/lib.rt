@@ -1,9 +1,5 @@
-//! Tests of runes, messages and frames in one place, since a crate with tests is proved twice. It holds nothing else.
+//! Tests of what no program and no caller of the C library sees of runes, messages and frames. tests/rows has all others.
 #![tactic(auto)]
 
 #[cfg(test)]
-mod frame;
-#[cfg(test)]
-mod mesg;
-#[cfg(test)]
-mod runes;
+mod unseen;

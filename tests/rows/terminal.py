@@ -1,0 +1,111 @@
+"""A terminal: what it refuses, what locks it takes, and what the host does to its texts."""
+from sulgrevad import Terminal
+
+from .trying import code_of, expect_equal, expect_sent, five_gaps, refusals, refused, take, take_all
+
+
+def test_an_answer_to_what_was_not_sent_is_refused():
+    for seen, told in ((2, "TERM_FROM_THE_FUTURE"), (1, None)):
+        terminal = Terminal()
+        terminal.offer_version(1)
+        expect_sent(terminal, ("Tversion", 1))
+        expect_equal(terminal.sent, 1)
+        if told:
+            expect_equal(refused(terminal, "Hversion", 1, seen=seen), told)
+        else:
+            take(terminal, "Hversion", 1, seen=seen)
+
+
+def test_frames_that_no_host_sends_are_refused():
+    for message, told in (
+        (("Hunlock",), "TERM_LOCK_NOT_HELD"),
+        (("Hunlockfile", 1), "TERM_LOCK_NOT_HELD"),
+        (("Hunlockfile", 2), "TERM_NO_FILE"),
+        (("Hbindname", 1), "TERM_ALREADY_BOUND"),
+        (("Hdelname", 1), "TERM_ALREADY_BOUND"),
+    ):
+        expect_equal((message, refused(five_gaps(), *message)), (message, told))
+
+
+def test_a_refused_frame_changes_nothing():
+    terminal = five_gaps()
+    expect_equal(refused(terminal, "Hbindname", 1), "TERM_ALREADY_BOUND")
+    expect_equal((terminal.dot(1), terminal.locked(1), terminal.len(1)), ((0, 0), False, 5))
+
+
+def test_events_of_no_file_and_of_no_place_are_refused():
+    terminal = five_gaps()
+    terminal.select(1, 0, 9)
+    terminal.open(0)
+    expect_equal(refusals(terminal), ["BAD_POSITION", "NO_FILE"])
+    take(terminal, "Hnewname", 0)
+    terminal.open(0)
+    expect_equal((refusals(terminal), terminal.sent), (["COMMAND_FILE"], 0))
+
+
+def test_typing_too_much_and_into_no_file_is_refused():
+    terminal = five_gaps()
+    terminal.type(1, "a" * 513)
+    terminal.type(9, "a")
+    expect_equal((refusals(terminal), terminal.len(1)), (["TEXT_TOO_LONG", "NO_FILE"], 5))
+    terminal.type(1, "a" * 512)
+    expect_equal((refusals(terminal), terminal.len(1)), ([], 517))
+
+
+def test_a_look_locks_its_file_alone():
+    terminal = five_gaps()
+    take(terminal, "Hnewname", 2)
+    take(terminal, "Hbindname", 2)
+    terminal.look(1)
+    expect_sent(terminal, ("Tlook", 1, 0, 0))
+    expect_equal((terminal.locked(1), terminal.locked(2), terminal.command_locked), (True, False, False))
+    terminal.type(1, "a")
+    expect_equal((terminal.held, terminal.len(1)), (1, 5))
+
+
+def test_a_command_event_waits_for_each_file():
+    terminal = five_gaps()
+    terminal.look(1)
+    expect_sent(terminal, ("Tlook", 1, 0, 0))
+    terminal.open_cmd()
+    expect_sent(terminal)
+    expect_equal((terminal.held, terminal.command_locked), (1, False))
+    take(terminal, "Hunlockfile", 1)
+    expect_sent(terminal, ("Tstartcmdfile",))
+    expect_equal((terminal.held, terminal.locked(1), terminal.command_locked), (0, True, True))
+
+
+def test_what_comes_behind_a_paste_waits():
+    terminal = five_gaps()
+    terminal.paste(1)
+    expect_sent(terminal, ("Tpaste", 1, 0))
+    terminal.type(1, "a")
+    terminal.flush()
+    expect_equal((terminal.held, terminal.locked(1), terminal.len(1)), (2, True, 5))
+    take(terminal, "Hunlockfile", 1)
+    expect_sent(terminal, ("Ttype", 1, 0, "a"))
+    expect_equal((terminal.held, terminal.locked(1)), (0, False))
+
+
+def test_what_the_host_puts_into_a_text_moves_the_dot():
+    terminal = five_gaps()
+    take_all(terminal, ("Hdata", 1, 0, "ab cd"), ("Hsetdot", 1, 1, 4))
+    expect_equal((terminal.text(1), terminal.dot(1)), ("ab cd", (1, 4)))
+    take(terminal, "Hgrowdata", 1, 0, "xy")
+    expect_equal((terminal.text(1), terminal.dot(1)), ("xyab cd", (3, 6)))
+    expect_sent(terminal)
+
+
+def test_what_the_host_cuts_out_of_a_text_moves_the_dot():
+    terminal = five_gaps()
+    take_all(terminal, ("Hdata", 1, 0, "abcde"), ("Hsetdot", 1, 3, 5), ("Hcut", 1, 1, 3))
+    expect_equal((terminal.dot(1), terminal.read(1, 0, 5)), ((1, 2), ["a", "e"]))
+    expect_sent(terminal)
+
+
+def test_a_closed_file_has_no_dot():
+    terminal = five_gaps()
+    take(terminal, "Hmovname", 1, "name")
+    expect_equal(terminal.name(1), "name")
+    take(terminal, "Hclose", 1)
+    expect_equal((code_of(terminal.dot, 1), code_of(terminal.len, 1), terminal.is_open(1)), ("NONE", "NONE", False))
