@@ -87,7 +87,7 @@ PLACES = {
     "sam_runes": (350, 10, "texts as lists of runes"),
 }
 LEFT_OUT = {
-    *("sam_tests_whole", "sam_tests_codec", "sam_tests_files", "sam_tests_term", "sam_tests_modes", "sam_tests_session", "sam_test_support"),
+    *("sam_tests_whole", "sam_tests_codec", "sam_tests_lines", "sam_tests_term", "sam_test_support"),
     *("sam_oom", "sam_oom_cases", "sam_bench", "sam_bench_jobs", "sam_examples"),
 }
 

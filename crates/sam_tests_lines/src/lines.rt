@@ -108,12 +108,6 @@ const ONE_SLOT: [Step; 8] = [
     Step::TryRecv(Got::Empty),
 ];
 
-#[test]
-fn one_sender_one_slot(rt: HostRuntime) {
-    let wrong = first_wrong_of_new(&rt, rt.alloc(), 1, 1, &ONE_SLOT);
-    assert_eq!(rt; wrong, Ok(None));
-}
-
 const CLOSED: [Step; 7] = [
     Step::Senders(1),
     Step::TryClose(0, true),
@@ -123,12 +117,6 @@ const CLOSED: [Step; 7] = [
     Step::TryRecv(Got::Ended),
     Step::Recv(Got::Ended),
 ];
-
-#[test]
-fn a_closed_sender_is_refused(rt: HostRuntime) {
-    let wrong = first_wrong_of_new(&rt, rt.alloc(), 1, 1, &CLOSED);
-    assert_eq!(rt; wrong, Ok(None));
-}
 
 const TWO_SLOTS: [Step; 9] = [
     Step::Senders(3),
@@ -141,12 +129,6 @@ const TWO_SLOTS: [Step; 9] = [
     Step::TryRecv(Got::Item(2, 5)),
     Step::TryRecv(Got::Empty),
 ];
-
-#[test]
-fn three_senders_two_slots(rt: HostRuntime) {
-    let wrong = first_wrong_of_new(&rt, rt.alloc(), 2, 3, &TWO_SLOTS);
-    assert_eq!(rt; wrong, Ok(None));
-}
 
 const LEAVING: [Step; 10] = [
     Step::Senders(3),
@@ -162,9 +144,15 @@ const LEAVING: [Step; 10] = [
 ];
 
 #[test]
-fn three_senders_leave(rt: HostRuntime) {
-    let wrong = first_wrong_of_new(&rt, rt.alloc(), 2, 3, &LEAVING);
-    assert_eq!(rt; wrong, Ok(None));
+fn ends_answer_in_turn(rt: HostRuntime) {
+    let alloc = rt.alloc();
+    let wrong = [
+        first_wrong_of_new(&rt, alloc, 1, 1, &ONE_SLOT),
+        first_wrong_of_new(&rt, alloc, 1, 1, &CLOSED),
+        first_wrong_of_new(&rt, alloc, 2, 3, &TWO_SLOTS),
+        first_wrong_of_new(&rt, alloc, 2, 3, &LEAVING),
+    ];
+    assert_eq!(rt; wrong, [Ok(None); 4]);
 }
 
 /// How many senders an audit lists, what the first has left, and whether it has closed.
@@ -419,13 +407,9 @@ fn three_threads_send(
 }
 
 #[test]
-fn three_threads_send_through_one_slot(rt: HostRuntime) {
-    let got = three_threads_send(&rt, rt.alloc(), 1);
-    assert_eq!(rt; got, Ok(Some((3 * ITEMS, true, 3))));
-}
-
-#[test]
-fn three_threads_send_through_many_slots(rt: HostRuntime) {
-    let got = three_threads_send(&rt, rt.alloc(), 64);
-    assert_eq!(rt; got, Ok(Some((3 * ITEMS, true, 3))));
+fn three_threads_send_through_one_slot_and_through_many(rt: HostRuntime) {
+    for capacity in [1, 64] {
+        let got = three_threads_send(&rt, rt.alloc(), capacity);
+        assert_eq!(rt; got, Ok(Some((3 * ITEMS, true, 3))), "{capacity} entries");
+    }
 }
