@@ -89,7 +89,7 @@ PLACES = {
     "sam_runes": (370, 10, "texts as lists of runes"),
 }
 LEFT_OUT = {
-    *("sam_tests_whole", "sam_tests_codec", "sam_tests_files", "sam_tests_modes", "sam_tests_session", "sam_test_support"),
+    *("sam_tests_whole", "sam_tests_codec", "sam_tests_lines", "sam_test_support"),
     *("sam_bench", "sam_bench_jobs", "sam_examples"),
 }
 
