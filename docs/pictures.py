@@ -88,7 +88,7 @@ PLACES = {
 }
 LEFT_OUT = {
     *("sam_tests_whole", "sam_tests_codec", "sam_tests_files", "sam_tests_term", "sam_tests_modes", "sam_tests_session", "sam_test_support"),
-    *("sam_oom", "sam_oom_cases", "sam_bench", "sam_bench_jobs", "sam_examples"),
+    *("sam_oom", "sam_oom_cases", "sam_examples"),
 }
 
 
@@ -121,7 +121,7 @@ def crates_picture():
         text(24, 34, "The crates", "title", "start"),
         text(24, 58, "An arrow leads to a crate that this one stands on.", "", "start"),
         text(24, 76, "What it stands on through others has no arrow.", "", "start"),
-        text(24, 100, "Left out: tests, benches and examples.", "grey", "start"),
+        text(24, 100, "Left out: tests and examples.", "grey", "start"),
     ]
     for name, other in direct(crates()):
         (x, row, _), (other_x, other_row, _) = PLACES[name], PLACES[other]
