@@ -374,6 +374,33 @@ impl Blocks {
         }
     }
 
+    /// Puts gaps in: into a hole that is there, else into a hole of their own.
+    pub fn grow(&mut self, p: u32, n: u32) {
+        if n == 0 {
+            return;
+        }
+        if self.len() == 0 {
+            return self.begin(Section::Hole(n));
+        }
+        let spot = self.find(p.saturating_sub(1));
+        let at = spot.at + p.min(1);
+        self.lengthen(&spot, n);
+        let index = spot.section;
+        let section = &mut self.sections_mut(&spot)[index];
+        match section {
+            Section::Hole(count) => *count += n,
+            Section::Loaded(_) if at == 0 => self.put(&spot, 0, [Section::Hole(n)]),
+            Section::Loaded(runes) if at as usize == runes.len() => {
+                self.put(&spot, index + 1, [Section::Hole(n)]);
+                self.join(p + n);
+            }
+            Section::Loaded(_) => {
+                let back = section.split_off(at);
+                self.put(&spot, index + 1, [Section::Hole(n), back]);
+            }
+        }
+    }
+
     /// Takes runes and gaps out.
     pub fn cut(&mut self, p: u32, n: u32) {
         if n > 0 && self.groups.cut(p, n) {

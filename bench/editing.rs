@@ -1,24 +1,26 @@
-//! Many edits of one text.
+//! Many edits of one text, which a command line makes.
 
 use crate::Report;
-use crate::sample::check_of;
+use crate::codec::Tmesg;
+use crate::ends::{HostEnd, push_t};
+use crate::host::MOST_RUNES;
+use crate::sample::{check_of, mix};
 use std::time::Instant;
 
 pub struct Edit {
-    p: u32,
-    q: u32,
-    text: Vec<char>,
+    pub p: u32,
+    pub q: u32,
+    pub text: Vec<char>,
 }
 
-/// The new text in one pass, from the first edit to the last. As in `sam_bench`, a text has at most 1,000,000 runes.
-fn replaced(text: &[char], edits: &[Edit]) -> Option<Vec<char>> {
+/// The new text in one pass, from the first edit to the last. As in ours, the text and all that is put in have at most 1,000,000 runes.
+pub fn replaced(text: &[char], edits: &[Edit]) -> Option<Vec<char>> {
     let added: usize = edits.iter().map(|edit| edit.text.len()).sum();
     let removed: usize = edits.iter().map(|edit| (edit.q - edit.p) as usize).sum();
-    let len = text.len() - removed + added;
-    if len > 1_000_000 {
+    if text.len() + added > MOST_RUNES {
         return None;
     }
-    let mut new = Vec::with_capacity(len);
+    let mut new = Vec::with_capacity(text.len() - removed + added);
     let mut at = 0;
     for edit in edits {
         new.extend_from_slice(&text[at..edit.p as usize]);
@@ -27,17 +29,6 @@ fn replaced(text: &[char], edits: &[Edit]) -> Option<Vec<char>> {
     }
     new.extend_from_slice(&text[at..]);
     Some(new)
-}
-
-pub fn with_edits(size: usize) -> Report {
-    let text = vec!['a'; size];
-    let edits: Vec<Edit> = (0..size as u32)
-        .map(|p| Edit { p, q: p + 1, text: if p % 2 == 0 { vec!['b', 'c'] } else { vec![] } })
-        .collect();
-    let begin = Instant::now();
-    let new = replaced(&text, &edits).expect("within the limit");
-    let took = begin.elapsed();
-    Report { took, check: check_of(&new) }
 }
 
 /// All occurrences that do not overlap, from the left.
@@ -55,30 +46,41 @@ fn occurrences(text: &[char], lit: &[char]) -> Vec<(u32, u32)> {
     found
 }
 
-/// The parts of `,x/PATTERN/c/TEXT/`.
-fn command(line: &str) -> Option<(Vec<char>, Vec<char>)> {
+/// The parts of `,x/PATTERN/c/TEXT/` or `,x/PATTERN/i/TEXT/`: the pattern, whether the text comes in its place, and the text.
+fn command(line: &str) -> Option<(Vec<char>, bool, Vec<char>)> {
     let (pattern, rest) = line.strip_prefix(",x/")?.split_once('/')?;
-    let (text, _) = rest.strip_prefix("c/")?.split_once('/')?;
-    Some((pattern.chars().collect(), text.chars().collect()))
+    let (action, text) = rest.strip_suffix('/')?.split_once('/')?;
+    Some((pattern.chars().collect(), action == "c", text.chars().collect()))
 }
 
-/// What a line does: its edits, each with its text, since each is told to the terminal, and the new text.
-fn run_line(text: &[char], line: &str) -> Option<(Vec<Edit>, Vec<char>)> {
-    let (pattern, change) = command(line)?;
-    let edits: Vec<Edit> = occurrences(text, &pattern)
-        .into_iter()
-        .map(|(p, q)| Edit { p, q, text: change.clone() })
-        .collect();
-    let new = replaced(text, &edits)?;
-    Some((edits, new))
+/// The edits that a line makes, each with its text, since each is told to the terminal, and its pattern.
+pub fn edits_of(text: &[char], line: &str) -> Option<(Vec<Edit>, Vec<char>)> {
+    let (pattern, in_place, more) = command(line)?;
+    let found = occurrences(text, &pattern).into_iter();
+    let edits = found.map(|(p, q)| Edit { p, q: if in_place { q } else { p }, text: more.clone() });
+    Some((edits.collect(), pattern))
 }
 
-pub fn each(size: usize) -> Report {
-    let mut text = vec!['a'; size];
+/// Has a host run the line on this text.
+fn run(text: Vec<char>, line: &str) -> Option<Report> {
+    let mut host = HostEnd::opened(vec![text])?;
+    let mut typed = Vec::new();
+    push_t(&mut typed, Tmesg::Type(0, 0, format!("{line}\n").chars().collect()));
     let begin = Instant::now();
-    let (edits, new) = run_line(&text, ",x/a/c/b/").expect("a command");
-    text = new;
-    drop(edits);
+    host.feed(&typed)?;
+    let check = host.pending.take_all();
     let took = begin.elapsed();
-    Report { took, check: check_of(&text) }
+    let (_, text) = host.host.texts().next()?;
+    Some(Report { took, check: mix(check, check_of(text)) })
+}
+
+/// Edits of one rune, each of which gives way to another.
+pub fn each(size: usize) -> Report {
+    run(vec!['a'; size], ",x/a/c/b/").expect("a command")
+}
+
+/// Edits that put two runes in before each second one.
+pub fn grown(size: usize) -> Report {
+    let text = ['a', 'b'].into_iter().cycle().take(size).collect();
+    run(text, ",x/b/i/cd/").expect("a command")
 }

@@ -1,13 +1,14 @@
 //! Messages of mixed kinds to a host of sixteen files.
 
 use crate::Report;
-use crate::codec::{HFrame, Tmesg, fits_t, weight_h};
-use crate::host::Host;
+use crate::codec::Tmesg;
+use crate::ends::{HostEnd, push_t};
 use crate::sample::{check_of, mix, mixed};
 use std::time::Instant;
 
 const FILES: u16 = 16;
 const LENGTH: usize = 5_000;
+const PIECE: usize = 4_096;
 
 /// A text of lines.
 fn text() -> Vec<char> {
@@ -15,13 +16,13 @@ fn text() -> Vec<char> {
     line.chars().cycle().take(LENGTH).collect()
 }
 
-/// One message of each of sixteen kinds or lengths, for one file, which is as long behind them as before. `at` is where the command file
-/// ends.
-fn round(out: &mut Vec<Tmesg>, tag: u16, p: u32, at: &mut u32) {
+/// The frames of one message of each of sixteen kinds or lengths, for one file, which is as long behind them as before. `at` is where the
+/// command file ends.
+fn round(out: &mut Vec<u8>, tag: u16, p: u32, at: &mut u32) {
     let line: Vec<char> = format!("#{p},#{}c/lazy dogs/\n", p + 9).chars().collect();
     let place = *at;
     *at += line.len() as u32;
-    out.extend([
+    for message in [
         Tmesg::WorkFile(tag, p, p + 9),
         Tmesg::Type(tag, p, mixed(40)),
         Tmesg::Type(tag, p + 40, mixed(512)),
@@ -38,11 +39,13 @@ fn round(out: &mut Vec<Tmesg>, tag: u16, p: u32, at: &mut u32) {
         Tmesg::SetSnarf(mixed(100)),
         Tmesg::Type(0, place, line),
         Tmesg::Ack,
-    ]);
+    ] {
+        push_t(out, message);
+    }
 }
 
-/// About `size` messages, in whole rounds.
-fn messages(size: usize) -> Vec<Tmesg> {
+/// The frames of about `size` messages, in whole rounds.
+fn stream(size: usize) -> Vec<u8> {
     let mut out = Vec::new();
     let mut at = 0;
     for turn in 0..size as u32 / 16 {
@@ -52,34 +55,16 @@ fn messages(size: usize) -> Vec<Tmesg> {
     out
 }
 
-fn handle(host: &mut Host, message: Tmesg) -> Option<u64> {
-    if !fits_t(&message) {
-        return None;
-    }
-    let frames = host.handle(message)?;
-    Some(frames.iter().fold(0, |check, frame: &HFrame| mix(mix(check, frame.seen), weight_h(frame))))
-}
-
-/// Opens the files.
-fn opened() -> Option<Host> {
-    let mut host = Host::new((0..FILES).map(|_| (vec!['f'], text())).collect());
-    handle(&mut host, Tmesg::Version(2))?;
-    handle(&mut host, Tmesg::StartCmdFile)?;
-    for tag in 1..=FILES {
-        handle(&mut host, Tmesg::StartFile(tag))?;
-    }
-    Some(host)
-}
-
 pub fn handled(size: usize) -> Report {
-    let messages = messages(size);
-    let mut host = opened().expect("messages that fit");
+    let stream = stream(size);
+    let mut host = HostEnd::opened(vec![text(); FILES as usize]).expect("messages that fit");
     let mut check = 0;
     let begin = Instant::now();
-    for message in messages {
-        check = mix(check, handle(&mut host, message).expect("messages that fit"));
+    for piece in stream.chunks(PIECE) {
+        host.feed(piece).expect("messages that fit");
+        check = mix(check, host.pending.take_all());
     }
     let took = begin.elapsed();
-    let check = host.texts().fold(check, |check, (_, text)| mix(check, check_of(text)));
+    let check = host.host.texts().fold(check, |check, (_, text)| mix(check, check_of(text)));
     Report { took, check }
 }

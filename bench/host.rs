@@ -1,7 +1,8 @@
 //! A host over `Vec<char>`: the messages of the terminal in, the answering frames out, with the tests that ours makes. Of the command
-//! language it knows the one form `#P,#Qc/TEXT/`, which is all that the jobs use.
+//! language it knows the forms that the jobs use: `#P,#Qc/TEXT/`, `,x/PATTERN/c/TEXT/` and `,x/PATTERN/i/TEXT/`.
 
 use crate::codec::{HFrame, Hmesg, MOST_IN_MESSAGE, Tmesg};
+use crate::editing::{Edit, edits_of, replaced};
 use std::iter::zip;
 
 pub const MOST_RUNES: usize = 1_000_000;
@@ -66,6 +67,16 @@ fn command(line: &str) -> Option<(u32, u32, &str)> {
 impl File {
     fn range(&self, p: u32, q: u32) -> Option<(usize, usize)> {
         (p <= q && q as usize <= self.text.len()).then_some((p as usize, q as usize))
+    }
+
+    /// The edits of a line, and its pattern if it has one.
+    fn edits_of(&self, line: &str) -> Option<(Vec<Edit>, Option<Vec<char>>)> {
+        if let Some((p, q, text)) = command(line) {
+            self.range(p, q)?;
+            return Some((vec![Edit { p, q, text: text.chars().collect() }], None));
+        }
+        let (edits, pattern) = edits_of(&self.text, line)?;
+        Some((edits, Some(pattern)))
     }
 
     fn insert(&mut self, p: u32, runes: &[char]) -> Option<()> {
@@ -217,20 +228,18 @@ impl Host {
         self.run(&line)
     }
 
-    /// Runs a line: the new text is made at once, as that of many edits would be.
+    /// Runs a line: the new text is made at once, and what changed is told from the last edit to the first.
     fn run(&mut self, line: &str) -> Option<Vec<Hmesg>> {
-        let (p, q, text) = command(line)?;
-        let text: Vec<char> = text.chars().collect();
         let tag = self.work?;
         let file = self.file(tag)?;
-        let (start, end) = file.range(p, q)?;
-        if text.len() > MOST_RUNES - (file.text.len() - (end - start)) {
-            return None;
-        }
-        let new = [&file.text[..start], text.as_slice(), &file.text[end..]].concat();
+        let (edits, pattern) = file.edits_of(line)?;
+        let new = replaced(&file.text, &edits)?;
+        file.dot = match (&pattern, edits.as_slice()) {
+            (None, [Edit { p, text, .. }]) => (*p, p + text.len() as u32),
+            _ => (0, new.len() as u32),
+        };
         let mut out = Vec::new();
-        let behind = p + text.len() as u32;
-        if file.open {
+        for Edit { p, q, text } in edits.into_iter().rev().filter(|_| file.open) {
             if p < q {
                 out.push(Hmesg::Cut(tag, p, q - p));
             }
@@ -243,10 +252,13 @@ impl Host {
         if !file.dirty {
             out.push(Hmesg::Dirty(tag));
         }
-        out.extend([Hmesg::SetDot(tag, p, behind), Hmesg::Check(tag), Hmesg::Unlock]);
+        out.extend(pattern.clone().map(Hmesg::SetPat));
+        out.extend([Hmesg::SetDot(tag, file.dot.0, file.dot.1), Hmesg::Check(tag), Hmesg::Unlock]);
         file.text = new;
-        file.dot = (p, behind);
         file.dirty = true;
+        if let Some(pattern) = pattern {
+            self.pattern = pattern;
+        }
         Some(out)
     }
 

@@ -1,22 +1,22 @@
-//! The jobs of `sam_bench` in plain Rust, with the standard library alone. For each it prints the same line. `play` and `replay` do what
+//! The jobs of `jobs.c` in plain Rust, with the standard library alone. For each it prints the same line. `play` and `replay` do what
 //! `sam_play bytes` and `sam_play replay` do, and `frames` writes the input of `play`: they print no such line.
 
 use std::io::Write;
 use std::time::{Duration, Instant};
 
 mod blocks;
-mod chunks;
+mod both;
 mod codec;
+mod coding;
 mod editing;
+mod ends;
 mod handling;
 mod host;
 mod loading;
 mod play;
-mod queue;
 mod receiving;
 mod replay;
 mod sample;
-mod schedule;
 mod session;
 mod terminal;
 mod typing;
@@ -45,7 +45,7 @@ fn find(size: usize) -> Report {
 
 fn main() {
     let words: Vec<String> = std::env::args().collect();
-    let [_, job, size, rest @ ..] = words.as_slice() else { return };
+    let [_, job, size, ..] = words.as_slice() else { return };
     match job.as_str() {
         "play" => return play::play(size).expect("input and output"),
         "replay" => return replay::replay().expect("a script, and output"),
@@ -55,14 +55,13 @@ fn main() {
         }
         _ => {}
     }
-    let number = |word: &String| word.parse::<usize>().expect("a number");
-    let size = number(size);
+    let size = size.parse().expect("a size");
     let report = match job.as_str() {
-        "encode" => codec::encode(size),
-        "decode" => codec::decode(size),
+        "encode" => coding::encode(size),
+        "decode" => coding::decode(size),
         "find" => find(size),
-        "with_edits" => editing::with_edits(size),
         "x" => editing::each(size),
+        "x_grows" => editing::grown(size),
         "rasp_load" => loading::load(size),
         "rasp_type" => loading::typed(size),
         "rasp_edits" => loading::edited(size),
@@ -74,8 +73,7 @@ fn main() {
         "receive" => receiving::received(size),
         "handle" => handling::handled(size),
         "undo" => undo::undone(size),
-        "schedule" => schedule::replayed(size),
-        "channel" => queue::channel(size, number(&rest[0]), number(&rest[1])),
+        "both_ends" => both::carried(size),
         _ => panic!("no such job"),
     };
     println!("{job} {size} {} {}", report.took.as_nanos(), report.check);

@@ -1,7 +1,8 @@
-//! Host frames through a framer into a terminal.
+//! Host frames that a terminal takes.
 
 use crate::Report;
-use crate::codec::{HFrame, Hmesg, Tmesg, decode_h, encode_h, fits_h, split};
+use crate::codec::Hmesg;
+use crate::ends::{TermEnd, push_h};
 use crate::sample::{mix, mixed};
 use crate::terminal::{Event, Terminal};
 use std::time::Instant;
@@ -12,21 +13,16 @@ const PIECE: usize = 4_096;
 /// The stream is so many rounds over the files, again and again.
 const ROUNDS: usize = 16;
 
-fn push(out: &mut Vec<u8>, msg: Hmesg) {
-    assert!(fits_h(&msg));
-    encode_h(out, &HFrame { seen: 0, msg });
-}
-
 /// The frames that open the files, each with a text.
 fn opening() -> Vec<u8> {
     let mut out = Vec::new();
-    push(&mut out, Hmesg::Version(2));
+    push_h(&mut out, Hmesg::Version(2));
     for tag in 1..=FILES {
-        push(&mut out, Hmesg::NewName(tag));
-        push(&mut out, Hmesg::BindName(tag));
-        push(&mut out, Hmesg::Grow(tag, 0, LENGTH as u32));
+        push_h(&mut out, Hmesg::NewName(tag));
+        push_h(&mut out, Hmesg::BindName(tag));
+        push_h(&mut out, Hmesg::Grow(tag, 0, LENGTH as u32));
         for (at, part) in mixed(LENGTH).chunks(500).enumerate() {
-            push(&mut out, Hmesg::Data(tag, at as u32 * 500, part.to_vec()));
+            push_h(&mut out, Hmesg::Data(tag, at as u32 * 500, part.to_vec()));
         }
     }
     out
@@ -53,58 +49,16 @@ fn round(out: &mut Vec<u8>, tag: u16) {
         Hmesg::Ack,
     ];
     for msg in messages {
-        push(out, msg);
+        push_h(out, msg);
     }
-}
-
-/// Cuts a stream into frames.
-#[derive(Default)]
-pub struct Framer {
-    kept: Vec<u8>,
-}
-
-impl Framer {
-    /// What the frames that become whole with the next piece say.
-    pub fn feed<M>(&mut self, piece: &[u8], decode: impl Fn(u8, &[u8]) -> Option<M>) -> Option<Vec<M>> {
-        self.kept.extend_from_slice(piece);
-        let mut frames = Vec::new();
-        let mut rest = self.kept.as_slice();
-        while let Some((kind, body, after)) = split(rest) {
-            frames.push(decode(kind, body)?);
-            rest = after;
-        }
-        let left = rest.len();
-        self.kept.drain(..self.kept.len() - left);
-        Some(frames)
-    }
-}
-
-fn weight(messages: &[Tmesg]) -> u64 {
-    messages.iter().fold(0, |check, message| match message {
-        Tmesg::Request(tag, p, n) => mix(mix(check, *tag as u64 + *p as u64), *n as u64),
-        _ => mix(check, 1),
-    })
-}
-
-/// Has the terminal take a frame. As in ours, its text is tested again, behind the framer.
-fn receive(terminal: &mut Terminal, frame: HFrame) -> Option<Vec<Tmesg>> {
-    if !fits_h(&frame.msg) {
-        return None;
-    }
-    terminal.receive(frame)
-}
-
-fn feed(framer: &mut Framer, terminal: &mut Terminal, piece: &[u8]) -> Option<u64> {
-    let mut check = 0;
-    for frame in framer.feed(piece, decode_h)? {
-        check = mix(check, weight(&receive(terminal, frame)?));
-    }
-    Some(check)
 }
 
 /// Feeds the stream piece by piece.
-fn feed_all(framer: &mut Framer, terminal: &mut Terminal, stream: &[u8]) -> Option<u64> {
-    stream.chunks(PIECE).try_fold(0, |check, piece| Some(mix(check, feed(framer, terminal, piece)?)))
+fn feed_all(term: &mut TermEnd, stream: &[u8]) -> Option<u64> {
+    stream.chunks(PIECE).try_fold(0, |check, piece| {
+        term.feed(piece)?;
+        Some(mix(check, term.pending.take_all()))
+    })
 }
 
 fn check_of(terminal: &Terminal) -> u64 {
@@ -115,18 +69,15 @@ fn check_of(terminal: &Terminal) -> u64 {
 }
 
 /// Takes the opening, and shows the front of each file.
-fn open(framer: &mut Framer, terminal: &mut Terminal) -> Option<()> {
-    feed(framer, terminal, &opening())?;
-    for tag in 1..=FILES {
-        terminal.user(Event::View(tag, 0, 400));
-        terminal.act()?;
-    }
+fn open(term: &mut TermEnd) -> Option<()> {
+    term.feed(&opening())?;
+    (1..=FILES).for_each(|tag| term.put(Event::View(tag, 0, 400)));
     Some(())
 }
 
 pub fn received(size: usize) -> Report {
-    let (mut framer, mut terminal) = (Framer::default(), Terminal::new());
-    open(&mut framer, &mut terminal).expect("frames that fit");
+    let mut term = TermEnd::new();
+    open(&mut term).expect("frames that fit");
     let mut stream = Vec::new();
     for _ in 0..ROUNDS {
         (1..=FILES).for_each(|tag| round(&mut stream, tag));
@@ -135,8 +86,8 @@ pub fn received(size: usize) -> Report {
     let begin = Instant::now();
     for _ in 0..size / stream.len() {
         let stream = std::hint::black_box(&stream);
-        check = mix(check, feed_all(&mut framer, &mut terminal, stream).expect("frames that fit"));
+        check = mix(check, feed_all(&mut term, stream).expect("frames that fit"));
     }
     let took = begin.elapsed();
-    Report { took, check: mix(check, check_of(&terminal)) }
+    Report { took, check: mix(check, check_of(&term.terminal)) }
 }

@@ -1,4 +1,4 @@
-//! Texts to work on, the same as those of `sam_bench`.
+//! Texts to work on, the same as those of `support.c`.
 
 pub fn next_state(state: u64) -> u64 {
     state.wrapping_mul(6_364_136_223_846_793_005).wrapping_add(1_442_695_040_888_963_407)
@@ -40,6 +40,7 @@ pub fn mix(check: u64, more: u64) -> u64 {
     check.wrapping_mul(31).wrapping_add(more)
 }
 
+/// The check value of a text in UTF-8.
 pub fn check_of(runes: &[char]) -> u64 {
-    runes.iter().fold(0, |check, rune| mix(check, *rune as u64))
+    String::from_iter(runes).bytes().fold(0, |check, byte| mix(check, byte as u64))
 }

@@ -1,7 +1,7 @@
-//! A terminal over partial texts in chunks: the user's events and the host's frames in, messages out, with the locks that ours takes and
-//! the tests that ours makes.
+//! A terminal over texts that are loaded in part: the user's events and the host's frames in, messages out, with the locks that ours takes
+//! and the tests that ours makes.
 
-use crate::chunks::Chunks;
+use crate::blocks::Blocks;
 use crate::codec::{HFrame, Hmesg, MOST_IN_MESSAGE, Tmesg};
 use crate::host::MOST_RUNES;
 use std::collections::VecDeque;
@@ -16,7 +16,6 @@ pub enum Event {
     Open(u16),
     Work(u16),
     OpenCmd,
-    New,
     Version(u16),
 }
 
@@ -25,14 +24,14 @@ impl Event {
         match self {
             Event::Typed(tag, _) | Event::Select(tag, _, _) | Event::View(tag, _, _) => Some(*tag),
             Event::Open(tag) | Event::Work(tag) => Some(*tag),
-            Event::OpenCmd | Event::New | Event::Version(_) => None,
+            Event::OpenCmd | Event::Version(_) => None,
         }
     }
 }
 
 /// What the terminal keeps of an open file.
 struct Window {
-    text: Chunks,
+    text: Blocks,
     dot: (u32, u32),
     view_start: u32,
     view_length: u32,
@@ -84,7 +83,7 @@ impl Window {
     }
 
     fn len(&self) -> u32 {
-        self.text.len() as u32
+        self.text.len()
     }
 
     /// The request for the first stretch of gaps in the view.
@@ -93,8 +92,8 @@ impl Window {
             return None;
         }
         let end = self.view_start.saturating_add(self.view_length).min(self.len());
-        let (p, n) = self.text.first_gaps(self.view_start as usize, end as usize)?;
-        Some(Tmesg::Request(tag, p as u32, n.min(MOST_IN_MESSAGE) as u16))
+        let (p, n) = self.text.first_gaps(self.view_start, end)?;
+        Some(Tmesg::Request(tag, p, n.min(MOST_IN_MESSAGE as u32) as u16))
     }
 }
 
@@ -119,8 +118,13 @@ impl Terminal {
         self.unsent.is_some()
     }
 
+    /// The snarfed text that the host sent last.
+    pub fn snarfed(&self) -> &[char] {
+        &self.snarf
+    }
+
     /// The partial text of an open file.
-    pub fn text(&self, tag: u16) -> Option<&Chunks> {
+    pub fn text(&self, tag: u16) -> Option<&Blocks> {
         self.files.get(tag as usize)?.as_ref()?.window.as_ref().map(|window| &window.text)
     }
 
@@ -207,7 +211,6 @@ impl Terminal {
                 Some(self.send(Tmesg::WorkFile(tag, p, q)))
             }
             Event::OpenCmd => Some(self.send(Tmesg::StartCmdFile)),
-            Event::New => Some(self.send(Tmesg::StartNewFile)),
             Event::Version(version) => (version > 0).then(|| self.send(Tmesg::Version(version))),
         }
     }
@@ -216,14 +219,11 @@ impl Terminal {
     fn type_in(&mut self, tag: u16, runes: Vec<char>) -> Option<Vec<Tmesg>> {
         let window = self.window(tag)?;
         let (place, end) = window.dot;
-        if place != end || runes.len() > MOST_IN_MESSAGE || runes.len() > MOST_RUNES - window.text.len() {
+        if place != end || runes.len() > MOST_IN_MESSAGE || runes.len() > MOST_RUNES - window.len() as usize {
             return None;
         }
         let behind = place + runes.len() as u32;
-        match runes.as_slice() {
-            [rune] => window.text.type_in(place as usize, *rune),
-            _ => window.text.insert(place as usize, &runes),
-        }
+        window.text.type_in(place, &runes);
         window.move_places(|at| after_insert(place, behind - place, at));
         window.dot = (behind, behind);
         let ends_line = tag == COMMAND_FILE && runes.last() == Some(&'\n');
@@ -304,7 +304,7 @@ impl Terminal {
             Hmesg::MovName(tag, name) => self.known(tag)?.name = name,
             Hmesg::BindName(tag) => {
                 let file = self.known(tag).filter(|file| file.window.is_none())?;
-                let text = Chunks::gaps(0);
+                let text = Blocks::gaps(0);
                 file.window = Some(Window { text, dot: (0, 0), view_start: 0, view_length: 0, locks: 0, awaits: false });
             }
             Hmesg::Current(tag) => {
@@ -335,12 +335,12 @@ impl Terminal {
 
     /// The window of a file into which `n` more runes or gaps may come at `p`.
     fn growing(&mut self, tag: u16, p: u32, n: usize) -> Option<&mut Window> {
-        self.window(tag).filter(|window| p <= window.len() && n <= MOST_RUNES - window.text.len())
+        self.window(tag).filter(|window| p <= window.len() && n <= MOST_RUNES - window.len() as usize)
     }
 
     fn grow(&mut self, tag: u16, p: u32, n: usize) -> Option<()> {
         let window = self.growing(tag, p, n)?;
-        window.text.insert_gaps(p as usize, n);
+        window.text.grow(p, n as u32);
         window.move_places(|at| after_insert(p, n as u32, at));
         self.move_unsent(tag, |at| after_insert(p, n as u32, at));
         Some(())
@@ -349,7 +349,7 @@ impl Terminal {
     fn grow_data(&mut self, tag: u16, p: u32, text: &[char]) -> Option<()> {
         let window = self.growing(tag, p, text.len())?;
         let n = text.len() as u32;
-        window.text.insert(p as usize, text);
+        window.text.type_in(p, text);
         window.move_places(|at| after_insert(p, n, at));
         self.move_unsent(tag, |at| after_insert(p, n, at));
         Some(())
@@ -357,10 +357,10 @@ impl Terminal {
 
     fn load(&mut self, tag: u16, p: u32, text: &[char]) -> Option<()> {
         let window = self.window(tag)?;
-        if (window.text.len() as u64) < p as u64 + text.len() as u64 {
+        if (window.len() as u64) < p as u64 + text.len() as u64 {
             return None;
         }
-        window.text.data(p as usize, text);
+        window.text.data(p, text);
         window.awaits = false;
         Some(())
     }
@@ -370,7 +370,7 @@ impl Terminal {
         if (window.len() as u64) < p as u64 + n as u64 {
             return None;
         }
-        window.text.cut(p as usize, n as usize);
+        window.text.cut(p, n);
         window.move_places(|at| after_cut(p, n, at));
         self.move_unsent(tag, |at| after_cut(p, n, at));
         Some(())

@@ -1,9 +1,9 @@
 //! An undo of a replace-all in a long text, as an editor's host gets it: many edits of one file, the last in the text first.
 
 use crate::Report;
-use crate::codec::{Tmesg, decode_t, encode_t, fits_t};
+use crate::codec::{Tmesg, decode_t};
+use crate::ends::{Framer, push_t};
 use crate::host::MOST_RUNES;
-use crate::receiving::Framer;
 use crate::sample::{check_of, letters, mix};
 use std::ops::Range;
 use std::time::Instant;
@@ -101,7 +101,7 @@ impl Host {
     fn handle(&mut self, message: Tmesg) -> Option<()> {
         let taken = self.taken.checked_add(1)?;
         match message {
-            Tmesg::Version(1..) => {}
+            Tmesg::Version(1..) | Tmesg::StartCmdFile => {}
             Tmesg::StartFile(TAG) => self.open = true,
             Tmesg::Type(TAG, p, runes) if self.open => {
                 self.text.insert(p as usize, &runes)?;
@@ -131,11 +131,6 @@ impl Host {
     }
 }
 
-fn push(out: &mut Vec<u8>, message: Tmesg) {
-    assert!(fits_t(&message));
-    encode_t(out, &message);
-}
-
 /// The text after the replace-all: an `x` stands for each rune that was replaced.
 fn replaced(runes: &[char]) -> Vec<char> {
     runes.iter().enumerate().map(|(at, rune)| if at % STRETCH < REPLACED { 'x' } else { *rune }).collect()
@@ -146,8 +141,8 @@ fn stream(runes: &[char]) -> Vec<u8> {
     let mut out = Vec::new();
     for (at, stretch) in runes.chunks(STRETCH).enumerate().rev() {
         let p = (at * STRETCH) as u32;
-        push(&mut out, Tmesg::Cut(TAG, p, p + REPLACED as u32));
-        push(&mut out, Tmesg::Type(TAG, p, stretch[..REPLACED].to_vec()));
+        push_t(&mut out, Tmesg::Cut(TAG, p, p + REPLACED as u32));
+        push_t(&mut out, Tmesg::Type(TAG, p, stretch[..REPLACED].to_vec()));
     }
     out
 }
@@ -156,8 +151,9 @@ fn stream(runes: &[char]) -> Vec<u8> {
 fn opened(text: Vec<char>) -> Option<Host> {
     let mut host = Host::new(text);
     let mut opening = Vec::new();
-    push(&mut opening, Tmesg::Version(2));
-    push(&mut opening, Tmesg::StartFile(TAG));
+    for message in [Tmesg::Version(2), Tmesg::StartCmdFile, Tmesg::StartFile(TAG)] {
+        push_t(&mut opening, message);
+    }
     host.feed_all(&opening)?;
     Some(host)
 }

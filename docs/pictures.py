@@ -89,8 +89,7 @@ PLACES = {
     "sam_runes": (370, 10, "texts as lists of runes"),
 }
 LEFT_OUT = {
-    *("sam_tests_whole", "sam_tests_codec", "sam_tests_lines", "sam_test_support"),
-    *("sam_bench", "sam_bench_jobs", "sam_examples"),
+    *("sam_tests_whole", "sam_tests_codec", "sam_tests_lines", "sam_test_support", "sam_examples"),
 }
 
 
@@ -123,7 +122,7 @@ def crates_picture():
         text(24, 34, "The crates", "title", "start"),
         text(24, 58, "An arrow leads to a crate that this one stands on.", "", "start"),
         text(24, 76, "What it stands on through others has no arrow.", "", "start"),
-        text(24, 100, "Left out: tests, benches and examples.", "grey", "start"),
+        text(24, 100, "Left out: tests and examples.", "grey", "start"),
     ]
     for name, other in direct(crates()):
         (x, row, _), (other_x, other_row, _) = PLACES[name], PLACES[other]

@@ -1,0 +1,66 @@
+//! A host and a terminal, between which bytes are carried.
+
+use crate::Report;
+use crate::ends::{HostEnd, TermEnd};
+use crate::sample::{check_of, letters, mix};
+use crate::terminal::Event;
+use std::time::Instant;
+
+const FILES: u16 = 4;
+const LENGTH: usize = 5_000;
+const STRETCH: usize = 10;
+const PIECE: usize = 4_096;
+
+/// Carries bytes up and down until none wait. Returns what their numbers add to the check value.
+fn carry(host: &mut HostEnd, term: &mut TermEnd) -> Option<u64> {
+    let mut piece = [0; PIECE];
+    let mut check = 0;
+    loop {
+        let up = term.pending.take_out(&mut piece);
+        host.feed(&piece[..up])?;
+        let down = host.pending.take_out(&mut piece);
+        term.feed(&piece[..down])?;
+        if up == 0 && down == 0 {
+            return Some(check);
+        }
+        check = mix(mix(check, up as u64), down as u64);
+    }
+}
+
+/// Opens the files, and shows the front of each.
+fn open(host: &mut HostEnd, term: &mut TermEnd) -> Option<()> {
+    term.put(Event::Version(2));
+    term.put(Event::OpenCmd);
+    carry(host, term)?;
+    for tag in 1..=FILES {
+        term.put(Event::Open(tag));
+        term.put(Event::View(tag, 0, 512));
+        carry(host, term)?;
+    }
+    Some(())
+}
+
+/// Types ten runes at a place of a file, and has a command put one in the place of these and the next.
+fn turn(term: &mut TermEnd, turn: usize) {
+    let tag = (turn % FILES as usize) as u16 + 1;
+    let place = turn * 37 % (LENGTH - 100);
+    term.put(Event::Select(tag, place as u32, place as u32));
+    (0..STRETCH).for_each(|_| term.put(Event::Typed(tag, vec!['x'])));
+    term.put(Event::Work(tag));
+    let line = format!("#{place},#{}c/y/\n", place + STRETCH + 1);
+    term.put(Event::Typed(0, line.chars().collect()));
+}
+
+pub fn carried(size: usize) -> Report {
+    let mut host = HostEnd::new(vec![letters(LENGTH); FILES as usize]);
+    let mut term = TermEnd::new();
+    open(&mut host, &mut term).expect("bytes that fit");
+    let mut check = 0;
+    let begin = Instant::now();
+    for at in 0..size / STRETCH {
+        turn(&mut term, at);
+        check = mix(check, carry(&mut host, &mut term).expect("bytes that fit"));
+    }
+    let took = begin.elapsed();
+    Report { took, check: host.host.texts().fold(check, |check, (_, text)| mix(check, check_of(text))) }
+}

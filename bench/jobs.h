@@ -1,0 +1,120 @@
+/* jobs.h: the jobs of the C program, and what they share. bench/README.md says what each does, and the file of plain Rust of the same
+ * name, or plain.rs, does the same. */
+#ifndef JOBS_H
+#define JOBS_H
+
+#include "sulgrevad.h"
+
+/* What a job found: how many nanoseconds its work took, without what was made ready for it, and a number that depends on what was made. */
+struct report {
+    int64_t took;
+    uint64_t check;
+};
+
+struct report encode(uint32_t size);
+struct report decode(uint32_t size);
+struct report find(uint32_t size);
+struct report x(uint32_t size);
+struct report x_grows(uint32_t size);
+struct report rasp_load(uint32_t size);
+struct report rasp_type(uint32_t size);
+struct report rasp_edits(uint32_t size);
+struct report rasp_scattered(uint32_t size);
+struct report rasp_keys(uint32_t size);
+struct report rasp_asks(uint32_t size);
+struct report rasp_cut(uint32_t size);
+struct report terminal(uint32_t size);
+struct report receive(uint32_t size);
+struct report handle(uint32_t size);
+struct report undo(uint32_t size);
+struct report both_ends(uint32_t size);
+
+/* ---- support.c ---- */
+
+/* Bytes that grow; they are never freed, since a run does one job. */
+struct bytes {
+    uint8_t *at;
+    size_t len, room;
+};
+
+/* The kinds of frames that the jobs make, by docs/PROTOCOL.md. */
+enum {
+    TVERSION = 1,
+    TSTARTCMDFILE = 2,
+    TCHECK = 3,
+    TREQUEST = 4,
+    TORIGIN = 5,
+    TSTARTFILE = 6,
+    TWORKFILE = 7,
+    TTYPE = 8,
+    TCUT = 9,
+    TPASTE = 10,
+    TSNARF = 11,
+    TLOOK = 15,
+    TSEARCH = 16,
+    TDCLICK = 18,
+    TSETSNARF = 20,
+    TACK = 21,
+    HVERSION = 65,
+    HBINDNAME = 66,
+    HCURRENT = 67,
+    HNEWNAME = 68,
+    HMOVNAME = 69,
+    HGROW = 70,
+    HCHECK = 71,
+    HDATA = 73,
+    HUNLOCKFILE = 75,
+    HSETDOT = 76,
+    HGROWDATA = 77,
+    HMOVETO = 78,
+    HCLEAN = 79,
+    HDIRTY = 80,
+    HCUT = 81,
+    HSETPAT = 82,
+    HSETSNARF = 85,
+    HSNARFLEN = 86,
+    HACK = 87
+};
+
+/* WANT(CALL) ends the program where a call is not answered by SAM_OK. */
+void want(sam_status status, const char *call);
+#define WANT(call) want(call, #call)
+
+int64_t nanoseconds(void);
+
+/* Mixes a number into a check value. */
+uint64_t mix(uint64_t check, uint64_t more);
+
+/* The next state of a generator of pseudo-random numbers. */
+uint64_t next_state(uint64_t state);
+
+void add(struct bytes *to, const void *bytes, size_t len);
+
+/* Pseudo-random letters and spaces; the same, with each eighth rune outside ASCII; one text again and again, up to so many runes, all
+ * of them ASCII; the text of a string, until the next call. */
+struct bytes letters(size_t count);
+struct bytes mixed(size_t count);
+struct bytes repeated(const char *text, size_t count);
+struct bytes text_of(const char *string);
+struct bytes part_of(struct bytes text, size_t start, size_t len);
+
+/* Adds a frame: the form has a letter for each field, h for two bytes, i for four, t for the text at the end. A frame of the host has a
+ * stamp that no terminal refuses. */
+void put(struct bytes *out, int kind, const char *form, ...);
+
+/* Makes a host with so many files of this text. With `open_host` they are all open, the last of them is the work file, and the command file
+ * is open too. */
+void new_host(sam_host *host, struct bytes text, int files);
+void open_host(sam_host *host, struct bytes text, int files);
+
+void feed_host(sam_host *host, struct bytes frames);
+void feed_term(sam_term *term, struct bytes frames);
+
+/* Take all out that is pending, and return its check value. */
+uint64_t take_host(sam_host *host);
+uint64_t take_term(sam_term *term);
+
+/* Mixes the text of a file into a check value. */
+uint64_t check_host(sam_host *host, uint16_t tag, uint64_t check);
+
+#endif
