@@ -45,9 +45,13 @@ pub fn replay(alloc: Global, script: &Script) -> Result<Vec<u8>, ScriptFault>
     let Ok(mut world) = first_world(alloc, script.files()) else {
         return Err(ScriptFault::OutOfMemory);
     };
-    let mut printed = String::new(alloc);
-    do_lines(alloc, &mut world, &mut printed, script.lines())?;
-    Ok(printed.into_bytes())
+    let mut out = String::new(alloc);
+    let done = do_lines(alloc, &mut world, &mut out, script.lines());
+    drop(world);
+    match done {
+        Ok(()) => Ok(out.into_bytes()),
+        Err(why) => Err(why),
+    }
 }
 
 /// Does copies of the lines one after another, up to the first that can't be done. What they print stands after what was printed before;
@@ -79,11 +83,28 @@ pub fn replay_owned(alloc: Global, script: Script) -> Result<Vec<u8>, ScriptFaul
         return Err(ScriptFault::OutOfMemory);
     };
     let mut out = String::new(alloc);
-    for numbered in script.into_lines() {
-        let Numbered { number, line } = numbered;
-        do_line(&mut world, &mut out, number, line)?;
+    let done = do_owned_lines(&mut world, &mut out, script.into_lines());
+    drop(world);
+    match done {
+        Ok(()) => Ok(out.into_bytes()),
+        Err(why) => Err(why),
     }
-    Ok(out.into_bytes())
+}
+
+/// Does what [`do_lines`] does, and uses the lines up.
+fn do_owned_lines(
+    world: &mut World,
+    out: &mut String,
+    lines: Vec<Numbered>,
+) -> Result<(), ScriptFault>
+    ensures done { OnOk result (after_output (string_bytes out.old) (replayed_from world.old lines.items) ≡ Ok (string_bytes out.new)) }
+    ensures stopped { IfErr result (λ why. IsStopOf (after_output (string_bytes out.old) (replayed_from world.old lines.items)) why) }
+{
+    for numbered in lines {
+        let Numbered { number, line } = numbered;
+        do_line(world, out, number, line)?;
+    }
+    Ok(())
 }
 
 /// Does what a line of this number asks for. What it prints stands after what was printed before; at an error a part of that may stand

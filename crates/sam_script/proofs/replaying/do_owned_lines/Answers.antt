@@ -1,6 +1,6 @@
 use Rattle.sam_script.proofs.Common.{◌≡◌, ◌∷◌, rules, into_iter_items}
 use Rattle.sam_script.proofs.Replays.{line_more}
-use Rattle.sam_script.proofs.replaying.replay_owned.Goals as goal
+use Rattle.sam_script.proofs.replaying.do_owned_lines.Goals as goal
 
 pub loop-numbered-preserved : goal.loop-numbered-preserved
 loop-numbered-preserved c =
