@@ -7,7 +7,7 @@ ghost use Rattle.sam_modes.specs.Status.{IsTold};
 
 use crate::fault::PlayFault;
 use crate::input::{read_all, write_or_tell};
-use crate::scripts::of_script;
+use crate::script::of_script;
 use sam_script::replay_bytes;
 use std::alloc::Global;
 use std::io::{Read, Write};
