@@ -10,7 +10,7 @@ from collections import Counter
 from pathlib import Path
 
 SECONDS = 20  # how long something may take; on a busy machine `wait_until` waits longer
-MOST_TIMES = 10
+MOST_TIMES = 5
 ROOT = Path(__file__).resolve().parent.parent
 LIBRARY = Path(os.environ.get("SAM_LIBRARY") or ROOT / "out" / "libsulgrevad.so").resolve()
 SAMHOST = Path(os.environ.get("SAMHOST") or ROOT / "out" / "samhost").resolve()
