@@ -50,11 +50,11 @@ def named_twice(modules):
 
 
 def times_longer():
-    """How many times longer a piece of work takes at this moment by the clock than it takes the processor."""
+    """How many times longer a piece of work takes now by the clock than it takes the processor: once where the machine is quiet."""
     clock, processor = time.monotonic(), time.process_time()
     while time.process_time() - processor < 0.3:
         pass
-    return min(MOST_TIMES, (time.monotonic() - clock) / (time.process_time() - processor))
+    return max(1, min(MOST_TIMES, (time.monotonic() - clock) / (time.process_time() - processor)))
 
 
 def wait_until(holds, told, seconds=None):
