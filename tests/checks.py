@@ -10,7 +10,7 @@ from collections import Counter
 from pathlib import Path
 
 SECONDS = 20  # how long something may take; on a busy machine `wait_until` waits longer
-MOST_TIMES = 10
+MOST_TIMES = 5
 ROOT = Path(__file__).resolve().parent.parent
 LIBRARY = Path(os.environ.get("SAM_LIBRARY") or ROOT / "out" / "libsulgrevad.so").resolve()
 SAMHOST = Path(os.environ.get("SAMHOST") or ROOT / "out" / "samhost").resolve()
@@ -54,11 +54,11 @@ def named_twice(modules):
 
 
 def times_longer():
-    """How many times longer a piece of work takes at this moment by the clock than it takes the processor."""
+    """How many times longer a piece of work takes now by the clock than it takes the processor: once where the machine is quiet."""
     clock, processor = time.monotonic(), time.process_time()
     while time.process_time() - processor < 0.3:
         pass
-    return min(MOST_TIMES, (time.monotonic() - clock) / (time.process_time() - processor))
+    return max(1, min(MOST_TIMES, (time.monotonic() - clock) / (time.process_time() - processor)))
 
 
 def wait_until(holds, told, seconds=None):

@@ -154,18 +154,19 @@ def check_full_pipe(folder):
     (path,) = made(folder, a="end\n")
     text = "".join(f"line {number}\n" for number in range(20_000))
     (folder / "text").write_text(text)
-    with Session(folder, "a.txt") as session:
+    with Session(folder, "a.txt", width=140) as session:  # on a busy machine the status line is longer than 80
         session.wait_for("end")
         session.wait_for_quiet()
         with session.stopped_host():
             session.tmux("load-buffer", str(folder / "text"))
             session.tmux("paste-buffer", "-p")
             session.wait_for("line 19999")
-            wait_until(lambda: re.search(r"\| waiting \d+", session.status()), "the status line doesn't tell of it")
+            told = "the status line doesn't tell of it:\n"
+            wait_until(lambda: re.search(r"\| waiting \d+", session.status()), lambda: told + "\n".join(session.screen()))
             session.type("|")
             session.wait_for("|end")
+        wait_until(lambda: "| waiting" not in (session.status() or "| waiting"), lambda: f"bytes still wait: {session.status()}")
         session.wait_for_quiet()
-        expect("waiting" not in session.status(), f"bytes still wait: {session.status()}")
         session.keys("C-w")
         wait_for_text(path, text + "|end\n")
         session.leave()

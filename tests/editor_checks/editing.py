@@ -2,6 +2,8 @@
 import statistics
 import time
 
+from checks import times_longer
+
 from .support import LINK, Session, expect, made, wait_for_text, wait_until
 
 
@@ -44,6 +46,7 @@ def check_typing_at_once(folder):
         session.wait_for("one two")
         session.wait_for_quiet()
         before, times = session.bytes_down(), []
+        limit = 2 * LINK / 1000 * times_longer()
         with session.stopped_host():
             for at in range(1, 10):
                 text = "".join(map(str, range(1, at + 1)))
@@ -52,7 +55,8 @@ def check_typing_at_once(folder):
                 session.wait_for(text + "one two")
                 times.append(time.monotonic() - start)
             expect(session.bytes_down() == before, "this test is wrong: the host has answered")
-        expect(statistics.median(times) < 2 * LINK / 1000, f"the middle key took {statistics.median(times) * 1000:.0f} ms: {times}")
+        middle = statistics.median(times)
+        expect(middle < limit, f"the middle key took {middle * 1000:.0f} of {limit * 1000:.0f} ms: {times}")
 
 
 def check_on_the_way(folder):

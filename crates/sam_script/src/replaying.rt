@@ -45,11 +45,11 @@ pub fn replay(alloc: Global, script: &Script) -> Result<Vec<u8>, ScriptFault>
     let Ok(mut world) = first_world(alloc, script.files()) else {
         return Err(ScriptFault::OutOfMemory);
     };
-    let mut out = String::new(alloc);
-    let done = do_lines(alloc, &mut world, &mut out, script.lines());
+    let mut printed = String::new(alloc);
+    let done = do_lines(alloc, &mut world, &mut printed, script.lines());
     drop(world);
     match done {
-        Ok(()) => Ok(out.into_bytes()),
+        Ok(()) => Ok(printed.into_bytes()),
         Err(why) => Err(why),
     }
 }
