@@ -77,7 +77,7 @@ def test_the_host_tells_of_a_changed_file():
     terminal = five_gaps()
     terminal.type(1, "")
     expect_sent(terminal)
-    expect_equal(terminal.is_changed(1), False)
+    expect_equal((refusals(terminal), terminal.is_changed(1)), ([], False))
     take(terminal, "Hdirty", 1)
     expect_equal((terminal.is_changed(1), terminal.is_dirty(1), terminal.is_changed(2)), (True, True, False))
 

@@ -47,6 +47,11 @@ def view(terminal):
     take(terminal, "Hdata", TAG, P, "ab")
 
 
+def round_p(terminal):
+    """How long the file is, and what stands round P."""
+    return terminal.len(TAG), *terminal.read(TAG, P - 1, 4)
+
+
 # The bytes, what happened before, what is asked of the terminal, and what it answers.
 ROWS = (
     ("41 000a S 0002", (), lambda terminal: terminal.version, 2),
@@ -57,11 +62,11 @@ ROWS = (
     ("46 0012 S 0102 000a0b0c 0000f1f2", (), lambda terminal: terminal.changed(TAG), (P, 0, 0xF1F2)),
     ("47 000a S 0102", (view,), lambda terminal: messages(terminal.take_out()), [("Trequest", TAG, P + 2, 3)]),
     ("48 0008 S", (open_cmd,), lambda terminal: terminal.command_locked, False),
-    ("49 0010 S 0102 000a0b0c 6162", (), lambda terminal: terminal.read(TAG, P - 1, 4), [None, "a", "b", None]),
+    ("49 0010 S 0102 000a0b0c 6162", (), round_p, (LENGTH, None, "a", "b", None)),
     ("4a 000e S 0102 000a0b0c", (), lambda terminal: terminal.view_of(TAG), (P, P)),
     ("4b 000a S 0102", (look,), lambda terminal: terminal.locked(TAG), False),
     ("4c 0012 S 0102 000a0b0c 000a0b1d", (), lambda terminal: terminal.dot(TAG), (P, Q)),
-    ("4d 0010 S 0102 000a0b0c 6162", (), lambda terminal: terminal.changed(TAG), (P, 0, 2)),
+    ("4d 0010 S 0102 000a0b0c 6162", (), round_p, (LENGTH + 2, None, "a", "b", None)),
     ("4e 000e S 0102 000a0b0c", (), lambda terminal: terminal.view_of(TAG), (P, P)),
     ("4f 000a S 0102", (be_dirty,), lambda terminal: terminal.is_dirty(TAG), False),
     ("50 000a S 0102", (), lambda terminal: terminal.is_dirty(TAG), True),

@@ -1,9 +1,8 @@
 """Each kind of the terminal as bytes: which event composes them, and what the host makes of them."""
+from frames import frame, messages
 from sulgrevad import Host
 
-from frames import frame, messages
-
-from .trying import expect_equal, take, with_gaps
+from .trying import answers, code_of, expect_equal, take, with_gaps
 
 TAG, P, Q = 0x0102, 0x0A0B0C, 0x0A0B1D  # a file and places whose bytes differ
 LENGTH = 700_000
@@ -123,6 +122,28 @@ def test_what_the_host_keeps_of_the_bytes():
     expect_equal((told, host.text(TAG, P - 1, 3)), (pasted, ".én"))
     _, told = after("0f 000a 0102 000a0b0c 000a0b1d", "10 000a 0102 000a0b0c 000a0b1d")
     expect_equal(told, FOUND)
+
+
+def test_the_last_place_that_gives_an_answer_and_the_first_that_gives_another():
+    host = big_host()
+    for place, line in (658_099, 658_000), (658_100, 658_100):
+        expect_equal(answers(host, "Torigin", TAG, place, 0), [("Horigin", TAG, line), UNLOCKED])
+    answers(host, "Tlook", TAG, P, Q)
+    for end, found in (P, P), (P + 1, NEXT), (NEXT, NEXT), (NEXT + 1, P):
+        told = answers(host, "Tsearch", TAG, P, end)
+        expect_equal((end, told[0]), (end, ("Hsetdot", TAG, found, found + 17)))
+    expect_equal(answers(host, "Tsearch", TAG, NEXT, NEXT)[-1], UNLOCKED)
+    answers(host, "Tsend", TAG, P + 1, P + 4)
+    expect_equal(host.text(0), "eed\n? command\n")
+    expect_equal(code_of(host.feed, frame("Tsearch", TAG, P + 1, P)), "HOST_BAD_POSITION")
+
+
+def test_the_version_that_is_answered():
+    for offered, version in (1, 1), (2, 2), (3, 2), (0x0100, 2), (0xFFFF, 2):
+        host = Host()
+        expect_equal(answers(host, "Tversion", offered), [("Hversion", version), ("Hack",), ("Hunlock",)])
+        expect_equal(host.version, version)
+    expect_equal(code_of(Host().feed, frame("Tversion", 0)), "HOST_BAD_VERSION")
 
 
 def test_a_typed_text_as_bytes():
