@@ -8,13 +8,9 @@
 #ifndef PAIR_H
 #define PAIR_H
 
-#include "sulgrevad.h"
+#include "sides.h"
 
-#include <stdio.h>
-#include <stdlib.h>
-#include <string.h>
-
-enum { FILES = 4, PIECE = 64, PART = 512, COPIES = 32, MOST = 1 << 16 };
+enum { FILES = 4, PIECE = 64, PART = 512, COPIES = 32 };
 
 /* The calls that may say that memory is out; those of the events together. */
 enum call { HOST_NEW, TERM_NEW, ADD_FILE, HOST_FEED, TERM_FEED, HOST_FINISH, TERM_FINISH, EVENT, FLUSH_NOW, CHANGED, CALLS };
@@ -22,8 +18,6 @@ static const char *const call_names[CALLS] = {"sam_host_new",       "sam_term_ne
                                               "sam_term_feed",      "sam_host_finish", "sam_term_finish",   "an event",
                                               "sam_term_flush_now", "sam_term_changed"};
 
-static sam_host host;
-static sam_term term;
 static uint64_t state;
 static unsigned long sent_up, sent_down, again;
 static bool seen[CALLS][2]; /* SAM_NO_MEMORY and SAM_UNFINISHED */
@@ -35,18 +29,6 @@ static uint32_t pick(uint32_t below)
     state ^= state >> 7;
     state ^= state << 17;
     return (uint32_t)(state >> 33) % below;
-}
-
-static void fail(const char *what, uint32_t status)
-{
-    printf("%s: %lu\n", what, (unsigned long)status);
-    exit(1);
-}
-
-static void want(const char *what, sam_status status)
-{
-    if (status != SAM_OK)
-        fail(what, status);
 }
 
 /* A call's status, which is noted where it says that memory is out. */
