@@ -23,6 +23,19 @@ static void put(const char *format, ...)
     shown_len += (size_t)len;
 }
 
+/* A rune of a rasp, `_` for one that is not loaded. */
+static void put_rune(uint32_t rune)
+{
+    if (rune >= 0x80 && rune != SAM_GAP) {
+        put("\\%x", rune);
+        return;
+    }
+    if (shown_len + 1 == sizeof shown)
+        fail("there is no room to show both sides", rune);
+    shown[shown_len++] = rune == SAM_GAP ? '_' : (char)rune;
+    shown[shown_len] = 0;
+}
+
 /* What the terminal has of an open file. */
 static void put_rasp(uint16_t tag)
 {
@@ -36,7 +49,7 @@ static void put_rasp(uint16_t tag)
     want("locks", sam_term_locked(&term, tag, &locked));
     put(" dot %u %u, view %u %u, locked %d, %u runes:", start, end, top, bottom, locked, len);
     for (uint32_t i = 0; i < count; i++)
-        put(runes[i] == SAM_GAP ? "_" : runes[i] < 0x80 ? "%c" : "\\%x", runes[i]);
+        put_rune(runes[i]);
 }
 
 static void put_term_files(void)
