@@ -519,17 +519,19 @@ static void take_all(const struct taking *takings, size_t count)
     }
 }
 
-/* Both sides show file 1. Of ten runes five are loaded. */
+/* What the user does at first. */
+static const struct event opening[] = {{VERSION, 0, 1, 0, ""}, {OPEN_CMD, 0, 0, 0, ""}, {OPEN, 1, 0, 0, ""}, {VIEW, 1, 0, 5, ""}};
+
+/* Both sides show file 1. Of ten runes five are loaded. Each event is carried through, so that none is held. */
 static void show_both(void)
 {
     make_host((const uint8_t *)"abcdefghij", 10);
     make_term();
-    user(VERSION, 0, 1, 0, "");
-    user(OPEN_CMD, 0, 0, 0, "");
-    user(OPEN, 1, 0, 0, "");
-    user(VIEW, 1, 0, 5, "");
-    for (collect(); up.len + down.len > 0;)
-        take(up.len > 0 ? HOST : TERM);
+    for (size_t i = 0; i < sizeof opening / sizeof opening[0]; i++) {
+        want("an event", tried(TERM, do_event, &opening[i], 1));
+        for (collect(); up.len + down.len > 0;)
+            take(up.len > 0 ? HOST : TERM);
+    }
     want_rasp(1, "abcde_____");
 }
 
