@@ -88,7 +88,7 @@ PLACES = {
 }
 LEFT_OUT = {
     *("sam_tests_whole", "sam_tests_codec", "sam_tests_files", "sam_tests_modes", "sam_tests_session", "sam_test_support"),
-    *("sam_oom", "sam_oom_cases", "sam_bench", "sam_bench_jobs", "sam_examples"),
+    *("sam_bench", "sam_bench_jobs", "sam_examples"),
 }
 
 
