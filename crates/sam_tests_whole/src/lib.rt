@@ -1,16 +1,8 @@
-//! Tests of several crates in one place: a crate with tests is proved twice, so the long proofs have theirs here.
-//! It holds nothing else.
+//! What neither a script nor a program in C or Python can see: that a world comes to rest, where a run of it stops, and how the schedule of
+//! five threads is put together. It holds nothing else.
 #![tactic(auto)]
 
 #[cfg(test)]
-mod ends_host;
-#[cfg(test)]
-mod feeding;
-#[cfg(test)]
-mod host;
-#[cfg(test)]
 mod resting;
-#[cfg(test)]
-mod scripts;
 #[cfg(test)]
 mod world;

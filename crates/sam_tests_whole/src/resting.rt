@@ -123,21 +123,6 @@ fn seen(world: &World) -> Seen {
     )
 }
 
-#[test]
-fn held_events_come_to_rest(rt: HostRuntime) -> Result<(), Fail> {
-    let alloc = rt.alloc();
-    let told = lent(world_of_two(alloc)?, |world| {
-        let waits = begun(alloc, world);
-        let before = is_at_rest(world);
-        (waits, before, world.rest(), seen(world))
-    });
-    let (waits, before, rested, (at_rest, first, second, counts)) = told;
-    assert_eq!(rt; (waits, before, rested), (Ok(Ok((11, 11))), false, Ok(())));
-    assert_eq!(rt; (at_rest, first, second), (true, true, true));
-    assert_eq!(rt; counts.0, counts.1);
-    Ok(())
-}
-
 /// What the world shows once it has come to rest, and once it has come to rest again.
 fn seen_twice(world: &mut World) -> Result<(Seen, Seen), StepFault> {
     world.rest()?;
@@ -147,7 +132,7 @@ fn seen_twice(world: &mut World) -> Result<(Seen, Seen), StepFault> {
 }
 
 #[test]
-fn at_rest_nothing_changes(rt: HostRuntime) -> Result<(), Fail> {
+fn held_events_come_to_rest(rt: HostRuntime) -> Result<(), Fail> {
     let alloc = rt.alloc();
     let told = lent(world_of_two(alloc)?, |world| {
         (begun(alloc, world), seen_twice(world))
@@ -156,6 +141,8 @@ fn at_rest_nothing_changes(rt: HostRuntime) -> Result<(), Fail> {
     let (first, again) = twice.ok().ok_or("a fault")?;
     assert_eq!(rt; waits, Ok(Ok((11, 11))));
     assert_eq!(rt; first, again);
-    assert!(rt; first.0);
+    let (at_rest, one, two, counts) = first;
+    assert_eq!(rt; (at_rest, one, two), (true, true, true));
+    assert_eq!(rt; counts.0, counts.1);
     Ok(())
 }
