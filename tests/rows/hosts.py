@@ -1,11 +1,11 @@
 """A host's answers: how many frames each kind of message gets, and edits that come in one piece."""
 import time
 
-from checks import expect
+from checks import expect, expect_equal
 from frames import frame, messages, stamps
 from sulgrevad import Host
 
-from .trying import code_of, expect_equal
+from .trying import code_of
 
 # Messages to a host whose file 1 has the text abcdefghij, each with the number of frames that it is answered with.
 EVERY_KIND = (
