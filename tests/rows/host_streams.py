@@ -1,8 +1,9 @@
 """A host at one end of two streams of bytes: what it answers, what stops it, and which files it takes."""
+from checks import expect_equal
 from frames import frame, messages, stamps
 from sulgrevad import Host
 
-from .trying import code_of, expect_equal
+from .trying import code_of
 
 ASKED = frame("Tversion", 2) + frame("Tack") + frame("Tstartfile", 1) + frame("Trequest", 1, 0, 3)
 

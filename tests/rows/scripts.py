@@ -1,7 +1,6 @@
 """Scripts: at which line one is wrong, and that one prints the same each time."""
+from checks import expect_equal
 from sulgrevad import ScriptFault, replay
-
-from .trying import expect_equal
 
 # Scripts that are right, and do nothing that can't be done.
 RIGHT = (

@@ -1,8 +1,9 @@
 """Streams of a host's frames, and what a terminal makes of them."""
+from checks import expect_equal
 from frames import frame, messages
 from sulgrevad import Terminal
 
-from .trying import code_of, expect_equal
+from .trying import code_of
 
 KNOWN = frame("Hnewname", 1)
 OPEN = KNOWN + frame("Hbindname", 1)
