@@ -106,12 +106,10 @@ fn try_on<R: Wait>(rt: &R, take: &mut Take<'_, u32>, watch: &Watch) {
     unreachable!()
 }
 
-// Rings each time that the end has just begun to sleep, and counts how often that woke it soon: by an item, or by what it takes from a
-// line whose take wakes that end.
-fn wake<R: Wait + Clock>(
+// Puts an item each time that the end has just begun to sleep, and counts how often that woke it soon.
+fn wake_by_items<R: Wait + Clock>(
     rt: &R,
     post: &mut Post<'_, u32>,
-    mut take: Option<&mut Take<'_, u32>>,
     watch: &Watch,
 ) -> io::Result<u64> {
     watch.until(rt, DEEP)?;
@@ -120,9 +118,6 @@ fn wake<R: Wait + Clock>(
         let next = watch.tries().saturating_add(1);
         watch.until(rt, next)?;
         let _ = post.try_send(rt, 7);
-        if let Some(take) = &mut take {
-            let _ = take.try_recv(rt);
-        }
         if watch.until(rt, next.saturating_add(1))? {
             soon = soon.wrapping_add(1);
         }
@@ -130,19 +125,18 @@ fn wake<R: Wait + Clock>(
     Ok(soon)
 }
 
-// An end that waits, and a thread that wakes it.
-fn join(
+// An end that waits, and a thread that wakes it by items.
+fn join_by_items(
     rt: &(impl Wait + Threads + Clock + Sync),
-    waits: &mut Take<'_, u32>,
     post: &mut Post<'_, u32>,
-    take: Option<&mut Take<'_, u32>>,
+    take: &mut Take<'_, u32>,
+    watch: &Watch,
 ) -> io::Result<u64> {
-    let watch = Watch::new();
     let (_, soon) = thread::join(
         rt,
-        || try_on(rt, waits, &watch),
+        || try_on(rt, take, watch),
         || {
-            let soon = wake(rt, post, take, &watch);
+            let soon = wake_by_items(rt, post, watch);
             watch.over.store(1, Ordering::SeqCst);
             soon
         },
@@ -152,11 +146,12 @@ fn join(
 
 // How often an item woke the take of a new line soon, where it has one post.
 fn woken_by_items(rt: &(impl Wait + Threads + Clock + Sync), alloc: Global) -> Round {
+    let watch = Watch::new();
     tried(alloc, 1, 1, |posts, take| {
         let [post] = posts else {
             return None;
         };
-        Some(join(rt, take, post, None))
+        Some(join_by_items(rt, post, take, &watch))
     })
 }
 
@@ -166,21 +161,63 @@ fn what_is_put_wakes_the_taker(rt: HostRuntime) {
     assert!(rt; are_many(&soon), "{soon:?}");
 }
 
+// Takes an entry of another line each time that the end has just begun to sleep, and counts how often that woke it soon.
+fn wake_from_afar<R: Wait + Clock>(
+    rt: &R,
+    post: &mut Post<'_, u32>,
+    take: &mut Take<'_, u32>,
+    watch: &Watch,
+) -> io::Result<u64> {
+    watch.until(rt, DEEP)?;
+    let mut soon = 0u64;
+    for _ in 0..WAKES {
+        let _ = post.try_send(rt, 7);
+        let next = watch.tries().saturating_add(1);
+        watch.until(rt, next)?;
+        let _ = take.try_recv(rt);
+        if watch.until(rt, next.saturating_add(1))? {
+            soon = soon.wrapping_add(1);
+        }
+    }
+    Ok(soon)
+}
+
+// An end that waits, and a thread that wakes it by what it takes from another line.
+fn join_from_afar(
+    rt: &(impl Wait + Threads + Clock + Sync),
+    post: &mut Post<'_, u32>,
+    take: &mut Take<'_, u32>,
+    waits: &mut Take<'_, u32>,
+    watch: &Watch,
+) -> io::Result<u64> {
+    let (_, soon) = thread::join(
+        rt,
+        || try_on(rt, waits, watch),
+        || {
+            let soon = wake_from_afar(rt, post, take, watch);
+            watch.over.store(1, Ordering::SeqCst);
+            soon
+        },
+    );
+    soon
+}
+
 // How often what was taken from a line woke the take of another line soon.
 fn woken_from_afar(rt: &(impl Wait + Threads + Clock + Sync), alloc: Global) -> Round {
+    let watch = Watch::new();
     let (line, start) = Line::<u32>::new(alloc, 1, 1)?;
     let (other, other_start) = Line::<u32>::new(alloc, 1, 1)?;
-    let Ok((mut posts, take)) = start.split(alloc, &line) else {
-        return Err(OutOfMemory);
-    };
-    let Ok((_, mut waits)) = other_start.split(alloc, &other) else {
+    let (Ok((mut posts, take)), Ok((_, mut waits))) = (
+        start.split(alloc, &line),
+        other_start.split(alloc, &other),
+    ) else {
         return Err(OutOfMemory);
     };
     let mut take = take.waking(&other);
     let Some(post) = posts.first_mut() else {
         return Ok(None);
     };
-    Ok(Some(join(rt, &mut waits, post, Some(&mut take))))
+    Ok(Some(join_from_afar(rt, post, &mut take, &mut waits, &watch)))
 }
 
 #[test]
