@@ -1,10 +1,10 @@
 //! A host and a terminal, between which bytes are carried.
 
 use crate::Report;
+use crate::clock::Instant;
 use crate::ends::{HostEnd, TermEnd};
 use crate::sample::{check_of, letters, mix};
 use crate::terminal::Event;
-use std::time::Instant;
 
 const FILES: u16 = 4;
 const LENGTH: usize = 5_000;
