@@ -87,6 +87,9 @@ int64_t nanoseconds(void);
 /* Mixes a number into a check value. */
 uint64_t mix(uint64_t check, uint64_t more);
 
+/* The check value of bytes, by eight of them at a time, so that it takes little of a job's time. */
+uint64_t check_bytes(const uint8_t *bytes, size_t len);
+
 /* The next state of a generator of pseudo-random numbers. */
 uint64_t next_state(uint64_t state);
 

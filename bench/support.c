@@ -30,6 +30,19 @@ uint64_t mix(uint64_t check, uint64_t more)
     return check * 31 + more;
 }
 
+uint64_t check_bytes(const uint8_t *bytes, size_t len)
+{
+    uint64_t check = len, word;
+    size_t at = 0;
+    for (; len - at >= sizeof word; at += sizeof word) {
+        memcpy(&word, bytes + at, sizeof word);
+        check = mix(check, word);
+    }
+    for (; at < len; at++)
+        check = mix(check, bytes[at]);
+    return check;
+}
+
 uint64_t next_state(uint64_t state)
 {
     return state * UINT64_C(6364136223846793005) + UINT64_C(1442695040888963407);
@@ -172,7 +185,7 @@ uint64_t take_host(sam_host *host)
         WANT(sam_host_take_out(host, piece, ROOM, &count));
         if (count == 0)
             return check;
-        check = mix(mix(check, count), piece[count - 1]);
+        check = mix(check, check_bytes(piece, count));
     }
 }
 
@@ -185,7 +198,7 @@ uint64_t take_term(sam_term *term)
         WANT(sam_term_take_out(term, piece, ROOM, &count));
         if (count == 0)
             return check;
-        check = mix(mix(check, count), piece[count - 1]);
+        check = mix(check, check_bytes(piece, count));
     }
 }
 
