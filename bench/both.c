@@ -81,7 +81,7 @@ struct report decode(uint32_t size)
     return found;
 }
 
-/* Carries bytes up and down until none wait. Returns what their numbers add to the check value. */
+/* Carries bytes up and down until none wait. Returns their check value. */
 static uint64_t carry(sam_host *host, sam_term *term)
 {
     uint8_t piece[4096];
@@ -89,12 +89,13 @@ static uint64_t carry(sam_host *host, sam_term *term)
     for (;;) {
         size_t up, down;
         WANT(sam_term_take_out(term, piece, sizeof piece, &up));
+        check = mix(check, check_bytes(piece, up));
         WANT(sam_host_feed(host, piece, up));
         WANT(sam_host_take_out(host, piece, sizeof piece, &down));
+        check = mix(check, check_bytes(piece, down));
         WANT(sam_term_feed(term, piece, down));
         if (up == 0 && down == 0)
             return check;
-        check = mix(mix(check, up), down);
     }
 }
 

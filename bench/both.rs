@@ -1,29 +1,30 @@
 //! A host and a terminal, between which bytes are carried.
 
 use crate::Report;
+use crate::clock::Instant;
 use crate::ends::{HostEnd, TermEnd};
-use crate::sample::{check_of, letters, mix};
+use crate::sample::{check_bytes, check_of, letters, mix};
 use crate::terminal::Event;
-use std::time::Instant;
 
 const FILES: u16 = 4;
 const LENGTH: usize = 5_000;
 const STRETCH: usize = 10;
 const PIECE: usize = 4_096;
 
-/// Carries bytes up and down until none wait. Returns what their numbers add to the check value.
+/// Carries bytes up and down until none wait. Returns their check value.
 fn carry(host: &mut HostEnd, term: &mut TermEnd) -> Option<u64> {
     let mut piece = [0; PIECE];
     let mut check = 0;
     loop {
         let up = term.pending.take_out(&mut piece);
+        check = mix(check, check_bytes(&piece[..up]));
         host.feed(&piece[..up])?;
         let down = host.pending.take_out(&mut piece);
+        check = mix(check, check_bytes(&piece[..down]));
         term.feed(&piece[..down])?;
         if up == 0 && down == 0 {
             return Some(check);
         }
-        check = mix(mix(check, up as u64), down as u64);
     }
 }
 

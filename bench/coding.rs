@@ -1,11 +1,11 @@
 //! Messages to bytes and back, where the sides do little else.
 
 use crate::Report;
+use crate::clock::Instant;
 use crate::codec::{Hmesg, Tmesg};
 use crate::ends::{HostEnd, TermEnd, push_h, push_t};
 use crate::sample::{check_of, mix, mixed};
 use std::hint::black_box;
-use std::time::Instant;
 
 const LENGTH: usize = 100_000;
 const REQUESTS: u32 = 64;

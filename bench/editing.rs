@@ -1,11 +1,11 @@
 //! Many edits of one text, which a command line makes.
 
 use crate::Report;
+use crate::clock::Instant;
 use crate::codec::Tmesg;
 use crate::ends::{HostEnd, push_t};
 use crate::host::MOST_RUNES;
 use crate::sample::{check_of, mix};
-use std::time::Instant;
 
 pub struct Edit {
     pub p: u32,

@@ -2,7 +2,7 @@
 
 use crate::codec::{HFrame, Hmesg, Tmesg, decode_h, decode_t, encode_h, encode_t, fits_h, fits_t, split};
 use crate::host::Host;
-use crate::sample::mix;
+use crate::sample::{check_bytes, mix};
 use crate::terminal::{Event, Terminal};
 
 /// How many bytes are taken out at once.
@@ -54,14 +54,16 @@ impl Pending {
         count
     }
 
-    /// Takes all out, and returns their check value: that of how many come at a time, and of the last of these.
+    /// Takes all out, and returns their check value.
     pub fn take_all(&mut self) -> u64 {
         let mut piece = [0; ROOM];
         let mut check = 0;
         loop {
             let count = self.take_out(&mut piece);
-            let Some(last) = piece[..count].last() else { return check };
-            check = mix(mix(check, count as u64), *last as u64);
+            if count == 0 {
+                return check;
+            }
+            check = mix(check, check_bytes(&piece[..count]));
         }
     }
 }

@@ -1,10 +1,10 @@
 //! Messages of mixed kinds to a host of sixteen files.
 
 use crate::Report;
+use crate::clock::Instant;
 use crate::codec::Tmesg;
 use crate::ends::{HostEnd, push_t};
 use crate::sample::{check_of, mix, mixed};
-use std::time::Instant;
 
 const FILES: u16 = 16;
 const LENGTH: usize = 5_000;

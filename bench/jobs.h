@@ -5,7 +5,8 @@
 
 #include "sulgrevad.h"
 
-/* What a job found: how many nanoseconds its work took, without what was made ready for it, and a number that depends on what was made. */
+/* What a job found: how many nanoseconds its work had a processor, without what was made ready for it, and a number that depends on what was
+ * made. */
 struct report {
     int64_t took;
     uint64_t check;
@@ -80,10 +81,14 @@ enum {
 void want(sam_status status, const char *call);
 #define WANT(call) want(call, #call)
 
+/* How long the program had a processor, so that other programs count less. */
 int64_t nanoseconds(void);
 
 /* Mixes a number into a check value. */
 uint64_t mix(uint64_t check, uint64_t more);
+
+/* The check value of bytes, by eight of them at a time, so that it takes little of a job's time. */
+uint64_t check_bytes(const uint8_t *bytes, size_t len);
 
 /* The next state of a generator of pseudo-random numbers. */
 uint64_t next_state(uint64_t state);

@@ -1,11 +1,11 @@
 //! A text that a terminal loads piece by piece, and types into.
 
 use crate::Report;
+use crate::clock::Instant;
 use crate::codec::Hmesg;
 use crate::ends::{TermEnd, push_h};
 use crate::sample::{letters, mix, next_state};
 use crate::terminal::Event;
-use std::time::Instant;
 
 const PIECE: usize = 512;
 const STEP: usize = 1_000_003;

@@ -1,11 +1,13 @@
 //! The jobs of `jobs.c` in plain Rust, with the standard library alone. For each it prints the same line. `play` and `replay` do what
 //! `sam_play bytes` and `sam_play replay` do, and `frames` writes the input of `play`: they print no such line.
 
+use clock::Instant;
 use std::io::Write;
-use std::time::{Duration, Instant};
+use std::time::Duration;
 
 mod blocks;
 mod both;
+mod clock;
 mod codec;
 mod coding;
 mod editing;

@@ -1,11 +1,11 @@
 //! Host frames that a terminal takes.
 
 use crate::Report;
+use crate::clock::Instant;
 use crate::codec::Hmesg;
 use crate::ends::{TermEnd, push_h};
 use crate::sample::{mix, mixed};
 use crate::terminal::{Event, Terminal};
-use std::time::Instant;
 
 const FILES: u16 = 4;
 const LENGTH: usize = 2_000;

@@ -40,6 +40,14 @@ pub fn mix(check: u64, more: u64) -> u64 {
     check.wrapping_mul(31).wrapping_add(more)
 }
 
+/// The check value of bytes, by eight of them at a time, so that it takes little of a job's time.
+pub fn check_bytes(bytes: &[u8]) -> u64 {
+    let words = bytes.chunks_exact(8);
+    let rest = words.remainder();
+    let check = words.fold(bytes.len() as u64, |check, word| mix(check, u64::from_le_bytes(word.try_into().expect("eight bytes"))));
+    rest.iter().fold(check, |check, byte| mix(check, *byte as u64))
+}
+
 /// The check value of a text in UTF-8.
 pub fn check_of(runes: &[char]) -> u64 {
     String::from_iter(runes).bytes().fold(0, |check, byte| mix(check, byte as u64))

@@ -21,13 +21,26 @@ void want(sam_status status, const char *call)
 int64_t nanoseconds(void)
 {
     struct timespec now;
-    clock_gettime(CLOCK_MONOTONIC, &now);
+    clock_gettime(CLOCK_PROCESS_CPUTIME_ID, &now);
     return now.tv_sec * INT64_C(1000000000) + now.tv_nsec;
 }
 
 uint64_t mix(uint64_t check, uint64_t more)
 {
     return check * 31 + more;
+}
+
+uint64_t check_bytes(const uint8_t *bytes, size_t len)
+{
+    uint64_t check = len, word;
+    size_t at = 0;
+    for (; len - at >= sizeof word; at += sizeof word) {
+        memcpy(&word, bytes + at, sizeof word);
+        check = mix(check, word);
+    }
+    for (; at < len; at++)
+        check = mix(check, bytes[at]);
+    return check;
 }
 
 uint64_t next_state(uint64_t state)
@@ -172,7 +185,7 @@ uint64_t take_host(sam_host *host)
         WANT(sam_host_take_out(host, piece, ROOM, &count));
         if (count == 0)
             return check;
-        check = mix(mix(check, count), piece[count - 1]);
+        check = mix(check, check_bytes(piece, count));
     }
 }
 
@@ -185,7 +198,7 @@ uint64_t take_term(sam_term *term)
         WANT(sam_term_take_out(term, piece, ROOM, &count));
         if (count == 0)
             return check;
-        check = mix(mix(check, count), piece[count - 1]);
+        check = mix(check, check_bytes(piece, count));
     }
 }
 

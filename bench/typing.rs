@@ -1,11 +1,11 @@
 //! Typing at a terminal.
 
 use crate::Report;
+use crate::clock::Instant;
 use crate::codec::Hmesg;
 use crate::ends::{TermEnd, push_h};
 use crate::sample::{letters, mix};
 use crate::terminal::Event;
-use std::time::Instant;
 
 const FILES: u16 = 4;
 /// How many runes are typed into a file before it is the next one's turn, and how many before the bytes are taken out.

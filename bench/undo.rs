@@ -1,12 +1,12 @@
 //! An undo of a replace-all in a long text, as an editor's host gets it: many edits of one file, the last in the text first.
 
 use crate::Report;
+use crate::clock::Instant;
 use crate::codec::{Tmesg, decode_t};
 use crate::ends::{Framer, push_t};
 use crate::host::MOST_RUNES;
 use crate::sample::{check_of, letters, mix};
 use std::ops::Range;
-use std::time::Instant;
 
 const TAG: u16 = 1;
 /// So many runes stand between the start of one place and that of the next, and so many of them, the first ones, were replaced.
