@@ -1,5 +1,5 @@
-/* jobs.h: the jobs of the C program, and what they share. bench/README.md says what each does, and the file of plain Rust of the same
- * name, or plain.rs, does the same. */
+/* jobs.h: the jobs of the C program, and what they share. bench/README.md says what they are for. plain.rs names the function of plain Rust
+ * that does the same as each. */
 #ifndef JOBS_H
 #define JOBS_H
 
