@@ -5,8 +5,8 @@
 
 #include "sulgrevad.h"
 
-/* What a job found: how many nanoseconds its work had a processor, without what was made ready for it, and a number that depends on what was
- * made. */
+/* What a job found: how many nanoseconds its work had a processor, without what was made ready for it, and a number that depends on what
+ * was made. */
 struct report {
     int64_t took;
     uint64_t check;
