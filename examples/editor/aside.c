@@ -1,6 +1,6 @@
 /* aside.c: saves texts that are not written.
  *
- * A changed text goes to NAME.sam-saved beside its file, or to a folder for temporary files where that can't be. It goes there when its
+ * A changed text goes to NAME.sam-saved beside its file, or to a folder of the user's own where that can't be. It goes there when its
  * file could not be written, when the user pauses, when its file is closed and when the session ends. It is removed once it is written.
  */
 #define _XOPEN_SOURCE 700
@@ -299,7 +299,16 @@ void forget_closed(struct session *session, uint16_t tag)
         free_document(&session->documents[tag]);
 }
 
-bool save_last(struct session *session)
+/* Whether the text of a file stood whole in a copy that somebody took away since: he has seen to it. So a host whose line died unnoticed does
+ * not bring back what another session has written or dropped long since. */
+static bool is_seen_to(struct session *session, uint16_t tag)
+{
+    const struct copy *aside = &session->documents[tag].aside;
+
+    return aside->path != NULL && !is_own(aside) && take_text(session, tag) == 0 && is_same(aside->content, content_of(&session->text));
+}
+
+bool save_last(struct session *session, bool is_alone)
 {
     size_t tags = count_tags(session);
     bool all = save_closed(session, true) && !session->is_lost;
@@ -307,6 +316,10 @@ bool save_last(struct session *session)
     for (size_t tag = 1; tag < tags; tag++) {
         if (!is_changed(session, (uint16_t)tag))
             continue;
+        if (is_alone && is_seen_to(session, (uint16_t)tag)) {
+            say("%s was taken away, so its text is not saved again", session->documents[tag].aside.path);
+            continue;
+        }
         char *name = name_of(session, (uint16_t)tag);
         const char *known = name == NULL ? "a file" : name;
         int error = save_for_good(session, (uint16_t)tag, known);

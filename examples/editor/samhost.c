@@ -1,7 +1,7 @@
 /* samhost [--undo] [--] [FILE ..]: serves files to a terminal, over standard input and output.
  *
  * A FILE may be a folder, which stands for the text files below it. With --undo it has one more file, ~~undo~~, that is nowhere on disk:
- * there a terminal keeps text for undo.
+ * there a terminal keeps text for undo. Before that stand the texts that earlier sessions saved beside the files, for the terminal to offer.
  *
  * It reads the files, answers the terminal's messages, and writes a file when the terminal says so. It ends when the terminal leaves, at
  * the end of its input, and at a signal that asks it to end (SIGTERM and others), which does as the end of the input. Texts that were not
@@ -38,7 +38,10 @@ static int run(struct session *session)
     set_signals(&mask);
     fcntl(STDOUT_FILENO, F_SETFL, flags | O_NONBLOCK);
     enum ending ending = serve(session, &mask);
-    bool is_saved = save_last(session);
+    bool has_left = ending == LEFT;
+    bool is_saved = save_last(session, !has_left && !session->journal.is_waiting);
+    if (!has_left)
+        is_saved &= save_cut(session);
     send_the_rest(session, &mask);
     fcntl(STDOUT_FILENO, F_SETFL, flags);
     return !is_saved ? STATUS_LOST : ending == FAULT ? STATUS_FAULT : ending == LINE_BROKE ? STATUS_BROKEN : STATUS_OK;
@@ -58,7 +61,8 @@ static bool make_session(struct session *session)
     session->documents = calloc(ALL_TAGS, sizeof *session->documents);
     session->text.bytes = malloc(MOST_BYTES);
     session->mode_of_new_files = mode_of_new_files();
-    return session->documents != NULL && session->text.bytes != NULL && sam_host_new(&session->host) == SAM_OK;
+    bool has_room = session->documents != NULL && session->text.bytes != NULL && make_cut(&session->cut);
+    return has_room && sam_host_new(&session->host) == SAM_OK;
 }
 
 static void free_session(struct session *session)
@@ -70,6 +74,7 @@ static void free_session(struct session *session)
         free_document(&session->documents[tag]);
     free(session->documents);
     free(session->text.bytes);
+    free_cut(&session->cut);
     free(session);
 }
 
@@ -82,7 +87,7 @@ static int serve_files(struct session *session, char **paths, int count, bool ha
     }
     int status = add_files(session, paths, count);
     if (status == STATUS_OK) {
-        report_left(session);
+        report_left(session, has_vault);
         status = has_vault ? add_vault(session) : STATUS_OK;
     }
     return status == STATUS_OK ? run(session) : status;
