@@ -194,6 +194,17 @@ int add_files(struct session *session, char **paths, int count)
     return status;
 }
 
+void tell_times(struct session *session)
+{
+    size_t tags = count_tags(session);
+    struct stat status;
+
+    for (size_t tag = 1; tag < tags; tag++) {
+        if (stat(session->documents[tag].path, &status) == 0)
+            say("%s was written last at %lld", session->documents[tag].path, (long long)status.st_mtim.tv_sec);
+    }
+}
+
 int add_vault(struct session *session)
 {
     uint32_t code = sam_host_add_file(&session->host, (const uint8_t *)VAULT, strlen(VAULT), (const uint8_t *)"", 0, &session->vault);

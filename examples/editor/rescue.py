@@ -1,11 +1,12 @@
 """What can't go to the host is written to files here."""
 import contextlib
+import hashlib
 import os
 import re
+import stat
 import sys
-import tempfile
 from pathlib import Path
-from typing import Iterator, List, Optional
+from typing import Iterator, List, Optional, Tuple
 
 from sulgrevad import Terminal
 from texts import GAP, Change
@@ -14,7 +15,11 @@ MOST_NAMES = 1000  # names that are tried
 MOST_IN_BASE = 200  # bytes of the front of a name that names of files here begin with
 MOST_READ = 65_536  # runes that are read at once
 
+SUFFIX = ".sam-here"  # what comes after the name of a file
 GAPS = re.compile(f"{GAP}+")
+TOLD_GAPS = re.compile(r"\[(\d+) characters that were not loaded\]")
+
+host: Tuple[str, ...] = ()  # the host's command
 
 
 def loaded(terminal: Terminal, tag: int, going: Optional[Change] = None) -> str:
@@ -33,13 +38,17 @@ def told(text: str) -> str:
     return GAPS.sub(lambda found: f"[{len(found[0])} characters that were not loaded]", text)
 
 
+def lacking(text: str) -> int:
+    """How many characters such a text lacks, as it tells."""
+    return sum(int(found[1]) for found in TOLD_GAPS.finditer(text) if len(found[1]) < 8)
+
+
 def keep(name: str, text: str) -> Optional[str]:
-    """Writes a text to a new file of this machine: NAME.sam-here in this folder, else in the folder for temporary files. Returns its
-    path; None where none could be written."""
-    base = _base(name)
-    for folder in _folders():
+    """Writes a text to a new file of this machine: NAME.sam-here in this folder, else in one of the user's own. Returns its path; None where
+    none could be written."""
+    for front in _fronts(name, makes=True):
         for at in range(1, MOST_NAMES + 1):
-            path = Path(folder) / (f"{base}.sam-here" + (f".{at}" if at > 1 else ""))
+            path = Path(front + SUFFIX + (f".{at}" if at > 1 else ""))
             try:
                 _write(path, text)
             except FileExistsError:
@@ -50,10 +59,58 @@ def keep(name: str, text: str) -> Optional[str]:
     return None
 
 
-def _folders() -> Iterator[str]:
-    yield "."
-    with contextlib.suppress(OSError):  # where none can be written
-        yield tempfile.gettempdir()
+def left(name: str) -> List[str]:
+    """The files of this machine that have a text of a file, from earlier sessions."""
+    found = []
+    for front in _fronts(name, makes=False):
+        with contextlib.suppress(OSError):
+            folder, base = os.path.split(front)
+            ends = re.compile(re.escape(base + SUFFIX) + r"(\.\d+)?")
+            paths = [os.path.join(folder, entry) for entry in sorted(os.listdir(folder or ".")) if ends.fullmatch(entry)]
+            found += filter(_is_own, paths)
+    return found
+
+
+def _is_own(path: str) -> bool:
+    """Whether a path is a file of the user's."""
+    status = os.lstat(path)
+    return stat.S_ISREG(status.st_mode) and status.st_uid == os.geteuid()
+
+
+def read(path: str) -> Optional[str]:
+    """What such a file has; None where it can't be read."""
+    try:
+        return Path(path).read_bytes().decode("utf-8")
+    except (OSError, UnicodeDecodeError):
+        return None
+
+
+def _fronts(name: str, makes: bool) -> Iterator[str]:
+    """What paths of files here begin with, in this folder and in those of the user's own. There the name of a file says too little: it has a
+    number of the host's command and the whole name before it."""
+    yield _base(name)
+    number = hashlib.sha256("\0".join((*host, name)).encode("utf-8", "surrogateescape")).hexdigest()[:16]
+    for folder in _own_folders():
+        with contextlib.suppress(OSError):
+            if makes:
+                os.makedirs(folder, mode=0o700, exist_ok=True)
+            status = os.lstat(folder)
+            if stat.S_ISDIR(status.st_mode) and status.st_uid == os.geteuid():
+                if status.st_mode & 0o077:
+                    os.chmod(folder, 0o700)
+                yield os.path.join(folder, f"{number}-{_base(name)}")
+
+
+def _own_folders() -> Iterator[str]:
+    """Folders of the user's own, the best first: for his state, and among those for temporary files."""
+    state, temporary = os.environ.get("XDG_STATE_HOME", ""), os.environ.get("TMPDIR", "")
+    if not state.startswith("/") and os.environ.get("HOME", "").startswith("/"):
+        state = os.path.join(os.environ["HOME"], ".local", "state")
+    if state.startswith("/"):
+        yield os.path.join(state, "sulgrevad")
+    for folder in (temporary, "/tmp"):
+        if folder.startswith("/"):
+            yield os.path.join(folder, f"sulgrevad-{os.geteuid()}")
 
 
 def _base(name: str) -> str:

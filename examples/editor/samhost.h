@@ -186,6 +186,9 @@ size_t count_tags(struct session *session);
 /* Reads the files, and those below the folders, into the host. Returns the exit status: 0, or why the session can't begin. */
 int add_files(struct session *session, char **paths, int count);
 
+/* Says when the files were written last. */
+void tell_times(struct session *session);
+
 /* Adds the file for undo, which is never written or saved. Returns the exit status. */
 int add_vault(struct session *session);
 
