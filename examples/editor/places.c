@@ -81,14 +81,21 @@ int own_folder(int which, bool makes, char **folder)
     return error;
 }
 
-/* The whole path of a file, in memory of its own; of one that is in no folder the path as it is. */
+/* The whole path of a file, in memory of its own; also of one whose folder isn't there. NULL where memory is out. */
 static char *whole_path(const char *path)
 {
-    char *folder = folder_of(path);
-    char *whole = folder == NULL ? NULL : realpath(*folder == '\0' ? "." : folder, NULL);
-    const char *slash = strrchr(path, '/');
-    char *own = whole == NULL ? formatted("%s", path) : formatted("%s/%s", whole, slash == NULL ? path : slash + 1);
+    char *folder = folder_of(path), *whole = NULL, *own = NULL;
+    const char *slash = strrchr(path, '/'), *rest = slash == NULL ? path : slash + 1;
 
+    errno = ENOMEM;
+    if (folder != NULL)
+        whole = realpath(*folder == '\0' ? "." : folder, NULL);
+    if (whole == NULL && errno != ENOMEM) {
+        rest = path;
+        whole = *path == '/' ? formatted("") : realpath(".", NULL);
+    }
+    if (whole != NULL)
+        own = formatted("%s/%s", whole, rest);
     free(whole);
     free(folder);
     return own;

@@ -106,6 +106,8 @@ static void note_put(struct document *document, const struct request *request, i
 {
     if (error == 0)
         (void)note_known(document, request->path, content_of(request->text));
+    else if (error == IS_CHANGED && is_same(request->found, request->known)) /* another file with the same text */
+        (void)note_known(document, request->path, request->found);
     else if (error == IS_CHANGED)
         note_theirs(document, request->path, request->found);
     if (error == 0 && is_copy) /* the copy is the file by now */

@@ -57,8 +57,8 @@ def check_failed_write(folder):
 
 
 def check_changed_on_disk(folder):
-    """A file that another program changed, and one that `f NAME` names, the first `^W` leaves alone, and says so once; the text is saved
-    aside. The second replaces it."""
+    """A file that another program changed, and one that `f NAME` names, the first `^W` leaves alone, and asks; the text is saved aside.
+    The second, once the question was read, replaces it, and keeps beside it what it had."""
     path, other = made(folder, a="one\n", b="theirs\n")
     with Session(folder, "a.txt", width=140) as session:
         session.wait_for("one")
@@ -67,14 +67,16 @@ def check_changed_on_disk(folder):
             file.write_text(before)
             aside = folder / f"{file.name}.sam-saved"
             session.keys("C-w")
-            session.wait_for(f"? write {file.name}: {told}, and the next write replaces it; its text is in {aside.name}")
+            session.wait_for(f"{file.name}: {told}; its text is in {aside.name}. ^W again replaces it")
             expect((file.read_text(), aside.read_text()) == (before, "xone\n"), "the first write replaces it, or saves nothing aside")
             session.wait_for(f"* {file.name}")
-            session.read()
-            session.keys("C-w")
+            session.answer("^W again replaces it", "C-w")
             wait_for_text(file, "xone\n")
             wait_until(lambda: not aside.exists(), "the saved text stays")
             session.wait_for_quiet()
+            session.wait_for(f"what another program had written there is in {file.name}.sam-theirs")
+            expect((folder / f"{file.name}.sam-theirs").read_text() == before, "the other program's text is not kept")
+            session.read()
             expect(not session.shows(told) and not session.shows(f"* {file.name}"), "it is told twice, or the file stays marked")
             session.rename("b.txt")
         session.leave()

@@ -338,7 +338,7 @@ def check_lines_when_lost(folder):
         expect(wanted in editor.message, f"it shows {editor.message!r}, wanted {wanted!r}")
         pair.finish()
         pair.press(late, seconds=0)
-    expect(editor.message == "", f"a line that was read stays: {editor.message!r}")
+    expect("HOST LOST" in editor.message, f"that nothing can be typed is not told: {editor.message!r}")
     expect(editor.keeping.typed_late == "yy", f"of what is typed then it keeps {editor.keeping.typed_late!r}")
 
 

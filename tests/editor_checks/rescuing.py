@@ -4,7 +4,6 @@ import io
 import os
 import signal
 import sys
-import tempfile
 import time
 from pathlib import Path
 
@@ -247,14 +246,12 @@ def check_long_names_here(folder):
     expect(path == str(folder.resolve() / "many.sam-here.1000"), f"the thousandth is written as {path}")
 
 
-def check_no_temporary_folder(folder):
-    """Without a folder for temporary files a text is written in this one; where that can't be, that is told."""
+def check_no_own_folder(folder):
+    """Without a folder of the user's own a text is written in this one; where that can't be, that is told."""
     import rescue
 
-    def refuse():
-        raise FileNotFoundError("No usable temporary directory found")
-
-    before, tempfile.gettempdir = tempfile.gettempdir, refuse
+    before, rescue._own_folders = rescue._own_folders, lambda: iter((str(folder / "full" / "own"),))
+    (folder / "full").write_text("no folder")
     try:
         os.chdir(folder)
         path = rescue.keep("a", "text")
@@ -265,7 +262,7 @@ def check_no_temporary_folder(folder):
         place.rmdir()
         expect(rescue.keep("a", "text") is None, "it is written nowhere, and that isn't told")
     finally:
-        tempfile.gettempdir = before
+        rescue._own_folders = before
         os.chdir(folder)
 
 
