@@ -37,7 +37,7 @@ class Left:
         self.editor, self.terminal = editor, editor.terminal
         self.tags: Dict[int, Old] = {}  # those that the host has
         self._here: Dict[str, Old] = {}  # those that are here, by their paths
-        self._taken: Dict[int, Tuple[Old, Step]] = {}  # of a file, what was taken back into it and is not written yet; and that step of undo
+        self._taken: Dict[int, Tuple[Old, Step]] = {}  # of a file, what was taken back into it and not written yet; and that step of undo
         self._written: List[int] = []  # files that were written since
         self._times: Dict[str, int] = {}  # when files were written last, by the paths that the host tells
         self._warned: Optional[Old] = None  # the text of which the user knows that it lacks something

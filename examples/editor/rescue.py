@@ -44,8 +44,8 @@ def lacking(text: str) -> int:
 
 
 def keep(name: str, text: str) -> Optional[str]:
-    """Writes a text to a new file of this machine: NAME.sam-here in this folder, else in one of the user's own. Returns its path; None where
-    none could be written."""
+    """Writes a text to a new file of this machine: NAME.sam-here in this folder, else in one of the user's own. Returns its path; None
+    where none could be written."""
     for front in _fronts(name, makes=True):
         for at in range(1, MOST_NAMES + 1):
             path = Path(front + SUFFIX + (f".{at}" if at > 1 else ""))
@@ -86,8 +86,8 @@ def read(path: str) -> Optional[str]:
 
 
 def _fronts(name: str, makes: bool) -> Iterator[str]:
-    """What paths of files here begin with, in this folder and in those of the user's own. There the name of a file says too little: it has a
-    number of the host's command and the whole name before it."""
+    """What paths of files here begin with, in this folder and in those of the user's own. There the name of a file says too little, so a
+    number of the host's command and the whole name stands before it."""
     yield _base(name)
     number = hashlib.sha256("\0".join((*host, name)).encode("utf-8", "surrogateescape")).hexdigest()[:16]
     for folder in _own_folders():
