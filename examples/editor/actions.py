@@ -130,6 +130,8 @@ class Actions(Commands, Moves):
         if self.active is self.command:
             return
         question = self.keeping.question(tag)
+        if question:
+            self.notes.forget(self.keeping.refusals[tag])
         if not question or self.is_sure(question):
             self.keeping.write(tag)
             self.terminal.write(tag)

@@ -130,7 +130,7 @@ class Editor(Desk, Waiting, Actions):
     def hear(self, line: str) -> None:
         """A line of the host's standard error. What it says of a text stays on the screen until it is read."""
         told = said(line)
-        self.keeping.hear_host(told)
+        self.keeping.hear_host(told, line)
         if told.what == "written":
             self.left.hear_written(told.names[0], told.when)
         elif told.replaces and self._may_ask_to_replace():

@@ -25,6 +25,7 @@ class Keeping:
         self.has_left = False  # a text was written here
         self.is_cut_saved = False  # the host has saved what was cut last
         self._refused: Dict[int, Tuple[str, str]] = {}  # files that the next write would replace: the name, and what is asked before
+        self.refusals: Dict[int, str] = {}  # the lines that told of these
         self._writing: Counter = Counter()  # of each file, how many writes are not answered
         self._changes: Counter = Counter()  # of each file
         self._written: Dict[int, int] = {}  # how many of them there were at the last write
@@ -60,7 +61,7 @@ class Keeping:
     def hear_changes(self, changes: List[Change]) -> None:
         self._changes[changes[0].tag] += len(changes)
 
-    def hear_host(self, told: Said) -> None:
+    def hear_host(self, told: Said, line: str = "") -> None:
         """A line of the host's standard error."""
         if told.what == "lost":
             self.is_hopeless = True
@@ -68,7 +69,7 @@ class Keeping:
         tags = self._tags_of(told)
         for tag in () if told.what in ("left", "written") else tags:
             if told.replaces:
-                name = self.name(tag)
+                name, self.refusals[tag] = self.name(tag), line
                 self._refused[tag] = (name, f"{name}: {told.replaces}. ^W again replaces it, and keeps what it has beside it")
             if "failed" in told.what:
                 self.unwritten[tag] = self._writing[tag] <= 0

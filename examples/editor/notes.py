@@ -118,6 +118,10 @@ class Notes:
             self.unread.sort(key=lambda kept: -kept[0])
             del self.unread[MOST_UNREAD:]
 
+    def forget(self, line: str) -> None:
+        """A question says what a line did."""
+        self.unread = [kept for kept in self.unread if kept[1] != line]
+
     @property
     def is_read(self) -> bool:
         """Whether a key that comes now was pressed by someone who read the line."""

@@ -5,7 +5,7 @@ import signal
 import time
 from pathlib import Path
 
-from .support import SAMHOST, Session, expect, made, not_of_root, wait_for_text, wait_until
+from .support import SAMHOST, STATE, Session, expect, made, not_of_root, wait_for_text, wait_until
 
 
 def check_new_file(folder):
@@ -52,7 +52,7 @@ def check_failed_write(folder):
         wait_until(lambda: not session.rows("nowhere/c.txt"), "the file stays")
         session.wait_for_quiet()
         session.leave()
-    texts = {path.read_text() for path in folder.glob("*c.txt.sam-*")}
+    texts = {path.read_text() for path in folder.rglob("*c.txt.sam-*")}
     expect("xyone\n" in texts, f"the text is lost: {texts}")
 
 
@@ -104,8 +104,9 @@ def check_written_in_place(folder):
         session.leave()
     closed.chmod(0o755)
     expect((folder / "link").is_symlink() and path.stat().st_ino == before, "the link, or the file, was replaced")
-    left = {entry.name for entry in (*folder.iterdir(), *closed.iterdir())} - {"status", "stderr", ".tmux"}
+    left = {entry.name for entry in (*folder.iterdir(), *closed.iterdir())} - {"status", "stderr", ".tmux", STATE}
     expect(left == {"link", "new.txt", "closed", "a.txt"}, f"there are {left}")
+    expect(not any(path.is_file() for path in (folder / STATE).rglob("*")), "what the file was stays")
 
 
 def check_saved_by_itself(folder):

@@ -349,7 +349,7 @@ def check_left_is_compared(folder):
             for line in ("from line 1201 on:", "- line 1201 xx", "+ other", "from line 1601 on:", "- line 1601 xx"):
                 session.wait_for(line)
             session.keys("Escape")
-            session.wait_for("line 10 ")
+            wait_until(lambda: not session.shows("+ other"), "Esc doesn't end the list")
             session.leave()
 
 

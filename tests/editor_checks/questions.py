@@ -202,6 +202,8 @@ def check_two_writes(folder):
             if is_told:
                 editor.hear("samhost: ? write file0: No space left on device; its text is in /tmp/file0.sam-saved")
             pair.trip()
+            while editor.deferred:  # the second waits for the answer to the first
+                pair.trip()
         pair.finish()
         expect(editor.is_changed(1) == fails, f"the second fails: {fails}, and the file is taken for {'un' * (not fails)}written")
 

@@ -279,7 +279,7 @@ class Ending:
     def send(self, data=b""):
         self.waiting += data
 
-    def close(self, hear, take=lambda data: None):
+    def close(self, hear, take=lambda data: None, seconds=10):
         count = len(self.waiting) if self.taken is None else self.taken
         self.pair.host.feed(bytes(self.waiting[:count]))
         del self.waiting[:count]
@@ -326,7 +326,7 @@ def check_interrupts_at_the_end(folder):
     import rescue
 
     class Hanging(Ending):
-        def close(self, hear, take=lambda data: None):
+        def close(self, hear, take=lambda data: None, seconds=10):
             os.kill(os.getpid(), signal.SIGINT)
             expect(False, "the first doesn't end the waiting")
 
