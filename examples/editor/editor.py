@@ -9,6 +9,7 @@ from keeping import Keeping, shown_name
 from keys import Input, Key, Mouse, Paste, Text
 from left import Left
 from lines import Numbers
+from link import SECONDS_TO_END
 from notes import OFFER, REPEAT, Notes, said
 from pointing import Pointer
 from sulgrevad import Refusal, SamError, Status, Terminal
@@ -240,7 +241,8 @@ class Editor(Desk, Waiting, Actions):
             self._update_windows()
         elif self.is_lost:
             self._update_windows()
-        if self.terminal.exited or (self._leaves_at is not None and self.clock() >= self._leaves_at):
+        is_left_alone = self.is_leaving and self.way.silence >= SECONDS_TO_END
+        if self.terminal.exited or is_left_alone or (self._leaves_at is not None and self.clock() >= self._leaves_at):
             self.is_over = True
 
     def _go_on_with_vault(self) -> None:
@@ -322,7 +324,10 @@ class Editor(Desk, Waiting, Actions):
 
     def act_again(self, why: str) -> None:
         """The key that acts now does so again, once the host has answered."""
-        self._again, self.message = self._acting, why
+        if self._is_lock_held and not self.is_lost:
+            self._again, self.message = self._acting, why
+        else:
+            self.message = "that can't be done now"
 
     def _act_in_menu(self, pressed: Pressed) -> None:
         key = pressed.key

@@ -7,6 +7,7 @@ import time
 from typing import Dict, List, NamedTuple, Optional, Tuple
 
 import rescue
+from keeping import shown_name
 from keys import Input, Key, Mouse, Paste, Text
 from notes import printable
 from texts import COMMAND, GAP, MOST_RUNES, Change
@@ -61,7 +62,7 @@ class Left:
             saved = os.stat(path).st_mtime
         except OSError:
             return
-        written = next((when for told, when in self._times.items() if printable(name) in (told, printable(told))), None)
+        written = next((when for told, when in self._times.items() if printable(shown_name(told)) == printable(name)), None)
         when = time.strftime("%Y-%m-%d %H:%M:%S", time.localtime(saved))
         old = Old(tag, when, None if written is None else saved > written, path=path)
         self._here[path] = old

@@ -6,7 +6,7 @@ import re
 import stat
 import sys
 from pathlib import Path
-from typing import Iterator, List, Optional, Tuple
+from typing import Callable, Iterator, List, Optional, Tuple
 
 from sulgrevad import Terminal
 from texts import GAP, Change
@@ -46,34 +46,69 @@ def lacking(text: str) -> int:
 def keep(name: str, text: str) -> Optional[str]:
     """Writes a text to a new file of this machine: NAME.sam-here in this folder, else in one of the user's own. Returns its path; None
     where none could be written."""
-    for front in _fronts(name, makes=True):
-        for at in range(1, MOST_NAMES + 1):
-            path = Path(front + SUFFIX + (f".{at}" if at > 1 else ""))
-            try:
-                _write(path, text)
-            except FileExistsError:
-                continue
-            except OSError:
-                break
+    for front in (_base(name), *_own_fronts(name)):
+        path = _first_free(front, lambda free: _write(Path(free), text))
+        if path is not None:
+            _note(name, os.path.realpath(path))
             return os.path.realpath(path)
     return None
 
 
+def _first_free(front: str, make: Callable[[str], None]) -> Optional[str]:
+    """Makes something under the first name that is free of those that begin so. Returns which; None where that can't be."""
+    for at in range(1, MOST_NAMES + 1):
+        path = front + SUFFIX + (f".{at}" if at > 1 else "")
+        try:
+            make(path)
+        except FileExistsError:
+            continue
+        except OSError:
+            return None
+        return path
+    return None
+
+
+def _note(name: str, path: str) -> None:
+    """Notes in the user's own folder, by a link, of which host's file a text is that was written elsewhere."""
+    for front in _own_fronts(name):
+        if os.path.realpath(os.path.dirname(front)) == os.path.dirname(path) or _first_free(front, lambda free: os.symlink(path, free)):
+            return
+
+
 def left(name: str) -> List[str]:
-    """The files of this machine that have a text of a file, from earlier sessions."""
-    found = []
-    for front in _fronts(name, makes=False):
-        with contextlib.suppress(OSError):
-            folder, base = os.path.split(front)
-            ends = re.compile(re.escape(base + SUFFIX) + r"(\.\d+)?")
-            paths = [os.path.join(folder, entry) for entry in sorted(os.listdir(folder or ".")) if ends.fullmatch(entry)]
-            found += filter(_is_own, paths)
-    return found
+    """The files of this machine that have a text of a file, from earlier sessions: those that were noted, and those in this folder of which
+    nothing was."""
+    found, others = [], set()
+    number = _number(name)
+    for folder in _own_folders(makes=False):
+        for path in _entries(folder):
+            target = os.path.realpath(path)
+            if not _is_own(target):
+                with contextlib.suppress(OSError):
+                    os.unlink(path)  # what it led to is gone
+            elif os.path.basename(path).startswith(f"{number}-"):
+                found.append(target)
+            else:
+                others.add(target)
+    here = {path: os.path.realpath(path) for path in _entries("", _base(name))}
+    return found + [path for path, whole in here.items() if whole not in others and whole not in found and _is_own(path)]
+
+
+def _entries(folder: str, base: str = "") -> List[str]:
+    """The paths in a folder that may be of such files, of one base or of any."""
+    ends = re.compile((re.escape(base) if base else ".*") + re.escape(SUFFIX) + r"(\.\d+)?", re.DOTALL)
+    try:
+        return [os.path.join(folder, entry) for entry in sorted(os.listdir(folder or ".")) if ends.fullmatch(entry)]
+    except OSError:
+        return []
 
 
 def _is_own(path: str) -> bool:
     """Whether a path is a file of the user's."""
-    status = os.lstat(path)
+    try:
+        status = os.lstat(path)
+    except OSError:
+        return False
     return stat.S_ISREG(status.st_mode) and status.st_uid == os.geteuid()
 
 
@@ -85,12 +120,23 @@ def read(path: str) -> Optional[str]:
         return None
 
 
-def _fronts(name: str, makes: bool) -> Iterator[str]:
-    """What paths of files here begin with, in this folder and in those of the user's own. There the name of a file says too little, so a
-    number of the host's command and the whole name stands before it."""
-    yield _base(name)
-    number = hashlib.sha256("\0".join((*host, name)).encode("utf-8", "surrogateescape")).hexdigest()[:16]
-    for folder in _own_folders():
+def _number(name: str) -> str:
+    """A number of the host's command, the folder from which its names may be seen, and a file's name."""
+    place = ""
+    with contextlib.suppress(OSError):  # a folder that is gone
+        place = "" if name.startswith("/") else os.getcwd()
+    return hashlib.sha256("\0".join((*host, place, name)).encode("utf-8", "surrogateescape")).hexdigest()[:16]
+
+
+def _own_fronts(name: str) -> Iterator[str]:
+    """What paths of files in the user's own folders begin with. There a file's name says too little, so the number stands before it."""
+    for folder in _own_folders(makes=True):
+        yield os.path.join(folder, f"{_number(name)}-{_base(name)}")
+
+
+def _own_folders(makes: bool) -> Iterator[str]:
+    """Folders that are the user's alone, the best first: for his state, and among those for temporary files."""
+    for folder in _named_folders():
         with contextlib.suppress(OSError):
             if makes:
                 os.makedirs(folder, mode=0o700, exist_ok=True)
@@ -98,11 +144,10 @@ def _fronts(name: str, makes: bool) -> Iterator[str]:
             if stat.S_ISDIR(status.st_mode) and status.st_uid == os.geteuid():
                 if status.st_mode & 0o077:
                     os.chmod(folder, 0o700)
-                yield os.path.join(folder, f"{number}-{_base(name)}")
+                yield folder
 
 
-def _own_folders() -> Iterator[str]:
-    """Folders of the user's own, the best first: for his state, and among those for temporary files."""
+def _named_folders() -> Iterator[str]:
     state, temporary = os.environ.get("XDG_STATE_HOME", ""), os.environ.get("TMPDIR", "")
     if not state.startswith("/") and os.environ.get("HOME", "").startswith("/"):
         state = os.path.join(os.environ["HOME"], ".local", "state")

@@ -80,7 +80,7 @@ class Waiting:
         when = self.clock() if when is None else when
         pressed = Pressed(key, when, self._answer_of(key, when), self.notes.is_read)
         is_leave = action_of(key) == "leave"
-        is_sure = pressed.answers in (LEAVING, WAITING) or pressed.answers.startswith(SILENT)
+        is_sure = pressed.answers in (LEAVING, WAITING) or (pressed.answers != "" and self.way.is_silent)
         self._leaves_at = when + REPEAT if is_leave and is_sure else None
         if self._leaves_at is not None or self._stops(key) or (is_leave and self._leaves_silence(key)):
             return

@@ -45,7 +45,7 @@ def check_saved_here(folder):
             session.type("typed ")
             session.wait_for("typed one")
             session.leave_unwritten(3)
-        left = {str(entry.relative_to(place)): entry.read_text() for entry in place.rglob("*.sam-here*")}
+        left = {str(entry.relative_to(place)): entry.read_text() for entry in place.rglob("*.sam-here*") if not entry.is_symlink()}
         expect(list(left.values()) == ["typed one\n"] and re.fullmatch(kept, *left), f"{program}: there are {left}")
         expect(f"/{next(iter(left))}" in (place / "stderr").read_text(), f"{program}: the file is not named")
 

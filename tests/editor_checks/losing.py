@@ -5,7 +5,7 @@ import time
 
 from .pairs import in_a_small_window, opened
 from .rescuing import Kept
-from .support import SAMHOST, Session, expect, made, stat_of, wait_for_text, wait_until
+from .support import SAMHOST, STATE, Session, expect, made, stat_of, wait_for_text, wait_until
 
 LINES = [f"line {number} {'x' * 60}\n" for number in range(1, 2001)]
 CUT, REST = "".join(LINES[99:1500]), "".join(LINES[:99] + LINES[1500:])
@@ -121,24 +121,25 @@ def check_asks_to_replace(folder):
         session.keys("C-w", "C-w")
         os.kill(terminal, signal.SIGCONT)
 
-    ways = (lambda session: session.keys("C-w", "C-w"), apart(0.1), apart(0.3), apart(0.03, 20), while_stopped)
-    for at, press in enumerate(ways):
-        for slow in (0, 100):
-            for renames in (False, True):
-                place = folder / f"{at}-{slow}-{renames}"
-                place.mkdir()
-                path, other = made(place, a="one\n", b="theirs\n")
-                with Session(place, "a.txt", slow=slow, width=140) as session:
-                    session.wait_for("one")
-                    session.type("x")
-                    session.wait_for("xone")
-                    session.wait_for_quiet()
-                    file = other if renames else path
-                    if renames:
-                        session.rename("b.txt")
-                        session.wait_for_quiet()
-                    file.write_text("theirs\n")
-                    expect_theirs(session, file, "theirs\n", lambda: press(session))
+    at_once = lambda session: session.keys("C-w", "C-w")  # noqa: E731
+    for at, (press, slow, renames) in enumerate((
+        (at_once, 0, False), (at_once, 100, False), (apart(0.1), 0, True), (apart(0.3), 0, False), (apart(0.03, 20), 100, True),
+        (while_stopped, 0, False),
+    )):  # fmt: skip
+        place = folder / str(at)
+        place.mkdir()
+        path, other = made(place, a="one\n", b="theirs\n")
+        with Session(place, "a.txt", slow=slow, width=140) as session:
+            session.wait_for("one")
+            session.type("x")
+            session.wait_for("xone")
+            session.wait_for_quiet()
+            if renames:
+                session.rename("b.txt")
+                session.wait_for_quiet()
+            file = other if renames else path
+            file.write_text("theirs\n")
+            expect_theirs(session, file, "theirs\n", lambda: press(session))
 
 
 # ---- Without a host
@@ -183,7 +184,9 @@ def check_lost_host_follows(folder):
     for _ in range(30):
         editor.take(key("Down"))
     editor.update()
-    expect(editor.focus.layout().shows(editor.focus.caret), "the caret is not shown")
+    window = editor.focus
+    expect(window.read(window.caret, 8) == "line 30 ", f"the caret stands before {window.read(window.caret, 8)!r}")
+    expect(window.layout().shows(window.caret), "the caret is not shown")
 
 
 def check_lost_host_tells(folder):
@@ -351,6 +354,49 @@ def check_left_is_compared(folder):
             session.keys("Escape")
             wait_until(lambda: not session.shows("+ other"), "Esc doesn't end the list")
             session.leave()
+
+
+def check_left_of_another_host(folder):
+    """What was written here of one host's file is not offered for another's that has the same name; and for its own also from elsewhere."""
+    import rescue
+
+    (folder / "one").mkdir()
+    (folder / "two").mkdir()
+    os.chdir(folder / "one")
+    rescue.host = ("ssh", "first", "samhost", "--undo")
+    relative, whole = rescue.keep("a.txt", "text"), rescue.keep("/there/b.txt", "other")
+    expect([rescue.left("a.txt"), rescue.left("/there/b.txt")] == [[relative], [whole]], "it is not found again")
+    expect([rescue.left("./c/a.txt"), rescue.left("/else/b.txt")] == [[], []], "it is taken for another file's")
+    (folder / "one" / "c.txt.sam-here").write_text("of nobody knows whom")
+    expect(rescue.left("c.txt") == ["c.txt.sam-here"], "what was not noted is not found")
+    os.chdir(folder / "two")
+    expect([rescue.left("a.txt"), rescue.left("/there/b.txt")] == [[], [whole]], "it is not found from elsewhere, or another a.txt's is")
+    os.chdir(folder / "one")
+    rescue.host = ("ssh", "second", "samhost", "--undo")
+    expect([rescue.left("a.txt"), rescue.left("/there/b.txt")] == [[], []], "it is taken for another host's")
+    rescue.host = ("ssh", "first", "samhost", "--undo")
+    for path in (relative, whole):
+        os.unlink(path)
+    expect([rescue.left("a.txt"), rescue.left("/there/b.txt")] == [[], []], "it is found though it is gone")
+    links = list((folder / STATE / "sulgrevad").iterdir())
+    expect(not links, f"there are {links}")
+
+
+def check_leaving_is_asked_once(folder):
+    """A `^Q` that was asked before the line was silent for three seconds, and answered then, leaves at once; one that was answered before
+    leaves by itself after ten."""
+    for answers_at in (1.0, 4.0):
+        pair, editor, key, text = opened("one\n")
+        editor.take(text("x"))
+        pair.pause()
+        editor.take(key("^Q"))
+        expect("^Q again leaves" in editor.message, f"it doesn't ask: {editor.message!r}")
+        pair.wait(answers_at)
+        editor.take(key("^Q"))
+        pair.wait(0.3)
+        expect(editor.is_over == (answers_at > 3), f"answered after {answers_at} s: it is over: {editor.is_over}")
+        pair.wait(10)
+        expect(editor.is_over, f"answered after {answers_at} s: it doesn't leave")
 
 
 def check_left_with_gaps(folder):

@@ -250,7 +250,7 @@ def check_no_own_folder(folder):
     """Without a folder of the user's own a text is written in this one; where that can't be, that is told."""
     import rescue
 
-    before, rescue._own_folders = rescue._own_folders, lambda: iter((str(folder / "full" / "own"),))
+    before, rescue._named_folders = rescue._named_folders, lambda: iter((str(folder / "full" / "own"),))
     (folder / "full").write_text("no folder")
     try:
         os.chdir(folder)
@@ -262,7 +262,7 @@ def check_no_own_folder(folder):
         place.rmdir()
         expect(rescue.keep("a", "text") is None, "it is written nowhere, and that isn't told")
     finally:
-        rescue._own_folders = before
+        rescue._named_folders = before
         os.chdir(folder)
 
 
