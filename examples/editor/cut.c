@@ -29,6 +29,7 @@ void free_cut(struct cut *cut)
 {
     free(cut->snarf.bytes);
     free(cut->moved.bytes);
+    free(cut->aside.path);
 }
 
 /* ---- What fills the snarf buffer ---- */
@@ -132,7 +133,13 @@ int note_snarf(struct session *session, const uint8_t *bytes, size_t len)
     return 0;
 }
 
-/* ---- The end ---- */
+/* ---- Saving ---- */
+
+/* What the user has cut or copied last. */
+static const struct text *text_of(const struct cut *cut)
+{
+    return cut->is_moved ? &cut->moved : &cut->snarf;
+}
 
 /* Whether a text stands in another. */
 static bool is_in(const struct text *part, const struct text *whole)
@@ -167,28 +174,50 @@ static bool stands_in_a_file(struct session *session, const struct text *text)
     return false;
 }
 
-/* Saves a text unless it stands in a file. Returns whether it is nowhere lost. */
-static bool save_text(struct session *session, const struct text *text)
+/* Saves what was cut last where it was saved before, else in a new copy; unless it stands in a file. */
+static int secure_cut(struct session *session)
 {
-    struct copy copy;
-    int error, tries = 0;
+    struct cut *cut = &session->cut;
+    struct copy *aside = &cut->aside, copy;
+    const struct text *text = text_of(cut);
 
-    if (text->len == 0 || stands_in_a_file(session, text))
-        return true;
-    do
-        error = keep(text, CUT, SAVED, &copy);
-    while (is_tried_again(error, &tries));
-    if (error == 0)
-        say("what was cut last is in %s", copy.path);
-    else
-        say("the text of " CUT " is lost: %s", cause(error));
-    free(copy.path);
+    if (text->len == 0 || stands_in_a_file(session, text)) {
+        drop_copy(aside);
+        return 0;
+    }
+    if (is_own(aside) && (is_same(aside->content, content_of(text)) || keep_again(text, aside) == 0))
+        return 0;
+    int error = keep(text, CUT, NULL, SAVED, &copy);
+    if (error == 0) {
+        drop_copy(aside);
+        *aside = copy;
+    }
+    return error;
+}
+
+bool keep_cut(struct session *session)
+{
+    int error = secure_cut(session);
+
+    if (error != 0 && !session->cut.is_reported)
+        say("what was cut last can't be saved aside: %s", cause(error));
+    session->cut.is_reported = error != 0;
     return error == 0;
 }
 
-bool save_cut(struct session *session)
+bool save_cut(struct session *session, bool is_alone)
 {
-    struct cut *cut = &session->cut;
+    const struct copy *aside = &session->cut.aside;
+    int error, tries = 0;
 
-    return save_text(session, cut->is_moved ? &cut->moved : &cut->snarf);
+    if (is_alone && is_seen_to(aside, text_of(&session->cut)))
+        return true;
+    do
+        error = secure_cut(session);
+    while (is_tried_again(error, &tries));
+    if (error != 0)
+        say("the text of " CUT " is lost: %s", cause(error));
+    else if (aside->path != NULL)
+        say("what was cut last is in %s", aside->path);
+    return error == 0;
 }

@@ -309,7 +309,7 @@ static int front_at(int which, const char *name, char **front)
     return error != 0 ? error : *front == NULL ? ENOMEM : 0;
 }
 
-int keep(const struct text *text, const char *name, const char *suffix, struct copy *copy)
+int keep(const struct text *text, const char *name, const char *like, const char *suffix, struct copy *copy)
 {
     bool is_short = false;
     int error = 0;
@@ -318,7 +318,7 @@ int keep(const struct text *text, const char *name, const char *suffix, struct c
     for (int which = 0; which <= OWN_FOLDERS; which++) {
         char *front;
         int found = front_at(which, name, &front);
-        int kept = found != 0 ? found : keep_as(text, front, suffix, which == 0 ? name : NULL, copy);
+        int kept = found != 0 ? found : keep_as(text, front, suffix, which == 0 ? like : NULL, copy);
         free(front);
         if (kept == 0)
             return 0;
@@ -386,7 +386,7 @@ static int keep_theirs(struct request *request)
         return error;
     error = read_whole(request->path, &text);
     if (error == 0)
-        error = keep(&text, request->path, THEIRS, &copy);
+        error = keep(&text, request->path, request->path, THEIRS, &copy);
     free(text.bytes);
     request->theirs = copy.path;
     return error;
@@ -455,7 +455,7 @@ static int write_over(struct request *request, int file, const struct text *old)
 {
     struct copy kept;
     bool is_theirs = request->is_theirs && !is_same(content_of(old), content_of(request->text));
-    int error = keep(old, request->path, is_theirs ? THEIRS : OLD, &kept);
+    int error = keep(old, request->path, request->path, is_theirs ? THEIRS : OLD, &kept);
 
     if (error != 0)
         return error;

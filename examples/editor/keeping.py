@@ -136,7 +136,7 @@ class Keeping:
         lacks = text.count(GAP)
         lines = [self._kept("cut", rescue.told(text))]
         if lacks:
-            lines.append(f"of what was cut {lacks} characters were not loaded: samhost saves them in cut.sam-saved, unless it was killed")
+            lines.append(f"of what was cut {lacks} characters were not loaded: samhost saves all in cut.sam-saved, unless it was killed before")
         return lines
 
     def keep_late(self) -> List[str]:

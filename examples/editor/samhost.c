@@ -40,10 +40,12 @@ static int run(struct session *session)
     set_signals(&mask);
     fcntl(STDOUT_FILENO, F_SETFL, flags | O_NONBLOCK);
     enum ending ending = serve(session, &mask);
-    bool has_left = ending == LEFT;
-    bool is_saved = save_last(session, !has_left && !session->journal.is_waiting);
-    if (!has_left)
-        is_saved &= save_cut(session);
+    bool is_alone = ending != LEFT && !session->journal.is_waiting;
+    bool is_saved = save_last(session, is_alone);
+    if (ending == LEFT)
+        drop_copy(&session->cut.aside);
+    else
+        is_saved &= save_cut(session, is_alone);
     send_the_rest(session, &mask);
     fcntl(STDOUT_FILENO, F_SETFL, flags);
     return !is_saved ? STATUS_LOST : ending == FAULT ? STATUS_FAULT : ending == LINE_BROKE ? STATUS_BROKEN : STATUS_OK;

@@ -117,6 +117,8 @@ struct closed {
 struct cut {
     struct text snarf, moved; /* room for one text each (MOST_BYTES) */
     bool is_moved;
+    struct copy aside; /* of the user's */
+    bool is_reported;  /* it was said that it can't be saved */
 };
 
 /* The bytes that wait on both sides, and whether the terminal still listens. */
@@ -252,10 +254,14 @@ int secure(struct session *session, uint16_t tag, enum place *place);
 bool is_own(const struct copy *copy);
 
 /* Takes the copy of a text for the user's own from now on. */
-void forget_aside(struct document *document);
+void forget_copy(struct copy *copy);
 
-/* Removes the copy of a text that is written by now, where it is the host's own. */
-void drop_aside(struct document *document);
+/* Removes the copy of a text that stands elsewhere by now, where it is the host's own. */
+void drop_copy(struct copy *copy);
+
+/* Whether a text stood whole in a copy that somebody took away since: he has seen to it. So a host whose line died unnoticed does not bring
+ * back what another session has written or dropped long since. */
+bool is_seen_to(const struct copy *copy, const struct text *text);
 
 /* The document whose own copy stands at a path; NULL where there is none. */
 struct document *owner_at(struct session *session, const char *path);
@@ -293,8 +299,11 @@ size_t watched_len(const uint8_t *bytes, size_t len);
 /* Before the host takes such a message, which is whole: notes what the snarf buffer has after it. */
 int note_snarf(struct session *session, const uint8_t *bytes, size_t len);
 
-/* Saves what was cut last, unless it stands in a file, and says where it is. Returns whether it is not lost. */
-bool save_cut(struct session *session);
+/* Saves what was cut last, unless it stands in a file. Says once that it can't be saved. Returns whether it is. */
+bool keep_cut(struct session *session);
+
+/* At the end: the same, and says where it is. Returns whether it is not lost. */
+bool save_cut(struct session *session, bool is_alone);
 
 /* disk.c */
 
@@ -302,8 +311,9 @@ bool save_cut(struct session *session);
 int put_file(struct request *request);
 
 /* Puts a text into a new file beside a file or, where that can't be, in a folder of the user's own. It is named after the file and the
- * suffix; a number follows where that is there already. Hands out the copy, whose path is in memory of the caller's. */
-int keep(const struct text *text, const char *name, const char *suffix, struct copy *copy);
+ * suffix; a number follows where that is there already. Beside the file it is as open to others as another one is (`like`), else the user's
+ * alone. Hands out the copy, whose path is in memory of the caller's. */
+int keep(const struct text *text, const char *name, const char *like, const char *suffix, struct copy *copy);
 
 /* Puts another text in the place of a copy. */
 int keep_again(const struct text *text, struct copy *copy);

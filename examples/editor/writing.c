@@ -111,9 +111,9 @@ static void note_put(struct document *document, const struct request *request, i
     else if (error == IS_CHANGED)
         note_theirs(document, request->path, request->found);
     if (error == 0 && is_copy) /* the copy is the file by now */
-        forget_aside(document);
+        forget_copy(&document->aside);
     else if (error == 0)
-        drop_aside(document);
+        drop_copy(&document->aside);
 }
 
 /* Puts the text of a file where its path leads to. */
@@ -179,7 +179,7 @@ static void drop_left(struct session *session, uint16_t tag, const char *path)
     struct content found = content_at(path);
     bool is_theirs;
 
-    drop_aside(document);
+    drop_copy(&document->aside);
     if (found.kind == NOT_THERE)
         return;
     if (!is_same(found, expected_at(document, NULL, path, &is_theirs)))
