@@ -1,7 +1,7 @@
 /* cut.c: what was cut last and stands nowhere else.
  *
  * The library's host hands out no snarf buffer, so each message that fills it is looked at just before the host takes it. While a terminal
- * keeps text for undo, what the user has cut stands at the end of the file for undo, and the snarf buffer has another text: then both count.
+ * keeps text for undo, what the user has cut stands at the end of the file for undo, and the snarf buffer has another text.
  */
 #define _XOPEN_SOURCE 700
 #include <errno.h>

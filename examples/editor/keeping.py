@@ -136,7 +136,7 @@ class Keeping:
         lacks = text.count(GAP)
         lines = [self._kept("cut", rescue.told(text))]
         if lacks:
-            lines.append(f"of what was cut {lacks} characters were not loaded: samhost saves all in cut.sam-saved, unless it was killed before")
+            lines.append(f"of what was cut {lacks} characters were not loaded: samhost saves all of it, unless it was killed before")
         return lines
 
     def keep_late(self) -> List[str]:

@@ -19,8 +19,8 @@ static const char *named(const char *variable)
     return value != NULL && *value == '/' ? value : NULL;
 }
 
-/* The path of a folder, without a slash at its end: for the user's state, else in one for temporary files, where the user's number is in its
- * name. ENOENT where there is no such folder. */
+/* The path of a folder, without a slash at its end: for the user's state, else in one for temporary files, where its name has the user's
+ * number. ENOENT where there is no such folder. */
 static int path_of_own(int which, char **path)
 {
     const char *state = named("XDG_STATE_HOME"), *home = named("HOME"), *temporary = named("TMPDIR");

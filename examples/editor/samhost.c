@@ -1,7 +1,7 @@
 /* samhost [--undo] [--times] [--] [FILE ..]: serves files to a terminal, over standard input and output.
  *
  * A FILE may be a folder, which stands for the text files below it. With --undo it has one more file, ~~undo~~, that is nowhere on disk:
- * there a terminal keeps text for undo. Before that stand the texts that earlier sessions saved beside the files, for the terminal to offer.
+ * there a terminal keeps text for undo. Before that stand the texts that earlier sessions saved, for the terminal to offer.
  *
  * With --times it says when the files were written last, by the seconds since 1970.
  *

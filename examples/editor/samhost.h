@@ -293,7 +293,7 @@ bool save_last(struct session *session, bool is_alone);
 bool make_cut(struct cut *cut);
 void free_cut(struct cut *cut);
 
-/* The length of a message that may fill the snarf buffer, or take from it what the user has cut, where it is of the right length. Else 0. */
+/* The length of a message that may fill the snarf buffer or take a part in keeping text for undo, if that is right for its kind. Else 0. */
 size_t watched_len(const uint8_t *bytes, size_t len);
 
 /* Before the host takes such a message, which is whole: notes what the snarf buffer has after it. */
