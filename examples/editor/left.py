@@ -53,9 +53,11 @@ class Left:
         for tag in known:
             if found := NAMED.fullmatch(self.terminal.name(tag)):
                 self.tags[tag] = Old(int(found[1]), found[3], found[2] == "+", tag=tag)
-        for tag in self.editor.tags:
-            for path in rescue.left(self.terminal.name(tag)):
-                self._note_here(tag, self.terminal.name(tag), path)
+        names = {tag: self.terminal.name(tag) for tag in self.editor.tags}
+        here = rescue.left(names.values())
+        for tag, name in names.items():
+            for path in here[name]:
+                self._note_here(tag, name, path)
 
     def _note_here(self, tag: int, name: str, path: str) -> None:
         try:

@@ -5,8 +5,9 @@ import os
 import re
 import stat
 import sys
+from itertools import chain
 from pathlib import Path
-from typing import Callable, Iterator, List, Optional, Tuple
+from typing import Callable, Dict, Iterable, Iterator, List, Optional, Tuple
 
 from sulgrevad import Terminal
 from texts import GAP, Change
@@ -15,7 +16,8 @@ MOST_NAMES = 1000  # names that are tried
 MOST_IN_BASE = 200  # bytes of the front of a name that names of files here begin with
 MOST_READ = 65_536  # runes that are read at once
 
-SUFFIX = ".sam-here"  # what comes after the name of a file
+SUFFIX = ".sam-here"  # what comes after the name of a file, and before a number
+ENDS = re.compile(re.escape(SUFFIX) + r"(\.\d+)?$")
 GAPS = re.compile(f"{GAP}+")
 TOLD_GAPS = re.compile(r"\[(\d+) characters that were not loaded\]")
 
@@ -46,7 +48,7 @@ def lacking(text: str) -> int:
 def keep(name: str, text: str) -> Optional[str]:
     """Writes a text to a new file of this machine: NAME.sam-here in this folder, else in one of the user's own. Returns its path; None
     where none could be written."""
-    for front in (_base(name), *_own_fronts(name)):
+    for front in chain((_base(name),), _own_fronts(name)):
         path = _first_free(front, lambda free: _write(Path(free), text))
         if path is not None:
             _note(name, os.path.realpath(path))
@@ -75,30 +77,30 @@ def _note(name: str, path: str) -> None:
             return
 
 
-def left(name: str) -> List[str]:
-    """The files of this machine that have a text of a file, from earlier sessions: those that were noted, and those in this folder of which
-    nothing was."""
-    found, others = [], set()
-    number = _number(name)
+def left(names: Iterable[str]) -> Dict[str, List[str]]:
+    """The files of this machine that have texts of some files, from earlier sessions: those that were noted, and those in this folder of
+    which nothing was."""
+    noted: Dict[str, List[str]] = {}
     for folder in _own_folders(makes=False):
         for path in _entries(folder):
             target = os.path.realpath(path)
-            if not _is_own(target):
+            if _is_own(target):
+                noted.setdefault(os.path.basename(path).partition("-")[0], []).append(target)
+            else:
                 with contextlib.suppress(OSError):
                     os.unlink(path)  # what it led to is gone
-            elif os.path.basename(path).startswith(f"{number}-"):
-                found.append(target)
-            else:
-                others.add(target)
-    here = {path: os.path.realpath(path) for path in _entries("", _base(name))}
-    return found + [path for path, whole in here.items() if whole not in others and whole not in found and _is_own(path)]
+    known = set(chain.from_iterable(noted.values()))
+    here: Dict[str, List[str]] = {}
+    for path in _entries(""):
+        if os.path.realpath(path) not in known and _is_own(path):
+            here.setdefault(ENDS.sub("", path), []).append(path)
+    return {name: noted.get(_number(name), []) + here.get(_base(name), []) for name in names}
 
 
-def _entries(folder: str, base: str = "") -> List[str]:
-    """The paths in a folder that may be of such files, of one base or of any."""
-    ends = re.compile((re.escape(base) if base else ".*") + re.escape(SUFFIX) + r"(\.\d+)?", re.DOTALL)
+def _entries(folder: str) -> List[str]:
+    """The paths in a folder that may be of such files."""
     try:
-        return [os.path.join(folder, entry) for entry in sorted(os.listdir(folder or ".")) if ends.fullmatch(entry)]
+        return [os.path.join(folder, entry) for entry in sorted(os.listdir(folder or ".")) if ENDS.search(entry)]
     except OSError:
         return []
 

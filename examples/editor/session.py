@@ -166,7 +166,7 @@ def edit(command: List[str], files: List[str], indents: bool = True) -> int:
     with Terminal() as terminal:
         editor = Editor(terminal, indents=indents, asked_for=files)
         rescue.host = tuple(command)
-        if any(map(rescue.left, files)):  # whether these are newer than the files only the host can tell
+        if any(rescue.left(files).values()):  # whether these are newer than the files only the host can tell
             command = [*command, "--times"]
         command = [*command, *(["--"] if any(name.startswith("-") for name in files) else []), *files]
         try:

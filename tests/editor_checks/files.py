@@ -146,6 +146,8 @@ def check_no_room_anywhere(folder):
         session.keys("C-w")
         session.wait_for("? write a.txt: File too large; its text could not be saved")
         session.read()
+        session.wait_for("the text of a.txt can't be saved aside")  # it is told once, some quiet seconds later
+        session.read()
         session.wait_for("* a.txt")
         session.wait_for_quiet()
         session.keys("C-q")

@@ -364,20 +364,24 @@ def check_left_of_another_host(folder):
     (folder / "two").mkdir()
     os.chdir(folder / "one")
     rescue.host = ("ssh", "first", "samhost", "--undo")
+
+    def left(*names):
+        return list(rescue.left(names).values())
+
     relative, whole = rescue.keep("a.txt", "text"), rescue.keep("/there/b.txt", "other")
-    expect([rescue.left("a.txt"), rescue.left("/there/b.txt")] == [[relative], [whole]], "it is not found again")
-    expect([rescue.left("./c/a.txt"), rescue.left("/else/b.txt")] == [[], []], "it is taken for another file's")
+    expect(left("a.txt", "/there/b.txt") == [[relative], [whole]], "it is not found again")
+    expect(left("./c/a.txt", "/else/b.txt") == [[], []], "it is taken for another file's")
     (folder / "one" / "c.txt.sam-here").write_text("of nobody knows whom")
-    expect(rescue.left("c.txt") == ["c.txt.sam-here"], "what was not noted is not found")
+    expect(left("c.txt") == [["c.txt.sam-here"]], "what was not noted is not found")
     os.chdir(folder / "two")
-    expect([rescue.left("a.txt"), rescue.left("/there/b.txt")] == [[], [whole]], "it is not found from elsewhere, or another a.txt's is")
+    expect(left("a.txt", "/there/b.txt") == [[], [whole]], "it is not found from elsewhere, or another a.txt's is")
     os.chdir(folder / "one")
     rescue.host = ("ssh", "second", "samhost", "--undo")
-    expect([rescue.left("a.txt"), rescue.left("/there/b.txt")] == [[], []], "it is taken for another host's")
+    expect(left("a.txt", "/there/b.txt") == [[], []], "it is taken for another host's")
     rescue.host = ("ssh", "first", "samhost", "--undo")
     for path in (relative, whole):
         os.unlink(path)
-    expect([rescue.left("a.txt"), rescue.left("/there/b.txt")] == [[], []], "it is found though it is gone")
+    expect(left("a.txt", "/there/b.txt") == [[], []], "it is found though it is gone")
     links = list((folder / STATE / "sulgrevad").iterdir())
     expect(not links, f"there are {links}")
 
