@@ -110,8 +110,12 @@ class Left:
             editor.message = f"{old.path} can't be read, or is too long"
             return True
         lacks = rescue.lacking(text)
-        if lacks and self._warned != old:
-            if not editor.is_sure(f"it lacks {lacks} characters that were not loaded; Enter again takes it all the same"):
+        if lacks:
+            whole = self._newest_of(tag)
+            if whole is not None and not (self._is_opened(whole) and self._is_loaded(whole.tag)):
+                return False
+            text = rescue.filled(text, editor.texts.read(whole.tag, 0, self.terminal.len(whole.tag))) if whole is not None else text
+            if self._warned != old and not self._is_warned(lacks, rescue.lacking(text)):
                 return False
             self._warned = old
         if not self._may_go(tag):
@@ -125,6 +129,15 @@ class Left:
         self._taken[tag] = (old, step)
         editor.message = f"{editor.name(tag)} has that text now. ^Z takes it back; once ^W has written it, the old one is dropped"
         return True
+
+    def _newest_of(self, tag: int) -> Optional[Old]:
+        """What the host saved last of a file."""
+        return max((old for old in self.tags.values() if old.of == tag), key=lambda old: old.when, default=None)
+
+    def _is_warned(self, before: int, lacks: int) -> bool:
+        """Whether the user takes a text all the same that lacked so many characters, and still lacks some."""
+        came = f"; {before - lacks} that it lacked came from what the host saved" if lacks < before else ""
+        return self.editor.is_sure(f"it lacks {lacks} characters that were not loaded{came}. Enter again takes it")
 
     def _may_go(self, tag: int) -> bool:
         """Whether the file's text may go, which `^Z` brings back."""

@@ -21,6 +21,8 @@ ENDS = re.compile(re.escape(SUFFIX) + r"(\.\d+)?$")
 GAPS = re.compile(f"{GAP}+")
 TOLD_GAPS = re.compile(r"\[(\d+) characters that were not loaded\]")
 
+LOOKS = (256, 64)  # characters beside a gap that are looked at, to find what it had
+
 host: Tuple[str, ...] = ()  # the host's command
 
 
@@ -43,6 +45,34 @@ def told(text: str) -> str:
 def lacking(text: str) -> int:
     """How many characters such a text lacks, as it tells."""
     return sum(int(found[1]) for found in TOLD_GAPS.finditer(text) if len(found[1]) < 8)
+
+
+def filled(text: str, whole: str) -> str:
+    """Such a text with what it lacks, from a whole one that is nearly the same: where what stands before a gap and after it leads to one
+    text there."""
+    pieces = TOLD_GAPS.split(text)  # with the numbers of characters between them
+    for at in range(1, len(pieces), 2):
+        count = int(pieces[at])
+        place = _place_of(whole, pieces[at - 1], count, pieces[at + 1])
+        pieces[at] = f"[{count} characters that were not loaded]" if place is None else whole[place : place + count]
+    return "".join(pieces)
+
+
+def _place_of(whole: str, before: str, count: int, after: str) -> Optional[int]:
+    """Where so many characters stand in a text between two others, as far as these are looked at; None where that may be several texts."""
+    for width in LOOKS:
+        left, right, found, texts = before[-width:], after[:width], None, set()
+        start = whole.find(left)
+        while start >= 0 and len(texts) < 2:
+            place = start + len(left)
+            is_there = whole.startswith(right, place + count) and (right or place + count == len(whole))
+            if is_there and place + count <= len(whole):
+                found = place
+                texts.add(whole[place : place + count])
+            start = whole.find(left, start + 1) if left else -1
+        if texts:
+            return found if len(texts) == 1 else None
+    return None
 
 
 def keep(name: str, text: str) -> Optional[str]:

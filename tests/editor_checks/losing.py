@@ -418,6 +418,41 @@ def check_left_with_gaps(folder):
         session.leave_unwritten()
 
 
+def check_gaps_are_filled(folder):
+    """What a text that was written here lacks comes from the text that the host saved, where one place fits; the user is told of it."""
+    import rescue
+
+    old = "".join(LINES)
+    new = "typed " + old[:1200] + "more" + old[1200:3000] + old[60_000:63_000]
+    gaps = f"{new[:3010]}[57000 characters that were not loaded]{old[60_000:63_000]}"
+    wanted = new[:3010] + old[3000:63_000]
+    tail = f"[{len(old) - 63_000} characters that were not loaded]"
+    for text, whole, filled in (
+        (gaps, old[:63_000], wanted), (gaps + tail, old, wanted + old[63_000:]), (gaps + tail, old + "longer", wanted + tail),
+        ("[2 characters that were not loaded]cd", "abcd", "abcd"), ("x[1 characters that were not loaded]y", "x1y x2y", None),
+        ("x[1 characters that were not loaded]y", "x1y x1y", "x1y"), ("x[3 characters that were not loaded]y", "xy", None),
+    ):  # fmt: skip
+        got = rescue.filled(text, whole)
+        expect(got == (text if filled is None else filled), f"{text[:40]}..: it is filled as {got[:100]!r}..")
+    (path,) = made(folder, a=old)
+    (folder / "a.txt.sam-saved").write_text("earlier " + old)
+    (folder / "a.txt.sam-here").write_text("late earlier " + old[:900] + f"[{len(old) - 900} characters that were not loaded]")
+    with Session(folder, "a.txt", slow=20, width=140) as session:
+        session.wait_for("newer than the file; F9 takes it")
+        session.read()
+        session.wait_for("newer than the file; F9 takes it")
+        session.read()
+        open_left(session, "a.txt: ")
+        session.keys("Down", "Enter")
+        session.answer(f"it lacks 0 characters that were not loaded; {len(old) - 900} that it lacked came from what the host saved", "Enter")
+        session.wait_for("a.txt has that text now")
+        session.wait_for_quiet()
+        session.keys("C-w")
+        wait_for_text(path, "late earlier " + old)
+        wait_until(lambda: not (folder / "a.txt.sam-here").exists(), "the old text stays")
+        session.leave()
+
+
 def check_cut_is_taken(folder):
     """What was cut last in an earlier session is pasted by `^V` once it was taken."""
     (path,) = made(folder, a="one\n")

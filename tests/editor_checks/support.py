@@ -72,7 +72,8 @@ class Session:
         command = f"cd {folder}; {settings} {program} {host} {' '.join(files)} 2> stderr; echo $? > status; exec sleep 1000"
         own = {"TMPDIR": str(folder), "XDG_STATE_HOME": str(folder / STATE)}
         environment = {**os.environ, "SAM_LIBRARY": str(LIBRARY), "LC_ALL": "C.UTF-8", "SHELL": "/bin/sh", **own}
-        self.tmux("new-session", "-d", "-x", str(width), "-y", str(height), command, env=environment)
+        words = [*self.tmux_words, "new-session", "-d", "-x", str(width), "-y", str(height), command]
+        wait_until(lambda: subprocess.run(words, env=environment, capture_output=True).returncode == 0, "tmux doesn't begin")  # or ends still
 
     def __enter__(self):
         return self
