@@ -102,33 +102,37 @@ class Left:
             editor.message = "its file is closed"
             return True
         editor.show(tag)
-        if not self.terminal.is_open(tag):
-            editor.act_again("opens the file")
+        if not editor.window_of(tag).is_settled:
+            editor.act_again("waits for the file")
             return False
         text = rescue.read(old.path) if old.path else ""
-        if text is None or len(text) > MOST_RUNES:
-            editor.message = f"{old.path} can't be read, or is too long"
+        if text is None:
+            editor.message = f"{old.path} can't be read"
             return True
-        lacks = rescue.lacking(text)
-        if lacks:
-            whole = self._newest_of(tag)
-            if whole is not None and not (self._is_opened(whole) and self._is_loaded(whole.tag)):
-                return False
-            text = rescue.filled(text, editor.texts.read(whole.tag, 0, self.terminal.len(whole.tag))) if whole is not None else text
-            if self._warned != old and not self._is_warned(lacks, rescue.lacking(text)):
-                return False
-            self._warned = old
-        if not self._may_go(tag):
+        filled = self._filled(old, text)
+        if filled is None or not self._may_go(tag):
             return False
-        editor.log.begin(tag)
-        step = editor.log.past[tag][-1]
-        if old.path:
-            self._put(tag, text)
-        else:
-            editor.vault.bring(old.tag, tag)
-        self._taken[tag] = (old, step)
+        if len(filled) > MOST_RUNES:
+            editor.message = f"{old.path} is too long"
+            return True
+        self._put(old, filled)
         editor.message = f"{editor.name(tag)} has that text now. ^Z takes it back; once ^W has written it, the old one is dropped"
         return True
+
+    def _filled(self, old: Old, text: str) -> Optional[str]:
+        """A text with what it lacks, as far as the host has saved that, once the user was told. None where the key acts again, or asks."""
+        lacks = rescue.lacking(text)
+        if not lacks:
+            return text
+        whole = self._newest_of(old.of)
+        if whole is not None and not (self._is_opened(whole) and self._is_loaded(whole.tag)):
+            return None
+        if whole is not None:
+            text = rescue.filled(text, self.editor.texts.read(whole.tag, 0, self.terminal.len(whole.tag)))
+        if self._warned != old and not self._is_warned(lacks, rescue.lacking(text)):
+            return None
+        self._warned = old
+        return text
 
     def _newest_of(self, tag: int) -> Optional[Old]:
         """What the host saved last of a file."""
@@ -146,12 +150,18 @@ class Left:
         question = f"{gaps} characters of the text are not loaded: ^Z can't bring them back. Enter again goes on"
         return gaps == 0 or self.editor.is_kept_or_sure(tag, 0, length, question)
 
-    def _put(self, tag: int, text: str) -> None:
-        """Puts a text of this machine in the place of a file's."""
-        gone = self.editor.texts.read(tag, 0, self.terminal.len(tag))
+    def _put(self, old: Old, text: str) -> None:
+        """Puts a text of this machine, or one that the host has, in the place of its file's."""
+        editor, tag = self.editor, old.of
+        editor.log.begin(tag)
+        self._taken[tag] = (old, editor.log.past[tag][-1])
+        if not old.path:
+            editor.vault.bring(old.tag, tag)
+            return
+        gone = editor.texts.read(tag, 0, self.terminal.len(tag))
         self.terminal.edit(tag, 0, len(gone), text)
-        self.editor.texts.tell([Change(tag, 0, gone, text)])
-        self.editor.window_of(tag).select(0)
+        editor.texts.tell([Change(tag, 0, gone, text)])
+        editor.window_of(tag).select(0)
 
     def _snarf(self, old: Old) -> bool:
         """Makes a text that was cut the one that `^V` pastes."""
@@ -281,7 +291,9 @@ class Choice:
         olds, steps = self.left.all, {"Up": -1, "Down": 1}
         acts = {"\n": self.left.take, "c": self.left.compare, "d": self.left.remove}
         self.chosen = max(0, min(self.chosen, len(olds) - 1))
-        if isinstance(key, Key) and key.name in steps:
+        if self.left.editor.is_lost:
+            self.is_over = True
+        elif isinstance(key, Key) and key.name in steps:
             self.chosen = max(0, min(self.chosen + steps[key.name], len(olds) - 1))
         elif isinstance(key, Text) and key.runes in acts and olds:
             self.is_over = acts[key.runes](olds[self.chosen])

@@ -5,7 +5,7 @@ import time
 
 from .pairs import in_a_small_window, opened
 from .rescuing import Kept
-from .support import SAMHOST, STATE, Session, expect, made, stat_of, wait_for_text, wait_until
+from .support import LINK, SAMHOST, STATE, Session, expect, made, stat_of, wait_for_text, wait_until
 
 LINES = [f"line {number} {'x' * 60}\n" for number in range(1, 2001)]
 CUT, REST = "".join(LINES[99:1500]), "".join(LINES[:99] + LINES[1500:])
@@ -306,6 +306,24 @@ def check_left_is_taken(folder):
             session.leave()
         left = sorted(entry.name for entry in place.iterdir())
         expect(not any(".sam-" in name for name in left), f"there are {left}")
+
+
+def check_left_is_taken_at_once(folder):
+    """Over a slow line too, where the keys come as soon as there is a screen; and what is typed after them goes into the text."""
+    old, new = "".join(LINES), "".join(["new\n", *LINES[:1000], "middle\n", *LINES[1000:]])
+    for name in ("a.txt.sam-saved", "a.txt.sam-here"):
+        place = folder / name
+        place.mkdir()
+        (path,) = made(place, a=old)
+        (place / name).write_text(new)
+        with Session(place, "a.txt", slow=LINK, width=140) as session:
+            session.wait_for("| up ")
+            session.keys("F9", "Enter")
+            session.type("typed ")
+            session.keys("C-w")
+            wait_for_text(path, "typed " + new)
+            wait_until(lambda: not (place / name).exists(), "the old text stays though the file has it")
+            session.leave()
 
 
 def check_left_is_dropped(folder):
