@@ -63,9 +63,9 @@ class Actions(Commands, Moves):
         start, end = window.dot
         gaps = self.texts.read(window.tag, start, end - start).count(GAP) if window.tag != COMMAND else 0
         question = f"{gaps} characters of it are not loaded: ^Z can't bring them back. {key} goes on"
-        return gaps == 0 or self._is_kept_or_sure(window.tag, start, end, question)
+        return gaps == 0 or self.is_kept_or_sure(window.tag, start, end, question)
 
-    def _is_kept_or_sure(self, tag: int, start: int, end: int, question: str) -> bool:
+    def is_kept_or_sure(self, tag: int, start: int, end: int, question: str) -> bool:
         """Whether a text may go that is not loaded: the host keeps it for `^Z`, or the user is sure. Where the host doesn't keep it yet
         and can, it is told to, and this key acts again then."""
         if self.vault.has(tag, start, end):
@@ -126,9 +126,15 @@ class Actions(Commands, Moves):
         self.terminal.new_file()
 
     def do_write(self) -> None:
-        if self.active is not self.command:
-            self.keeping.write(self.active.tag)
-            self.terminal.write(self.active.tag)
+        tag = self.active.tag
+        if self.active is self.command:
+            return
+        question = self.keeping.question(tag)
+        if question:
+            self.notes.forget(self.keeping.refusals[tag])
+        if not question or self.is_sure(question):
+            self.keeping.write(tag)
+            self.terminal.write(tag)
 
     def do_close(self) -> None:
         tag = self.focus.tag
@@ -139,6 +145,9 @@ class Actions(Commands, Moves):
                 self.keeping.let_go(tag)
             self._awaits_file = True
             self.terminal.close(tag)
+
+    def do_old(self) -> None:
+        self.left.begin()
 
     def do_leave(self) -> None:
         if self.is_lost:
@@ -169,6 +178,10 @@ class Actions(Commands, Moves):
             else:
                 self.message = "not for the clipboard of this screen: it is not all loaded"
 
+    def note_snarfed(self, text: str) -> None:
+        """The snarf buffer has another text than the user has cut or copied last."""
+        self._snarfed, self.cut_text = text, ""
+
     def do_cut(self) -> None:
         if self._goes("^X"):
             self._clip(is_cut=True)
@@ -176,7 +189,8 @@ class Actions(Commands, Moves):
 
     def do_snarf(self) -> None:
         self._clip()
-        self.terminal.snarf(self.focus.tag)
+        if not self.is_lost:
+            self.terminal.snarf(self.focus.tag)
 
     def do_paste(self) -> None:
         if self._has_room(len(self._snarfed)) and self._goes("^V"):
@@ -186,15 +200,24 @@ class Actions(Commands, Moves):
                 self._pasting.add(self.focus.tag)
 
     def do_look(self) -> None:
-        self.terminal.look(self.focus.tag)
+        if self.is_lost:
+            start, end = self.focus.dot
+            self.sought_here = self.focus.read(start, end - start)
+            Find(self).go_on(self.sought_here)
+        else:
+            self.terminal.look(self.focus.tag)
         self.focus.anchor = None
 
     def do_search(self) -> None:
-        self.terminal.search(self.focus.tag)
+        if self.is_lost:
+            Find(self).go_on(self.sought_here or self.terminal.pattern)
+        else:
+            self.terminal.search(self.focus.tag)
         self.focus.anchor = None
 
     def do_search_back(self) -> None:
-        self._sought_above = Find(self).go_back(self.terminal.pattern, self._sought_above if self._is_again else None)
+        pattern = self.sought_here or self.terminal.pattern
+        self._sought_above = Find(self).go_back(pattern, self._sought_above if self._is_again else None)
 
     def do_find(self) -> None:
         self.focus.anchor = None
@@ -216,7 +239,7 @@ class Actions(Commands, Moves):
 
     def do_select_all(self) -> None:
         self.focus.anchor = None
-        self.terminal.select(self.focus.tag, 0, self.focus.length)
+        self.texts.select(self.focus.tag, 0, self.focus.length)
 
     def _erase(self, step: int) -> None:
         window, (start, end) = self.focus, self.focus.dot
@@ -247,7 +270,7 @@ class Actions(Commands, Moves):
             return
         count = self.log.unknown(step)
         question = f"{count} characters of what goes are not loaded: ^R can't bring them again. ^Z again goes on"
-        if count == 0 or self._is_kept_or_sure(self.focus.tag, 0, self.focus.length, question):
+        if count == 0 or self.is_kept_or_sure(self.focus.tag, 0, self.focus.length, question):
             self.log.back(self.focus.tag)
 
     def do_redo(self) -> None:

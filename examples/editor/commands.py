@@ -37,7 +37,7 @@ class Commands:
         what, detail = removes(line) if is_known else ("range", None)
         question = f"this may take out text that is not loaded: ^Z can't bring it back. {key} again runs it"
         is_safe = what != "range" or self._is_loaded(window, detail)
-        if not is_safe and not self._is_kept_or_sure(window.tag, 0, window.length, question):
+        if not is_safe and not self.is_kept_or_sure(window.tag, 0, window.length, question):
             return False
         self.log.begin(window.tag)
         self.log.goes = detail if what == "pattern" else ""

@@ -21,6 +21,7 @@ BINDINGS = (
     Binding(("F8",), "small", "makes the command window small, and large again"),
     Binding(("F5",), "redraw", "draws the screen anew"),
     Binding(("^\\", "F12"), "suspend", "goes back to the shell, until its `fg`"),
+    Binding(("F9",), "old", "takes, compares or drops what an earlier session left"),
     Binding(("^N",), "new", "makes a new file; the command line `f NAME` names it"),
     Binding(("^W",), "write", "writes the file"),
     Binding(("^K",), "close", "closes the file for good; asks if it was not written"),

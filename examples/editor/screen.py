@@ -230,14 +230,14 @@ def status(editor: Editor, link: Link) -> str:
         start, end = window.dot
         line = editor.numbers.line(window.tag, window.caret)
         parts.append(f"{start},{end} of {window.length}" + (f", line {line}" if line is not None else ""))
-    if editor.is_lost:
-        parts.append("HOST LOST")
-    parts.append(locks_of(editor))
+    parts.append("HOST LOST" if editor.is_lost else locks_of(editor))
     for name, count in (("held", terminal.held + len(editor.deferred)), ("unsent", terminal.unsent), ("waiting", len(link.waiting))):
         if count:
             parts.append(f"{name} {count}")
-    if editor.way.told:
+    if editor.way.told and not editor.is_lost:
         parts.append(f"{editor.way.told} on the way")
+    if editor.way.is_silent and not editor.is_lost:
+        parts.append(f"no answer for {int(editor.way.silence)} s")
     return " | ".join(parts)
 
 

@@ -14,6 +14,7 @@ REST = 0.25  # seconds after the last key from which on it is asked for what the
 MOST_TURNS = 32  # keys that wait, of which the page keys are counted
 LEAVING = "leaving; ^Q again doesn't wait for the host"
 WAITING = "keys wait for the host; ^Q again leaves without them"
+SILENT = "the host doesn't answer. ^Q again leaves, and writes here what is loaded of"
 
 # Actions that go by places on the screen, or change the text there. While the file is locked the places may change, so these wait, with
 # all keys after them.
@@ -63,7 +64,7 @@ class Waiting:
     @property
     def _is_lock_held(self) -> bool:
         """Whether a lock is held, so that the host will answer, or an event waits for one."""
-        return self.vault.is_busy or self.terminal.held > 0 or any(self.terminal.locked(tag) for tag in self.all_windows)
+        return self.vault.is_busy or self.terminal.held > 0 or any(map(self.terminal.locked, (*self.all_windows, *self.left.tags)))
 
     @property
     def _is_answer_due(self) -> bool:
@@ -79,8 +80,9 @@ class Waiting:
         when = self.clock() if when is None else when
         pressed = Pressed(key, when, self._answer_of(key, when), self.notes.is_read)
         is_leave = action_of(key) == "leave"
-        self._leaves_at = when + REPEAT if is_leave and pressed.answers in (LEAVING, WAITING) else None
-        if self._leaves_at is not None or self._stops(key):
+        is_sure = pressed.answers in (LEAVING, WAITING) or (pressed.answers != "" and self.way.is_silent)
+        self._leaves_at = when + REPEAT if is_leave and is_sure else None
+        if self._leaves_at is not None or self._stops(key) or (is_leave and self._leaves_silence(key)):
             return
         self._pressed_at = when
         if isinstance(key, (Text, Paste)) or action_of(key) in BY_PLACE:
@@ -92,6 +94,17 @@ class Waiting:
                 self._ask(LEAVING if self.is_leaving else WAITING, key)
             else:
                 self.message = "keys wait for the host"
+
+    def _leaves_silence(self, key: Input) -> bool:
+        """Whether the user leaves a host that doesn't answer. Where something may be lost by that, one question is asked, and no more."""
+        if self.is_lost or not self.way.is_silent:
+            return False
+        unwritten = ", ".join(self.name(tag) for tag in self.tags if self.is_changed(tag))
+        if unwritten or self.deferred:
+            self._ask(f"{SILENT}: {unwritten or 'keys that wait'}", key)
+        else:
+            self._leaves_at = self.clock()
+        return True
 
     def _stops(self, key: Input) -> bool:
         """Whether a key stops a search that goes on."""
@@ -126,13 +139,15 @@ class Waiting:
             return True
         if self.is_lost or action == "help":
             return False
-        if self.vault.is_busy:
+        if self.vault.is_busy or (pressed.is_again and self._is_lock_held):
             return True
         if self._is_for_menu(key):
             return self.menu.goes_by_place and not self.focus.is_settled
         if self._are_windows_due or (action in BY_CARET and self.focus.tag in self._pasting):
             return True
         is_line = isinstance(key, (Text, Paste)) and "\n" in key.runes and self.focus is self.command
+        if action == "write" and (self.keeping.is_writing(self.active.tag) or not self.way.is_confirmed):
+            return True  # the write before it may ask
         if action in ASKING or is_line:
             return self._is_answer_due or (action in (None, "send") and self._lacks_text(self.active, "page_down"))
         window = self._window_by_place(key)

@@ -98,7 +98,7 @@ class Window:
 
     @property
     def dot(self) -> Tuple[int, int]:
-        return self.terminal.dot(self.tag)
+        return self.texts.dot(self.tag)
 
     @property
     def caret(self) -> int:
@@ -149,7 +149,9 @@ class Window:
     def update(self, is_busy: bool = False, rests: bool = False, turns: int = 0) -> None:
         """Follows what the host and the user did, and has the terminal load what is shown; while the user is busy only what he needs, and
         while he rests what he may turn to next. `turns` is how many page keys wait, as for `ask`."""
-        if self.is_open:
+        if self.is_open and self.texts.is_final:
+            self._follow_dot()
+        elif self.is_open:
             self._reach()
             self._follow_dot()
             self._load(is_busy, turns)
@@ -273,7 +275,7 @@ class Window:
             start, end = sorted((self.anchor, place))
         else:
             self.anchor, start, end = None, place, place
-        self.terminal.select(self.tag, start, end)
+        self.texts.select(self.tag, start, end)
 
     def beside(self, place: int, step: int) -> int:
         """The next place to the right (1) or to the left (-1), over runes that stand on another."""
