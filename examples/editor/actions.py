@@ -2,20 +2,17 @@
 from commands import Commands, line_at
 from find import Find
 from keys import Paste, Text
-from menus import Help, Menu
+from menus import Menu
 from moving import Moves
 from texts import COMMAND, GAP, MOST_RUNES
 from windows import Window
 
 LEAST_ROWS = 4  # rows of the least window, with its title
 TOO_LONG = f"the file would have more than {MOST_RUNES:,} characters"
-MOST_IN_ENTER = 8  # runes that may have come together with a typed newline; where there are more they were pasted
 
 
 class Actions(Commands, Moves):
     """The part of the editor that acts."""
-
-    EXTENDING = {"left", "right", "up", "down", "word_left", "word_right", "home", "end"}  # that select with Shift
 
     # ---- Typing
 
@@ -23,7 +20,7 @@ class Actions(Commands, Moves):
         window, runes, is_paste = self.focus, pressed.key.runes, isinstance(pressed.key, Paste)
         window.goal = window.anchor = None
         if window is not self.command:
-            self._type_in_file(window, runes, is_paste)
+            self._type_in_file(window, runes if is_paste else self.first_of(pressed, self._typed_at_once(window, runes)), is_paste)
             return
         ends_line = "\n" in runes
         if ends_line:
@@ -34,15 +31,21 @@ class Actions(Commands, Moves):
             self._acting = Text("\n")
             self._run_line()
 
+    def _typed_at_once(self, window: Window, runes: str) -> int:
+        """How many of typed runes act as one. They do what they do where they come one by one: a newline is a key of its own, and ends a
+        step of undo; and so does so much text."""
+        if runes.startswith("\n"):
+            return 1
+        return min(len(runes.partition("\n")[0]), self.log.room(window.tag, *window.dot))
+
     def _type_in_file(self, window: Window, runes: str, is_paste: bool) -> None:
         start, end = window.dot
         self.texts.left = runes
         if not self._may_go(window, "the same key again"):
             return
-        is_enter = not is_paste and runes.count("\n") == 1 and len(runes) <= MOST_IN_ENTER
-        if is_enter and self.indents and start == end:
-            runes = runes.replace("\n", "\n" + window.indentation(start))
-        if "\n" in runes and window.newline(start) == "\r\n":
+        if runes == "\n" and not is_paste and self.indents and start == end:
+            runes += window.targets.indentation()
+        if "\n" in runes and window.targets.newline() == "\r\n":
             runes = runes.replace("\n", "\r\n")
         if not self._has_room(len(runes)):
             return
@@ -76,9 +79,6 @@ class Actions(Commands, Moves):
         return self.is_sure(question)
 
     # ---- Actions: the screen
-
-    def do_help(self) -> None:
-        self.menu = Help()
 
     def do_switch(self) -> None:
         self.go_to(self.active if self.focus is self.command else self.command)
@@ -241,14 +241,11 @@ class Actions(Commands, Moves):
         self.focus.anchor = None
         self.texts.select(self.focus.tag, 0, self.focus.length)
 
-    def _erase(self, step: int) -> None:
-        window, (start, end) = self.focus, self.focus.dot
+    def _erase(self, start: int, end: int) -> None:
+        window = self.focus
         if start == end:
-            is_pair = window.read(start - 2, 2) == "\r\n" if step < 0 and start > 1 else False
-            place = window.beside(start, step) if step > 0 else max(0, start - (2 if is_pair else 1))
-            if place == start:
-                return
-            start, end = sorted((start, place))
+            return
+        if window.dot != (start, end):
             self.terminal.select(window.tag, start, end)
         if not self._may_go(window, "the same key again"):
             return
@@ -257,10 +254,10 @@ class Actions(Commands, Moves):
         window.anchor = None
 
     def do_erase_left(self) -> None:
-        self._erase(-1)
+        self._erase(*self.focus.targets.erased_left())
 
     def do_erase_right(self) -> None:
-        self._erase(1)
+        self._erase(*self.focus.targets.erased_right())
 
     # ---- Actions: taking back
 

@@ -6,10 +6,11 @@ from typing import Callable, Iterable, List, Optional, Sequence, Set, Tuple
 from actions import TOO_LONG, Actions
 from desk import Desk
 from keeping import Keeping, shown_name
-from keys import Input, Key, Mouse, Paste, Text
+from keys import PLACE, Input, Key, Mouse, Paste, Text
 from left import Left
 from lines import Numbers
 from link import SECONDS_TO_END
+from menus import Help
 from notes import OFFER, REPEAT, Notes, said
 from pointing import Pointer
 from sulgrevad import Refusal, SamError, Status, Terminal
@@ -17,21 +18,14 @@ from stream import CLEAN, CLOSE, DELNAME, MOVETO, NEWNAME, SETDOT, UNLOCK, UNLOC
 from texts import COMMAND, COMMAND_NAME, Texts
 from undo import Undo
 from vault import Vault
-from waiting import BY_PLACE, LEAVING, Pressed, Waiting, action_of, last_of
+from waiting import LEAVING, Pressed, Waiting, action_of, bound, last_of
 from way import Way
 from windows import ask
-
-# Actions that change no file: these go on without a host.
-READING = {
-    "help", "switch", "next_window", "menu", "split", "unsplit", "page_up", "page_down", "leave", "small", "redraw", "suspend",
-    "left", "right", "up", "down", "word_left", "word_right", "home", "end", "first", "last", "select_all", "snarf", "find", "look",
-    "search", "search_back",
-}  # fmt: skip
 
 
 def reads(key: Input) -> bool:
     """Whether a key changes no file."""
-    return isinstance(key, Mouse) or action_of(key) in READING
+    return isinstance(key, Mouse) or bound(key).reads
 
 
 WHY = {
@@ -63,9 +57,10 @@ class Editor(Desk, Waiting, Actions):
         told = {CLEAN: self._meet_clean, CLOSE: self._meet_close, MOVETO: self._meet_move, SETDOT: self._meet_dot}
         told.update({UNLOCK: self._meet_unlock, NEWNAME: self._meet_name, DELNAME: self._meet_name, UNLOCKFILE: self._meet_pasted})
         self.stream = Stream(terminal, self.texts, told)
-        self.texts.listeners = [self.log.hear, self.numbers.hear, self.keeping.hear_changes, self.hear_changes]
+        self.texts.listeners = [self.log.hear, self.numbers.hear, self.keeping.hear_changes, self.hear_changes, self.hear_run]
         self._known: Optional[List[int]] = None  # all files, since thousands take long to ask for; None where some came or went
         self.pointer, self.menu = Pointer(self), None
+        self.help: Optional[Help] = None  # what lies over all else
         self.is_lost = self.is_leaving = self.is_over = self.has_begun = False
         self.kept_here: Optional[List[str]] = None  # what was told of texts that were written here, as the host was lost
         self.wishes: List[str] = []  # what the screen is to do: "redraw", "suspend"
@@ -168,6 +163,7 @@ class Editor(Desk, Waiting, Actions):
 
     def _meet_unlock(self, _frame: Frame) -> None:
         self._sought, self._aside = None, ""
+        self.end_run()
 
     def _meet_pasted(self, frame: Frame) -> None:
         """The host has answered what locked a file. What it has pasted it has selected: the caret goes after that."""
@@ -342,6 +338,17 @@ class Editor(Desk, Waiting, Actions):
         if goes_on:
             self.deferred.appendleft(pressed)
 
+    def show_help(self) -> None:
+        self.help = Help()
+
+    def _act_in_help(self, pressed: Pressed) -> bool:
+        """What is pressed over the help. Returns whether the key is for the windows."""
+        self.notes.take(pressed.has_read)
+        goes_on = self.help.take(pressed.key)
+        if self.help.is_over:
+            self.help = None
+        return goes_on
+
     def _ask(self, question: str, key: Input) -> None:
         self._asked_by = last_of(key)
         self.notes.ask(question)
@@ -357,12 +364,12 @@ class Editor(Desk, Waiting, Actions):
         return False
 
     def _do(self, key: Key) -> None:
-        action = action_of(key)
-        if action is None:
+        binding = bound(key)
+        if not binding.action:
             self.message = f"{key.name} does nothing; F1 or ^G shows the keys"
             return
-        if action not in ("up", "down"):
+        if binding.action not in ("up", "down"):
             self.focus.goal = None
-        if action in BY_PLACE and not self.focus.is_open:
+        if binding.waits == PLACE and not self.focus.is_open:
             return
-        getattr(self, f"do_{action}")(*(["Shift-" in key.name] if action in self.EXTENDING else []))
+        getattr(self, f"do_{binding.action}")(*(["Shift-" in key.name] if binding.extends else []))
