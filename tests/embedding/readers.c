@@ -1,0 +1,272 @@
+/*
+ * readers: sessions of random events (pair.h), in which all readers are called after each event and each piece of bytes. No reader, nor
+ * _take_out, asks for memory (counted.h). Some sessions end in the midst, some stop at a wrong byte, the last is carried to its end. After
+ * each, what was freed is given back. It prints what it counted.
+ */
+#include "counted.h"
+
+#include "pair.h"
+
+enum { SESSIONS = 12, USER_EVENTS = 60, ROOM = 64, LAST_TAG = 65535 };
+
+/* What the readers have to find in one session or another. */
+enum mark {
+    NO_FILE,
+    NOT_OPEN,
+    PARTLY_LOADED,
+    LOADED,
+    A_GAP,
+    IN_HALF,
+    STOPPED,
+    EVENT_HELD,
+    LOCKED,
+    UNSENT,
+    REFUSED,
+    WRITTEN,
+    SAVED,
+    PATTERN,
+    SNARFED,
+    MARKS
+};
+static const char *const mark_names[MARKS] = {"no file",         "not open",       "partly loaded", "loaded",    "a gap",
+                                              "half a frame",    "stopped",        "held events",   "a lock",    "unsent runes",
+                                              "a refused event", "a written file", "a saved text",  "a pattern", "a snarfed text"};
+
+static bool is_met[MARKS];
+static unsigned long calls, before;
+
+static void note(enum mark mark, bool is)
+{
+    is_met[mark] = is_met[mark] || is;
+}
+
+/* The status of a reader, once it has asked for no memory. */
+static sam_status status_of(const char *call, sam_status status)
+{
+    if (asked != before) {
+        printf("%s asks for memory\n", call);
+        exit(1);
+    }
+    calls++;
+    return status;
+}
+#define READ(call) (before = asked, status_of(#call, call))
+
+static void read_finish(sam_status status)
+{
+    note(IN_HALF, status == SAM_TRUNCATED);
+    note(STOPPED, status == SAM_BAD_KIND);
+}
+
+static void read_host_file(uint16_t tag)
+{
+    uint8_t bytes[ROOM];
+    uint32_t place = pick(4), start = 0, end = 0;
+    size_t len = 0;
+    bool is = false;
+    READ(sam_host_has_file(&host, tag, &is));
+    READ(sam_host_name(&host, tag, bytes, ROOM, &len));
+    READ(sam_host_len(&host, tag, &end));
+    READ(sam_host_is_dirty(&host, tag, &is));
+    READ(sam_host_text(&host, tag, place, bytes, pick(ROOM), &len, &end));
+    READ(sam_host_dot(&host, tag, &start, &end));
+    note(SAVED, READ(sam_host_saved_len(&host, tag, &end)) == SAM_OK);
+    READ(sam_host_saved(&host, tag, place, bytes, ROOM, &len, &end));
+}
+
+static void read_host(void)
+{
+    uint16_t number = 0;
+    uint64_t taken = 0;
+    size_t count = 0;
+    bool is = false;
+    read_finish(READ(sam_host_finish(&host)));
+    READ(sam_host_pending(&host, &count));
+    READ(sam_host_is_done(&host, &is));
+    READ(sam_host_taken(&host, &taken));
+    READ(sam_host_version(&host, &number));
+    note(WRITTEN, READ(sam_host_next_written(&host, &number)) == SAM_OK);
+    READ(sam_host_tags(&host, &count));
+    for (uint16_t tag = 0; tag <= count; tag++)
+        read_host_file(tag);
+    read_host_file(LAST_TAG);
+}
+
+/* The texts of an open file, from a place on. */
+static void read_rasp(uint16_t tag, uint32_t place)
+{
+    uint8_t bytes[ROOM];
+    uint32_t runes[ROOM], count = 0, gaps = 0;
+    size_t len = 0;
+    READ(sam_term_read(&term, tag, place, runes, pick(ROOM), &count));
+    READ(sam_term_text(&term, tag, place, bytes, pick(ROOM), &len, &count));
+    READ(sam_term_bytes(&term, tag, place, place + pick(ROOM), &len, &gaps));
+    note(PARTLY_LOADED, len > 0 && gaps > 0);
+    note(LOADED, len > 0 && gaps == 0);
+    READ(sam_term_place(&term, tag, place, pick(ROOM), &count));
+    READ(sam_term_line(&term, tag, place, 1, &count));
+    note(A_GAP, READ(sam_term_first_gap(&term, tag, place, &gaps)) == SAM_OK);
+}
+
+static void read_term_file(uint16_t tag)
+{
+    uint8_t bytes[ROOM];
+    uint32_t start = 0, end = 0;
+    size_t len = 0;
+    bool is_known = false, is_open = false, is = false;
+    READ(sam_term_is_known(&term, tag, &is_known));
+    READ(sam_term_is_open(&term, tag, &is_open));
+    note(NO_FILE, !is_known);
+    note(NOT_OPEN, is_known && !is_open);
+    READ(sam_term_name(&term, tag, bytes, ROOM, &len));
+    READ(sam_term_is_dirty(&term, tag, &is));
+    READ(sam_term_is_changed(&term, tag, &is));
+    READ(sam_term_locked(&term, tag, &is));
+    note(LOCKED, is);
+    READ(sam_term_len(&term, tag, &end));
+    READ(sam_term_dot(&term, tag, &start, &end));
+    READ(sam_term_view_of(&term, tag, &start, &end));
+    read_rasp(tag, 0);
+    read_rasp(tag, pick(ROOM));
+}
+
+static void read_counts(void)
+{
+    uint64_t number = 0;
+    uint32_t runes = 0;
+    size_t count = 0;
+    READ(sam_term_pending(&term, &count));
+    READ(sam_term_events(&term, &number));
+    READ(sam_term_decided(&term, &number));
+    READ(sam_term_sent(&term, &number));
+    READ(sam_term_under_way(&term, &number));
+    READ(sam_term_unsent(&term, &runes));
+    note(UNSENT, runes > 0);
+    READ(sam_term_held(&term, &number));
+    note(EVENT_HELD, number > 0);
+}
+
+static void read_term(void)
+{
+    uint8_t bytes[ROOM];
+    uint64_t event = 0;
+    uint32_t runes = 0;
+    uint16_t number = 0;
+    size_t count = 0;
+    sam_status why;
+    bool is = false;
+    read_finish(READ(sam_term_finish(&term)));
+    read_counts();
+    note(REFUSED, READ(sam_term_next_refusal(&term, &event, &why)) == SAM_OK);
+    READ(sam_term_command_locked(&term, &is));
+    READ(sam_term_exited(&term, &is));
+    READ(sam_term_version(&term, &number));
+    READ(sam_term_current(&term, &number));
+    READ(sam_term_pattern(&term, bytes, ROOM, &count));
+    note(PATTERN, count > 0);
+    READ(sam_term_snarf_len(&term, &runes));
+    READ(sam_term_snarfed(&term, pick(4), bytes, ROOM, &count, &runes));
+    note(SNARFED, count > 0);
+    READ(sam_term_tags(&term, &count));
+    for (uint16_t tag = 0; tag <= count; tag++)
+        read_term_file(tag);
+    read_term_file(LAST_TAG);
+}
+
+static void read_all(void)
+{
+    read_host();
+    read_term();
+}
+
+static void do_thing(uint32_t kind, uint16_t tag, uint32_t a, uint32_t b, const char *text)
+{
+    act(kind, tag, a, b, text);
+    read_all();
+}
+
+/* Carries a piece of random length to the host, or to the terminal. */
+static void carry_piece(bool is_up)
+{
+    uint8_t piece[PIECE];
+    size_t room = 1 + pick(PIECE), count = 0;
+    if (is_up)
+        want("the terminal's bytes", READ(sam_term_take_out(&term, piece, room, &count)));
+    else
+        want("the host's bytes", READ(sam_host_take_out(&host, piece, room, &count)));
+    if (count > 0 && is_up)
+        feed_host(piece, count);
+    else if (count > 0)
+        feed_term(piece, count);
+    read_all();
+}
+
+static void begin(void)
+{
+    memset(copies, 0, sizeof copies);
+    make();
+    read_all();
+    do_thing(OFFER_VERSION, 0, 1, 0, ""); /* version 2, which asks for the names */
+    do_thing(OPEN_CMD, 0, 0, 0, "");
+    do_thing(OPEN, 1, 0, 0, "");
+    do_thing(VIEW, 1, 0, 20, "");
+}
+
+static void play(void)
+{
+    static const char *const texts[] = {"a", "\n", "x\xE2\x86\x92y\n", "s/a/bb/\n", ",x/l/c/L/\n", "f name\n"};
+    for (int i = 0; i < USER_EVENTS; i++) {
+        uint32_t kind = pick(KINDS), a = pick(40), b = pick(40);
+        uint16_t tag = (uint16_t)pick(FILES + 2);
+        do_thing(kind, tag, a, b, texts[pick(sizeof texts / sizeof texts[0])]);
+        while (pick(4) != 0)
+            carry_piece(pick(2));
+    }
+}
+
+/* Both sides stop at a byte that begins no frame, once they have taken the frame that may have come in half. */
+static void stop_both(void)
+{
+    static const uint8_t wrong[1] = {0};
+    while (sam_host_finish(&host) == SAM_TRUNCATED || sam_term_finish(&term) == SAM_TRUNCATED)
+        carry_piece(pick(2));
+    if (sam_host_feed(&host, wrong, 1) != SAM_BAD_KIND || sam_term_feed(&term, wrong, 1) != SAM_BAD_KIND)
+        fail("a wrong byte is taken", 0);
+    read_all();
+}
+
+/* A session of random events. The last ends with all carried. */
+static void live(unsigned session)
+{
+    long out = blocks;
+    state = session * 2654435769U + 88172645463325252U;
+    begin();
+    play();
+    if (session == SESSIONS) {
+        drain();
+        read_all();
+        end();
+    } else {
+        if (session % 2 == 0)
+            stop_both();
+        want("free the host", sam_host_free(&host));
+        want("free the terminal", sam_term_free(&term));
+    }
+    if (blocks != out)
+        fail("blocks are out after both are freed", (uint32_t)(blocks - out));
+}
+
+int main(void)
+{
+    setvbuf(stdout, NULL, _IONBF, 0);
+    for (unsigned session = 1; session <= SESSIONS; session++)
+        live(session);
+    for (int mark = 0; mark < MARKS; mark++) {
+        if (!is_met[mark]) {
+            printf("the readers have not met %s\n", mark_names[mark]);
+            return 1;
+        }
+    }
+    printf("%lu calls of readers, none asks for memory\n", calls);
+    return 0;
+}
