@@ -6,7 +6,7 @@
 
 #include "frames.h"
 
-enum { RUNES = 1000, FEW = 100, TAGS = 9 };
+enum { RUNES = 1000, FEW = 100, TAGS = 9, ROOM = 4096 };
 
 static void same(const char *what, unsigned long is, unsigned long should)
 {
@@ -16,9 +16,12 @@ static void same(const char *what, unsigned long is, unsigned long should)
     exit(1);
 }
 
-/* How often a side asks for memory as it takes this piece. */
+/* How often a side asks for memory as it takes this piece. What was pending is taken out before, so that its room is there. */
 static unsigned long host_asks(const struct piece *piece)
 {
+    uint8_t bytes[ROOM];
+    size_t count = 0;
+    want("pending bytes", sam_host_take_out(&host, bytes, ROOM, &count));
     unsigned long before = asked;
     want("a piece of messages", sam_host_feed(&host, piece->bytes, piece->len));
     return asked - before;
@@ -26,6 +29,9 @@ static unsigned long host_asks(const struct piece *piece)
 
 static unsigned long term_asks(const struct piece *piece)
 {
+    uint8_t bytes[ROOM];
+    size_t count = 0;
+    want("pending bytes", sam_term_take_out(&term, bytes, ROOM, &count));
     unsigned long before = asked;
     want("a piece of frames", sam_term_feed(&term, piece->bytes, piece->len));
     return asked - before;
@@ -80,7 +86,7 @@ static void open_gaps(uint16_t tag)
 {
     struct piece grown = told_range(HGROW, tag, 0, RUNES), known = told(HNEWNAME, tag), bound = told(HBINDNAME, tag);
     term_asks(&known);
-    same("a file is opened, with a rasp of nothing: the list of frames", term_asks(&bound), 1);
+    same("a file is opened, which has no runes", term_asks(&bound), 1);
     term_asks(&grown);
 }
 
@@ -90,8 +96,7 @@ static void free_both(void)
     want("free the terminal", sam_term_free(&term));
 }
 
-/* What an empty terminal is made of takes none but the room for the handle's own; of an empty host its list of files and the name of its
- * command file do, too. */
+/* An empty terminal takes its own room alone: its lists are empty. A host's list of files has the command file, which has a name. */
 static void make_both(void)
 {
     unsigned long before = asked;
@@ -103,7 +108,7 @@ static void make_both(void)
     free_both();
 }
 
-/* Two edits in one piece take as much as one: the list of messages, and that of edits. The text is lent for them as it is. */
+/* Two edits in one piece take as much as one: the list of messages, and that of edits. The text is edited where it stands. */
 static void edits(void)
 {
     struct piece one = cut_of(1, 0, 1), two = cut_of(1, 0, 1);
@@ -113,13 +118,15 @@ static void edits(void)
     same("two edits in one piece, beside one", host_asks(&two), alone);
 }
 
-/* An edit by itself that fits in the room of its text takes as much where the room is just enough, and where it is ample. */
+/* An edit by itself that fits in the room of its text takes as much where the room is just enough, and where it is ample: one more than a
+ * cut, for its own runes. */
 static void edit_alone(void)
 {
     struct piece one = cut_of(1, 0, 1), typed = type_of(1, 0, "x");
     show_host();
-    host_asks(&one);
+    unsigned long cut = host_asks(&one);
     unsigned long just = host_asks(&typed);
+    same("a rune that is typed, beside a cut", just, cut + 1);
     host_asks(&typed); /* for this one the text grows */
     same("a rune that has just the room, beside one of ample", just, host_asks(&typed));
 }
@@ -140,7 +147,7 @@ static void room_after_line(void)
     same("runes after a line, beside runes after a cut", first, host_asks(&typed));
 }
 
-/* Frames that only set a dot take the list of frames alone, and so does each after which nothing is composed. */
+/* Frames that open a file or set a dot take the list of frames alone. */
 static void frames(void)
 {
     struct piece one = told_range(HSETDOT, 1, 0, 1), two = one;
