@@ -92,7 +92,7 @@ static void read_host(void)
     read_host_file(LAST_TAG);
 }
 
-/* The texts of an open file, from a place on. */
+/* What is loaded of a file from a place on, if it is open. */
 static void read_rasp(uint16_t tag, uint32_t place)
 {
     uint8_t bytes[ROOM];
