@@ -20,7 +20,7 @@ pub use Rattle.sam_mesg.specs.declared.tmesg.Tmesg.{Tmesg}
 pub use Rattle.sam_queue.specs.History.{all_of, has_left, items_of, loads}
 pub use Rattle.sam_queue.specs.Views.{PostView, TakeView}
 pub use Rattle.sam_queue.specs.declared.rule.Entry.{Entry}
-pub use Rattle.sam_settle.specs.Apart.{Apart, Joined, Understood}
+pub use Rattle.sam_apart.specs.Apart.{Apart, Joined, Understood}
 pub use Rattle.sam_settle.specs.Headline.{Gives, Headline}
 pub use Rattle.sam_settle.specs.Settled.{AreFull, HasStreams, HasUsers, IsDrained, IsFull, IsWhole, MissesHost, count_gone, counts_left, left_in, left_of, as_list, stops_of}
 pub use Rattle.sam_settle.specs.Settling.{ComesTo, IsReady, IsScheduled, IsSource, LinesGive, schedule_from, world_from}
@@ -30,7 +30,7 @@ unfoldable pub use Rattle.sam_term.specs.Term.{act_of, all_wanted, flush_of, flu
 pub use Rattle.sam_term.specs.declared.event.Acted.{Acted}
 pub use Rattle.sam_term.specs.declared.event.UserEvent.{UserEvent}
 pub use Rattle.sam_term.specs.declared.fault.TermFault.{TermFault}
-pub use Rattle.sam_workers.proofs.ApartTurns.{InTurn, InTurn-append, IsFree, each_h, each_t, free_turn, in_turn}
+pub use Rattle.sam_apart.proofs.ApartTurns.{each_h}
 pub use Rattle.sam_workers.specs.Inputs.{bytes_of, frame_of_load, frames_in}
 pub use Rattle.sam_sides.specs.RealSides.{acted, sides, unless_refused}
 pub use Rattle.sam_workers.specs.WorkerEnds.{AreEnds, HostStopped, IsForeign, IsFullUp, ReaderStopped, RefusesFrame, TermStopped, Told}
