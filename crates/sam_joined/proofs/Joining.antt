@@ -116,6 +116,10 @@ module _ (given : List (List ℕ × List ℕ)) (said : List UserEvent) (up down 
     downwards = rest_of host j.served.frames taken joined.world.down rest_down joined.downwards down_is;
   }
 
+  pub one_world : one_run.world ≡ joined.world
+  unfolding joined one_run
+  one_world = refl
+
   -- ## No fault
 
   no_fault_up : (why : StreamFault) → e.broken_by ≡ Some why → ⊥

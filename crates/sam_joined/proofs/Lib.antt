@@ -1,2 +1,3 @@
 pub mod Words
 pub mod Joining
+pub mod Carrying

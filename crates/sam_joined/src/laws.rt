@@ -2,19 +2,36 @@
 //!
 //! They speak of what a run of each endpoint comes to. `host_runs_serve`, `host_stops_serve`, `term_runs_lead` and `term_stops_lead` of
 //! sam_endpoint say that every run comes to it, whatever the calls and the pieces are and whenever memory is refused.
-ghost use Rattle.sam_joined.specs.Joined.{EndpointsJoin, NeitherStops};
+ghost use Rattle.sam_joined.specs.Joined.{CarriedAgree, EndpointsJoin, JoinedAreAsIfLocal, NeitherStops, NeverStuck};
 
 /// States that two endpoints, each of which took in the first of the bytes that the other handed out or has pending, are where one run of
 /// a world of the host's files leaves them. What is under way there is what stands between them: the bytes on their way, and what either
 /// endpoint keeps.
-#[tactic(auto, using(crate::proofs::Joining::one_run))]
 pub fn endpoints_join()
     ensures { EndpointsJoin }
 {}
 
 /// States that neither endpoint reads a fault in the other's stream or is refused by the other: it stops only where a count would pass
 /// 2^64-1.
-#[tactic(auto, using(crate::proofs::Joining::go_on))]
 pub fn neither_endpoint_stops()
     ensures { NeitherStops }
+{}
+
+/// States that where all bytes were carried, nothing waits and no rune is unsent, no lock is held, each loaded rune of an open file is the
+/// host's there, and both endpoints have the same files open. Neither holds half a frame.
+pub fn carried_endpoints_agree()
+    ensures { CarriedAgree }
+{}
+
+/// States that at any moment an open file that is not locked is shown as the events that have acted leave it in the editor without a
+/// network; these are all that the user put but those that are still held. Where all was carried, host and terminal are where they lead
+/// that editor, but for runes that are not loaded and for counts of messages.
+pub fn endpoints_are_as_if_local()
+    ensures { JoinedAreAsIfLocal }
+{}
+
+/// States that no order of calls leaves two endpoints stuck. Where all was carried and the terminal can't act, as after each call that ends
+/// well, nothing is held or locked and no request awaits its data, unless a count is full.
+pub fn endpoints_are_never_stuck()
+    ensures { NeverStuck }
 {}
