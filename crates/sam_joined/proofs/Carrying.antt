@@ -1,19 +1,17 @@
 -- Where all bytes were carried both sides agree; at any moment it is as if there were no network; and nothing is stuck.
-use Rattle.std.proofs.Common.{◌≡◌, refl, sym, ap, subst, ◌∙◌, inl, inr, ◌⊎◌, true≢false, ℕ, true, false, List, [], ◌∷◌, ◌++◌, map, Option, Some, None, Result, Ok, Err, append_assoc, append-nil, arith}
+use Rattle.std.proofs.Common.{◌≡◌, refl, sym, ap, subst, ◌∙◌, inl, inr, true≢false, ℕ, true, List, [], ◌++◌, map, Option, Some, None, append-nil, arith}
 use Rattle.std.proofs.lemmas.List.{append_cancel_left}
 use Rattle.std.proofs.lemmas.Option.{same_Some}
 use Rattle.sam_rasp.specs.Rasp.{Agrees}
 use Rattle.sam_text.specs.Files.{file_at}
 use Rattle.sam_mesg.specs.declared.hmesg.HFrame.{HFrame}
 use Rattle.sam_mesg.specs.declared.tmesg.Tmesg.{Tmesg}
-use Rattle.sam_frame.specs.Direction.{Direction, host, terminal}
+use Rattle.sam_frame.specs.Direction.{host, terminal}
 use Rattle.sam_frame.specs.Splitting.{Ends}
-use Rattle.sam_frame.specs.Stream.{stream_of, version_after, IsOpen}
-use Rattle.sam_term.specs.Term.{PlainTerminal, act_of, is_open, window_at}
+use Rattle.sam_frame.specs.Stream.{stream_of, version_after}
+use Rattle.sam_term.specs.Term.{PlainTerminal, is_open, window_at}
 unfoldable use Rattle.sam_term.specs.Term.{flush_of}
-use Rattle.sam_term.specs.Term.{flushed, if_countable}
 use Rattle.sam_term.specs.declared.event.UserEvent.{UserEvent}
-use Rattle.sam_term.specs.declared.event.Acted.TheVariants.{Idle, Locked}
 use Rattle.sam_endpoint.specs.HostEndpoints.{PlainHostEndpoint}
 use Rattle.sam_endpoint.specs.TermEndpoints.{PlainTermEndpoint, IsQuiet}
 use Rattle.sam_endpoint.specs.TermRuns.{frames_in}
@@ -22,19 +20,18 @@ use Rattle.sam_endpoint.specs.declared.fault.StreamFault.{StreamFault}
 use Rattle.std.proofs.Common.{option_map}
 use Rattle.sam_crossing.proofs.OrderLaws.{reached_in_order, quiet_means_agreement}
 use Rattle.sam_crossing.specs.RunOrder.{IsInOrder}
-use Rattle.sam_crossing.specs.World.{PlainWorld, SidesAgree, WasReached, after_compose, is_locked, is_quiet, new_world, run_of, step_of}
-use Rattle.sam_crossing.specs.declared.event.Event.{Event}
+use Rattle.sam_crossing.specs.World.{PlainWorld, WasReached, is_locked, is_quiet, step_of}
 use Rattle.sam_crossing.specs.declared.event.Event.TheVariants.{User, Act, Flush, HostTake, TermTake}
 use Rattle.sam_local.proofs.Runs.{runs_are_as_if_local}
 use Rattle.sam_local.specs.Local.{PlainEditor, at_rest, carried_all}
 use Rattle.sam_local.specs.Worlds.{IsAsIfLocal, ShowsFile}
 use Rattle.sam_rest.proofs.Done.{stuck_is_done}
 use Rattle.sam_rest.proofs.Ends.{nothing-flushed}
-use Rattle.sam_rest.specs.Rest.{Applies, HasRoom, IsDone, IsStuck}
+use Rattle.sam_rest.specs.Rest.{HasRoom, IsDone, IsStuck}
 use Rattle.sam_apart.proofs.ApartLaws.{all_read}
 use Rattle.sam_apart.proofs.RealLaws.{up_sound, down_sound}
 use Rattle.sam_apart.specs.Apart.{Joined}
-use Rattle.sam_joined.specs.Joined.{AreAgreed, AreAsIfLocal, AreJoined, AreOneRun, IsAllCarried, both}
+use Rattle.sam_joined.specs.Joined.{AreAgreed, AreAsIfLocal, AreCarried, CanCross, AreOneRun, IsAllCarried, both}
 use Rattle.sam_sides.specs.declared.log.TermLog.{TermLog}
 use Rattle.sam_joined.proofs.Words.{entry_of}
 use Rattle.sam_joined.proofs.Joining.{joined, one_run, one_world, up_read, down_read, host_reads, term_reads}
@@ -82,71 +79,71 @@ stuck_both e g none quiet HostTake next a = absurd (grind (arith, a.stepped))
 stuck_both e g none quiet TermTake next a = absurd (grind (arith, a.stepped))
 
 module _ (given : List (List ℕ × List ℕ)) (said : List UserEvent) (up down : List ℕ) (e : PlainHostEndpoint) (g : PlainTermEndpoint)
-    (j : AreJoined given said up down e g) where
+    (c : AreCarried given said up down e g) (x : CanCross c) where
   abbrev run : AreOneRun given said up down e g
-  run = one_run given said up down e g j
+  run = one_run given said up down e g c x
 
   abbrev entries : List TermLog
-  entries = map entry_of j.did.steps
+  entries = map entry_of c.did.steps
 
-  abbrev two : Joined given entries e.host g.term j.did.composed j.served.answered j.served.frames (frames_in j.did.steps)
-  two = joined given said up down e g j
+  abbrev two : Joined given entries e.host g.term c.did.composed c.served.answered c.served.frames (frames_in c.did.steps)
+  two = joined given said up down e g c x
 
   in_order : IsInOrder run.world
-  in_order = reached_in_order given run.world j.given_fit (run.events, run.run)
+  in_order = reached_in_order given run.world c.given_fit (run.events, run.run)
 
   local : IsAsIfLocal given said run.world
-  local = subst (λ (events : List UserEvent). IsAsIfLocal given events run.world) run.users (runs_are_as_if_local given run.events run.world j.given_fit run.run)
+  local = subst (λ (events : List UserEvent). IsAsIfLocal given events run.world) run.users (runs_are_as_if_local given run.events run.world c.given_fit run.run)
 
   -- ## All is carried
 
-  module _ (c : IsAllCarried up down e g) where
-    whole_up : stream_of terminal j.did.composed ≡ stream_of terminal (j.served.answered ++ e.waiting) ++ e.framer.bytes
-    whole_up = all_came _ (stream_of terminal (j.served.answered ++ e.waiting)) e.framer.bytes up (stream_of terminal g.unwritten)
-        (up_read given said up down e g j) c.none_up (ap (λ (ms : List Tmesg). stream_of terminal ms) c.term_idle.unwritten)
+  module _ (all : IsAllCarried up down e g) where
+    whole_up : stream_of terminal c.did.composed ≡ stream_of terminal (c.served.answered ++ e.waiting) ++ e.framer.bytes
+    whole_up = all_came _ (stream_of terminal (c.served.answered ++ e.waiting)) e.framer.bytes up (stream_of terminal g.unwritten)
+        (up_read given said up down e g c x) all.none_up (ap (λ (ms : List Tmesg). stream_of terminal ms) all.term_idle.unwritten)
 
-    whole_down : stream_of host j.served.frames ≡ stream_of host (frames_in j.did.steps ++ g.waiting) ++ g.framer.bytes
-    whole_down = all_came _ (stream_of host (frames_in j.did.steps ++ g.waiting)) g.framer.bytes down (stream_of host e.unwritten)
-        (down_read given said up down e g j) c.none_down (ap (λ (frames : List HFrame). stream_of host frames) c.host_idle.unwritten)
+    whole_down : stream_of host c.served.frames ≡ stream_of host (frames_in c.did.steps ++ g.waiting) ++ g.framer.bytes
+    whole_down = all_came _ (stream_of host (frames_in c.did.steps ++ g.waiting)) g.framer.bytes down (stream_of host e.unwritten)
+        (down_read given said up down e g c x) all.none_down (ap (λ (frames : List HFrame). stream_of host frames) all.host_idle.unwritten)
 
-    read_up : j.served.answered ++ e.waiting ≡ j.did.composed
-    read_up = all_read terminal up_sound j.did.composed (j.served.answered ++ e.waiting) e.framer.bytes two.composed_in_turn j.served.reads.splits.fit whole_up
-        (subst (λ (o : Option StreamFault). Ends terminal (version_after terminal 1 (j.served.answered ++ e.waiting)) e.framer.bytes (option_map mesg_fault o))
-        (host_reads given said up down e g j) j.served.reads.ends)
+    read_up : c.served.answered ++ e.waiting ≡ c.did.composed
+    read_up = all_read terminal up_sound c.did.composed (c.served.answered ++ e.waiting) e.framer.bytes two.composed_in_turn c.served.reads.splits.fit whole_up
+        (subst (λ (o : Option StreamFault). Ends terminal (version_after terminal 1 (c.served.answered ++ e.waiting)) e.framer.bytes (option_map mesg_fault o))
+        (host_reads given said up down e g c x) c.served.reads.ends)
 
-    read_down : frames_in j.did.steps ++ g.waiting ≡ j.served.frames
-    read_down = all_read host down_sound j.served.frames (frames_in j.did.steps ++ g.waiting) g.framer.bytes two.answered_in_turn j.did.reads.splits.fit whole_down
-        (subst (λ (o : Option StreamFault). Ends host (version_after host 1 (frames_in j.did.steps ++ g.waiting)) g.framer.bytes (option_map mesg_fault o))
-        (term_reads given said up down e g j) j.did.reads.ends)
+    read_down : frames_in c.did.steps ++ g.waiting ≡ c.served.frames
+    read_down = all_read host down_sound c.served.frames (frames_in c.did.steps ++ g.waiting) g.framer.bytes two.answered_in_turn c.did.reads.splits.fit whole_down
+        (subst (λ (o : Option StreamFault). Ends host (version_after host 1 (frames_in c.did.steps ++ g.waiting)) g.framer.bytes (option_map mesg_fault o))
+        (term_reads given said up down e g c x) c.did.reads.ends)
 
     world_is : run.world ≡ both e g
     world_is = same_world run.world (both e g) run.host_is run.term_is
-        (ap (λ (w : PlainWorld). w.up) (one_world given said up down e g j) ∙ none_left j.did.composed (j.served.answered ++ e.waiting) j.served.answered e.waiting two.world.up refl c.host_idle.waiting read_up two.upwards)
-        (ap (λ (w : PlainWorld). w.down) (one_world given said up down e g j) ∙ none_left j.served.frames (frames_in j.did.steps ++ g.waiting) (frames_in j.did.steps) g.waiting two.world.down refl c.term_idle.waiting read_down two.downwards)
+        (ap (λ (w : PlainWorld). w.up) (one_world given said up down e g c x) ∙ none_left c.did.composed (c.served.answered ++ e.waiting) c.served.answered e.waiting two.world.up refl all.host_idle.waiting read_up two.upwards)
+        (ap (λ (w : PlainWorld). w.down) (one_world given said up down e g c x) ∙ none_left c.served.frames (frames_in c.did.steps ++ g.waiting) (frames_in c.did.steps) g.waiting two.world.down refl all.term_idle.waiting read_down two.downwards)
 
     half_up : e.framer.bytes ≡ []
-    half_up = append_cancel_left (stream_of terminal j.did.composed) e.framer.bytes []
-        (sym (whole_up ∙ ap (λ (ms : List Tmesg). stream_of terminal ms ++ e.framer.bytes) read_up) ∙ sym (append-nil (stream_of terminal j.did.composed)))
+    half_up = append_cancel_left (stream_of terminal c.did.composed) e.framer.bytes []
+        (sym (whole_up ∙ ap (λ (ms : List Tmesg). stream_of terminal ms ++ e.framer.bytes) read_up) ∙ sym (append-nil (stream_of terminal c.did.composed)))
 
     half_down : g.framer.bytes ≡ []
-    half_down = append_cancel_left (stream_of host j.served.frames) g.framer.bytes []
-        (sym (whole_down ∙ ap (λ (frames : List HFrame). stream_of host frames ++ g.framer.bytes) read_down) ∙ sym (append-nil (stream_of host j.served.frames)))
+    half_down = append_cancel_left (stream_of host c.served.frames) g.framer.bytes []
+        (sym (whole_down ∙ ap (λ (frames : List HFrame). stream_of host frames ++ g.framer.bytes) read_down) ∙ sym (append-nil (stream_of host c.served.frames)))
 
     pub agrees : AreAgreed e g
     agrees = record {
-      agree = quiet_means_agreement (both e g) (subst IsInOrder world_is in_order) (quiet_both e g c.none_unsent);
+      agree = quiet_means_agreement (both e g) (subst IsInOrder world_is in_order) (quiet_both e g all.none_unsent);
       none_half_up = half_up;
       none_half_down = half_down;
     }
 
     rests : at_rest e.host g.term ≡ carried_all given local.acted
-    rests = subst (λ (w : PlainWorld). is_quiet w ≡ true → at_rest w.host w.term ≡ carried_all given local.acted) world_is local.quiet (quiet_both e g c.none_unsent)
+    rests = subst (λ (w : PlainWorld). is_quiet w ≡ true → at_rest w.host w.term ≡ carried_all given local.acted) world_is local.quiet (quiet_both e g all.none_unsent)
 
     was_reached : WasReached (both e g)
-    was_reached = record { given = given; limits = j.given_fit; reached = (run.events, run.run ∙ ap (λ (w : PlainWorld). Some w) world_is) }
+    was_reached = record { given = given; limits = c.given_fit; reached = (run.events, run.run ∙ ap (λ (w : PlainWorld). Some w) world_is) }
 
     pub never_stuck : IsQuiet g.term → HasRoom (both e g) → IsDone (both e g)
-    never_stuck quiet room = stuck_is_done (both e g) was_reached room (stuck_both e g c.none_unsent quiet)
+    never_stuck quiet room = stuck_is_done (both e g) was_reached room (stuck_both e g all.none_unsent quiet)
 
   -- ## At any moment
 

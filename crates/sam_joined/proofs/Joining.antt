@@ -1,5 +1,5 @@
 -- Two endpoints that carry each other's bytes are one run, read no fault and stop for nothing but a full count.
-use Rattle.std.proofs.Common.{◌≡◌, refl, sym, ap, subst, ◌∙◌, inl, inr, ◌⊎◌, ℕ, List, [], ◌∷◌, ◌++◌, map, Option, Some, None, Err, option_map, append_assoc, arith}
+use Rattle.std.proofs.Common.{◌≡◌, refl, sym, ap, subst, ◌∙◌, inl, inr, ℕ, List, [], ◌∷◌, ◌++◌, map, Option, Some, None, Err, option_map, append_assoc, arith}
 use Rattle.sam_mesg.specs.TerminalKinds.{FitsT}
 use Rattle.sam_mesg.specs.declared.hmesg.HFrame.{HFrame}
 use Rattle.sam_mesg.specs.declared.tmesg.Tmesg.{Tmesg}
@@ -33,7 +33,7 @@ use Rattle.sam_apart.proofs.ApartLaws.{joins, understood, no_fault}
 use Rattle.sam_apart.proofs.ApartTurns.{each_t, front_fits}
 use Rattle.sam_apart.proofs.RealLaws.{up_sound, down_sound}
 use Rattle.sam_apart.specs.Apart.{Apart, Joined, Understood}
-use Rattle.sam_joined.specs.Joined.{AreJoined, AreOneRun, GoOn}
+use Rattle.sam_joined.specs.Joined.{AreCarried, CanCross, AreOneRun, GoOn}
 use Rattle.sam_joined.proofs.Words.{entry_of, serves_runs, leads_runs, users_logged, parts_of, read_of, rest_of, behind}
 
 none_of : {A : Type 0} (o : Option A) → ((x : A) → o ≡ Some x → ⊥) → o ≡ None
@@ -47,15 +47,15 @@ next_first : (all front waiting : List Tmesg) (m : Tmesg) (rest : List Tmesg) (h
 next_first all front waiting m rest half way last first bytes = grind (arith, append_assoc)
 
 module _ (given : List (List ℕ × List ℕ)) (said : List UserEvent) (up down : List ℕ) (e : PlainHostEndpoint) (g : PlainTermEndpoint)
-    (j : AreJoined given said up down e g) where
+    (c : AreCarried given said up down e g) (x : CanCross c) where
   abbrev entries : List TermLog
-  entries = map entry_of j.did.steps
+  entries = map entry_of c.did.steps
 
   abbrev handled : List Tmesg
-  handled = j.served.answered
+  handled = c.served.answered
 
   abbrev taken : List HFrame
-  taken = frames_in j.did.steps
+  taken = frames_in c.did.steps
 
   abbrev passed : List HFrame
   passed = taken ++ g.waiting
@@ -68,52 +68,52 @@ module _ (given : List (List ℕ × List ℕ)) (said : List UserEvent) (up down 
   abbrev rest_down : List ℕ
   rest_down = ((stream_of host g.waiting ++ g.framer.bytes) ++ down) ++ stream_of host e.unwritten
 
-  up_is : stream_of terminal j.did.composed ≡ stream_of terminal handled ++ rest_up
-  up_is = parts_of _ (j.went_up ++ g.pending_bytes) j.came_up (stream_of terminal handled) (stream_of terminal e.waiting) e.framer.bytes up _ j.did.bytes j.upwards
-      (j.served.reads.splits.whole ∙ ap (λ (s : List ℕ). s ++ e.framer.bytes) (stream_of-append terminal handled e.waiting))
+  up_is : stream_of terminal c.did.composed ≡ stream_of terminal handled ++ rest_up
+  up_is = parts_of _ (c.went_up ++ g.pending_bytes) c.came_up (stream_of terminal handled) (stream_of terminal e.waiting) e.framer.bytes up _ c.did.bytes c.upwards
+      (c.served.reads.splits.whole ∙ ap (λ (s : List ℕ). s ++ e.framer.bytes) (stream_of-append terminal handled e.waiting))
 
-  down_is : stream_of host j.served.frames ≡ stream_of host taken ++ rest_down
-  down_is = parts_of _ (j.went_down ++ e.pending_bytes) j.came_down (stream_of host taken) (stream_of host g.waiting) g.framer.bytes down _ j.served.bytes j.downwards
-      (j.did.reads.splits.whole ∙ ap (λ (s : List ℕ). s ++ g.framer.bytes) (stream_of-append host taken g.waiting))
+  down_is : stream_of host c.served.frames ≡ stream_of host taken ++ rest_down
+  down_is = parts_of _ (c.went_down ++ e.pending_bytes) c.came_down (stream_of host taken) (stream_of host g.waiting) g.framer.bytes down _ c.served.bytes c.downwards
+      (c.did.reads.splits.whole ∙ ap (λ (s : List ℕ). s ++ g.framer.bytes) (stream_of-append host taken g.waiting))
 
-  pub up_read : stream_of terminal j.did.composed ≡ (stream_of terminal (handled ++ e.waiting) ++ e.framer.bytes) ++ (up ++ stream_of terminal g.unwritten)
-  up_read = read_of _ (j.went_up ++ g.pending_bytes) j.came_up (stream_of terminal (handled ++ e.waiting)) e.framer.bytes up _ j.did.bytes j.upwards j.served.reads.splits.whole
+  pub up_read : stream_of terminal c.did.composed ≡ (stream_of terminal (handled ++ e.waiting) ++ e.framer.bytes) ++ (up ++ stream_of terminal g.unwritten)
+  up_read = read_of _ (c.went_up ++ g.pending_bytes) c.came_up (stream_of terminal (handled ++ e.waiting)) e.framer.bytes up _ c.did.bytes c.upwards c.served.reads.splits.whole
 
-  pub down_read : stream_of host j.served.frames ≡ (stream_of host passed ++ g.framer.bytes) ++ (down ++ stream_of host e.unwritten)
-  down_read = read_of _ (j.went_down ++ e.pending_bytes) j.came_down (stream_of host passed) g.framer.bytes down _ j.served.bytes j.downwards j.did.reads.splits.whole
+  pub down_read : stream_of host c.served.frames ≡ (stream_of host passed ++ g.framer.bytes) ++ (down ++ stream_of host e.unwritten)
+  down_read = read_of _ (c.went_down ++ e.pending_bytes) c.came_down (stream_of host passed) g.framer.bytes down _ c.served.bytes c.downwards c.did.reads.splits.whole
 
   -- ## One run
 
-  apart : Apart given entries e.host g.term j.did.composed handled j.served.frames passed taken
+  apart : Apart given entries e.host g.term c.did.composed handled c.served.frames passed taken
   apart = record {
-    given_fit = j.given_fit;
-    host_runs = serves_runs handled (new_host given) e.host j.served.frames j.served.writes j.served.serves;
-    term_runs = leads_runs j.did.steps new_terminal g.term j.did.composed j.did.leads;
-    composed_fit = j.messages_fit;
-    answers_fit = j.frames_fit;
-    handled_fit = front_fits terminal 1 handled e.waiting j.served.reads.splits.fit;
-    passed_fit = j.did.reads.splits.fit;
+    given_fit = c.given_fit;
+    host_runs = serves_runs handled (new_host given) e.host c.served.frames c.served.writes c.served.serves;
+    term_runs = leads_runs c.did.steps new_terminal g.term c.did.composed c.did.leads;
+    composed_fit = x.messages;
+    answers_fit = x.frames;
+    handled_fit = front_fits terminal 1 handled e.waiting c.served.reads.splits.fit;
+    passed_fit = c.did.reads.splits.fit;
     up = (rest_up, up_is);
     down = (g.framer.bytes ++ (down ++ stream_of host e.unwritten), down_read ∙ append_assoc (stream_of host passed) g.framer.bytes (down ++ stream_of host e.unwritten));
     passing = record { rest = g.waiting; is = refl };
   }
 
-  pub joined : Joined given entries e.host g.term j.did.composed handled j.served.frames taken
-  joined = joins given entries e.host g.term j.did.composed handled j.served.frames passed taken apart
+  pub joined : Joined given entries e.host g.term c.did.composed handled c.served.frames taken
+  joined = joins given entries e.host g.term c.did.composed handled c.served.frames passed taken apart
 
-  knows : Understood e.host g.term j.did.composed handled j.served.frames passed taken
-  knows = understood given entries e.host g.term j.did.composed handled j.served.frames passed taken apart
+  knows : Understood e.host g.term c.did.composed handled c.served.frames passed taken
+  knows = understood given entries e.host g.term c.did.composed handled c.served.frames passed taken apart
 
   pub one_run : AreOneRun given said up down e g
   one_run = record {
     events = merged entries e.host.taken;
     world = joined.world;
     run = joined.run;
-    users = joined.users_are ∙ (users_logged j.did.steps ∙ j.did.given);
+    users = joined.users_are ∙ (users_logged c.did.steps ∙ c.did.given);
     host_is = joined.host_is;
     term_is = joined.term_is;
-    upwards = rest_of terminal j.did.composed handled joined.world.up rest_up joined.upwards up_is;
-    downwards = rest_of host j.served.frames taken joined.world.down rest_down joined.downwards down_is;
+    upwards = rest_of terminal c.did.composed handled joined.world.up rest_up joined.upwards up_is;
+    downwards = rest_of host c.served.frames taken joined.world.down rest_down joined.downwards down_is;
   }
 
   pub one_world : one_run.world ≡ joined.world
@@ -124,15 +124,15 @@ module _ (given : List (List ℕ × List ℕ)) (said : List UserEvent) (up down 
 
   no_fault_up : (why : StreamFault) → e.broken_by ≡ Some why → ⊥
   no_fault_up why is =
-      no_fault terminal up_sound j.did.composed (handled ++ e.waiting) e.framer.bytes (up ++ stream_of terminal g.unwritten) (mesg_fault why)
-      joined.composed_in_turn j.served.reads.splits.fit up_read
-      (subst (λ (o : Option StreamFault). Ends terminal (version_after terminal 1 (handled ++ e.waiting)) e.framer.bytes (option_map mesg_fault o)) is j.served.reads.ends)
+      no_fault terminal up_sound c.did.composed (handled ++ e.waiting) e.framer.bytes (up ++ stream_of terminal g.unwritten) (mesg_fault why)
+      joined.composed_in_turn c.served.reads.splits.fit up_read
+      (subst (λ (o : Option StreamFault). Ends terminal (version_after terminal 1 (handled ++ e.waiting)) e.framer.bytes (option_map mesg_fault o)) is c.served.reads.ends)
 
   no_fault_down : (why : StreamFault) → g.broken_by ≡ Some why → ⊥
   no_fault_down why is =
-      no_fault host down_sound j.served.frames passed g.framer.bytes (down ++ stream_of host e.unwritten) (mesg_fault why)
-      joined.answered_in_turn j.did.reads.splits.fit down_read
-      (subst (λ (o : Option StreamFault). Ends host (version_after host 1 passed) g.framer.bytes (option_map mesg_fault o)) is j.did.reads.ends)
+      no_fault host down_sound c.served.frames passed g.framer.bytes (down ++ stream_of host e.unwritten) (mesg_fault why)
+      joined.answered_in_turn c.did.reads.splits.fit down_read
+      (subst (λ (o : Option StreamFault). Ends host (version_after host 1 passed) g.framer.bytes (option_map mesg_fault o)) is c.did.reads.ends)
 
   pub host_reads : e.broken_by ≡ None
   host_reads = none_of e.broken_by no_fault_up
@@ -145,10 +145,10 @@ module _ (given : List (List ℕ × List ℕ)) (said : List UserEvent) (up down 
   host_full : (m : Tmesg) (rest : List Tmesg) (why : HostFault) → e.waiting ≡ m ∷ rest → answer e.host m ≡ Err why → why ≡ host_fault.CountFull
   host_full m rest why first refused =
       let fit : Each (FitsT 2) (handled ++ m ∷ rest) =
-      subst (λ (waiting : List Tmesg). Each (FitsT 2) (handled ++ waiting)) first (each_t 1 (handled ++ e.waiting) j.served.reads.splits.fit) in
+      subst (λ (waiting : List Tmesg). Each (FitsT 2) (handled ++ waiting)) first (each_t 1 (handled ++ e.waiting) c.served.reads.splits.fit) in
       knows.host_stops_for_a_count m (((stream_of terminal rest ++ e.framer.bytes) ++ up) ++ stream_of terminal g.unwritten) why
       (behind (FitsT 2) handled rest m fit)
-      (next_first j.did.composed handled e.waiting m rest e.framer.bytes up (stream_of terminal g.unwritten) first up_is)
+      (next_first c.did.composed handled e.waiting m rest e.framer.bytes up (stream_of terminal g.unwritten) first up_is)
       refused
 
   term_full : (frame : HFrame) (rest : List HFrame) (why : TermFault) → g.waiting ≡ frame ∷ rest → take_of g.term frame ≡ Err why → why ≡ term_fault.CountFull
@@ -157,11 +157,11 @@ module _ (given : List (List ℕ × List ℕ)) (said : List UserEvent) (up down 
       record { rest = rest; is = ap (λ (waiting : List HFrame). taken ++ waiting) first ∙ sym (append_assoc taken (frame ∷ []) rest) } in
       knows.terminal_stops_for_a_count frame why begins refused
 
-  host_stops : (why : HostStop) → HostHasStopped e why → why ≡ host_stop.Refused host_fault.CountFull
+  pub host_stops : (why : HostStop) → HostHasStopped e why → why ≡ host_stop.Refused host_fault.CountFull
   host_stops (host_stop.Stream why) (idle, is) = absurd (no_fault_up why is)
   host_stops (host_stop.Refused why) (m, rest, first, refused, none) = ap (λ (w : HostFault). host_stop.Refused w) (host_full m rest why first refused)
 
-  term_stops : (why : TermStop) → TermHasStopped g why → why ≡ term_stop.Refused term_fault.CountFull
+  pub term_stops : (why : TermStop) → TermHasStopped g why → why ≡ term_stop.Refused term_fault.CountFull
   term_stops (term_stop.Stream why) (idle, is) = absurd (no_fault_down why is)
   term_stops (term_stop.Refused why) (inl (frame, rest, first, refused, none)) = ap (λ (w : TermFault). term_stop.Refused w) (term_full frame rest why first refused)
   term_stops (term_stop.Refused why) (inr (done, inl refused)) = ap (λ (w : TermFault). term_stop.Refused w) (refused_act g.term why refused)

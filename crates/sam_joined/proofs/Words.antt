@@ -1,15 +1,15 @@
 -- What the runs of two endpoints come to, in the words of two sides that worked apart.
-use Rattle.std.proofs.Common.{◌≡◌, refl, sym, ap, ◌∙◌, ℕ, List, [], ◌∷◌, ◌++◌, map, Result, Ok, Err, append_assoc, arith}
+use Rattle.std.proofs.Common.{◌≡◌, refl, sym, ap, ◌∙◌, ℕ, List, [], ◌∷◌, ◌++◌, map, Result, append_assoc, arith}
 use Rattle.std.proofs.lemmas.List.{append_cancel_left}
 use Rattle.sam_mesg.specs.declared.hmesg.HFrame.{HFrame}
 use Rattle.sam_mesg.specs.declared.tmesg.Tmesg.{Tmesg}
 use Rattle.sam_frame.proofs.Fronts.{stream_of-append}
 use Rattle.sam_frame.specs.Direction.{Direction}
 use Rattle.sam_frame.specs.Stream.{stream_of}
-use Rattle.sam_host.specs.Host.{PlainHost, answer}
+use Rattle.sam_host.specs.Host.{PlainHost}
 use Rattle.sam_host.specs.declared.fault.HostFault.{HostFault}
 use Rattle.sam_term.specs.Fitting.{composed_in}
-use Rattle.sam_term.specs.Term.{Made, PlainTerminal, act_of, flush_of, take_of}
+use Rattle.sam_term.specs.Term.{Made, PlainTerminal}
 use Rattle.sam_term.specs.declared.event.Acted.{Acted}
 use Rattle.sam_term.specs.declared.event.Acted.TheVariants.{Idle, Locked, Done, Refused}
 use Rattle.sam_term.specs.declared.event.UserEvent.{UserEvent}

@@ -31,9 +31,8 @@ use Rattle.sam_rest.specs.Rest.{HasRoom, IsDone}
 -- A host endpoint that began with these files took in the bytes `came_up` and handed out `went_down`. A terminal endpoint, at which the
 -- user did all of `said`, took in `came_down` and handed out `went_up`. All that the terminal endpoint handed out, or has pending, is what
 -- the host endpoint took in, and then what is on its way up; and likewise down. What is pending is counted, since a program may show it to
--- the other endpoint before it takes it out.
--- Each message and each frame is a value of its type and can be written, as all those of an endpoint are
-pub record AreJoined (given : List (List ℕ × List ℕ)) (said : List UserEvent) (up down : List ℕ)
+-- the other endpoint before it takes it out
+pub record AreCarried (given : List (List ℕ × List ℕ)) (said : List UserEvent) (up down : List ℕ)
     (e : PlainHostEndpoint) (g : PlainTermEndpoint) : Type 0 where
   pub came_up : List ℕ
   pub went_down : List ℕ
@@ -44,10 +43,15 @@ pub record AreJoined (given : List (List ℕ × List ℕ)) (said : List UserEven
   pub given_fit : AreGiven given
   pub served : HasServed (new_host given) came_up went_down written e
   pub did : HasDone came_down said went_up refused g
-  pub frames_fit : Each (FitsH 2) served.frames
-  pub messages_fit : Each (FitsT 2) did.composed
   pub upwards : went_up ++ g.pending_bytes ≡ came_up ++ up
   pub downwards : went_down ++ e.pending_bytes ≡ came_down ++ down
+
+-- Each frame that the host answered, and each message that the terminal composed, is a value of its type and can be written, as all those
+-- of endpoints are: its numbers have their widths, and its text is runes and within its limit
+pub record CanCross {given : List (List ℕ × List ℕ)} {said : List UserEvent} {up down : List ℕ} {e : PlainHostEndpoint}
+    {g : PlainTermEndpoint} (c : AreCarried given said up down e g) : Type 0 where
+  pub frames : Each (FitsH 2) c.served.frames
+  pub messages : Each (FitsT 2) c.did.composed
 
 -- the two sides, with nothing between them
 abbrev pub both : PlainHostEndpoint → PlainTermEndpoint → PlainWorld
@@ -105,25 +109,25 @@ pub record AreAsIfLocal (given : List (List ℕ × List ℕ)) (said : List UserE
 abbrev pub EndpointsJoin : Type 0
 EndpointsJoin =
     (given : List (List ℕ × List ℕ)) (said : List UserEvent) (up down : List ℕ) (e : PlainHostEndpoint) (g : PlainTermEndpoint)
-    → AreJoined given said up down e g → AreOneRun given said up down e g
+    → (c : AreCarried given said up down e g) → CanCross c → AreOneRun given said up down e g
 
 abbrev pub NeitherStops : Type 0
 NeitherStops =
     (given : List (List ℕ × List ℕ)) (said : List UserEvent) (up down : List ℕ) (e : PlainHostEndpoint) (g : PlainTermEndpoint)
-    → AreJoined given said up down e g → GoOn e g
+    → (c : AreCarried given said up down e g) → CanCross c → GoOn e g
 
 abbrev pub CarriedAgree : Type 0
 CarriedAgree =
     (given : List (List ℕ × List ℕ)) (said : List UserEvent) (up down : List ℕ) (e : PlainHostEndpoint) (g : PlainTermEndpoint)
-    → AreJoined given said up down e g → IsAllCarried up down e g → AreAgreed e g
+    → (c : AreCarried given said up down e g) → CanCross c → IsAllCarried up down e g → AreAgreed e g
 
 abbrev pub JoinedAreAsIfLocal : Type 0
 JoinedAreAsIfLocal =
     (given : List (List ℕ × List ℕ)) (said : List UserEvent) (up down : List ℕ) (e : PlainHostEndpoint) (g : PlainTermEndpoint)
-    → AreJoined given said up down e g → AreAsIfLocal given said up down e g
+    → (c : AreCarried given said up down e g) → CanCross c → AreAsIfLocal given said up down e g
 
 -- where all is carried and the terminal can't act, which each call that ends well leaves so, all is done
 abbrev pub NeverStuck : Type 0
 NeverStuck =
     (given : List (List ℕ × List ℕ)) (said : List UserEvent) (up down : List ℕ) (e : PlainHostEndpoint) (g : PlainTermEndpoint)
-    → AreJoined given said up down e g → IsAllCarried up down e g → IsQuiet g.term → HasRoom (both e g) → IsDone (both e g)
+    → (c : AreCarried given said up down e g) → CanCross c → IsAllCarried up down e g → IsQuiet g.term → HasRoom (both e g) → IsDone (both e g)

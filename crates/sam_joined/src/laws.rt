@@ -1,8 +1,19 @@
 //! The laws of two endpoints, stated by the clauses of functions that do nothing.
 //!
-//! They speak of what a run of each endpoint comes to. `host_runs_serve`, `host_stops_serve`, `term_runs_lead` and `term_stops_lead` of
-//! sam_endpoint say that every run comes to it, whatever the calls and the pieces are and whenever memory is refused.
+//! Each but the first speaks of two endpoints between which bytes were carried (`AreCarried`). The first says that all calls come to this.
+//! They ask that the messages and frames are values of their types and can be written (`CanCross`), as all those of endpoints are; no
+//! clause of sam_endpoint says so.
+ghost use Rattle.sam_joined.specs.Calls.{CallsAreCarried, NoCallStopsTheTerminal, NoPieceStopsTheHost};
 ghost use Rattle.sam_joined.specs.Joined.{CarriedAgree, EndpointsJoin, JoinedAreAsIfLocal, NeitherStops, NeverStuck};
+
+/// States that whatever calls two endpoints get, in whatever pieces and whenever memory is refused, bytes were carried between them, as long
+/// as what came in at each is the first of what the other handed out or has pending. So it is, too, where a last call stops one of them,
+/// and then a count is full.
+pub fn calls_are_carried()
+    ensures carried { CallsAreCarried }
+    ensures host { NoPieceStopsTheHost }
+    ensures terminal { NoCallStopsTheTerminal }
+{}
 
 /// States that two endpoints, each of which took in the first of the bytes that the other handed out or has pending, are where one run of
 /// a world of the host's files leaves them. What is under way there is what stands between them: the bytes on their way, and what either
