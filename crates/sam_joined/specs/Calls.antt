@@ -18,8 +18,8 @@ use Rattle.sam_joined.specs.Joined.{AreCarried, CanCross}
 
 -- All bytes that the one handed out in its calls, or has pending, are those that came in with the calls of the other, and then those that
 -- are on their way
-pub record Carry (host_calls : List HostCall) (term_calls : List TermCall) (up down : List ℕ) (e : PlainHostEndpoint) (g : PlainTermEndpoint)
-    : Type 0 where
+pub record Carry (host_calls : List HostCall) (term_calls : List TermCall) (up down : List ℕ)
+    (e : PlainHostEndpoint) (g : PlainTermEndpoint) : Type 0 where
   pub upwards : flat_map went_up term_calls ++ g.pending_bytes ≡ flat_map came_up host_calls ++ up
   pub downwards : flat_map went_down host_calls ++ e.pending_bytes ≡ flat_map came_down term_calls ++ down
 

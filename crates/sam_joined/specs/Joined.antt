@@ -130,4 +130,5 @@ JoinedAreAsIfLocal =
 abbrev pub NeverStuck : Type 0
 NeverStuck =
     (given : List (List ℕ × List ℕ)) (said : List UserEvent) (up down : List ℕ) (e : PlainHostEndpoint) (g : PlainTermEndpoint)
-    → (c : AreCarried given said up down e g) → CanCross c → IsAllCarried up down e g → IsQuiet g.term → HasRoom (both e g) → IsDone (both e g)
+    → (c : AreCarried given said up down e g) → CanCross c → IsAllCarried up down e g
+    → IsQuiet g.term → HasRoom (both e g) → IsDone (both e g)

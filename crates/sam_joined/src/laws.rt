@@ -6,9 +6,9 @@
 ghost use Rattle.sam_joined.specs.Calls.{CallsAreCarried, NoCallStopsTheTerminal, NoPieceStopsTheHost};
 ghost use Rattle.sam_joined.specs.Joined.{CarriedAgree, EndpointsJoin, JoinedAreAsIfLocal, NeitherStops, NeverStuck};
 
-/// States that whatever calls two endpoints get, in whatever pieces and whenever memory is refused, bytes were carried between them, as long
-/// as what came in at each is the first of what the other handed out or has pending. So it is, too, where a last call stops one of them,
-/// and then a count is full.
+/// States that whatever calls two endpoints get, in whatever pieces and whenever memory is refused, bytes were carried between them, as
+/// long as what came in at each is the first of what the other handed out or has pending. So it is, too, where a last call stops one of
+/// them, and then a count is full.
 pub fn calls_are_carried()
     ensures carried { CallsAreCarried }
     ensures host { NoPieceStopsTheHost }
