@@ -1,12 +1,12 @@
-/* jobs.h: the jobs of the C program, and what they share. bench/README.md says what each does, and the file of plain Rust of the same
- * name, or plain.rs, does the same. */
+/* jobs.h: the jobs of the C program, and what they share. bench/README.md says what they are for. plain.rs names the function of plain Rust
+ * that does the same as each. */
 #ifndef JOBS_H
 #define JOBS_H
 
 #include "sulgrevad.h"
 
-/* What a job found: how many nanoseconds its work had a processor, without what was made ready for it, and a number that depends on what was
- * made. */
+/* What a job found: how many nanoseconds its work had a processor, without what was made ready for it, and a number that depends on what
+ * was made. */
 struct report {
     int64_t took;
     uint64_t check;

@@ -2,20 +2,17 @@
 from commands import Commands, line_at
 from find import Find
 from keys import Paste, Text
-from menus import Help, Menu
+from menus import Menu
 from moving import Moves
 from texts import COMMAND, GAP, MOST_RUNES
 from windows import Window
 
 LEAST_ROWS = 4  # rows of the least window, with its title
 TOO_LONG = f"the file would have more than {MOST_RUNES:,} characters"
-MOST_IN_ENTER = 8  # runes that may have come together with a typed newline; where there are more they were pasted
 
 
 class Actions(Commands, Moves):
     """The part of the editor that acts."""
-
-    EXTENDING = {"left", "right", "up", "down", "word_left", "word_right", "home", "end"}  # that select with Shift
 
     # ---- Typing
 
@@ -23,7 +20,7 @@ class Actions(Commands, Moves):
         window, runes, is_paste = self.focus, pressed.key.runes, isinstance(pressed.key, Paste)
         window.goal = window.anchor = None
         if window is not self.command:
-            self._type_in_file(window, runes, is_paste)
+            self._type_in_file(window, runes if is_paste else self.first_of(pressed, self._typed_at_once(window, runes)), is_paste)
             return
         ends_line = "\n" in runes
         if ends_line:
@@ -34,15 +31,21 @@ class Actions(Commands, Moves):
             self._acting = Text("\n")
             self._run_line()
 
+    def _typed_at_once(self, window: Window, runes: str) -> int:
+        """How many of typed runes act as one. They do what they do where they come one by one: a newline is a key of its own, and ends a
+        step of undo; and so does so much text."""
+        if runes.startswith("\n"):
+            return 1
+        return min(len(runes.partition("\n")[0]), self.log.room(window.tag, *window.dot))
+
     def _type_in_file(self, window: Window, runes: str, is_paste: bool) -> None:
         start, end = window.dot
         self.texts.left = runes
         if not self._may_go(window, "the same key again"):
             return
-        is_enter = not is_paste and runes.count("\n") == 1 and len(runes) <= MOST_IN_ENTER
-        if is_enter and self.indents and start == end:
-            runes = runes.replace("\n", "\n" + window.indentation(start))
-        if "\n" in runes and window.newline(start) == "\r\n":
+        if runes == "\n" and not is_paste and self.indents and start == end:
+            runes += window.targets.indentation()
+        if "\n" in runes and window.targets.newline() == "\r\n":
             runes = runes.replace("\n", "\r\n")
         if not self._has_room(len(runes)):
             return
@@ -63,9 +66,9 @@ class Actions(Commands, Moves):
         start, end = window.dot
         gaps = self.texts.read(window.tag, start, end - start).count(GAP) if window.tag != COMMAND else 0
         question = f"{gaps} characters of it are not loaded: ^Z can't bring them back. {key} goes on"
-        return gaps == 0 or self._is_kept_or_sure(window.tag, start, end, question)
+        return gaps == 0 or self.is_kept_or_sure(window.tag, start, end, question)
 
-    def _is_kept_or_sure(self, tag: int, start: int, end: int, question: str) -> bool:
+    def is_kept_or_sure(self, tag: int, start: int, end: int, question: str) -> bool:
         """Whether a text may go that is not loaded: the host keeps it for `^Z`, or the user is sure. Where the host doesn't keep it yet
         and can, it is told to, and this key acts again then."""
         if self.vault.has(tag, start, end):
@@ -76,9 +79,6 @@ class Actions(Commands, Moves):
         return self.is_sure(question)
 
     # ---- Actions: the screen
-
-    def do_help(self) -> None:
-        self.menu = Help()
 
     def do_switch(self) -> None:
         self.go_to(self.active if self.focus is self.command else self.command)
@@ -126,9 +126,15 @@ class Actions(Commands, Moves):
         self.terminal.new_file()
 
     def do_write(self) -> None:
-        if self.active is not self.command:
-            self.keeping.write(self.active.tag)
-            self.terminal.write(self.active.tag)
+        tag = self.active.tag
+        if self.active is self.command:
+            return
+        question = self.keeping.question(tag)
+        if question:
+            self.notes.forget(self.keeping.refusals[tag])
+        if not question or self.is_sure(question):
+            self.keeping.write(tag)
+            self.terminal.write(tag)
 
     def do_close(self) -> None:
         tag = self.focus.tag
@@ -139,6 +145,9 @@ class Actions(Commands, Moves):
                 self.keeping.let_go(tag)
             self._awaits_file = True
             self.terminal.close(tag)
+
+    def do_old(self) -> None:
+        self.left.begin()
 
     def do_leave(self) -> None:
         if self.is_lost:
@@ -169,6 +178,10 @@ class Actions(Commands, Moves):
             else:
                 self.message = "not for the clipboard of this screen: it is not all loaded"
 
+    def note_snarfed(self, text: str) -> None:
+        """The snarf buffer has another text than the user has cut or copied last."""
+        self._snarfed, self.cut_text = text, ""
+
     def do_cut(self) -> None:
         if self._goes("^X"):
             self._clip(is_cut=True)
@@ -176,7 +189,8 @@ class Actions(Commands, Moves):
 
     def do_snarf(self) -> None:
         self._clip()
-        self.terminal.snarf(self.focus.tag)
+        if not self.is_lost:
+            self.terminal.snarf(self.focus.tag)
 
     def do_paste(self) -> None:
         if self._has_room(len(self._snarfed)) and self._goes("^V"):
@@ -186,15 +200,24 @@ class Actions(Commands, Moves):
                 self._pasting.add(self.focus.tag)
 
     def do_look(self) -> None:
-        self.terminal.look(self.focus.tag)
+        if self.is_lost:
+            start, end = self.focus.dot
+            self.sought_here = self.focus.read(start, end - start)
+            Find(self).go_on(self.sought_here)
+        else:
+            self.terminal.look(self.focus.tag)
         self.focus.anchor = None
 
     def do_search(self) -> None:
-        self.terminal.search(self.focus.tag)
+        if self.is_lost:
+            Find(self).go_on(self.sought_here or self.terminal.pattern)
+        else:
+            self.terminal.search(self.focus.tag)
         self.focus.anchor = None
 
     def do_search_back(self) -> None:
-        self._sought_above = Find(self).go_back(self.terminal.pattern, self._sought_above if self._is_again else None)
+        pattern = self.sought_here or self.terminal.pattern
+        self._sought_above = Find(self).go_back(pattern, self._sought_above if self._is_again else None)
 
     def do_find(self) -> None:
         self.focus.anchor = None
@@ -216,16 +239,13 @@ class Actions(Commands, Moves):
 
     def do_select_all(self) -> None:
         self.focus.anchor = None
-        self.terminal.select(self.focus.tag, 0, self.focus.length)
+        self.texts.select(self.focus.tag, 0, self.focus.length)
 
-    def _erase(self, step: int) -> None:
-        window, (start, end) = self.focus, self.focus.dot
+    def _erase(self, start: int, end: int) -> None:
+        window = self.focus
         if start == end:
-            is_pair = window.read(start - 2, 2) == "\r\n" if step < 0 and start > 1 else False
-            place = window.beside(start, step) if step > 0 else max(0, start - (2 if is_pair else 1))
-            if place == start:
-                return
-            start, end = sorted((start, place))
+            return
+        if window.dot != (start, end):
             self.terminal.select(window.tag, start, end)
         if not self._may_go(window, "the same key again"):
             return
@@ -234,10 +254,10 @@ class Actions(Commands, Moves):
         window.anchor = None
 
     def do_erase_left(self) -> None:
-        self._erase(-1)
+        self._erase(*self.focus.targets.erased_left())
 
     def do_erase_right(self) -> None:
-        self._erase(1)
+        self._erase(*self.focus.targets.erased_right())
 
     # ---- Actions: taking back
 
@@ -247,7 +267,7 @@ class Actions(Commands, Moves):
             return
         count = self.log.unknown(step)
         question = f"{count} characters of what goes are not loaded: ^R can't bring them again. ^Z again goes on"
-        if count == 0 or self._is_kept_or_sure(self.focus.tag, 0, self.focus.length, question):
+        if count == 0 or self.is_kept_or_sure(self.focus.tag, 0, self.focus.length, question):
             self.log.back(self.focus.tag)
 
     def do_redo(self) -> None:

@@ -1,6 +1,6 @@
 /* aside.c: saves texts that are not written.
  *
- * A changed text goes to NAME.sam-saved beside its file, or to a folder for temporary files where that can't be. It goes there when its
+ * A changed text goes to NAME.sam-saved beside its file, or to a folder of the user's own where that can't be. It goes there when its
  * file could not be written, when the user pauses, when its file is closed and when the session ends. It is removed once it is written.
  */
 #define _XOPEN_SOURCE 700
@@ -44,17 +44,22 @@ bool is_own(const struct copy *copy)
            now.st_mtim.tv_nsec == copy->written.tv_nsec;
 }
 
-void forget_aside(struct document *document)
+void forget_copy(struct copy *copy)
 {
-    free(document->aside.path);
-    document->aside.path = NULL;
+    free(copy->path);
+    copy->path = NULL;
 }
 
-void drop_aside(struct document *document)
+void drop_copy(struct copy *copy)
 {
-    if (is_own(&document->aside))
-        unlink(document->aside.path);
-    forget_aside(document);
+    if (is_own(copy))
+        unlink(copy->path);
+    forget_copy(copy);
+}
+
+bool is_seen_to(const struct copy *copy, const struct text *text)
+{
+    return copy->path != NULL && !is_own(copy) && is_same(copy->content, content_of(text));
 }
 
 /* What the text of a file is called in lines and in names of copies, in memory of its own: by its path, or where it has none by its
@@ -75,10 +80,10 @@ static int save_aside(struct session *session, uint16_t tag)
     if (is_own(aside) && (is_same(aside->content, content_of(&session->text)) || keep_again(&session->text, aside) == 0))
         return 0;
     char *name = name_of(session, tag);
-    int error = name == NULL ? ENOMEM : keep(&session->text, name, SAVED, &copy);
+    int error = name == NULL ? ENOMEM : keep(&session->text, name, name, SAVED, &copy);
     free(name);
     if (error == 0) {
-        drop_aside(&session->documents[tag]); /* an older text that could not be replaced */
+        drop_copy(&session->documents[tag].aside); /* an older text that could not be replaced */
         *aside = copy;
     }
     return error;
@@ -115,7 +120,7 @@ static bool save_closed(struct session *session, bool is_last)
         struct copy copy;
         int error, tries = 0;
         do
-            error = keep(&closed->text, closed->name, SAVED, &copy);
+            error = keep(&closed->text, closed->name, closed->name, SAVED, &copy);
         while (is_last && is_tried_again(error, &tries));
         if (error == 0)
             say("%s was not written; its text is in %s", closed->name, copy.path);
@@ -170,7 +175,7 @@ int secure(struct session *session, uint16_t tag, enum place *place)
         return 0;
     int error = take_text(session, tag);
     if (error == 0 && stands_in_its_file(session, tag)) {
-        drop_aside(&session->documents[tag]);
+        drop_copy(&session->documents[tag].aside);
         return 0;
     }
     *place = ASIDE;
@@ -194,7 +199,7 @@ bool save_changed(struct session *session)
         document->is_reported = error != 0;
         all &= error == 0;
     }
-    return all;
+    return keep_cut(session) && all;
 }
 
 struct document *owner_at(struct session *session, const char *path)
@@ -299,7 +304,7 @@ void forget_closed(struct session *session, uint16_t tag)
         free_document(&session->documents[tag]);
 }
 
-bool save_last(struct session *session)
+bool save_last(struct session *session, bool is_alone)
 {
     size_t tags = count_tags(session);
     bool all = save_closed(session, true) && !session->is_lost;
@@ -307,6 +312,11 @@ bool save_last(struct session *session)
     for (size_t tag = 1; tag < tags; tag++) {
         if (!is_changed(session, (uint16_t)tag))
             continue;
+        const struct copy *aside = &session->documents[tag].aside;
+        if (is_alone && take_text(session, (uint16_t)tag) == 0 && is_seen_to(aside, &session->text)) {
+            say("%s was taken away, so its text is not saved again", aside->path);
+            continue;
+        }
         char *name = name_of(session, (uint16_t)tag);
         const char *known = name == NULL ? "a file" : name;
         int error = save_for_good(session, (uint16_t)tag, known);

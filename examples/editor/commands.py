@@ -1,9 +1,9 @@
 """Command lines of the user: what has to hold before the host runs one."""
-from typing import Optional
+from typing import Dict, List, Optional, Tuple
 
-from layout import line_start
-from lines import line_number, removes
-from texts import COMMAND, GAP
+from layout import line_end, line_start
+from lines import is_address, line_number, removes
+from texts import COMMAND, GAP, Change, moved
 from windows import Window
 
 
@@ -18,10 +18,11 @@ class Commands:
     """The part of the editor that has the host run command lines."""
 
     _aside = ""  # a line that is begun, and that the terminal holds until the host has run another before it
+    _before: Optional[Dict[int, Tuple[int, int]]] = None  # what was selected before a line that is no address runs
 
     def _run_line(self) -> None:
         """Ends the command line in which the caret stands. The host then runs it on the file that was used last."""
-        self.command.select(self.command.line_end(self.command.dot[1]))
+        self.command.select(line_end(self.command.read, self.command.dot[1]))
         if self._may_run(line_at(self.command, self.command.caret), "Enter"):
             self._work()
             self.texts.replace(COMMAND, "\n")
@@ -37,14 +38,35 @@ class Commands:
         what, detail = removes(line) if is_known else ("range", None)
         question = f"this may take out text that is not loaded: ^Z can't bring it back. {key} again runs it"
         is_safe = what != "range" or self._is_loaded(window, detail)
-        if not is_safe and not self._is_kept_or_sure(window.tag, 0, window.length, question):
+        if not is_safe and not self.is_kept_or_sure(window.tag, 0, window.length, question):
             return False
+        self._before = None if is_known and is_address(line) else {tag: each.dot for tag, each in self.all_windows.items() if each.is_open}
+        self._ends: Dict[int, int] = {}
         self.log.begin(window.tag)
         self.log.goes = detail if what == "pattern" else ""
         number = line_number(line)
         if number:
             self._sought = (window.tag, number)
         return True
+
+    def hear_run(self, changes: List[Change]) -> None:
+        """Changes of a file, perhaps by a command line. The last one is that which stands farthest down, in whichever order they come."""
+        if self._before is not None:
+            tag = changes[0].tag
+            ends = [moved(changes[at + 1 :], change.place + len(change.came)) for at, change in enumerate(changes)]
+            self._ends[tag] = max(ends + [moved(changes, self._ends[tag])] if tag in self._ends else ends)
+
+    def end_run(self) -> None:
+        """The host has run a command line. Unless that was an address alone the next key replaces nothing that the line has selected: the
+        caret stands after its last change, else at the end of that."""
+        before, self._before = self._before or {}, None
+        for tag, dot in before.items():
+            if tag == COMMAND or not self.terminal.is_open(tag) or (tag not in self._ends and self.texts.dot(tag) == dot):
+                continue
+            window = self.window_of(tag)
+            place = self._ends.get(tag, window.dot[1])
+            if window.dot != (place, place):
+                window.select(place)
 
     def _is_loaded(self, window: Window, address: Optional[str]) -> bool:
         """Whether the range of an address is loaded, as far as that is easily told."""

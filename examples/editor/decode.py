@@ -26,6 +26,8 @@ SEQUENCE = re.compile(
 )
 BEGUN = re.compile(rb"\x1b(?:\[M.{0,2}|\[\[|\[[0-?]*[ -/]*|O[0-9;]*|\]\d*|P[\d;]*|_|" + ANSWER + rb"\x1b?)?", re.DOTALL)
 
+ALT = {b"\x1bb": "Alt-b", b"\x1bf": "Alt-f"}  # the keys with Alt that do something; what else comes after an Esc is a key of its own
+
 LETTERS = {
     "A": "Up", "B": "Down", "C": "Right", "D": "Left", "H": "Home", "F": "End", "P": "F1", "Q": "F2", "R": "F3", "S": "F4",
     "Z": "Shift-Tab", "I": "", "O": "",
@@ -183,42 +185,22 @@ class Decoder:
         if known is not None:
             self._cut(len(known))
             return [Key(self.known[known])]
-        at = 1 if self._bytes[1:2] == b"\x1b" and len(self._bytes) > 2 else 0  # rxvt sends Alt so
-        found = SEQUENCE.match(self._bytes, at)
+        found = SEQUENCE.match(self._bytes)
         if found:
             key = self._key_of(found, now)
             self._cut(found.end())
-            if not at:
-                return [key]
-            return [key._replace(name="Alt-" + key.name)] if isinstance(key, Key) and key.name else [Key("Esc"), key]
-        if not is_over and BEGUN.fullmatch(self._bytes, at):
+            return [key]
+        if not is_over and BEGUN.fullmatch(self._bytes):
             return None
-        if len(self._bytes) == 1 or at:
-            self._cut(1)
-            return [Key("Esc")]
-        if self._bytes[1] == 0x1B:
-            self._cut(1)
-            return [Key("Esc")]
         if is_over and len(self._bytes) > 2 and BEGUN.fullmatch(self._bytes):
             self._cut(len(self._bytes))
             return [Key("a sequence of which the rest is missing")]
-        return self._alt(is_over)
+        return [Key(ALT[self._cut(2)])] if bytes(self._bytes[:2]) in ALT else [self._alone()]
 
-    def _alt(self, is_over: bool) -> Optional[List[Input]]:
-        """A character with Alt; None where more of its bytes have to come."""
-        runes, rune, end = codecs.getincrementaldecoder(codec())("replace"), "", 1
-        while not rune and end < len(self._bytes):
-            rune, end = runes.decode(bytes(self._bytes[end : end + 1])), end + 1
-        if not rune and not is_over:
-            return None
-        self._cut(end - max(0, len(rune) - 1))  # a byte that is wrong goes alone
-        return [self._with_alt(rune[:1] or "\ufffd")]
-
-    def _with_alt(self, rune: str) -> Input:
-        if rune >= " " and rune != "\x7f":
-            return Key("Alt-" + rune)
-        key = control(rune)
-        return Key("Alt-" + (key.name if isinstance(key, Key) else "Tab" if rune == "\t" else "Enter"))
+    def _alone(self) -> Input:
+        """An Esc that begins nothing is a key, and what comes after it is another, however soon it comes."""
+        self._cut(1)
+        return Key("Esc")
 
     def _key_of(self, found, now: float) -> Input:
         """The key of a whole sequence."""

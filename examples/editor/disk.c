@@ -290,23 +290,41 @@ static int keep_as(const struct text *text, const char *front, const char *suffi
     return error;
 }
 
-int keep(const struct text *text, const char *name, const char *suffix, struct copy *copy)
+/* What the path of a copy begins with: beside its file, as the first place, else in a folder of the user's own. */
+static int front_at(int which, const char *name, char **front)
 {
     char base[BASE_ROOM];
+    char *folder = NULL;
+    int error = 0;
+
+    base_of(name, base);
+    if (which > 0)
+        error = own_folder(which - 1, true, &folder);
+    else
+        folder = folder_of(name);
+    char *last = which > 0 ? own_front(name) : formatted("%s", base);
+    *front = folder == NULL || last == NULL ? NULL : formatted("%s%s", folder, last);
+    free(last);
+    free(folder);
+    return error != 0 ? error : *front == NULL ? ENOMEM : 0;
+}
+
+int keep(const struct text *text, const char *name, const char *like, const char *suffix, struct copy *copy)
+{
     bool is_short = false;
     int error = 0;
 
     *copy = (struct copy){0};
-    base_of(name, base);
-    for (int which = 0; which <= count_temporary(); which++) {
-        char *folder = which == 0 ? folder_of(name) : temporary_folder(which - 1);
-        char *front = folder == NULL ? NULL : formatted("%s%s", folder, base);
-        error = front == NULL ? ENOMEM : keep_as(text, front, suffix, which == 0 ? name : NULL, copy);
+    for (int which = 0; which <= OWN_FOLDERS; which++) {
+        char *front;
+        int found = front_at(which, name, &front);
+        int kept = found != 0 ? found : keep_as(text, front, suffix, which == 0 ? like : NULL, copy);
         free(front);
-        free(folder);
-        if (error == 0)
+        if (kept == 0)
             return 0;
-        is_short |= error == ENOMEM;
+        is_short |= kept == ENOMEM;
+        if (found == 0)
+            error = kept; /* that there is no such folder says nothing */
     }
     return is_short ? ENOMEM : error; /* where memory is out that place may do later */
 }
@@ -336,6 +354,53 @@ static bool may_replace(struct request *request, struct content found)
     return found.kind == NOT_THERE || is_same(found, request->known) || is_same(found, content_of(request->text));
 }
 
+/* Gives a file another name, the first of NAME, NAME.2 and so on that nobody has, and hands out which, in memory of the caller's. */
+static int link_to_first(const char *path, const char *name, char **found)
+{
+    for (int at = 1; at <= MOST_KEPT; at++) {
+        *found = at == 1 ? formatted("%s", name) : formatted("%s.%d", name, at);
+        int error = *found == NULL ? ENOMEM : link(path, *found) == 0 ? 0 : errno;
+        if (error == 0)
+            return 0;
+        free(*found);
+        *found = NULL;
+        if (error != EEXIST)
+            return error;
+    }
+    return EEXIST;
+}
+
+/* Before a new file takes the place of another program's: has that stay beside it, by another name or, where no link can be, by a copy. */
+static int keep_theirs(struct request *request)
+{
+    struct text text = {0};
+    struct copy copy = {0};
+    char *name;
+
+    if (!request->is_theirs || request->found.kind == NOT_THERE || is_same(request->found, content_of(request->text)))
+        return 0;
+    name = formatted("%s" THEIRS, request->path);
+    int error = name == NULL ? ENOMEM : link_to_first(request->path, name, &request->theirs);
+    free(name);
+    if (error == 0 || error == ENOMEM)
+        return error;
+    error = read_whole(request->path, &text);
+    if (error == 0)
+        error = keep(&text, request->path, request->path, THEIRS, &copy);
+    free(text.bytes);
+    request->theirs = copy.path;
+    return error;
+}
+
+/* Where nothing took its place, it has one name again. */
+static void drop_theirs(struct request *request)
+{
+    if (request->theirs != NULL)
+        unlink(request->theirs);
+    free(request->theirs);
+    request->theirs = NULL;
+}
+
 /* Puts a new file in the place of the old one, or where none is (`old` is NULL). */
 static int put_new(struct request *request, const struct stat *old)
 {
@@ -350,10 +415,11 @@ static int put_new(struct request *request, const struct stat *old)
     }
     if (error == 0) {
         int folder = lock_folder(request->path);
-        if (!may_replace(request, content_at(request->path)))
-            error = IS_CHANGED;
-        else if (rename(temporary, request->path) != 0)
+        error = may_replace(request, content_at(request->path)) ? keep_theirs(request) : IS_CHANGED;
+        if (error == 0 && rename(temporary, request->path) != 0)
             error = errno;
+        if (error != 0)
+            drop_theirs(request);
         unlock_folder(folder);
     }
     if (error == 0)
@@ -388,7 +454,8 @@ static bool is_at(int file, const char *path)
 static int write_over(struct request *request, int file, const struct text *old)
 {
     struct copy kept;
-    int error = keep(old, request->path, OLD, &kept);
+    bool is_theirs = request->is_theirs && !is_same(content_of(old), content_of(request->text));
+    int error = keep(old, request->path, request->path, is_theirs ? THEIRS : OLD, &kept);
 
     if (error != 0)
         return error;
@@ -403,6 +470,10 @@ static int write_over(struct request *request, int file, const struct text *old)
     unlock_folder(folder);
     if (request->old != NULL)
         return error;
+    if (is_theirs && error == 0) {
+        request->theirs = kept.path;
+        return 0;
+    }
     unlink(kept.path);
     free(kept.path);
     return error;

@@ -6,28 +6,26 @@ from typing import Callable, Iterable, List, Optional, Sequence, Set, Tuple
 from actions import TOO_LONG, Actions
 from desk import Desk
 from keeping import Keeping, shown_name
-from keys import Input, Key, Mouse, Paste, Text
+from keys import PLACE, Input, Key, Mouse, Paste, Text
+from left import Left
 from lines import Numbers
-from notes import REPEAT, Notes, said
+from link import SECONDS_TO_END
+from menus import Help
+from notes import OFFER, REPEAT, Notes, said
 from pointing import Pointer
 from sulgrevad import Refusal, SamError, Status, Terminal
 from stream import CLEAN, CLOSE, DELNAME, MOVETO, NEWNAME, SETDOT, UNLOCK, UNLOCKFILE, Frame, Stream
 from texts import COMMAND, COMMAND_NAME, Texts
 from undo import Undo
 from vault import Vault
-from waiting import BY_PLACE, LEAVING, Pressed, Waiting, action_of, last_of
+from waiting import LEAVING, Pressed, Waiting, action_of, bound, last_of
 from way import Way
 from windows import ask
-
-# Actions that change no file: these go on without a host.
-READING = {
-    "help", "switch", "next_window", "menu", "split", "unsplit", "page_up", "page_down", "leave", "small", "redraw", "suspend",
-}  # fmt: skip
 
 
 def reads(key: Input) -> bool:
     """Whether a key changes no file."""
-    return key.what in ("wheel up", "wheel down") if isinstance(key, Mouse) else action_of(key) in READING
+    return isinstance(key, Mouse) or bound(key).reads
 
 
 WHY = {
@@ -55,13 +53,16 @@ class Editor(Desk, Waiting, Actions):
         self.way, self.notes = Way(terminal, clock), Notes(clock)
         self.vault = Vault(terminal, self.texts)
         self.log, self.numbers, self.keeping = Undo(terminal, self.texts, self.vault), Numbers(self.texts), Keeping(self)
+        self.left = Left(self)
         told = {CLEAN: self._meet_clean, CLOSE: self._meet_close, MOVETO: self._meet_move, SETDOT: self._meet_dot}
         told.update({UNLOCK: self._meet_unlock, NEWNAME: self._meet_name, DELNAME: self._meet_name, UNLOCKFILE: self._meet_pasted})
         self.stream = Stream(terminal, self.texts, told)
-        self.texts.listeners = [self.log.hear, self.numbers.hear, self.keeping.hear_changes, self.hear_changes]
+        self.texts.listeners = [self.log.hear, self.numbers.hear, self.keeping.hear_changes, self.hear_changes, self.hear_run]
         self._known: Optional[List[int]] = None  # all files, since thousands take long to ask for; None where some came or went
         self.pointer, self.menu = Pointer(self), None
+        self.help: Optional[Help] = None  # what lies over all else
         self.is_lost = self.is_leaving = self.is_over = self.has_begun = False
+        self.leaves_alone = False  # the user leaves, and the host has not answered that
         self.kept_here: Optional[List[str]] = None  # what was told of texts that were written here, as the host was lost
         self.wishes: List[str] = []  # what the screen is to do: "redraw", "suspend"
         self.clip: Optional[str] = None  # what the user's clipboard is to have
@@ -76,6 +77,7 @@ class Editor(Desk, Waiting, Actions):
         self.cut_text = ""  # the same if it was cut, and the host has not pasted it since
         self._pasting: Set[int] = set()  # the files into which the host pastes
         self._sought: Optional[Tuple[int, int]] = None  # the file and the line that the host was told to select
+        self.sought_here = ""  # the pattern that was searched last without a host
         self._asks_at: List[float] = []  # when that may be asked for which the last update left, since keys came
 
     @property
@@ -93,7 +95,7 @@ class Editor(Desk, Waiting, Actions):
         """The user's files."""
         if self._known is None:
             self._known = self.terminal.files()
-        return [tag for tag in self._known if tag not in (COMMAND, self.vault.tag)]
+        return [tag for tag in self._known if tag not in (COMMAND, self.vault.tag) and tag not in self.left.tags]
 
     def is_changed(self, tag: int) -> bool:
         """Whether a file was not written since it was changed, or its last write failed. The command file is never written."""
@@ -119,26 +121,34 @@ class Editor(Desk, Waiting, Actions):
 
     def feed(self, data: bytes = b"") -> None:
         self.stream.feed(data)
+        if data:
+            self.way.hear()
 
     def hear(self, line: str) -> None:
-        """A line of the host's standard error. What it says of a text stays on the screen until it is read."""
+        """A line of the host's standard error. What it says of a text stays on the screen until it is read. Where `^W` was the last key,
+        and it may replace another program's text, this asks; else the next `^W` does."""
         told = said(line)
-        self.keeping.hear_host(told)
-        if told.rank:
-            self.notes.keep(told.rank, line)
+        tags = self.keeping.hear_host(told, line)
+        if told.what == "written":
+            self.left.hear_written(told.names[0], told.when)
+        elif told.replaces and self.active.tag in tags and action_of(self._last.key) == "write" and not self.deferred:
+            self._ask(self.keeping.question(self.active.tag), Key("^W"))
+        elif told.rank:
+            self.notes.keep(told.rank, line + OFFER if told.what == "left" else line)
         else:
             self.message = line
 
     def _meet_clean(self, frame: Frame) -> None:
         """The host has written a file, or could not. It may say that a little later, so it is asked once more."""
         self.keeping.meet_clean(frame.tag)
+        self.left.meet_written(frame.tag)
         self.way.confirm()
 
     def _meet_name(self, _frame: Frame) -> None:
         self._known = None
 
     def _meet_close(self, frame: Frame) -> None:
-        for memory in (self.log, self.numbers, self.keeping):
+        for memory in (self.log, self.numbers, self.keeping, self.left):
             memory.drop(frame.tag)
         self._pasting.discard(frame.tag)
 
@@ -151,6 +161,7 @@ class Editor(Desk, Waiting, Actions):
 
     def _meet_unlock(self, _frame: Frame) -> None:
         self._sought, self._aside = None, ""
+        self.end_run()
 
     def _meet_pasted(self, frame: Frame) -> None:
         """The host has answered what locked a file. What it has pasted it has selected: the caret goes after that."""
@@ -181,6 +192,7 @@ class Editor(Desk, Waiting, Actions):
         """Shows the first file, and a file that was made; drops the windows of files that were closed."""
         if not self.has_begun and not self.terminal.command_locked:
             self.vault.find(self.tags)
+            self.left.find(self.tags)
             self._begin_with(self.tags)
         known = self.tags
         gone = [window for window in self.files if window.tag not in known]
@@ -219,9 +231,14 @@ class Editor(Desk, Waiting, Actions):
             self._act_in_order()
             for refusal in self.terminal.refusals():
                 self._tell_refusal(refusal)
+            self.left.go_on()
             self._update_windows()
-        if self.terminal.exited or (self._leaves_at is not None and self.clock() >= self._leaves_at):
-            self.is_over = True
+        elif self.is_lost:
+            self._update_windows()
+        is_time = self._leaves_at is not None and self.clock() >= self._leaves_at
+        goes = is_time or (self.is_leaving and self.way.silence >= SECONDS_TO_END)
+        self.leaves_alone = goes and not self.is_lost and not self.terminal.exited
+        self.is_over = self.is_over or self.terminal.exited or goes
 
     def _go_on_with_vault(self) -> None:
         self.vault.go_on()
@@ -238,6 +255,8 @@ class Editor(Desk, Waiting, Actions):
         """Seconds until something is to be done though nothing comes; None where that has no end. A time that has come since the last
         update counts: else nobody would ask any more for what that left."""
         waits = [self.way.seconds, *(when - self.clock() for when in self._asks_at)]
+        if not self.is_lost:
+            waits.append(self.way.seconds_of_silence)
         if self.deferred and self.deferred[0].answers:
             waits.append(self.deferred[0].when + REPEAT - self.clock())
         if self._leaves_at is not None:
@@ -255,6 +274,7 @@ class Editor(Desk, Waiting, Actions):
         self.notes.take(pressed.has_read)
         if self.is_lost and not self._is_for_menu(key) and not reads(key):
             self.take_late([key])
+            self.message = self._why_not(key)
             return
         self._answered, self._acting, self._is_again = pressed.answers, key, pressed.is_again
         self.texts.left = ""
@@ -281,6 +301,15 @@ class Editor(Desk, Waiting, Actions):
             self.deferred.appendleft(pressed._replace(key=self._again, answers="", has_read=False, is_again=True))
             self._again = None
 
+    def _why_not(self, key: Input) -> str:
+        """Why a key can't act without a host."""
+        if isinstance(key, (Text, Paste)):
+            return "HOST LOST: no text changes any more. What you type is written to typed.sam-here at the end"
+        if action_of(key) == "write" and self.kept_here:
+            return f"HOST LOST: nothing can be written there; {'; '.join(self.kept_here)}"
+        name = key.name if isinstance(key, Key) else ""
+        return f"HOST LOST: {name} can't act. Moves, ^S and ^C do, in what is loaded; ^Q leaves"
+
     def take_late(self, keys: Iterable[Input]) -> None:
         """Keys that come too late to act: what was typed is told or written at the end."""
         if self.is_lost:
@@ -290,13 +319,16 @@ class Editor(Desk, Waiting, Actions):
 
     def act_again(self, why: str) -> None:
         """The key that acts now does so again, once the host has answered."""
-        self._again, self.message = self._acting, why
+        if self._is_lock_held and not self.is_lost:
+            self._again, self.message = self._acting, why
+        else:
+            self.message = "that can't be done now"
 
     def _act_in_menu(self, pressed: Pressed) -> None:
         key = pressed.key
         if isinstance(key, Text):
             key = Text(self.first_of(pressed, 1))
-        menu = self.menu
+        menu, self._acting = self.menu, key
         try:
             goes_on = menu.take(key)
         finally:
@@ -304,6 +336,17 @@ class Editor(Desk, Waiting, Actions):
                 self.menu = None
         if goes_on:
             self.deferred.appendleft(pressed)
+
+    def show_help(self) -> None:
+        self.help = Help()
+
+    def _act_in_help(self, pressed: Pressed) -> bool:
+        """What is pressed over the help. Returns whether the key is for the windows."""
+        self.notes.take(pressed.has_read)
+        goes_on = self.help.take(pressed.key)
+        if self.help.is_over:
+            self.help = None
+        return goes_on
 
     def _ask(self, question: str, key: Input) -> None:
         self._asked_by = last_of(key)
@@ -320,12 +363,12 @@ class Editor(Desk, Waiting, Actions):
         return False
 
     def _do(self, key: Key) -> None:
-        action = action_of(key)
-        if action is None:
+        binding = bound(key)
+        if not binding.action:
             self.message = f"{key.name} does nothing; F1 or ^G shows the keys"
             return
-        if action not in ("up", "down"):
+        if binding.action not in ("up", "down"):
             self.focus.goal = None
-        if action in BY_PLACE and not self.focus.is_open:
+        if binding.waits == PLACE and not self.focus.is_open:
             return
-        getattr(self, f"do_{action}")(*(["Shift-" in key.name] if action in self.EXTENDING else []))
+        getattr(self, f"do_{binding.action}")(*(["Shift-" in key.name] if binding.extends else []))

@@ -44,7 +44,7 @@ class Find:
         elif name in AFTER:
             self._show(self._after(self.window.dot[0] + 1))
         elif name in BEFORE:
-            self._show(self._before(self.window.dot[0]), " (not in what is loaded above; Enter, then ^B, looks there)")
+            self._show(self._before(self.window.dot[0]), " (not in what is loaded above", "; Enter, then ^B, looks there)")
         elif not isinstance(key, (Text, Paste)):
             self.is_over = True
             return True
@@ -62,7 +62,7 @@ class Find:
         elif not pattern:
             self.editor.message = "nothing was searched yet"
         elif self._gap == 0 or self.editor.is_lost:
-            self.editor.message = "it stands nowhere above"
+            self.editor.message = "it stands nowhere above" if self._gap == 0 else "not in what is loaded above"
         else:
             low = max(0, self._gap - reach)
             terminal, tag = self.editor.terminal, self.window.tag
@@ -70,6 +70,15 @@ class Find:
             self.editor.act_again(f"looks above place {self._gap}; Esc stops that")
             return min(start, self._gap), min(2 * reach, LONGEST_REACH)
         return None
+
+    def go_on(self, pattern: str) -> None:
+        """Without a host: goes to the next place in what is loaded at which a pattern stands."""
+        self.pattern = pattern
+        place = self._after(self.window.dot[0] + 1)
+        if place is not None:
+            self._select(place, place + len(pattern))
+        else:
+            self.editor.message = "not in what is loaded below" if pattern else "nothing was searched yet"
 
     def _seek(self, pattern: str) -> None:
         """Shows the first place from where the search began."""
@@ -79,15 +88,15 @@ class Find:
         else:
             self._select(*self.origin)
 
-    def _show(self, place: Optional[int], why: str = " (not in what is loaded; Enter asks the host)") -> None:
+    def _show(self, place: Optional[int], why: str = " (not in what is loaded", help: str = "; Enter asks the host)") -> None:
         if place is not None:
             self._select(place, place + len(self.pattern))
         elif self.pattern:
-            self._why = why
+            self._why = why + (")" if self.editor.is_lost else help)
 
     def _select(self, start: int, end: int) -> None:
         self.window.select(start)
-        self.editor.terminal.select(self.window.tag, start, end)
+        self.editor.texts.select(self.window.tag, start, end)
 
     def _after(self, place: int) -> Optional[int]:
         """The first place from there on, up to the next gap."""
@@ -120,6 +129,7 @@ class Find:
     def _finish(self) -> None:
         """The host goes to the place, also where it is not loaded, and knows the pattern from then on."""
         self.is_over = True
+        self.editor.sought_here = self.pattern if self.editor.is_lost else ""
         if not self.pattern or self.window is self.editor.command or self.editor.is_lost or not self.editor.command.is_open:
             return
         start, end = self.window.dot

@@ -4,7 +4,7 @@ from typing import Dict, List, Set, Tuple
 
 import rescue
 from notes import Said, printable
-from texts import Change
+from texts import GAP, Change
 
 MOST_RUNES_IN_NAME = 64  # in the session; of a longer path the host shows the end
 
@@ -22,6 +22,10 @@ class Keeping:
         self.unwritten: Dict[int, bool] = {}  # files whose last write failed; whether that write is answered
         self.is_hopeless = False  # a text could not be saved anywhere
         self.typed_late = ""  # what was typed when the host was lost already, or memory was out for it
+        self.has_left = False  # a text was written here
+        self.is_cut_saved = False  # the host has saved what was cut last
+        self._refused: Dict[int, Tuple[str, str]] = {}  # files that the next write would replace: the name, and what is asked before
+        self.refusals: Dict[int, str] = {}  # the lines that told of these
         self._writing: Counter = Counter()  # of each file, how many writes are not answered
         self._changes: Counter = Counter()  # of each file
         self._written: Dict[int, int] = {}  # how many of them there were at the last write
@@ -33,8 +37,18 @@ class Keeping:
 
     def write(self, tag: int) -> None:
         """The host is told to write a file."""
+        self._refused.pop(tag, None)
         self._writing[tag] += 1
         self._written[tag] = self._changes[tag]
+
+    def is_writing(self, tag: int) -> bool:
+        """Whether a write of a file is not answered."""
+        return self._writing[tag] > 0
+
+    def question(self, tag: int) -> str:
+        """What is asked before a file is written in which another program's text stands; "" where none is known to."""
+        name, question = self._refused.get(tag, ("", ""))
+        return question if name == self.name(tag) else ""
 
     def meet_clean(self, tag: int) -> None:
         """A write is answered. Whether it failed was told before, or is told later."""
@@ -47,21 +61,26 @@ class Keeping:
     def hear_changes(self, changes: List[Change]) -> None:
         self._changes[changes[0].tag] += len(changes)
 
-    def hear_host(self, told: Said) -> None:
-        """A line of the host's standard error."""
+    def hear_host(self, told: Said, line: str) -> Set[int]:
+        """A line of the host's standard error. Returns the files that it may be about."""
         if told.what == "lost":
             self.is_hopeless = True
+        self.is_cut_saved = self.is_cut_saved or told.what == "cut"
         tags = self._tags_of(told)
-        for tag in tags:
+        for tag in () if told.what in ("left", "written") else tags:
+            if told.replaces:
+                name, self.refusals[tag] = self.name(tag), line
+                self._refused[tag] = (name, f"{name}: {told.replaces}. ^W again replaces it, and keeps what it has beside it")
             if "failed" in told.what:
                 self.unwritten[tag] = self._writing[tag] <= 0
             if "saved" not in told.what:
                 self._saved.pop(tag, None)
         if "saved" in told.what and len(tags) == 1:  # of several files of a name, nobody knows which one it is
-            tag = tags.pop()
+            (tag,) = tags
             self._saved[tag] = self._written.get(tag, -1) if "failed" in told.what else self._changes[tag]
             if told.what == "saved":
                 self._dropped.pop(tag, None)
+        return tags
 
     def _tags_of(self, told: Said) -> Set[int]:
         """The files that a line of the host may be about, also those that were dropped."""
@@ -73,6 +92,7 @@ class Keeping:
     def drop(self, tag: int) -> None:
         """The file is closed."""
         self.unwritten.pop(tag, None)
+        self._refused.pop(tag, None)
 
     def let_go(self, tag: int) -> None:
         """The user closes a file that was not written. Its text is kept until the host says that it has it."""
@@ -106,8 +126,19 @@ class Keeping:
                 self._saved[tag] = self._changes[tag]
                 waiting = "" if more else waiting
         begun = "" if has_ended_well else self.editor.begun_line()
-        others = (("typed", waiting), ("command", begun), ("cut", rescue.told(self.editor.cut_text)))
-        return lines + [self._kept(name, text) for name, text in others if text]
+        lines += [self._kept(name, text) for name, text in (("typed", waiting), ("command", begun)) if text]
+        return lines + self._kept_cut(has_all and self.is_cut_saved)
+
+    def _kept_cut(self, is_saved: bool) -> List[str]:
+        """The same of what was cut, unless the host has told that it has saved all of that."""
+        text = self.editor.cut_text
+        if not text or is_saved:
+            return []
+        lacks = text.count(GAP)
+        lines = [self._kept("cut", rescue.told(text))]
+        if lacks:
+            lines.append(f"of what was cut {lacks} characters were not loaded: samhost saves all of it, unless it was killed before")
+        return lines
 
     def keep_late(self) -> List[str]:
         """The same of what was typed when the host was lost already: some of it before the user could know."""
@@ -120,4 +151,5 @@ class Keeping:
         except Exception:  # out of memory, say: the other texts are written
             path = None
         self.is_hopeless = self.is_hopeless or path is None
+        self.has_left = self.has_left or path is not None
         return f"what is loaded of {name} is here in {path}" if path else f"the text of {name} is lost: no file can be written here"

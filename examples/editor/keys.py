@@ -1,59 +1,75 @@
-"""The keys: what each does."""
+"""The keys: what each does. All that is known of an action by its name stands here."""
 from itertools import groupby
-from typing import Dict, List, NamedTuple, Union
+from typing import Dict, List, NamedTuple, Tuple, Union
+
+# What an action waits for. After `^N` and `^K` all but the first wait for the windows, too.
+NOTHING = "nothing"  # it acts at once, before keys that wait
+WINDOWS = "windows"  # until it is known which windows there are
+PLACE = "place"  # until the places in its window are settled: no answer of the host moves them any more
+WRITTEN = "written"  # the same, and until the write before it was answered
+ANSWERS = "answers"  # until no answer of the host is due: what is on the way may still change a file
+
+ROWS = "rows"  # what an action needs that goes by all that is shown
 
 
 class Binding(NamedTuple):
-    """Keys with one action (a method of `Actions` or of a menu), and what the help window says of them."""
+    """Keys with one action (a method of `Actions` or of a menu), what the help window says of them, and all that is known of the action.
+    Who says nothing gets one that waits for its place, and that changes a text."""
 
-    keys: tuple
+    keys: Tuple[str, ...]
     action: str
     help: str
+    waits: str = PLACE
+    needs: str = ""  # the text that has to be loaded for it: ROWS, or what a method of `Targets` reads
+    reads: bool = False  # it changes no file, so it acts without a host, too
+    extends: bool = False  # with Shift it selects
+    leads: bool = False  # keys go elsewhere after it
 
 
 BINDINGS = (
-    Binding(("F1", "^G"), "help", "shows these keys; arrows scroll, any other key goes back"),
-    Binding(("Esc",), "switch", "goes to the command window, and back to the file"),
-    Binding(("^P", "F6"), "next_window", "goes to the next window"),
-    Binding(("^O", "F2"), "menu", "menu of files: type or use arrows, Enter opens, Esc ends"),
-    Binding(("^T", "F3"), "split", "another window, for the next file without one"),
-    Binding(("^Y", "F4"), "unsplit", "takes the window off the screen; its file stays open"),
-    Binding(("F8",), "small", "makes the command window small, and large again"),
-    Binding(("F5",), "redraw", "draws the screen anew"),
-    Binding(("^\\", "F12"), "suspend", "goes back to the shell, until its `fg`"),
-    Binding(("^N",), "new", "makes a new file; the command line `f NAME` names it"),
-    Binding(("^W",), "write", "writes the file"),
-    Binding(("^K",), "close", "closes the file for good; asks if it was not written"),
-    Binding(("^Q",), "leave", "leaves; asks if a file was not written"),
+    Binding(("F1", "^G"), "help", "shows these keys; arrows scroll, any other key goes back", NOTHING, reads=True),
+    Binding(("Esc",), "switch", "goes to the command window, and back to the file", WINDOWS, reads=True, leads=True),
+    Binding(("^P", "F6"), "next_window", "goes to the next window", WINDOWS, reads=True, leads=True),
+    Binding(("^O", "F2"), "menu", "menu of files: type or use arrows, Enter opens, Esc ends", WINDOWS, reads=True, leads=True),
+    Binding(("^T", "F3"), "split", "another window, for the next file without one", WINDOWS, reads=True, leads=True),
+    Binding(("^Y", "F4"), "unsplit", "takes the window off the screen; its file stays open", WINDOWS, reads=True, leads=True),
+    Binding(("F8",), "small", "makes the command window small, and large again", WINDOWS, reads=True),
+    Binding(("F5",), "redraw", "draws the screen anew", WINDOWS, reads=True),
+    Binding(("^\\", "F12"), "suspend", "goes back to the shell, until its `fg`", WINDOWS, reads=True),
+    Binding(("F9",), "old", "takes, compares or drops what an earlier session left", WINDOWS, leads=True),
+    Binding(("^N",), "new", "makes a new file; the command line `f NAME` names it", WINDOWS, leads=True),
+    Binding(("^W",), "write", "writes the file", WRITTEN),
+    Binding(("^K",), "close", "closes the file for good; asks if it was not written", ANSWERS, leads=True),
+    Binding(("^Q",), "leave", "leaves; asks if a file was not written", ANSWERS, reads=True, leads=True),
     Binding(("^Z",), "undo", "takes back the last change of this window"),
     Binding(("^R",), "redo", "makes again what was taken back"),
-    Binding(("^X",), "cut", "cuts the selection"),
-    Binding(("^C",), "snarf", "copies the selection"),
-    Binding(("^V",), "paste", "pastes what was cut or copied last"),
-    Binding(("^A",), "select_all", "selects the whole file"),
+    Binding(("^X",), "cut", "cuts the selection", needs="selection"),
+    Binding(("^C",), "snarf", "copies the selection", reads=True),
+    Binding(("^V",), "paste", "pastes what was cut or copied last", needs="selection"),
+    Binding(("^A",), "select_all", "selects the whole file", reads=True),
     Binding(("^D",), "word", "selects the word; so does a double click"),
-    Binding(("^S", "F7"), "find", "finds as you type; Enter has the host look"),
-    Binding(("^L",), "look", "looks for the next place of the selected text"),
-    Binding(("^F",), "search", "searches the last pattern again"),
-    Binding(("^B",), "search_back", "searches it above"),
-    Binding(("^E",), "send", "runs the selection as a command line"),
-    Binding(("Backspace",), "erase_left", "erase the selection, or a character"),
-    Binding(("Delete",), "erase_right", "erase the selection, or a character"),
-    Binding(("Left",), "left", "move; with Shift they select"),
-    Binding(("Right",), "right", "move; with Shift they select"),
-    Binding(("Up",), "up", "move; with Shift they select"),
-    Binding(("Down",), "down", "move; with Shift they select"),
-    Binding(("^Left", "Alt-b"), "word_left", "by words, the same"),
-    Binding(("^Right", "Alt-f"), "word_right", "by words, the same"),
-    Binding(("Home",), "home", "to the ends of the line, the same"),
-    Binding(("End",), "end", "to the ends of the line, the same"),
-    Binding(("^Home",), "first", "to the ends of the file"),
-    Binding(("^End",), "last", "to the ends of the file"),
-    Binding(("Page Up",), "page_up", "show what stands above or below; the selection stays"),
-    Binding(("Page Down",), "page_down", "show what stands above or below; the selection stays"),
+    Binding(("^S", "F7"), "find", "finds as you type; Enter has the host look", reads=True, leads=True),
+    Binding(("^L",), "look", "looks for the next place of the selected text", reads=True),
+    Binding(("^F",), "search", "searches the last pattern again", reads=True),
+    Binding(("^B",), "search_back", "searches it above", reads=True),
+    Binding(("^E",), "send", "runs the selection as a command line", ANSWERS, ROWS),
+    Binding(("Backspace",), "erase_left", "erase the selection, or a character", needs="erased_left"),
+    Binding(("Delete",), "erase_right", "erase the selection, or a character", needs="erased_right"),
+    Binding(("Left",), "left", "move; with Shift they select", needs="left", reads=True, extends=True),
+    Binding(("Right",), "right", "move; with Shift they select", needs="right", reads=True, extends=True),
+    Binding(("Up",), "up", "move; with Shift they select", needs="up", reads=True, extends=True),
+    Binding(("Down",), "down", "move; with Shift they select", needs="down", reads=True, extends=True),
+    Binding(("^Left", "Alt-b"), "word_left", "by words, the same", needs="word_left", reads=True, extends=True),
+    Binding(("^Right", "Alt-f"), "word_right", "by words, the same", needs="word_right", reads=True, extends=True),
+    Binding(("Home",), "home", "to the ends of the line, the same", needs="home", reads=True, extends=True),
+    Binding(("End",), "end", "to the ends of the line, the same", needs="end", reads=True, extends=True),
+    Binding(("^Home",), "first", "to the ends of the file", reads=True),
+    Binding(("^End",), "last", "to the ends of the file", reads=True),
+    Binding(("Page Up",), "page_up", "show what stands above or below; the selection stays", needs=ROWS, reads=True),
+    Binding(("Page Down",), "page_down", "show what stands above or below; the selection stays", needs=ROWS, reads=True),
 )
 
-ACTIONS: Dict[str, str] = {key: binding.action for binding in BINDINGS for key in binding.keys}
+ACTIONS: Dict[str, Binding] = {key: binding for binding in BINDINGS for key in binding.keys}
 
 
 class Text(NamedTuple):

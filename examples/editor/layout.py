@@ -16,8 +16,8 @@ TAB = 8  # columns between tab stops
 SHADE = "░"  # stands for a rune that is not loaded
 NO_GLYPH = "\ufffd"  # stands for a rune that no screen can show
 NO_BASE = "◌"  # carries a combining rune that stands after none
-PIECE = 1024  # runes that are read at once
-FAR_BACK = 8192  # runes that are looked at for the rows above a place
+PIECE, LONGEST_PIECE = 1024, 65_536  # runes that are read at once, more and more of a long line
+FAR_BACK = 8192  # runes that are looked at for the rows above a place, and of which the rows are worked out at once
 
 _wcwidth = ctypes.CDLL(None).wcwidth  # the C library's, by which curses draws
 
@@ -198,33 +198,42 @@ class Layout:
 
 def line_start(read: Reader, place: int, least: int = 0) -> int:
     """The start of the line of a place, or the place after the nearest gap before it; `least` where neither is after that."""
+    count = PIECE
     while place > least:
-        low = max(least, place - PIECE)
+        low = max(least, place - count)
         text = read(low, place - low)
         at = max(text.rfind("\n"), text.rfind(GAP))
         if at >= 0:
             return low + at + 1
-        place = low
+        place, count = low, min(2 * count, LONGEST_PIECE)
     return place
 
 
 def line_end(read: Reader, place: int) -> int:
     """The end of the line of a place, before its newline, or the nearest gap after it."""
-    at = place
-    while text := read(at, PIECE):
+    at, count = place, PIECE
+    while text := read(at, count):
         ends = [end for end in (text.find("\n"), text.find(GAP)) if end >= 0]
         if ends:
             at += min(ends)
             return at - 1 if at > place and read(at - 1, 2) == "\r\n" else at
-        at += len(text)
+        at, count = at + len(text), min(2 * count, LONGEST_PIECE)
     return at
 
 
 def row_start(read: Reader, place: int, width: int) -> int:
-    """The start of the row of a place, of those that begin with its line."""
-    start = line_start(read, place, max(0, place - FAR_BACK))
+    """The start of the row of a place, of those that begin with its line; or after the nearest gap before it, where that is in the way."""
+    start = line_start(read, place)
+    while place - start > FAR_BACK:
+        start += _last_row(read(start, FAR_BACK), width) or FAR_BACK
     end = place + (2 if read(place, 2) == "\r\n" else 1)
     return _starts_of_rows(read, start, end, width)[-1]
+
+
+@lru_cache(maxsize=1024)
+def _last_row(text: str, width: int) -> int:
+    """Where the last row of a piece of a line begins."""
+    return strips_of.__wrapped__(text, width, False)[-1].start
 
 
 class Above(NamedTuple):
@@ -242,7 +251,10 @@ def top_above(read: Reader, place: int, rows: int, width: int) -> Above:
     is_known = place == 0 or read(place - 1, 1) != GAP
     while is_known and len(starts) <= rows and starts[0] > 0:
         end = starts[0]
-        start = line_start(read, end - 1, max(0, end - FAR_BACK))
+        least = max(0, end - FAR_BACK)
+        start = line_start(read, end - 1, least)
+        if start == least:  # the line is longer
+            start = row_start(read, start, width)
         is_known = start == 0 or read(start - 1, 1) != GAP
         starts = _starts_of_rows(read, start, end, width) + starts
     missing = rows + 1 - len(starts)

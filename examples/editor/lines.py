@@ -29,6 +29,11 @@ def removes(line: str) -> Tuple[str, Optional[str]]:
     return ("pattern", pattern) if is_exact else ("range", address[0].strip(" \t") if pattern is None else None)
 
 
+def is_address(line: str) -> bool:
+    """Whether a command line is an address alone, which selects."""
+    return _ADDRESS.fullmatch(line) is not None
+
+
 def _unescaped(pattern: str) -> str:
     return re.sub(r"\\(.)", lambda found: "\n" if found[1] == "n" else found[1], pattern, flags=re.DOTALL)
 

@@ -7,6 +7,7 @@ from typing import Callable, Dict, List, Optional
 
 PIECE = 65_536  # bytes that are read at once
 SECONDS_TO_END = 10  # how long the host may take to end
+SECONDS_OF_SILENCE = 2  # the same where it has not answered for a while
 MOST_NOISE = 65_536  # bytes that may come before the stream
 
 

@@ -1,39 +1,40 @@
-"""Keys that move the caret, or what a window shows."""
+"""Keys that move the caret, or what a window shows. Where they lead stands in targets.py."""
 
 
 class Moves:
     """The part of the editor that moves. Where `extends` is said, the selection reaches from where it began to the caret."""
 
-    def _move(self, step: int, extends: bool) -> None:
-        window, (start, end) = self.focus, self.focus.dot
-        if start < end and not extends:
-            window.select(end if step > 0 else start)
-        else:
-            window.select(window.beside(window.caret, step), extends)
+    def _move(self, action: str, extends: bool) -> None:
+        self.focus.select(getattr(self.focus.targets, action)(extends), extends)
 
     def do_left(self, extends: bool) -> None:
-        self._move(-1, extends)
+        self._move("left", extends)
 
     def do_right(self, extends: bool) -> None:
-        self._move(1, extends)
+        self._move("right", extends)
 
     def do_word_left(self, extends: bool) -> None:
-        self.focus.select(self.focus.beside_word(self.focus.caret, -1), extends)
+        self._move("word_left", extends)
 
     def do_word_right(self, extends: bool) -> None:
-        self.focus.select(self.focus.beside_word(self.focus.caret, 1), extends)
+        self._move("word_right", extends)
+
+    def _by_row(self, action: str, extends: bool) -> None:
+        """To the row above or below, in the column that such moves keep to."""
+        self.focus.goal = self.focus.targets.column()
+        self._move(action, extends)
 
     def do_up(self, extends: bool) -> None:
-        self.focus.select(self.focus.by_rows(self.focus.caret, -1), extends)
+        self._by_row("up", extends)
 
     def do_down(self, extends: bool) -> None:
-        self.focus.select(self.focus.by_rows(self.focus.caret, 1), extends)
+        self._by_row("down", extends)
 
     def do_home(self, extends: bool) -> None:
-        self.focus.select(self.focus.line_start(self.focus.caret), extends)
+        self._move("home", extends)
 
     def do_end(self, extends: bool) -> None:
-        self.focus.select(self.focus.line_end(self.focus.caret), extends)
+        self._move("end", extends)
 
     def do_first(self) -> None:
         self.focus.select(0)

@@ -14,6 +14,11 @@ UNSAFE = re.compile(r"the text of .* can't be saved aside: ")
 FAILED = re.compile(r"\? write (?:file (\d{1,5}): )?")
 IS_IN = "; its text is in "
 SAVED = re.compile(r"(.*) was not written" + IS_IN)
+CUT_SAVED = re.compile(r"what was cut last is in ")
+REPLACES = re.compile(r": (another program changed it|it is there already), and the next write replaces it; (.*)")
+LEFT = re.compile(r"(.*) has a text that was not written: it is in .*, (?:newer|older) than the file")
+WRITTEN = re.compile(r"(.*) was written last at (\d{1,12})")
+OFFER = "; F9 takes it, compares or drops it"
 
 
 def printable(line: str) -> str:
@@ -25,9 +30,11 @@ class Said(NamedTuple):
     """A line of the host's standard error: its rank, and the file that it is about."""
 
     rank: int  # 3: a text is lost; 2: it was not written; 1: other words of the host; 0: of another program
-    what: str = ""  # "lost", "failed", "saved"; "failed and saved"
+    what: str = ""  # "lost", "failed", "saved"; "failed and saved"; "cut", "left", "written"
     names: Tuple[str, ...] = ()  # what the file's name or path may be, the longest first
     tag: Optional[int] = None  # of a file without a name, whose name here is "file" and the tag
+    replaces: str = ""  # why the next write replaces another program's text, and what became of this one
+    when: int = 0  # the second at which a file was written last
 
 
 def said(line: str) -> Said:
@@ -38,9 +45,17 @@ def said(line: str) -> Said:
         rank, what = (3, "failed") if "could not be saved" in words else (2, "failed and saved" if IS_IN in words else "failed")
         line = words[len("? write ") :]
         ends = [colon.start() for colon in re.finditer(": ", line)]  # one ends the name, and others may stand in it
-        return Said(rank, what, tuple(line[:end] for end in reversed(ends)), int(found[1]) if found[1] else None)
+        why = REPLACES.search(line)
+        replaces = f"{why[1]}; {why[2]}" if why else ""
+        return Said(rank, what, tuple(line[:end] for end in reversed(ends)), int(found[1]) if found[1] else None, replaces)
     if found := SAVED.match(words):
         return Said(1, "saved", (found[1],))
+    if CUT_SAVED.match(words):
+        return Said(1, "cut")
+    if found := LEFT.match(words):
+        return Said(1, "left", (found[1],))
+    if found := WRITTEN.match(words):
+        return Said(0, "written", (found[1],), when=int(found[2]))
     return Said(2 if UNSAFE.match(words) else int(words != line))
 
 
@@ -102,6 +117,10 @@ class Notes:
             self.unread.append((rank, line))
             self.unread.sort(key=lambda kept: -kept[0])
             del self.unread[MOST_UNREAD:]
+
+    def forget(self, line: str) -> None:
+        """A question says what a line did."""
+        self.unread = [kept for kept in self.unread if kept[1] != line]
 
     @property
     def is_read(self) -> bool:

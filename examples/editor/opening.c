@@ -1,6 +1,5 @@
-/* opening.c: reads the files at the start, and reports what an earlier session left beside them. */
+/* opening.c: reads the files at the start. */
 #define _XOPEN_SOURCE 700
-#include <dirent.h>
 #include <errno.h>
 #include <fcntl.h>
 #include <stdlib.h>
@@ -195,6 +194,17 @@ int add_files(struct session *session, char **paths, int count)
     return status;
 }
 
+void tell_times(struct session *session)
+{
+    size_t tags = count_tags(session);
+    struct stat status;
+
+    for (size_t tag = 1; tag < tags; tag++) {
+        if (stat(session->documents[tag].path, &status) == 0)
+            say("%s was written last at %lld", session->documents[tag].path, (long long)status.st_mtim.tv_sec);
+    }
+}
+
 int add_vault(struct session *session)
 {
     uint32_t code = sam_host_add_file(&session->host, (const uint8_t *)VAULT, strlen(VAULT), (const uint8_t *)"", 0, &session->vault);
@@ -202,160 +212,4 @@ int add_vault(struct session *session)
     if (code != SAM_OK)
         say("%s: %s", VAULT, why_not_added(code));
     return code == SAM_OK ? STATUS_OK : code == SAM_NO_MEMORY ? STATUS_MEMORY : STATUS_UNREADABLE;
-}
-
-/* ---- What is left of earlier sessions ---- */
-
-/* What a folder is looked through for. In one for temporary files those of other users mean nothing. */
-enum purpose { OF_FILES, FOR_TEMPORARY_FILES };
-
-/* A folder that is looked through. */
-struct folder {
-    const char *path; /* with the slash at its end; "" for the folder in which the program runs */
-    dev_t device;
-    ino_t inode;
-    bool is_temporary;
-    bool is_short; /* out: something in it was not looked at, since memory is out */
-};
-
-/* Whether what is in a folder under a name is another user's. */
-static bool is_foreign(struct folder *folder, const char *entry)
-{
-    struct stat status;
-    char *path = formatted("%s%s", folder->path, entry);
-    bool is_foreign = path == NULL || lstat(path, &status) != 0 || status.st_uid != geteuid();
-
-    folder->is_short |= path == NULL;
-    free(path);
-    return is_foreign;
-}
-
-/* Whether a name is a file's name, a suffix, and perhaps a number. Hands out the length of the file's name. */
-static bool has_suffix(const char *entry, const char *suffix, size_t *len)
-{
-    const char *at = NULL;
-
-    for (const char *next = strstr(entry, suffix); next != NULL; next = strstr(next + 1, suffix))
-        at = next;
-    if (at == NULL || at == entry)
-        return false;
-    *len = (size_t)(at - entry);
-    at += strlen(suffix);
-    if (*at == '.')
-        at += 1 + strspn(at + 1, "0123456789");
-    return *at == '\0';
-}
-
-static bool lies_in(const char *path, struct folder *folder)
-{
-    struct stat status;
-    char *own = folder_of(path);
-    bool is_there = own != NULL && stat(*own == '\0' ? "." : own, &status) == 0;
-
-    folder->is_short |= own == NULL;
-    free(own);
-    return is_there && status.st_dev == folder->device && status.st_ino == folder->inode;
-}
-
-/* Whether the front of a copy's name is what names of a file's copies begin with. */
-static bool is_front_of(const char *path, const char *entry, size_t len)
-{
-    char base[BASE_ROOM];
-
-    base_of(path, base);
-    return strlen(base) == len && strncmp(base, entry, len) == 0;
-}
-
-/* Reports a copy where it is one of a file of the session, as it is named or as its symbolic links name it: of one beside it; in a folder
- * for temporary files, where it is the user's own, of one anywhere. */
-static void report_copy(struct session *session, struct folder *folder, const char *entry, size_t len, bool is_old)
-{
-    size_t tags = count_tags(session);
-    bool may_be_of_any = folder->is_temporary && !is_foreign(folder, entry);
-
-    for (size_t tag = 1; tag < tags; tag++) {
-        const struct document *document = &session->documents[tag];
-        const char *paths[] = {document->path, document->known->path};
-        const char *beside = NULL;
-        bool is_named = false;
-        for (int at = 0; at < 2 && beside == NULL; at++) {
-            bool is_front = is_front_of(paths[at], entry, len);
-            is_named |= is_front;
-            beside = is_front && lies_in(paths[at], folder) ? paths[at] : NULL;
-        }
-        if (beside == NULL && !(is_named && may_be_of_any))
-            continue;
-        const char *or_another = beside == NULL ? ", or another file of that name," : "";
-        char *own = beside == NULL ? NULL : folder_of(beside);
-        const char *place = own == NULL ? folder->path : own;
-        if (is_old)
-            say("%s%s may be broken: what it was before a write is in %s%s", document->path, or_another, place, entry);
-        else
-            say("%s%s has a text that was not written: it is in %s%s", document->path, or_another, place, entry);
-        free(own);
-    }
-}
-
-static void report_entry(struct session *session, struct folder *folder, const char *entry)
-{
-    size_t len;
-    bool is_temporary = strncmp(entry, TEMPORARY, strlen(TEMPORARY)) == 0;
-    bool is_saved = has_suffix(entry, SAVED, &len), is_old = !is_saved && has_suffix(entry, OLD, &len);
-
-    if (is_saved || is_old)
-        report_copy(session, folder, entry, len, is_old);
-    if ((!is_temporary && !is_saved) || (folder->is_temporary && is_foreign(folder, entry)))
-        return;
-    if (is_temporary)
-        say("%s%s is left of a write that was broken off", folder->path, entry);
-    else if (is_saved && strncmp(entry, UNNAMED, strlen(UNNAMED)) == 0)
-        say("a file without a name was not written: its text is in %s%s", folder->path, entry);
-}
-
-/* The folders that were looked through. */
-struct seen {
-    struct marks folders;
-    bool is_short; /* something was not looked at, since memory is out */
-};
-
-/* Looks through a folder, if it is there, unless that was done. The path is in memory that this frees; NULL where memory is out. */
-static void report_folder(struct session *session, struct seen *seen, char *path, enum purpose purpose)
-{
-    struct stat status;
-    const char *name = path == NULL || *path != '\0' ? path : ".";
-    bool is_there = name != NULL && stat(name, &status) == 0;
-    bool is_new = is_there && !has_mark(&seen->folders, &status);
-    DIR *entries = is_new ? opendir(name) : NULL;
-
-    seen->is_short |= path == NULL;
-    if (is_new && entries == NULL)
-        say("%s can't be looked through for what is left of earlier sessions: %s", name, cause(errno));
-    if (is_new)
-        (void)add_mark(&seen->folders, status.st_dev, status.st_ino); /* where memory is out, it may be reported twice */
-    if (entries != NULL) {
-        struct folder folder = {path, status.st_dev, status.st_ino, purpose == FOR_TEMPORARY_FILES, false};
-        for (struct dirent *entry = readdir(entries); entry != NULL; entry = readdir(entries))
-            report_entry(session, &folder, entry->d_name);
-        closedir(entries);
-        seen->is_short |= folder.is_short;
-    }
-    free(path);
-}
-
-/* Those for temporary files come first: where one of the files lies there, another one's copies may lie there, too. */
-void report_left(struct session *session)
-{
-    size_t tags = count_tags(session);
-    struct seen seen = {0};
-
-    for (int which = 0; which < count_temporary(); which++)
-        report_folder(session, &seen, temporary_folder(which), FOR_TEMPORARY_FILES);
-    for (size_t tag = 1; tag < tags; tag++) {
-        report_folder(session, &seen, folder_of(session->documents[tag].path), OF_FILES);
-        report_folder(session, &seen, folder_of(session->documents[tag].known->path), OF_FILES);
-    }
-    report_folder(session, &seen, formatted(""), OF_FILES);
-    if (seen.is_short)
-        say("out of memory: not all that is left of earlier sessions was looked for");
-    free(seen.folders.items);
 }

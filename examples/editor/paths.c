@@ -91,25 +91,6 @@ int end_of_links(const char *path, char **end)
     return ELOOP;
 }
 
-static const char *named_folder(void)
-{
-    const char *named = getenv("TMPDIR");
-
-    return named != NULL && *named != '\0' ? named : NULL;
-}
-
-int count_temporary(void)
-{
-    return named_folder() == NULL ? 1 : 2;
-}
-
-char *temporary_folder(int which)
-{
-    const char *named = named_folder();
-
-    return which == 0 && named != NULL ? formatted("%s/", named) : formatted("/tmp/");
-}
-
 /* ---- Contents ---- */
 
 static void add_bytes(struct content *content, const uint8_t *bytes, size_t len)

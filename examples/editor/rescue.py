@@ -1,11 +1,13 @@
 """What can't go to the host is written to files here."""
 import contextlib
+import hashlib
 import os
 import re
+import stat
 import sys
-import tempfile
+from itertools import chain
 from pathlib import Path
-from typing import Iterator, List, Optional
+from typing import Callable, Dict, Iterable, Iterator, List, Optional, Tuple
 
 from sulgrevad import Terminal
 from texts import GAP, Change
@@ -14,7 +16,14 @@ MOST_NAMES = 1000  # names that are tried
 MOST_IN_BASE = 200  # bytes of the front of a name that names of files here begin with
 MOST_READ = 65_536  # runes that are read at once
 
+SUFFIX = ".sam-here"  # what comes after the name of a file, and before a number
+ENDS = re.compile(re.escape(SUFFIX) + r"(\.\d+)?$")
 GAPS = re.compile(f"{GAP}+")
+TOLD_GAPS = re.compile(r"\[(\d+) characters that were not loaded\]")
+
+LOOKS = (256, 64)  # characters beside a gap that are looked at, to find what it had
+
+host: Tuple[str, ...] = ()  # the host's command
 
 
 def loaded(terminal: Terminal, tag: int, going: Optional[Change] = None) -> str:
@@ -33,27 +42,152 @@ def told(text: str) -> str:
     return GAPS.sub(lambda found: f"[{len(found[0])} characters that were not loaded]", text)
 
 
+def lacking(text: str) -> int:
+    """How many characters such a text lacks, as it tells."""
+    return sum(int(found[1]) for found in TOLD_GAPS.finditer(text) if len(found[1]) < 8)
+
+
+def filled(text: str, whole: str) -> str:
+    """Such a text with what it lacks, from a whole one that is nearly the same: where what stands before a gap and after it leads to one
+    text there."""
+    pieces = TOLD_GAPS.split(text)  # with the numbers of characters between them
+    for at in range(1, len(pieces), 2):
+        count = int(pieces[at])
+        place = _place_of(whole, pieces[at - 1], count, pieces[at + 1])
+        pieces[at] = f"[{count} characters that were not loaded]" if place is None else whole[place : place + count]
+    return "".join(pieces)
+
+
+def _place_of(whole: str, before: str, count: int, after: str) -> Optional[int]:
+    """Where so many characters stand in a text between two others, as far as these are looked at; None where that may be several texts."""
+    for width in LOOKS:
+        left, right, found, texts = before[-width:], after[:width], None, set()
+        start = whole.find(left)
+        while start >= 0 and len(texts) < 2:
+            place = start + len(left)
+            is_there = whole.startswith(right, place + count) and (right or place + count == len(whole))
+            if is_there and place + count <= len(whole):
+                found = place
+                texts.add(whole[place : place + count])
+            start = whole.find(left, start + 1) if left else -1
+        if texts:
+            return found if len(texts) == 1 else None
+    return None
+
+
 def keep(name: str, text: str) -> Optional[str]:
-    """Writes a text to a new file of this machine: NAME.sam-here in this folder, else in the folder for temporary files. Returns its
-    path; None where none could be written."""
-    base = _base(name)
-    for folder in _folders():
-        for at in range(1, MOST_NAMES + 1):
-            path = Path(folder) / (f"{base}.sam-here" + (f".{at}" if at > 1 else ""))
-            try:
-                _write(path, text)
-            except FileExistsError:
-                continue
-            except OSError:
-                break
+    """Writes a text to a new file of this machine: NAME.sam-here in this folder, else in one of the user's own. Returns its path; None
+    where none could be written."""
+    for front in chain((_base(name),), _own_fronts(name)):
+        path = _first_free(front, lambda free: _write(Path(free), text))
+        if path is not None:
+            _note(name, os.path.realpath(path))
             return os.path.realpath(path)
     return None
 
 
-def _folders() -> Iterator[str]:
-    yield "."
-    with contextlib.suppress(OSError):  # where none can be written
-        yield tempfile.gettempdir()
+def _first_free(front: str, make: Callable[[str], None]) -> Optional[str]:
+    """Makes something under the first name that is free of those that begin so. Returns which; None where that can't be."""
+    for at in range(1, MOST_NAMES + 1):
+        path = front + SUFFIX + (f".{at}" if at > 1 else "")
+        try:
+            make(path)
+        except FileExistsError:
+            continue
+        except OSError:
+            return None
+        return path
+    return None
+
+
+def _note(name: str, path: str) -> None:
+    """Notes in the user's own folder, by a link, of which host's file a text is that was written elsewhere."""
+    for front in _own_fronts(name):
+        if os.path.realpath(os.path.dirname(front)) == os.path.dirname(path) or _first_free(front, lambda free: os.symlink(path, free)):
+            return
+
+
+def left(names: Iterable[str]) -> Dict[str, List[str]]:
+    """The files of this machine that have texts of some files, from earlier sessions: those that were noted, and those in this folder of
+    which nothing was."""
+    noted: Dict[str, List[str]] = {}
+    for folder in _own_folders(makes=False):
+        for path in _entries(folder):
+            target = os.path.realpath(path)
+            if _is_own(target):
+                noted.setdefault(os.path.basename(path).partition("-")[0], []).append(target)
+            else:
+                with contextlib.suppress(OSError):
+                    os.unlink(path)  # what it led to is gone
+    known = set(chain.from_iterable(noted.values()))
+    here: Dict[str, List[str]] = {}
+    for path in _entries(""):
+        if os.path.realpath(path) not in known and _is_own(path):
+            here.setdefault(ENDS.sub("", path), []).append(path)
+    return {name: noted.get(_number(name), []) + here.get(_base(name), []) for name in names}
+
+
+def _entries(folder: str) -> List[str]:
+    """The paths in a folder that may be of such files."""
+    try:
+        return [os.path.join(folder, entry) for entry in sorted(os.listdir(folder or ".")) if ENDS.search(entry)]
+    except OSError:
+        return []
+
+
+def _is_own(path: str) -> bool:
+    """Whether a path is a file of the user's."""
+    try:
+        status = os.lstat(path)
+    except OSError:
+        return False
+    return stat.S_ISREG(status.st_mode) and status.st_uid == os.geteuid()
+
+
+def read(path: str) -> Optional[str]:
+    """What such a file has; None where it can't be read."""
+    try:
+        return Path(path).read_bytes().decode("utf-8")
+    except (OSError, UnicodeDecodeError):
+        return None
+
+
+def _number(name: str) -> str:
+    """A number of the host's command, the folder from which its names may be seen, and a file's name."""
+    place = ""
+    with contextlib.suppress(OSError):  # a folder that is gone
+        place = "" if name.startswith("/") else os.getcwd()
+    return hashlib.sha256("\0".join((*host, place, name)).encode("utf-8", "surrogateescape")).hexdigest()[:16]
+
+
+def _own_fronts(name: str) -> Iterator[str]:
+    """What paths of files in the user's own folders begin with. There a file's name says too little, so the number stands before it."""
+    for folder in _own_folders(makes=True):
+        yield os.path.join(folder, f"{_number(name)}-{_base(name)}")
+
+
+def _own_folders(makes: bool) -> Iterator[str]:
+    """Folders that are the user's alone, the best first: for his state, and among those for temporary files."""
+    for folder in _named_folders():
+        with contextlib.suppress(OSError):
+            if makes:
+                os.makedirs(folder, mode=0o700, exist_ok=True)
+            status = os.lstat(folder)
+            if stat.S_ISDIR(status.st_mode) and status.st_uid == os.geteuid():
+                if status.st_mode & 0o077:
+                    os.chmod(folder, 0o700)
+                yield folder
+
+
+def _named_folders() -> Iterator[str]:
+    state, temporary = os.environ.get("XDG_STATE_HOME", ""), os.environ.get("TMPDIR", "")
+    if not state.startswith("/") and os.environ.get("HOME", "").startswith("/"):
+        state = os.path.join(os.environ["HOME"], ".local", "state")
+    if state.startswith("/"):
+        yield os.path.join(state, "sulgrevad")
+    for folder in (temporary, "/tmp"):
+        if folder.startswith("/"):
+            yield os.path.join(folder, f"sulgrevad-{os.geteuid()}")
 
 
 def _base(name: str) -> str:

@@ -1,7 +1,9 @@
-/* samhost [--undo] [--] [FILE ..]: serves files to a terminal, over standard input and output.
+/* samhost [--undo] [--times] [--] [FILE ..]: serves files to a terminal, over standard input and output.
  *
  * A FILE may be a folder, which stands for the text files below it. With --undo it has one more file, ~~undo~~, that is nowhere on disk:
- * there a terminal keeps text for undo.
+ * there a terminal keeps text for undo. Before that stand the texts that earlier sessions saved, for the terminal to offer.
+ *
+ * With --times it says when the files were written last, by the seconds since 1970.
  *
  * It reads the files, answers the terminal's messages, and writes a file when the terminal says so. It ends when the terminal leaves, at
  * the end of its input, and at a signal that asks it to end (SIGTERM and others), which does as the end of the input. Texts that were not
@@ -38,7 +40,12 @@ static int run(struct session *session)
     set_signals(&mask);
     fcntl(STDOUT_FILENO, F_SETFL, flags | O_NONBLOCK);
     enum ending ending = serve(session, &mask);
-    bool is_saved = save_last(session);
+    bool is_alone = ending != LEFT && !session->journal.is_waiting;
+    bool is_saved = save_last(session, is_alone);
+    if (ending == LEFT)
+        drop_copy(&session->cut.aside);
+    else
+        is_saved &= save_cut(session, is_alone);
     send_the_rest(session, &mask);
     fcntl(STDOUT_FILENO, F_SETFL, flags);
     return !is_saved ? STATUS_LOST : ending == FAULT ? STATUS_FAULT : ending == LINE_BROKE ? STATUS_BROKEN : STATUS_OK;
@@ -58,7 +65,8 @@ static bool make_session(struct session *session)
     session->documents = calloc(ALL_TAGS, sizeof *session->documents);
     session->text.bytes = malloc(MOST_BYTES);
     session->mode_of_new_files = mode_of_new_files();
-    return session->documents != NULL && session->text.bytes != NULL && sam_host_new(&session->host) == SAM_OK;
+    bool has_room = session->documents != NULL && session->text.bytes != NULL && make_cut(&session->cut);
+    return has_room && sam_host_new(&session->host) == SAM_OK;
 }
 
 static void free_session(struct session *session)
@@ -70,11 +78,17 @@ static void free_session(struct session *session)
         free_document(&session->documents[tag]);
     free(session->documents);
     free(session->text.bytes);
+    free_cut(&session->cut);
     free(session);
 }
 
+/* What the words say beside the files. */
+struct options {
+    bool has_vault, tells_times;
+};
+
 /* Opens a session and serves it. Returns the exit status. */
-static int serve_files(struct session *session, char **paths, int count, bool has_vault)
+static int serve_files(struct session *session, char **paths, int count, const struct options *options)
 {
     if (!make_session(session)) {
         say("out of memory");
@@ -82,30 +96,46 @@ static int serve_files(struct session *session, char **paths, int count, bool ha
     }
     int status = add_files(session, paths, count);
     if (status == STATUS_OK) {
-        report_left(session);
-        status = has_vault ? add_vault(session) : STATUS_OK;
+        if (options->tells_times)
+            tell_times(session);
+        report_left(session, options->has_vault);
+        status = options->has_vault ? add_vault(session) : STATUS_OK;
     }
     return status == STATUS_OK ? run(session) : status;
 }
 
+/* Takes the options. Returns the first word after them; -1 where a word is wrong. */
+static int take_options(int count, char **words, struct options *options)
+{
+    int at = 1;
+
+    for (; at < count && words[at][0] == '-'; at++) {
+        if (strcmp(words[at], "--") == 0)
+            return at + 1;
+        if (strcmp(words[at], "--undo") == 0)
+            options->has_vault = true;
+        else if (strcmp(words[at], "--times") == 0)
+            options->tells_times = true;
+        else
+            return -1;
+    }
+    return at;
+}
+
 int main(int count, char **words)
 {
-    int first = 1, status = STATUS_MEMORY;
-    bool has_vault = first < count && strcmp(words[first], "--undo") == 0;
+    struct options options = {false, false};
+    int first = take_options(count, words, &options), status = STATUS_MEMORY;
 
-    first += has_vault;
-    if (first < count && words[first][0] == '-') {
-        if (strcmp(words[first], "--") != 0) {
-            fputs("usage: samhost [--undo] [--] [FILE ..]\n", stderr);
-            return STATUS_WORDS;
-        }
-        first++;
+    if (first < 0) {
+        fputs("usage: samhost [--undo] [--times] [--] [FILE ..]\n", stderr);
+        return STATUS_WORDS;
     }
     struct session *session = calloc(1, sizeof *session);
     if (session == NULL) {
         say("out of memory");
     } else {
-        status = serve_files(session, words + first, count - first, has_vault);
+        status = serve_files(session, words + first, count - first, &options);
         free_session(session);
     }
     return status;

@@ -1,13 +1,16 @@
 /* samhost.h: what the parts of samhost share.
  *
  *     samhost.c   the words of the command, and one session
- *     opening.c   reads the files at the start, and reports what an earlier session left beside them
+ *     opening.c   reads the files at the start
+ *     left.c      reports what an earlier session left of them, and offers the texts
  *     folders.c   reads the text files below a folder
  *     serving.c   carries bytes between the host and standard input and output, and sleeps
  *     writing.c   writes a file when the terminal says so
  *     aside.c     saves texts that are not written
+ *     cut.c       saves what was cut last and stands nowhere else
  *     disk.c      puts a text into a file: by a new file in its place, or in place
  *     paths.c     names of files, and what stands in them
+ *     places.c    folders for what can't stand beside its file
  *     saying.c    writes lines to standard error
  *
  * Calls that can fail return 0 or an error number of errno.h, unless they say otherwise.
@@ -35,6 +38,18 @@ enum {
     PIECE = 65536                /* bytes that are read or written at once */
 };
 
+/* Messages of a terminal, as far as they are looked at before the host takes them. */
+enum {
+    HEADER = 3, /* bytes of a message before its body: its kind, and the length of the body */
+    KIND_TYPE = 8,
+    KIND_CUT = 9,
+    KIND_PASTE = 10,
+    KIND_SNARF = 11,
+    KIND_CLOSE = 14,
+    KIND_SET_SNARF = 20,
+    MOST_SET = 32000 /* bytes of the body of the last */
+};
+
 enum { STATUS_OK = 0, STATUS_UNREADABLE = 1, STATUS_WORDS = 2, STATUS_FAULT = 3, STATUS_MEMORY = 4, STATUS_LOST = 5, STATUS_BROKEN = 6 };
 
 /* Why a session ends. */
@@ -45,8 +60,11 @@ enum ending { GOES_ON, LEFT, INPUT_ENDED, LINE_BROKE, FAULT };
 #define TEMPORARY ".sam-"    /* what names of files begin with that are not whole yet */
 #define SAVED ".sam-saved"   /* what comes after the name of a file whose text was not written */
 #define OLD ".sam-old"       /* what comes after the name of a file for what it was, while it is written in place */
+#define THEIRS ".sam-theirs" /* what comes after the name of a file for another program's text, in whose place one was written */
 #define UNNAMED "unnamed-"   /* what names of copies begin with of files that have no name */
+#define CUT "cut"            /* the name of the copy of what was cut last */
 #define VAULT "~~undo~~"     /* the name of the file in which a terminal keeps text for undo; it is nowhere on disk */
+#define LEFT_OVER "~~left~~" /* what names begin with, in the session, of texts that an earlier session saved */
 
 struct text {
     uint8_t *bytes;
@@ -65,6 +83,7 @@ struct known {
     struct known *next;
     char *path; /* with no symbolic link at its end */
     struct content content;
+    bool is_theirs; /* another program's, found when it refused to write: what is written in its place keeps it beside the file */
 };
 
 /* A text that was saved aside. The user may put a file of his own in its place; by these marks the host knows its own. */
@@ -84,6 +103,7 @@ struct document {
     struct copy aside;
     bool is_unsaved;  /* the terminal believes it written, and it is not */
     bool is_reported; /* it was said that its text can't be saved */
+    bool is_left;     /* it is what an earlier session saved aside, which goes where it is written empty */
 };
 
 /* A text that could not be saved when its file was closed. */
@@ -93,11 +113,20 @@ struct closed {
     struct text text;
 };
 
+/* What the host's snarf buffer has; and what of the user's is in the file for undo meanwhile. */
+struct cut {
+    struct text snarf, moved; /* room for one text each (MOST_BYTES) */
+    bool is_moved;
+    struct copy aside; /* of the user's */
+    bool is_reported;  /* it was said that it can't be saved */
+};
+
 /* The bytes that wait on both sides, and whether the terminal still listens. */
 struct wire {
     uint8_t input[PIECE], output[PIECE];
     size_t taken, input_len; /* bytes of `input`: taken by the host, and in all */
     size_t left;             /* bytes that are still to be taken of a message that has begun */
+    bool is_start;           /* the bytes that are taken next begin with a message */
     size_t again;            /* bytes that were not taken, since memory is out */
     uint16_t closing;        /* the file that was closed last */
     size_t sent, output_len; /* bytes of `output`: sent, and in all */
@@ -130,6 +159,7 @@ struct session {
     struct document *documents; /* ALL_TAGS of them */
     struct text text;           /* room for one text (MOST_BYTES) */
     struct closed *closed;
+    struct cut cut;
     bool is_lost; /* a text of a closed file could neither be saved nor held in memory, or what came last could not be taken */
     struct wire wire;
     struct journal journal;
@@ -142,8 +172,10 @@ struct request {
     const char *path;     /* with no symbolic link at its end */
     struct content known; /* what the file may have: another content is another program's */
     mode_t mode;          /* of a file that isn't there yet */
+    bool is_theirs;       /* that is another program's, to be kept beside the file */
     struct content found; /* out, at IS_CHANGED: what the file has */
     char *old;            /* out: the path of what the file was, where it is broken now; the caller's. Else NULL */
+    char *theirs;         /* out: the path of what another program has written there; the caller's. Else NULL */
 };
 
 /* samhost.c */
@@ -156,6 +188,9 @@ size_t count_tags(struct session *session);
 /* Reads the files, and those below the folders, into the host. Returns the exit status: 0, or why the session can't begin. */
 int add_files(struct session *session, char **paths, int count);
 
+/* Says when the files were written last. */
+void tell_times(struct session *session);
+
 /* Adds the file for undo, which is never written or saved. Returns the exit status. */
 int add_vault(struct session *session);
 
@@ -165,8 +200,11 @@ int read_whole(const char *path, struct text *text);
 /* Adds a file that was read to the host, whose status it hands out. */
 int add_text(struct session *session, const char *path, const struct text *text, uint32_t *code);
 
-/* Reports what stands beside the files, and in the folders for temporary files, of sessions and writes that were broken off. */
-void report_left(struct session *session);
+/* left.c */
+
+/* Reports what stands beside the files, and in the user's own folders, of sessions and writes that were broken off. A terminal with a file
+ * for undo is offered the texts that were not written (`offers`). */
+void report_left(struct session *session, bool offers);
 
 /* folders.c */
 
@@ -216,10 +254,14 @@ int secure(struct session *session, uint16_t tag, enum place *place);
 bool is_own(const struct copy *copy);
 
 /* Takes the copy of a text for the user's own from now on. */
-void forget_aside(struct document *document);
+void forget_copy(struct copy *copy);
 
-/* Removes the copy of a text that is written by now, where it is the host's own. */
-void drop_aside(struct document *document);
+/* Removes the copy of a text that stands elsewhere by now, where it is the host's own. */
+void drop_copy(struct copy *copy);
+
+/* Whether a text stood whole in a copy that somebody took away since: he has seen to it. So a host whose line died unnoticed does not bring
+ * back what another session has written or dropped long since. */
+bool is_seen_to(const struct copy *copy, const struct text *text);
 
 /* The document whose own copy stands at a path; NULL where there is none. */
 struct document *owner_at(struct session *session, const char *path);
@@ -241,17 +283,37 @@ void forget_closed(struct session *session, uint16_t tag);
 /* Frees what a document has. Its copy stays on disk. */
 void free_document(struct document *document);
 
-/* At the end: saves all changed texts, and says where they are. Returns whether none is lost. */
-bool save_last(struct session *session);
+/* At the end: saves all changed texts, and says where they are. Where nobody is there any more (`is_alone`), what a copy had that somebody
+ * took away is not saved again. Returns whether none is lost. */
+bool save_last(struct session *session, bool is_alone);
+
+/* cut.c */
+
+/* Makes room for what is cut. Returns whether there is memory for it. */
+bool make_cut(struct cut *cut);
+void free_cut(struct cut *cut);
+
+/* The length of a message that may fill the snarf buffer or take a part in keeping text for undo, if that is right for its kind. Else 0. */
+size_t watched_len(const uint8_t *bytes, size_t len);
+
+/* Before the host takes such a message, which is whole: notes what the snarf buffer has after it. */
+int note_snarf(struct session *session, const uint8_t *bytes, size_t len);
+
+/* Saves what was cut last, unless it stands in a file. Says once that it can't be saved. Returns whether it is. */
+bool keep_cut(struct session *session);
+
+/* At the end: the same, and says where it is. Returns whether it is not lost. */
+bool save_cut(struct session *session, bool is_alone);
 
 /* disk.c */
 
 /* Puts a text into a file, whole or not at all. IS_CHANGED where the file has what is not known: then it stays as it is. */
 int put_file(struct request *request);
 
-/* Puts a text into a new file beside a file or, where that can't be, in a folder for temporary files. It is named after the file and
- * the suffix; a number follows where that is there already. Hands out the copy, whose path is in memory of the caller's. */
-int keep(const struct text *text, const char *name, const char *suffix, struct copy *copy);
+/* Puts a text into a new file beside a file or, where that can't be, in a folder of the user's own. It is named after the file and the
+ * suffix; a number follows where that is there already. Beside the file it is as open to others as another one is (`like`), else the user's
+ * alone. Hands out the copy, whose path is in memory of the caller's. */
+int keep(const struct text *text, const char *name, const char *like, const char *suffix, struct copy *copy);
 
 /* Puts another text in the place of a copy. */
 int keep_again(const struct text *text, struct copy *copy);
@@ -270,17 +332,24 @@ void base_of(const char *path, char base[BASE_ROOM]);
 /* The path that symbolic links at the end of a path lead to, in memory of the caller's. Nothing needs to be there. */
 int end_of_links(const char *path, char **end);
 
-/* The folders for temporary files: $TMPDIR, where it is set and not empty, and /tmp. How many they are; and one of them, counted from 0,
- * with the slash at its end, in memory of its own; NULL where there is no memory. */
-int count_temporary(void);
-char *temporary_folder(int which);
-
 struct content content_of(const struct text *text);
 struct content content_at(const char *path);
 bool is_same(struct content one, struct content other);
 
 /* Reads all of an open file, of at most `most` bytes, into memory of the caller's. EFBIG where it has more. */
 int read_all(int file, size_t most, struct text *text);
+
+/* places.c */
+
+enum { OWN_FOLDERS = 3 }; /* where copies may be that can't stand beside their file, the best first */
+
+/* One of these folders, counted from 0, with the slash at its end, in memory of its own. It is made where `makes` says so. It has to be the
+ * user's own, and nobody else's to read. */
+int own_folder(int which, bool makes, char **folder);
+
+/* What names of copies of a file begin with in such a folder, in memory of its own: a number of the whole path, and the name. NULL where
+ * there is no memory. */
+char *own_front(const char *path);
 
 /* saying.c */
 

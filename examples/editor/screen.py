@@ -152,8 +152,9 @@ def frame_of(editor: Editor, rows: int, columns: int) -> Dict[int, List[Run]]:
     frame: Dict[int, List[Run]] = {}
     for window in editor.shown:
         frame.update(window_rows(editor, window))
-    if editor.menu is not None and editor.menu.is_box:
-        frame.update(menu_rows(editor.menu, max(1, rows - FOOT), columns))
+    menu = editor.help or editor.menu
+    if menu is not None and menu.is_box:
+        frame.update(menu_rows(menu, max(1, rows - FOOT), columns))
     lines = lines_of(editor.message, columns, rows)
     frame.update((rows - len(lines) + at, [(line, curses.A_BOLD)]) for at, line in enumerate(lines))
     return frame
@@ -230,14 +231,14 @@ def status(editor: Editor, link: Link) -> str:
         start, end = window.dot
         line = editor.numbers.line(window.tag, window.caret)
         parts.append(f"{start},{end} of {window.length}" + (f", line {line}" if line is not None else ""))
-    if editor.is_lost:
-        parts.append("HOST LOST")
-    parts.append(locks_of(editor))
+    parts.append("HOST LOST" if editor.is_lost else locks_of(editor))
     for name, count in (("held", terminal.held + len(editor.deferred)), ("unsent", terminal.unsent), ("waiting", len(link.waiting))):
         if count:
             parts.append(f"{name} {count}")
-    if editor.way.told:
+    if editor.way.told and not editor.is_lost:
         parts.append(f"{editor.way.told} on the way")
+    if editor.way.is_silent and not editor.is_lost:
+        parts.append(f"no answer for {int(editor.way.silence)} s")
     return " | ".join(parts)
 
 
@@ -253,8 +254,8 @@ def locks_of(editor: Editor) -> str:
 
 def cursor_of(editor: Editor) -> Optional[Tuple[int, int]]:
     """Where the cursor stands; None where it is not to be seen."""
-    window = editor.focus
-    if (editor.menu is not None and editor.menu.is_box) or not window.is_open:
+    window, menu = editor.focus, editor.help or editor.menu
+    if (menu is not None and menu.is_box) or not window.is_open:
         return None
     layout, caret = window.layout(), window.caret
     if not layout.shows(caret):

@@ -19,11 +19,7 @@ enum {
     PAUSE = 100,             /* milliseconds until memory is asked for again */
     LONGEST_GONE = 5000,     /* milliseconds after which it isn't, where the terminal is gone */
     MOST_PIECES_LEFT = 64,   /* pieces of input that are still taken after a signal */
-    HEADER = 3,              /* bytes of a message before its body: its kind, and the length of the body */
-    TAG_LEN = 2,             /* bytes of a file's tag, with which the bodies of these begin: */
-    KIND_TYPE = 8,           /* Ttype */
-    KIND_CUT = 9,            /* Tcut */
-    KIND_CLOSE = 14,         /* Tclose, which has no more */
+    TAG_LEN = 2,             /* bytes of a file's tag */
     CLOSE_LEN = HEADER + TAG_LEN
 };
 
@@ -124,12 +120,13 @@ static size_t next_piece(struct wire *wire, bool *is_close)
     size_t have = wire->input_len - wire->taken;
 
     *is_close = false;
-    if (wire->left == 0) {
+    wire->is_start = wire->left == 0;
+    if (wire->is_start) {
         if (have < HEADER)
             return 0;
         size_t len = message_len(bytes);
         *is_close = bytes[0] == KIND_CLOSE && len == CLOSE_LEN;
-        if (*is_close && have < CLOSE_LEN)
+        if ((*is_close && have < CLOSE_LEN) || have < watched_len(bytes, len))
             return 0;
         if (edit_len(bytes, have) > 0)
             for (size_t more; (more = edit_len(bytes + len, have - len)) > 0; len += more)
@@ -139,12 +136,29 @@ static size_t next_piece(struct wire *wire, bool *is_close)
     return wire->left < have ? wire->left : have;
 }
 
+/* Notes what the snarf buffer has after the next bytes, which are whole messages or a part of one. Only for memory it fails. */
+static int note_snarfs(struct session *session, size_t len)
+{
+    const struct wire *wire = &session->wire;
+    const uint8_t *bytes = wire->input + wire->taken;
+    int error = 0;
+
+    for (size_t at = 0; error == 0 && wire->is_start && at + HEADER <= len && message_len(bytes + at) <= len - at;) {
+        size_t next = message_len(bytes + at);
+        if (watched_len(bytes + at, next) > 0)
+            error = note_snarf(session, bytes + at, next);
+        at += next;
+    }
+    return error;
+}
+
 /* Has the host take some bytes that were read, and does what they ask. */
 static enum ending feed(struct session *session, size_t len)
 {
     struct wire *wire = &session->wire;
     bool is_done = false;
-    uint32_t code = sam_host_feed(&session->host, wire->input + wire->taken, len);
+    int noted = note_snarfs(session, len);
+    uint32_t code = noted == 0 ? sam_host_feed(&session->host, wire->input + wire->taken, len) : SAM_NO_MEMORY;
 
     wire->again = code == SAM_NO_MEMORY ? len : 0;
     if (code != SAM_NO_MEMORY) {
@@ -180,13 +194,14 @@ static enum ending take_input(struct session *session)
     struct wire *wire = &session->wire;
     enum ending ending = GOES_ON;
     bool is_close;
-    size_t len;
+    size_t len, before = wire->taken;
 
     if (wire->is_short)
         ending = feed(session, wire->again);
     while (ending == GOES_ON && !wire->is_short && (len = next_piece(wire, &is_close)) > 0)
         ending = is_close ? feed_close(session) : feed(session, len);
-    note_input(&session->journal);
+    if (wire->taken != before || wire->is_short)
+        note_input(&session->journal);
     send_pending(session);
     return ending;
 }

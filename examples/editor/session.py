@@ -7,10 +7,11 @@ import signal
 import sys
 from typing import List, Optional
 
+import rescue
 from editor import Editor
-from link import SECONDS_TO_END, Link
+from link import SECONDS_OF_SILENCE, SECONDS_TO_END, Link
 from loop import KEYBOARD, Loop
-from notes import printable
+from notes import printable, said
 from sulgrevad import SamError, Terminal
 from screen import FOOT, Screen
 from stream import FIRST
@@ -66,7 +67,8 @@ class Session:
         return True
 
     def _hear_early(self, line: str) -> None:
-        say(line)
+        if said(line).what != "written":
+            say(line)
         self.editor.hear(line)
 
     def _hear(self, line: str) -> None:
@@ -100,14 +102,19 @@ class Session:
 
     def _tell_of_leaving(self) -> None:
         """The user has left: what was typed since, and where he didn't wait for the host, that it still has some time."""
-        if self.editor.is_over and not self.ended_by:
+        if self.editor.is_over and not self.ended_by and not self.editor.leaves_alone:
             self.editor.cut_text = ""
         if self.terminal.exited:
             if self.editor.typed_ahead:
                 say(f"samterm: typed while the host was left, and put in nowhere: {self.editor.typed_ahead!r}")
             self.editor.deferred.clear()
         elif not self.editor.is_lost and not self.ended_by:
-            say(f"samterm: the host has {SECONDS_TO_END} seconds to save what it got; ^C doesn't wait for it")
+            say(f"samterm: the host has {self._seconds_to_end} seconds to save what it got; ^C doesn't wait for it")
+
+    @property
+    def _seconds_to_end(self) -> int:
+        """How long the host may take: one that said nothing will say nothing."""
+        return SECONDS_OF_SILENCE if self.editor.way.is_silent else SECONDS_TO_END
 
     def _end(self) -> int:
         """Ends the link, and writes here what nobody has saved, also where a fault ends that. Returns the exit status."""
@@ -127,7 +134,7 @@ class Session:
             return STATUS_UNSAVED
         if self.ended_by:
             return STATUS_SIGNAL + self.ended_by
-        return STATUS_LOST if self.editor.is_lost else 0
+        return STATUS_LOST if self.editor.is_lost or keeping.has_left else 0
 
     def _end_link(self) -> Optional[int]:
         """Sends what was typed, and waits for the host's end. Returns its status; None where it doesn't end, or the user doesn't wait."""
@@ -139,7 +146,7 @@ class Session:
         with contextlib.suppress(KeyboardInterrupt):  # the user doesn't wait for the host any longer
             try:
                 signal.signal(signal.SIGINT, signal.default_int_handler)
-                return self.link.close(self._hear, self._take_last)
+                return self.link.close(self._hear, self._take_last, self._seconds_to_end)
             finally:
                 signal.signal(signal.SIGINT, signal.SIG_IGN)  # one more is not to stop what is written here
         return None
@@ -158,7 +165,10 @@ def edit(command: List[str], files: List[str], indents: bool = True) -> int:
     """Runs a host by a command with the names of files after it, and edits these. Returns the exit status."""
     with Terminal() as terminal:
         editor = Editor(terminal, indents=indents, asked_for=files)
-        command = command + files
+        rescue.host = tuple(command)
+        if any(rescue.left(files).values()):  # whether these are newer than the files only the host can tell
+            command = [*command, "--times"]
+        command = [*command, *(["--"] if any(name.startswith("-") for name in files) else []), *files]
         try:
             link = Link(command)
         except OSError as error:

@@ -2,7 +2,7 @@
 from collections import deque
 from itertools import repeat
 from operator import add
-from typing import Callable, Dict, Iterator, List, NamedTuple
+from typing import Callable, Dict, Iterator, List, NamedTuple, Tuple
 
 from sulgrevad import Terminal, Unfinished
 
@@ -85,6 +85,7 @@ class Texts:
         self.terminal = terminal
         self.versions: Dict[int, int] = {}  # of each text; another one once it changed, or was loaded further
         self.is_final = False  # the host is gone, so no more of any text is loaded
+        self._dots: Dict[int, Tuple[int, int]] = {}  # where dots were moved to since: the terminal may hold such events for ever
         self.left = ""  # what is to be typed, and was not taken
         self.listeners: List[Callable[[List[Change]], None]] = []
 
@@ -97,6 +98,16 @@ class Texts:
             if gaps == 0:
                 return self.terminal.text(tag, place, count)
         return "".join([rune or GAP for rune in self.terminal.read(tag, place, count)]) if count > 0 else ""
+
+    def dot(self, tag: int) -> Tuple[int, int]:
+        return self._dots[tag] if tag in self._dots else self.terminal.dot(tag)
+
+    def select(self, tag: int, start: int, end: int) -> None:
+        """Sets the dot."""
+        if self.is_final:
+            self._dots[tag] = (start, end)
+        else:
+            self.terminal.select(tag, start, end)
 
     def read_each(self, tag: int, places: List[int], counts: List[int]) -> List[str]:
         """The same from each of some places on, so many runes: by one look where they stand close to each other."""

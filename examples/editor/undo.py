@@ -109,6 +109,12 @@ class Undo:
         steps.append(Step(kind) if kept is None else Step(before=kept))
         del steps[:-MOST_STEPS]
 
+    def room(self, tag: int, start: int, end: int) -> int:
+        """How many runes that are typed next belong to one step."""
+        steps = self.past.get(tag)
+        goes_on = steps and tag not in self._halves and steps[-1].takes("type", start, end)
+        return MOST_TYPED - len(steps[-1].changes[-1].came) if steps and goes_on else MOST_TYPED
+
     def hear(self, changes: List[Change]) -> None:
         """Notes changes of a file; what was taken back can't be made again then."""
         tag = changes[0].tag

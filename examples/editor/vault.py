@@ -102,6 +102,19 @@ class Vault:
             then,
         ]
 
+    def bring(self, source: int, tag: int) -> None:
+        """Has the host put the text of another file in the place of a file's."""
+        self._begin(tag)
+        self._steps += [
+            lambda: self.terminal.open(source),
+            lambda: self.terminal.work(tag),
+            lambda: self._snarf(source, 0, self.terminal.len(source)),
+            lambda: self._select(tag, 0, self.terminal.len(tag)),
+            lambda: self._replace(tag, 0, self.terminal.len(tag)),
+            self._give_copied_back,
+            lambda: self.terminal.select(tag, 0, 0),
+        ]
+
     def go_on(self) -> None:
         """Takes the steps that need not wait. One for which memory is out is taken again later."""
         while self._steps and self._is_settled:

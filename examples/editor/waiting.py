@@ -2,31 +2,23 @@
 line."""
 from collections import deque
 from itertools import islice
-from typing import Deque, NamedTuple, Optional
+from typing import Callable, Deque, NamedTuple, Optional
 
-from keys import ACTIONS, Input, Key, Mouse, Paste, Text
+from keys import ACTIONS, ANSWERS, NOTHING, PLACE, ROWS, WINDOWS, WRITTEN, Binding, Input, Key, Mouse, Paste, Text
 from notes import REPEAT
 from sulgrevad import SamError
-from windows import Window
+from targets import Missing
+from windows import Window, end_of_load
 
 BUSY = 0.25  # seconds after an edit or a move in which nothing more is asked for, so that the keys after it need not wait
 REST = 0.25  # seconds after the last key from which on it is asked for what the user may turn to next
 MOST_TURNS = 32  # keys that wait, of which the page keys are counted
 LEAVING = "leaving; ^Q again doesn't wait for the host"
 WAITING = "keys wait for the host; ^Q again leaves without them"
+SILENT = "the host doesn't answer. ^Q again leaves, and writes here what is loaded of"
 
-# Actions that go by places on the screen, or change the text there. While the file is locked the places may change, so these wait, with
-# all keys after them.
-BY_PLACE = {
-    "left", "right", "up", "down", "word_left", "word_right", "home", "end", "first", "last", "erase_left", "erase_right", "select_all",
-    "word", "cut", "snarf", "paste", "undo", "redo", "find", "search_back",
-}  # fmt: skip
-# Actions that go by the rows on the screen. These wait until all that is shown is loaded, and so lead to the same place over any link.
-BY_PLACES = BY_PLACE | {"page_up", "page_down"}
-# Actions that the terminal itself would hold while the host pastes, and do before the caret has gone after what was pasted.
-BY_CARET = {"look", "search"}
-# Actions that ask first where a file was not written. What is held or not answered yet may still change one, so these wait for it.
-ASKING = {"close", "leave", "send"}
+# Runes that are loaded in one round trip for a key that goes by text which is not shown, twice as many each time.
+FIRST_REACH, LONGEST_REACH = 4_096, 32_768
 
 
 class Pressed(NamedTuple):
@@ -37,11 +29,27 @@ class Pressed(NamedTuple):
     answers: str = ""
     has_read: bool = False
     is_again: bool = False  # it acted already, and goes on
+    window: Optional[Window] = None  # to which it goes, where Esc has passed it
 
 
-def action_of(key: Input) -> Optional[str]:
-    """What a key does; None for text, for the mouse, and for a key that does nothing."""
-    return ACTIONS.get(key.name.replace("Shift-", "")) if isinstance(key, Key) else None
+# What text, pastes and the mouse do, and keys that do nothing. A mouse goes by what is shown; Enter by the line above.
+TYPING, ENTER = Binding((), "", "", needs="selection"), Binding((), "", "", needs="new_line")
+POINTING, SCROLLING, NO_ACTION = Binding((), "", "", needs=ROWS, leads=True), Binding((), "", "", WINDOWS), Binding((), "", "", WINDOWS)
+RUNNING = Binding((), "", "", ANSWERS, ROWS)  # Enter in the command window
+
+
+def bound(key: Input) -> Binding:
+    """What is known of what a key does."""
+    if isinstance(key, Mouse):
+        return SCROLLING if key.what.startswith("wheel") else POINTING
+    if isinstance(key, (Text, Paste)):
+        return ENTER if "\n" in key.runes else TYPING
+    return ACTIONS.get(key.name.replace("Shift-", ""), NO_ACTION)
+
+
+def action_of(key: Input) -> str:
+    """The name of what a key does; empty for text, for the mouse, and for a key that does nothing."""
+    return bound(key).action
 
 
 def last_of(key: Input) -> Input:
@@ -55,6 +63,7 @@ class Waiting:
     def _begin_waiting(self) -> None:
         self.deferred: Deque[Pressed] = deque()
         self._wants_text = False  # the first key that waits needs text which is not loaded
+        self._reach = FIRST_REACH  # how much of that is loaded next, where it is not shown
         self._edited_at = 0.0  # when the last key came that edits or moves
         self._pressed_at = 0.0  # when the last key of any kind came
         self._last = Pressed(Key(""), 0.0)
@@ -63,7 +72,7 @@ class Waiting:
     @property
     def _is_lock_held(self) -> bool:
         """Whether a lock is held, so that the host will answer, or an event waits for one."""
-        return self.vault.is_busy or self.terminal.held > 0 or any(self.terminal.locked(tag) for tag in self.all_windows)
+        return self.vault.is_busy or self.terminal.held > 0 or any(map(self.terminal.locked, (*self.all_windows, *self.left.tags)))
 
     @property
     def _is_answer_due(self) -> bool:
@@ -77,21 +86,55 @@ class Waiting:
     def take(self, key: Input, when: Optional[float] = None) -> None:
         """Does what a key says, now or when what it acts on is settled."""
         when = self.clock() if when is None else when
-        pressed = Pressed(key, when, self._answer_of(key, when), self.notes.is_read)
-        is_leave = action_of(key) == "leave"
-        self._leaves_at = when + REPEAT if is_leave and pressed.answers in (LEAVING, WAITING) else None
-        if self._leaves_at is not None or self._stops(key):
+        pressed, binding = Pressed(key, when, self._answer_of(key, when), self.notes.is_read), bound(key)
+        is_leave = binding.action == "leave"
+        is_sure = pressed.answers in (LEAVING, WAITING) or (pressed.answers != "" and self.way.is_silent)
+        self._leaves_at = when + REPEAT if is_leave and is_sure else None
+        if self._leaves_at is not None or self._stops(key) or (is_leave and self._leaves_silence(key)):
             return
         self._pressed_at = when
-        if isinstance(key, (Text, Paste)) or action_of(key) in BY_PLACE:
+        if self._acts_ahead(pressed):
+            return
+        if binding.waits == PLACE and binding.needs != ROWS:
             self._edited_at = when
         self.deferred.append(pressed)
         self._act_in_order()
-        if self.deferred and action_of(key) in ASKING and not self.deferred[-1].answers:
+        if self.deferred and binding.waits == ANSWERS and not self.deferred[-1].answers:
             if is_leave:
                 self._ask(LEAVING if self.is_leaving else WAITING, key)
             else:
                 self.message = "keys wait for the host"
+
+    def _acts_ahead(self, pressed: Pressed) -> bool:
+        """Whether a key acts before those that wait: the help, what is pressed over it, and Esc where these keys lead nowhere else. They
+        go to the window then to which they went."""
+        if self.help is not None and action_of(pressed.key) != "leave":
+            return not self._act_in_help(pressed)
+        if bound(pressed.key).waits == NOTHING:
+            self.notes.take(pressed.has_read)
+            self.show_help()
+            return True
+        if action_of(pressed.key) != "switch" or not self.deferred or self._is_led_elsewhere:
+            return False
+        self.deferred = deque(kept if kept.window else kept._replace(window=self.focus) for kept in self.deferred)
+        self._act(pressed)
+        return True
+
+    @property
+    def _is_led_elsewhere(self) -> bool:
+        """Whether it is not known where keys go that come after those which wait."""
+        return self.menu is not None or self._are_windows_due or any(bound(kept.key).leads for kept in self.deferred)
+
+    def _leaves_silence(self, key: Input) -> bool:
+        """Whether the user leaves a host that doesn't answer. Where something may be lost by that, one question is asked, and no more."""
+        if self.is_lost or not self.way.is_silent:
+            return False
+        unwritten = ", ".join(self.name(tag) for tag in self.tags if self.is_changed(tag))
+        if unwritten or self.deferred:
+            self._ask(f"{SILENT}: {unwritten or 'keys that wait'}", key)
+        else:
+            self._leaves_at = self.clock()
+        return True
 
     def _stops(self, key: Input) -> bool:
         """Whether a key stops a search that goes on."""
@@ -116,36 +159,65 @@ class Waiting:
     def _act_in_order(self) -> None:
         """Does what the keys say, up to the first that has to wait."""
         self._wants_text = False
-        while self.deferred and not self._must_wait(self.deferred[0]):
-            self._act(self.deferred.popleft())
+        while self.deferred:
+            focus = self.focus
+            self._go_back_to(self.deferred[0].window)
+            there, must_wait = self.focus, self._must_wait(self.deferred[0])
+            if not must_wait:
+                self._reach = FIRST_REACH
+                self._act(self.deferred.popleft())
+            if self.focus is there:
+                self.focus = focus
+            if must_wait:
+                return
+
+    def _go_back_to(self, window: Optional[Window]) -> None:
+        """A key goes to the window to which it went when Esc passed it, where that still is one."""
+        if window is not None and window in self.windows:
+            self.focus = window
 
     def _must_wait(self, pressed: Pressed) -> bool:
         """Whether what a key acts on is not settled: the windows, what was changed, or the places in a window."""
-        key, action = pressed.key, action_of(pressed.key)
+        key, binding = pressed.key, bound(pressed.key)
         if pressed.answers and self.clock() < pressed.when + REPEAT:
             return True
-        if self.is_lost or action == "help":
+        if self.is_lost:
             return False
-        if self.vault.is_busy:
+        if self.vault.is_busy or (pressed.is_again and self._is_lock_held):
             return True
         if self._is_for_menu(key):
             return self.menu.goes_by_place and not self.focus.is_settled
-        if self._are_windows_due or (action in BY_CARET and self.focus.tag in self._pasting):
+        if self._are_windows_due:
             return True
-        is_line = isinstance(key, (Text, Paste)) and "\n" in key.runes and self.focus is self.command
-        if action in ASKING or is_line:
-            return self._is_answer_due or (action in (None, "send") and self._lacks_text(self.active, "page_down"))
-        window = self._window_by_place(key)
-        return window is not None and (not self._has_shown(window, key) or not window.is_settled or self._lacks_text(window, action))
+        if binding is ENTER and self.focus is self.command:
+            binding = RUNNING
+        if binding.waits == WINDOWS:
+            return False
+        if binding.waits == ANSWERS:
+            return self._is_answer_due or (binding.needs != "" and self._lacks_text(self.active, binding))
+        window = self._window_of(key, binding)
+        if binding.waits == WRITTEN and (self.keeping.is_writing(window.tag) or not self.way.is_confirmed):
+            return True  # the write before it may ask
+        return not self._has_shown(window, binding) or not window.is_settled or self._lacks_text(window, binding, key)
 
-    def _has_shown(self, window: Window, key: Input) -> bool:
+    def _window_of(self, key: Input, binding: Binding) -> Window:
+        """The window by whose places a key goes."""
+        if isinstance(key, Mouse) and key.what == "press":
+            return self.window_at(key.row) or self.focus
+        return self.active if binding.waits == WRITTEN else self.focus
+
+    def _has_shown(self, window: Window, binding: Binding) -> bool:
         """Before a key goes by what a window shows, that shows what the last key did, and asks for what is missing. What is typed at the
         caret needs none of that, and so nothing holds it up. Returns whether there was memory for it."""
         start, end = window.dot if window.is_open else (0, 0)
-        if isinstance(key, Text) and "\n" not in key.runes and start == end:
+        if binding is TYPING and start == end:
             return True
+        return self._tried(lambda: window.update(self.is_busy, turns=self._turns))
+
+    def _tried(self, ask: Callable[[], None]) -> bool:
+        """Whether there was memory for what asks the host."""
         try:
-            window.update(self.is_busy, turns=self._turns)
+            ask()
         except MemoryError as error:
             self.message = f"there is not enough memory ({error})"
         except SamError as error:
@@ -154,17 +226,26 @@ class Waiting:
             return True
         return False
 
-    def _lacks_text(self, window: Window, action: Optional[str]) -> bool:
-        """Whether a key has to wait for text that is shown, but not loaded. That is asked for, also while keys come."""
-        self._wants_text = window.is_open and window.lacks_text_for(action)
-        return self._wants_text
+    def _lacks_text(self, window: Window, binding: Binding, key: Input = Key("")) -> bool:
+        """Whether a key has to wait for text that is not loaded. That is asked for, also while keys come."""
+        if not binding.needs or not window.is_open or self.texts.is_final:
+            return False
+        find = getattr(window.targets, binding.needs)
+        try:
+            find(*([isinstance(key, Key) and "Shift-" in key.name] if binding.extends else []))
+        except Missing as missing:
+            self._wants_text = True
+            if not window.layout().shows(missing.place):  # else the window asks for it
+                self._tried(lambda: self._load_towards(window, missing))
+            return True
+        return False
 
-    def _window_by_place(self, key: Input) -> Optional[Window]:
-        """The window by whose places a key goes, if it does."""
-        if isinstance(key, Mouse) and key.what == "press":
-            return self.window_at(key.row)
-        is_by_place = key.what in ("move", "release") if isinstance(key, Mouse) else action_of(key) in BY_PLACES
-        return self.focus if is_by_place or isinstance(key, (Text, Paste)) else None
+    def _load_towards(self, window: Window, missing: Missing) -> None:
+        """Loads text that is not shown, from where it is missing on."""
+        low = missing.place if missing.step > 0 else max(0, missing.place + 1 - self._reach)
+        high = end_of_load(self.terminal, window.tag, low, min(window.length, low + self._reach))
+        self._reach = min(2 * self._reach, LONGEST_REACH)
+        self.terminal.load(window.tag, low, high - low)
 
     def _is_for_menu(self, key: Input) -> bool:
         """Whether a menu lies over the windows, which takes all keys but `^Q`."""

@@ -5,6 +5,7 @@ from sulgrevad import Terminal
 from texts import COMMAND
 
 TOLD_AFTER = 0.15  # seconds on the way before messages are told of, so that with a quick host nothing flickers
+SILENT_AFTER = 3  # seconds without a word of the host, though an answer is due, that are told of
 
 
 class Way:
@@ -21,6 +22,7 @@ class Way:
         self._is_unasked = False  # that one is not sent yet
         self._since: Optional[float] = None  # since when messages are on the way
         self._last: Optional[int] = None  # at the end of the session, how many messages the user has made
+        self._heard_at = 0.0  # when bytes of the host came last
 
     @property
     def _arrived(self) -> int:
@@ -56,6 +58,20 @@ class Way:
         """Whether the host is known to have taken all that the user did."""
         return self.terminal.unsent == 0 and self._arrived >= (self.terminal.sent if self._last is None else self._last)
 
+    def hear(self) -> None:
+        """Bytes of the host have come."""
+        self._heard_at = self.clock()
+        self._note()
+
+    @property
+    def silence(self) -> float:
+        """For how many seconds the host has said nothing, though an answer is due."""
+        return 0.0 if self._since is None else self.clock() - max(self._since, self._heard_at)
+
+    @property
+    def is_silent(self) -> bool:
+        return self.silence >= SILENT_AFTER
+
     def _note(self) -> None:
         if self.terminal.under_way == 0:
             self._since = None
@@ -67,6 +83,13 @@ class Way:
         """How long until the messages are to be told of; None where they are told of, or there are none."""
         left = 0.0 if self._since is None else self._since + TOLD_AFTER - self.clock()
         return left if left > 0 else None
+
+    @property
+    def seconds_of_silence(self) -> Optional[float]:
+        """How long until another second of silence is to be told of; None where no answer is due."""
+        if self._since is None:
+            return None
+        return SILENT_AFTER - self.silence if not self.is_silent else 1.0 - self.silence % 1.0
 
     @property
     def told(self) -> int:

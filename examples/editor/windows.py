@@ -1,12 +1,11 @@
 """Windows: what of a file is shown, and how it follows the user and the host. No text is kept here, each look reads the terminal."""
 from typing import List, NamedTuple, Optional, Tuple
 
-from layout import Layout, line_end, line_start, looks, row_start, top_above
+from layout import Layout, row_start, top_above
 from sulgrevad import Terminal
-from texts import GAP, Change, Texts, moved
+from targets import Targets
+from texts import Change, Texts, moved
 
-LONGEST_LOOK = 512  # runes of the line before that a new line takes its indentation from
-LONGEST_WORD = 4096  # runes that a move over a word looks at
 MOST_STRETCHES, MOST_IN_STRETCH = 64, 512  # that one Load asks for, and the runes of each
 MOST_IN_LOAD = MOST_STRETCHES * MOST_IN_STRETCH
 
@@ -50,6 +49,7 @@ class Window:
 
     def __init__(self, texts: Texts, tag: int):
         self.terminal, self.texts, self.tag = texts.terminal, texts, tag
+        self.targets = Targets(self)
         self.y, self.height, self.width = 0, 1, 80  # row of the title, rows of text, columns
         self.anchor: Optional[int] = None  # the end of the selection that stays while the user extends it
         self.goal: Optional[int] = None  # the column that moves by rows keep to
@@ -72,33 +72,13 @@ class Window:
         """Whether the file is open, and places that are read now are those that an event made now acts on."""
         return self.terminal.held == 0 and not self.terminal.locked(self.tag) and self.is_open
 
-    def lacks_text_for(self, action: Optional[str]) -> bool:
-        """Whether an action goes by text that is shown, but not loaded: the page keys by all of it, a move by the lines that it crosses,
-        what takes out the selection (None stands for typing) by that."""
-        layout, gap = self.layout(), self.terminal.first_gap(self.tag, self.top)
-        if gap is None or gap >= layout.end:
-            return False
-        start, end = self.dot
-        if start < end and action in (None, "cut", "paste", "erase_left", "erase_right"):
-            gap = self.terminal.first_gap(self.tag, max(start, layout.top))
-            return gap is not None and gap < min(end, layout.end)
-        place = self.caret
-        above, below = self.line_start(place), self.line_end(place)
-        edges = {
-            "page_down": (gap,), "page_up": (gap,),
-            "left": (place - 1,), "right": (place,), "erase_left": (place - 1,), "erase_right": (place,),
-            "word_left": (place - 1, above - 1), "word_right": (place, below), "home": (above - 1,), "end": (below,),
-            "up": (above - 1, self.line_start(max(0, above - 1)) - 1), "down": (above - 1, below, self.line_end(below + 1)),
-        }.get(action, ())  # fmt: skip
-        return any(layout.top <= edge < layout.end and self.read(edge, 1) == GAP for edge in edges)
-
     @property
     def length(self) -> int:
         return self.terminal.len(self.tag)
 
     @property
     def dot(self) -> Tuple[int, int]:
-        return self.terminal.dot(self.tag)
+        return self.texts.dot(self.tag)
 
     @property
     def caret(self) -> int:
@@ -149,7 +129,9 @@ class Window:
     def update(self, is_busy: bool = False, rests: bool = False, turns: int = 0) -> None:
         """Follows what the host and the user did, and has the terminal load what is shown; while the user is busy only what he needs, and
         while he rests what he may turn to next. `turns` is how many page keys wait, as for `ask`."""
-        if self.is_open:
+        if self.is_open and self.texts.is_final:
+            self._follow_dot()
+        elif self.is_open:
             self._reach()
             self._follow_dot()
             self._load(is_busy, turns)
@@ -273,66 +255,4 @@ class Window:
             start, end = sorted((self.anchor, place))
         else:
             self.anchor, start, end = None, place, place
-        self.terminal.select(self.tag, start, end)
-
-    def beside(self, place: int, step: int) -> int:
-        """The next place to the right (1) or to the left (-1), over runes that stand on another."""
-        at = place + step
-        while 0 < at < self.length and self._is_on_another(at):
-            at += step
-        return max(0, min(at, self.length))
-
-    def _is_on_another(self, place: int) -> bool:
-        """Whether the rune after a place shares the cell of the one before it. At the start of a line and after a gap it can't."""
-        before, rune = self.read(place - 1, 2)
-        if before + rune == "\r\n":
-            return True
-        return GAP not in before + rune and before != "\n" and rune not in "\n\t" and looks(rune)[1] == 0
-
-    def beside_word(self, place: int, step: int) -> int:
-        """The end of the next word to the right (1), or the start of the one to the left (-1); the nearest gap where that is not loaded."""
-        if step > 0:
-            text = self.read(place, LONGEST_WORD).partition(GAP)[0]
-        else:
-            low = max(0, place - LONGEST_WORD)
-            text = self.read(low, place - low).rpartition(GAP)[2][::-1]
-        at = 0
-        while at < len(text) and not (text[at].isalnum() or text[at] == "_"):
-            at += 1
-        while at < len(text) and (text[at].isalnum() or text[at] == "_"):
-            at += 1
-        return place + step * at
-
-    def by_rows(self, place: int, rows: int) -> int:
-        """The place so many rows below (above where negative), in the column that such moves keep to."""
-        start = row_start(self.read, place, self.width)
-        column = Layout(self.read, start, self.width, 2).position_of(place)[1]
-        self.goal = column if self.goal is None else self.goal
-        if rows > 0:
-            layout = Layout(self.read, start, self.width, rows + 1)
-            at = min(rows, len(layout.rows) - 1)
-            return self.length if at < rows else layout.place_at(at, self.goal)
-        top, is_known, _ = top_above(self.read, start, -rows, self.width)
-        if start == 0 or not is_known:
-            return max(start - 1, 0)
-        return Layout(self.read, top, self.width, 2).place_at(0, self.goal)
-
-    def line_start(self, place: int) -> int:
-        return line_start(self.read, place)
-
-    def line_end(self, place: int) -> int:
-        return line_end(self.read, place)
-
-    # ---- What a line looks like
-
-    def indentation(self, place: int) -> str:
-        """The blanks at the start of the line of a place, up to it."""
-        start = self.line_start(place)
-        line = self.read(start, min(place - start, LONGEST_LOOK))
-        return line[: len(line) - len(line.lstrip(" \t"))]
-
-    def newline(self, place: int) -> str:
-        """How lines end there: as the line above does, else as the one below."""
-        start = self.line_start(place)
-        end = start if start > 0 else self.line_end(place) + 2
-        return "\r\n" if end >= 2 and self.read(end - 2, 2) == "\r\n" else "\n"
+        self.texts.select(self.tag, start, end)

@@ -1,13 +1,14 @@
 /* writing.c: writes a file when the terminal says so.
  *
- * A file that another program changed is not replaced at once: that is reported, and only the next write replaces it. What can't be written
- * is saved aside, since the terminal takes it for written, and closes the file without a question.
+ * A file that another program changed is not replaced at once: that is reported, and only the next write replaces it, and keeps what it had
+ * beside it. What can't be written is saved aside, since the terminal takes it for written, and closes the file without a question.
  */
 #define _XOPEN_SOURCE 700
 #include <errno.h>
 #include <stdlib.h>
 #include <string.h>
 #include <sys/stat.h>
+#include <unistd.h>
 
 #include "samhost.h"
 
@@ -74,15 +75,24 @@ int note_known(struct document *document, const char *path, struct content conte
         document->known = known;
     }
     known->content = content;
+    known->is_theirs = false;
     return 0;
 }
 
+/* Notes what another program has put into a file. */
+static void note_theirs(struct document *document, const char *path, struct content content)
+{
+    if (note_known(document, path, content) == 0)
+        find_known(document, path)->is_theirs = true;
+}
+
 /* What a document expects in a file: what the host has saved there for a document (`owner`), else what it has read there or written
- * last. */
-static struct content expected_at(const struct document *document, const struct document *owner, const char *path)
+ * last; and whether that is another program's. */
+static struct content expected_at(const struct document *document, const struct document *owner, const char *path, bool *is_theirs)
 {
     const struct known *known = find_known(document, path);
 
+    *is_theirs = owner == NULL && known != NULL && known->is_theirs;
     if (owner != NULL)
         return owner->aside.content;
     return known == NULL ? (struct content){.kind = NOT_THERE} : known->content;
@@ -96,12 +106,14 @@ static void note_put(struct document *document, const struct request *request, i
 {
     if (error == 0)
         (void)note_known(document, request->path, content_of(request->text));
-    else if (error == IS_CHANGED)
+    else if (error == IS_CHANGED && is_same(request->found, request->known)) /* another file with the same text */
         (void)note_known(document, request->path, request->found);
+    else if (error == IS_CHANGED)
+        note_theirs(document, request->path, request->found);
     if (error == 0 && is_copy) /* the copy is the file by now */
-        forget_aside(document);
+        forget_copy(&document->aside);
     else if (error == 0)
-        drop_aside(document);
+        drop_copy(&document->aside);
 }
 
 /* Puts the text of a file where its path leads to. */
@@ -115,7 +127,7 @@ static int put_text(struct session *session, uint16_t tag, const char *path)
     if (error == 0) {
         owner = owner_at(session, end);
         request.path = end;
-        request.known = expected_at(document, owner, end);
+        request.known = expected_at(document, owner, end, &request.is_theirs);
     }
     if (owner != NULL && owner != document)
         error = move_aside(session, owner);
@@ -127,7 +139,10 @@ static int put_text(struct session *session, uint16_t tag, const char *path)
     }
     if (request.old != NULL)
         say("%s is broken; what it was is in %s", path, request.old);
+    if (request.theirs != NULL)
+        say("%s is replaced; what another program had written there is in %s", path, request.theirs);
     free(request.old);
+    free(request.theirs);
     free(end);
     return error == IS_CHANGED && request.known.kind == NOT_THERE ? IS_THERE : error;
 }
@@ -149,16 +164,44 @@ static void report_unwritten(struct session *session, uint16_t tag, const char *
     free(unnamed);
 }
 
+/* Whether the terminal drops a text that an earlier session saved: it writes it empty. */
+static bool is_dropped(struct session *session, uint16_t tag)
+{
+    uint32_t runes = 1;
+
+    return session->documents[tag].is_left && sam_host_len(&session->host, tag, &runes) == SAM_OK && runes == 0;
+}
+
+/* Removes such a text, unless it is another one by now. */
+static void drop_left(struct session *session, uint16_t tag, const char *path)
+{
+    struct document *document = &session->documents[tag];
+    struct content found = content_at(path);
+    bool is_theirs;
+
+    drop_copy(&document->aside);
+    if (found.kind == NOT_THERE)
+        return;
+    if (!is_same(found, expected_at(document, NULL, path, &is_theirs)))
+        say("%s is not dropped: it has changed since", path);
+    else if (unlink(path) != 0)
+        say("%s is not dropped: %s", path, cause(errno));
+}
+
 static void write_file(struct session *session, uint16_t tag)
 {
     int error;
     char *path = path_of(session, tag, &error);
 
-    if (path != NULL)
-        error = put_text(session, tag, path);
-    session->documents[tag].is_unsaved = error != 0;
-    if (error != 0)
-        report_unwritten(session, tag, path, error);
+    if (path != NULL && is_dropped(session, tag)) {
+        drop_left(session, tag, path);
+    } else {
+        if (path != NULL)
+            error = put_text(session, tag, path);
+        session->documents[tag].is_unsaved = error != 0;
+        if (error != 0)
+            report_unwritten(session, tag, path, error);
+    }
     free(path);
 }
 

@@ -31,22 +31,23 @@ def check_kill_host(folder):
 
 
 def check_saved_here(folder):
-    """At its end samterm writes what a host that doesn't end well has not said that it saved: to this folder, or to that for temporary
-    files where nothing can be written here."""
+    """At its end samterm writes what a host that doesn't end well has not said that it saved: to this folder, or to the user's own where
+    nothing can be written here. The status says that something is left."""
     gone = "sh -c 'mkdir gone; cd gone; rmdir ../gone; exec \"$0\" \"$@\"'"  # a folder that is gone takes no file, of nobody
-    for at, (program, kept) in enumerate(((SAMTERM, "a.txt.sam-here"), (f"{gone} {sys.executable} {SAMTERM}", "tmp/a.txt.sam-here"))):
+    own = r"\.state/sulgrevad/[0-9a-f]{16}-a\.txt\.sam-here"
+    for at, (program, kept) in enumerate(((SAMTERM, r"a\.txt\.sam-here"), (f"{gone} {sys.executable} {SAMTERM}", own))):
         place = folder / str(at)
-        (place / "tmp").mkdir(parents=True)
+        place.mkdir()
         (path,) = made(place, a="one\n")
         host = host_that(place, f"{SAMHOST} \"$@\" 2> /dev/null", "exit 255")  # it saves the text, and says nothing
-        with Session(place, str(path), host=host, program=program, settings=f"TMPDIR={place}/tmp") as session:
+        with Session(place, str(path), host=host, program=program) as session:
             session.wait_for("one")
             session.type("typed ")
             session.wait_for("typed one")
-            session.leave_unwritten()
-        left = {str(entry.relative_to(place)): entry.read_text() for entry in place.rglob("*.sam-here*")}
-        expect(left == {kept: "typed one\n"}, f"{program}: there are {left}")
-        expect(f"/{kept}" in (place / "stderr").read_text(), f"{program}: the file is not named")
+            session.leave_unwritten(3)
+        left = {str(entry.relative_to(place)): entry.read_text() for entry in place.rglob("*.sam-here*") if not entry.is_symlink()}
+        expect(list(left.values()) == ["typed one\n"] and re.fullmatch(kept, *left), f"{program}: there are {left}")
+        expect(f"/{next(iter(left))}" in (place / "stderr").read_text(), f"{program}: the file is not named")
 
 
 def check_host_dies_at_the_end(folder):
@@ -114,7 +115,7 @@ def check_leave_without_the_host(folder):
             wait_until(lambda: "^C" in (folder / "stderr").read_text(), "it isn't told")
             start = time.monotonic()
             os.kill(terminal, signal.SIGINT)  # `^C` would end the shell, too, that notes the status
-            session.wait_for_end(0)
+            session.wait_for_end(3)
             expect(time.monotonic() - start < 5, "it waits all the same")
         wait_for_text(folder / "a.txt.sam-here", "ne\n\n[typed, and not put in yet:]\nwaits")
 

@@ -5,7 +5,7 @@ import signal
 import time
 from pathlib import Path
 
-from .support import SAMHOST, Session, expect, made, not_of_root, wait_for_text, wait_until
+from .support import SAMHOST, STATE, Session, expect, made, not_of_root, wait_for_text, wait_until
 
 UNREAD = 0.5  # seconds that a line stands there until a key counts as pressed by someone who has read it
 
@@ -56,13 +56,13 @@ def check_failed_write(folder):
         wait_until(lambda: not session.rows("nowhere/c.txt"), "the file stays")
         session.wait_for_quiet()
         session.leave()
-    texts = {path.read_text() for path in folder.glob("*c.txt.sam-*")}
+    texts = {path.read_text() for path in folder.rglob("*c.txt.sam-*")}
     expect("xyone\n" in texts, f"the text is lost: {texts}")
 
 
 def check_changed_on_disk(folder):
-    """A file that another program changed, and one that `f NAME` names, the first `^W` leaves alone, and says so once; the text is saved
-    aside. The second replaces it."""
+    """A file that another program changed, and one that `f NAME` names, the first `^W` leaves alone, and asks; the text is saved aside.
+    The second, once the question was read, replaces it, and keeps beside it what it had."""
     path, other = made(folder, a="one\n", b="theirs\n")
     with Session(folder, "a.txt", width=140) as session:
         session.wait_for("one")
@@ -71,14 +71,16 @@ def check_changed_on_disk(folder):
             file.write_text(before)
             aside = folder / f"{file.name}.sam-saved"
             session.keys("C-w")
-            session.wait_for(f"? write {file.name}: {told}, and the next write replaces it; its text is in {aside.name}")
+            session.wait_for(f"{file.name}: {told}; its text is in {aside.name}. ^W again replaces it")
             expect((file.read_text(), aside.read_text()) == (before, "xone\n"), "the first write replaces it, or saves nothing aside")
             session.wait_for(f"* {file.name}")
-            session.read()
-            session.keys("C-w")
+            session.answer("^W again replaces it", "C-w")
             wait_for_text(file, "xone\n")
             wait_until(lambda: not aside.exists(), "the saved text stays")
             session.wait_for_quiet()
+            session.wait_for(f"what another program had written there is in {file.name}.sam-theirs")
+            expect((folder / f"{file.name}.sam-theirs").read_text() == before, "the other program's text is not kept")
+            session.read()
             expect(not session.shows(told) and not session.shows(f"* {file.name}"), "it is told twice, or the file stays marked")
             session.rename("b.txt")
         session.leave()
@@ -106,8 +108,9 @@ def check_written_in_place(folder):
         session.leave()
     closed.chmod(0o755)
     expect((folder / "link").is_symlink() and path.stat().st_ino == before, "the link, or the file, was replaced")
-    left = {entry.name for entry in (*folder.iterdir(), *closed.iterdir())} - {"status", "stderr", ".tmux"}
+    left = {entry.name for entry in (*folder.iterdir(), *closed.iterdir())} - {"status", "stderr", ".tmux", STATE}
     expect(left == {"link", "new.txt", "closed", "a.txt"}, f"there are {left}")
+    expect(not any(path.is_file() for path in (folder / STATE).rglob("*")), "what the file was stays")
 
 
 def check_saved_by_itself(folder):

@@ -87,6 +87,14 @@ class Pair:
                 return
         raise Failed("it never gets quiet")
 
+    def wait(self, seconds):
+        """So many seconds go by, and nothing arrives."""
+        until = self.now + seconds
+        while self.now < until:
+            self.pause()
+            self.now = min(until, self.now + 0.1)
+        self.pause()
+
     def press(self, *keys, seconds=1.0):
         """Keys one after another, each once all has arrived and the line at the bottom was read."""
         for key in keys:

@@ -202,6 +202,8 @@ def check_two_writes(folder):
             if is_told:
                 editor.hear("samhost: ? write file0: No space left on device; its text is in /tmp/file0.sam-saved")
             pair.trip()
+            while editor.deferred:  # the second waits for the answer to the first
+                pair.trip()
         pair.finish()
         expect(editor.is_changed(1) == fails, f"the second fails: {fails}, and the file is taken for {'un' * (not fails)}written")
 
@@ -338,7 +340,7 @@ def check_lines_when_lost(folder):
         expect(wanted in editor.message, f"it shows {editor.message!r}, wanted {wanted!r}")
         pair.finish()
         pair.press(late, seconds=0)
-    expect(editor.message == "", f"a line that was read stays: {editor.message!r}")
+    expect("HOST LOST" in editor.message, f"that nothing can be typed is not told: {editor.message!r}")
     expect(editor.keeping.typed_late == "yy", f"of what is typed then it keeps {editor.keeping.typed_late!r}")
 
 

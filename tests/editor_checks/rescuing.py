@@ -4,7 +4,6 @@ import io
 import os
 import signal
 import sys
-import tempfile
 import time
 from pathlib import Path
 
@@ -247,14 +246,12 @@ def check_long_names_here(folder):
     expect(path == str(folder.resolve() / "many.sam-here.1000"), f"the thousandth is written as {path}")
 
 
-def check_no_temporary_folder(folder):
-    """Without a folder for temporary files a text is written in this one; where that can't be, that is told."""
+def check_no_own_folder(folder):
+    """Without a folder of the user's own a text is written in this one; where that can't be, that is told."""
     import rescue
 
-    def refuse():
-        raise FileNotFoundError("No usable temporary directory found")
-
-    before, tempfile.gettempdir = tempfile.gettempdir, refuse
+    before, rescue._named_folders = rescue._named_folders, lambda: iter((str(folder / "full" / "own"),))
+    (folder / "full").write_text("no folder")
     try:
         os.chdir(folder)
         path = rescue.keep("a", "text")
@@ -265,7 +262,7 @@ def check_no_temporary_folder(folder):
         place.rmdir()
         expect(rescue.keep("a", "text") is None, "it is written nowhere, and that isn't told")
     finally:
-        tempfile.gettempdir = before
+        rescue._named_folders = before
         os.chdir(folder)
 
 
@@ -282,7 +279,7 @@ class Ending:
     def send(self, data=b""):
         self.waiting += data
 
-    def close(self, hear, take=lambda data: None):
+    def close(self, hear, take=lambda data: None, seconds=10):
         count = len(self.waiting) if self.taken is None else self.taken
         self.pair.host.feed(bytes(self.waiting[:count]))
         del self.waiting[:count]
@@ -329,7 +326,7 @@ def check_interrupts_at_the_end(folder):
     import rescue
 
     class Hanging(Ending):
-        def close(self, hear, take=lambda data: None):
+        def close(self, hear, take=lambda data: None, seconds=10):
             os.kill(os.getpid(), signal.SIGINT)
             expect(False, "the first doesn't end the waiting")
 

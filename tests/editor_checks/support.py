@@ -18,6 +18,7 @@ sys.path[:0] = [str(SAMTERM.parent), str(ROOT / "bindings" / "python")]
 LINK = 300  # milliseconds each way
 COMMAND_WINDOW = "~~sam~~"  # its title
 NOBODY = 65534  # a user who may not do what root may
+STATE = ".state"  # the folder for what can't stand beside its file
 READ_AFTER = 0.7  # seconds after which a key answers a question that stands on the screen
 
 
@@ -66,8 +67,10 @@ class Session:
         host = f"--host '{words}'"
         host = "" if words == str(ROOT / "out" / "samhost") else host  # it is what samterm takes by itself
         command = f"cd {folder}; {settings} {program} {host} {' '.join(files)} 2> stderr; echo $? > status; exec sleep 1000"
-        environment = {**os.environ, "SAM_LIBRARY": str(LIBRARY), "LC_ALL": "C.UTF-8", "SHELL": "/bin/sh", "TMPDIR": str(folder)}
-        self.tmux("new-session", "-d", "-x", str(width), "-y", str(height), command, env=environment)
+        own = {"TMPDIR": str(folder), "XDG_STATE_HOME": str(folder / STATE)}
+        environment = {**os.environ, "SAM_LIBRARY": str(LIBRARY), "LC_ALL": "C.UTF-8", "SHELL": "/bin/sh", **own}
+        words = [*self.tmux_words, "new-session", "-d", "-x", str(width), "-y", str(height), command]
+        wait_until(lambda: subprocess.run(words, env=environment, capture_output=True).returncode == 0, "tmux doesn't begin")  # or ends still
 
     def __enter__(self):
         return self
@@ -213,11 +216,15 @@ class Session:
                 wait_until(lambda: self.told() != line, "it stays", 2)
         return lines
 
-    def leave_unwritten(self):
+    def leave_unwritten(self, status=0):
         self.wait_for_quiet()
         self.keys("C-q")
         self.answer("not written", "C-q")
-        self.wait_for_end(0)
+        self.wait_for_end(status)
+
+    def terminal(self):
+        """The process of samterm."""
+        return next(process for name, process in self.processes().items() if name.startswith("python"))
 
 
 def change_two(session):

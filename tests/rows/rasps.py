@@ -2,6 +2,7 @@
 import random
 
 from frames import messages
+
 from .trying import expect_equal, expect_sent, refused, take, take_all, with_gaps
 
 MOST = 1_000_000  # runes and gaps of a file

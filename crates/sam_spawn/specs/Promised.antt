@@ -1,6 +1,6 @@
 -- What the join of each thread hands on. `refuses worker`: the gate may refuse it. `must worker`: where the gate never lets it pass, as at
 -- LetOn.
-use Rattle.std.specs.Prelude.{◌≡◌, ℕ, List, length, Bool, true, false, Option, Some, None, ◌⊎◌}
+use Rattle.std.specs.Prelude.{◌≡◌, ℕ, ◌<◌, List, length, Bool, true, false, Option, Some, None, ◌⊎◌}
 use Rattle.sam_term.specs.declared.event.UserEvent.{UserEvent}
 use Rattle.sam_queue.specs.Views.{LineView}
 use Rattle.sam_workers.specs.Lines.{LinesView}
@@ -13,13 +13,19 @@ use Rattle.sam_workers.specs.declared.ends.ReaderEnd.{ReaderEnd}
 use Rattle.sam_workers.specs.declared.ends.TermEnd.{TermEnd}
 use Rattle.sam_workers.specs.declared.ends.Ends.{Ends}
 use Rattle.sam_workers.specs.declared.stop.Stop.TheVariants as stop
+use Rattle.sam_spawn.specs.declared.tasks.UserTask.{UserTask}
+use Rattle.sam_workers.specs.declared.host_side.HostTask.{HostTask}
+use Rattle.sam_spawn.specs.declared.tasks.ReaderTask.{ReaderTask}
+use Rattle.sam_spawn.specs.declared.tasks.TermTask.{TermTask}
 use Rattle.sam_spawn.specs.declared.tasks.Tasks.{Tasks}
+use Rattle.sam_spawn.specs.Tasks.{IsUserTask, IsHostTask, IsReaderTask, IsTermTask}
 use Rattle.sam_spawn.specs.declared.run.RunFault.{RunFault}
 use Rattle.sam_spawn.specs.declared.run.RunFault.TheVariants as fault
-use Rattle.sam_spawn.specs.declared.spawning.UserPromise.{UserPromise}
-use Rattle.sam_spawn.specs.declared.spawning.HostPromise.{HostPromise}
-use Rattle.sam_spawn.specs.declared.spawning.ReaderPromise.{ReaderPromise}
-use Rattle.sam_spawn.specs.declared.spawning.TermPromise.{TermPromise}
+use Rattle.sam_spawn.specs.declared.work.Task.{Task}
+use Rattle.sam_spawn.specs.declared.work.Task.TheVariants as task
+use Rattle.sam_spawn.specs.declared.work.End.{End}
+use Rattle.sam_spawn.specs.declared.work.End.TheVariants as end
+use Rattle.sam_spawn.specs.declared.spawning.TaskPromise.{TaskPromise}
 use Rattle.sam_spawn.specs.declared.spawning.Handles.{Handles}
 
 -- a worker was refused as it began, or stopped at its gate, only where the gate may refuse it, and it began only where the gate lets it
@@ -66,18 +72,37 @@ TasksKept refuses must s = AllKept refuses must s.keyboard.events.items s.mouse.
 
 -- ## Promises
 
--- what the end of a thread is by its promise. `may gate` and `must gate` are what the gate may and must refuse
-abbrev pub KeepsUser : {G : Type 0} → (G → ℕ → Type 0) → (G → ℕ → Option ℕ → Type 0) → UserPromise G → UserEnd → Type 0
-KeepsUser may must p = UserKept (may p.gate.now) (must p.gate.now) p.worker p.todo.value.items p.events.now
+-- nothing was put, taken or handled
+abbrev pub IsNew : Task → Type 0
+IsNew (task.User t) = (t.worker < 5) × IsUserTask t.worker t.post.line t
+IsNew (task.Host t) = IsHostTask t.take.line t.post.line t
+IsNew (task.Reader t) = IsReaderTask t.take.line t.post.line t
+IsNew (task.Term t) = IsTermTask t.take.line t.post.line t
 
-abbrev pub KeepsHost : {G : Type 0} → (G → ℕ → Type 0) → (G → ℕ → Option ℕ → Type 0) → HostPromise G → HostEnd → Type 0
-KeepsHost may must p = HostKept (may p.gate.now) (must p.gate.now) p.files.value.items p.up.now p.down.now
+-- it is an end of the worker that began with this
+abbrev pub Keeps : (ℕ → Type 0) → (ℕ → Option ℕ → Type 0) → Task → End → Type 0
+Keeps refuses must (task.User t) (end.User e) = UserKept refuses must t.worker t.events.items t.post.line e
+Keeps refuses must (task.Host t) (end.Host e) = HostKept refuses must t.files.items t.take.line t.post.line e
+Keeps refuses must (task.Reader t) (end.Reader e) = ReaderKept refuses must t.take.line t.post.line e
+Keeps refuses must (task.Term t) (end.Term e) = TermKept refuses must t.take.line t.post.line e
+Keeps refuses must t e = ⊥
 
-abbrev pub KeepsReader : {G : Type 0} → (G → ℕ → Type 0) → (G → ℕ → Option ℕ → Type 0) → ReaderPromise G → ReaderEnd → Type 0
-KeepsReader may must p = ReaderKept (may p.gate.now) (must p.gate.now) p.down.now p.events.now
+-- the end of a thread is as it promised. `may gate` and `must gate` are what the gate may and must refuse
+abbrev pub KeepsPromise : {G : Type 0} → (G → ℕ → Type 0) → (G → ℕ → Option ℕ → Type 0) → TaskPromise G → End → Type 0
+KeepsPromise may must p = Keeps (may p.gate.now) (must p.gate.now) p.task.value
 
-abbrev pub KeepsTerm : {G : Type 0} → (G → ℕ → Type 0) → (G → ℕ → Option ℕ → Type 0) → TermPromise G → TermEnd → Type 0
-KeepsTerm may must p = TermKept (may p.gate.now) (must p.gate.now) p.events.now p.up.now
+-- the same, of the end of a worker of a known kind
+abbrev pub KeepsUser : {G : Type 0} → (G → ℕ → Type 0) → (G → ℕ → Option ℕ → Type 0) → TaskPromise G → UserEnd → Type 0
+KeepsUser may must p e = KeepsPromise may must p (end.User e)
+
+abbrev pub KeepsHost : {G : Type 0} → (G → ℕ → Type 0) → (G → ℕ → Option ℕ → Type 0) → TaskPromise G → HostEnd → Type 0
+KeepsHost may must p e = KeepsPromise may must p (end.Host e)
+
+abbrev pub KeepsReader : {G : Type 0} → (G → ℕ → Type 0) → (G → ℕ → Option ℕ → Type 0) → TaskPromise G → ReaderEnd → Type 0
+KeepsReader may must p e = KeepsPromise may must p (end.Reader e)
+
+abbrev pub KeepsTerm : {G : Type 0} → (G → ℕ → Type 0) → (G → ℕ → Option ℕ → Type 0) → TaskPromise G → TermEnd → Type 0
+KeepsTerm may must p e = KeepsPromise may must p (end.Term e)
 
 -- each join hands on what its thread promised
 pub record KeepPromises {G : Type 0} (may : G → ℕ → Type 0) (must : G → ℕ → Option ℕ → Type 0) (h : Handles G) (e : Ends) : Type 0 where
@@ -87,35 +112,38 @@ pub record KeepPromises {G : Type 0} (may : G → ℕ → Type 0) (must : G → 
   pub reader : KeepsReader may must h.reader.promise e.reader
   pub term : KeepsTerm may must h.term.promise e.term
 
--- the promise is of this gate, this worker, these events and this line
-abbrev pub PromisesUser : {G : Type 0} → G → ℕ → List UserEvent → LineView → UserPromise G → Type 0
-PromisesUser gate worker todo events p =
-    (p.gate.now ≡ gate) × (p.worker ≡ worker) × (p.todo.value.items ≡ todo) × (p.events.now ≡ events)
+-- the promise is of this gate and of what the worker begins with
+abbrev pub Promises : {G : Type 0} → G → Task → TaskPromise G → Type 0
+Promises gate t p = (p.gate.now ≡ gate) × (p.task.value ≡ t)
 
--- of this gate, these files and these lines
-abbrev pub PromisesHost : {G : Type 0} → G → List (List ℕ × List ℕ) → LineView → LineView → HostPromise G → Type 0
-PromisesHost gate given up down p =
-    (p.gate.now ≡ gate) × (p.files.value.items ≡ given) × (p.up.now ≡ up) × (p.down.now ≡ down)
+-- the promises of the five threads are those of one gate, in a session that begins in these tasks
+pub record TasksPromised {G : Type 0} (gate : G) (s : Tasks) (h : Handles G) : Type 0 where
+  pub keyboard : Promises gate (task.User s.keyboard) h.keyboard.promise
+  pub mouse : Promises gate (task.User s.mouse) h.mouse.promise
+  pub host : Promises gate (task.Host s.host) h.host.promise
+  pub reader : Promises gate (task.Reader s.reader) h.reader.promise
+  pub term : Promises gate (task.Term s.term) h.term.promise
 
--- of this gate and these lines
-abbrev pub PromisesReader : {G : Type 0} → G → LineView → LineView → ReaderPromise G → Type 0
-PromisesReader gate down events p = (p.gate.now ≡ gate) × (p.down.now ≡ down) × (p.events.now ≡ events)
+-- of a worker of this kind
+abbrev pub IsOfUser : {G : Type 0} → TaskPromise G → Type 0
+IsOfUser p = (t : UserTask) × (p.task.value ≡ task.User t)
 
-abbrev pub PromisesTerm : {G : Type 0} → G → LineView → LineView → TermPromise G → Type 0
-PromisesTerm gate events up p = (p.gate.now ≡ gate) × (p.events.now ≡ events) × (p.up.now ≡ up)
+abbrev pub IsOfHost : {G : Type 0} → TaskPromise G → Type 0
+IsOfHost p = (t : HostTask) × (p.task.value ≡ task.Host t)
 
--- the promises of the five threads are those of one gate, one script and one set of lines
-pub record PromisesOf {G : Type 0} (gate : G) (keys clicks : List UserEvent) (given : List (List ℕ × List ℕ))
-    (lines : LinesView) (h : Handles G) : Type 0 where
-  pub keyboard : PromisesUser gate 0 keys lines.events h.keyboard.promise
-  pub mouse : PromisesUser gate 1 clicks lines.events h.mouse.promise
-  pub host : PromisesHost gate given lines.up lines.down h.host.promise
-  pub reader : PromisesReader gate lines.down lines.events h.reader.promise
-  pub term : PromisesTerm gate lines.events lines.up h.term.promise
+abbrev pub IsOfReader : {G : Type 0} → TaskPromise G → Type 0
+IsOfReader p = (t : ReaderTask) × (p.task.value ≡ task.Reader t)
 
--- the same, of a session that begins in these tasks
-abbrev pub TasksPromised : {G : Type 0} → G → Tasks → Handles G → Type 0
-TasksPromised gate s = PromisesOf gate s.keyboard.events.items s.mouse.events.items s.host.files.items s.lines.now
+abbrev pub IsOfTerm : {G : Type 0} → TaskPromise G → Type 0
+IsOfTerm p = (t : TermTask) × (p.task.value ≡ task.Term t)
+
+-- each promise is of a worker of its handle's kind
+pub record AreOfKinds {G : Type 0} (h : Handles G) : Type 0 where
+  pub keyboard : IsOfUser h.keyboard.promise
+  pub mouse : IsOfUser h.mouse.promise
+  pub host : IsOfHost h.host.promise
+  pub reader : IsOfReader h.reader.promise
+  pub term : IsOfTerm h.term.promise
 
 -- some worker's gate did not let it begin
 abbrev pub SomeRefused : Ends → Type 0

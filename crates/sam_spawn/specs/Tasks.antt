@@ -9,7 +9,7 @@ use Rattle.sam_queue.specs.Views.{LineView, new_post, new_take}
 use Rattle.sam_workers.specs.Lines.{LinesView}
 use Rattle.sam_workers.specs.declared.host_side.HostTask.{HostTask}
 use Rattle.sam_spawn.specs.declared.tasks.LineSides.{LineSides}
-use Rattle.sam_spawn.specs.declared.tasks.Roles.{Roles}
+use Rattle.sam_spawn.specs.declared.tasks.HostRole.{HostRole}
 use Rattle.sam_spawn.specs.declared.tasks.UserTask.{UserTask}
 use Rattle.sam_spawn.specs.declared.tasks.ReaderTask.{ReaderTask}
 use Rattle.sam_spawn.specs.declared.tasks.TermTask.{TermTask}
@@ -19,7 +19,7 @@ use Rattle.sam_spawn.specs.declared.users.Users.{Users}
 -- nothing was put, taken or handled
 
 abbrev pub IsUserTask : ℕ → LineView → UserTask → Type 0
-IsUserTask number events s = s.post ≡ new_post events number
+IsUserTask number events s = (s.worker ≡ number) × (s.post ≡ new_post events number)
 
 pub record IsHostTask (up down : LineView) (s : HostTask) : Type 0 where
   pub take : s.take ≡ new_take up
@@ -66,6 +66,6 @@ pub record HasRoomFor (lines : List Numbered) (room : Users) : Type 0 where
   pub clicks : (room.clicks.items ≡ []) × (length (mouse_of lines) ≤ vec_capacity room.clicks)
 
 -- a new host of the files
-pub record IsHostRole (r : Roles) : Type 0 where
+pub record IsHostRole (r : HostRole) : Type 0 where
   pub files : (length r.files.items ≤ most_files) × All IsFile r.files.items
   pub host : r.host ≡ new_host r.files.items

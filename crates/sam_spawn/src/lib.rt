@@ -6,6 +6,7 @@ mod session;
 mod spawning;
 mod tasks;
 mod users;
+mod work;
 
 pub use run::{Plan, RunFault, run_ends};
 pub use session::{run_threads, run_threads_once};

@@ -1,14 +1,15 @@
 //! Running the five workers: none begins before all are started.
-ghost use Rattle.std.specs.Prelude.{◌≡◌, ◌<◌, IfOk, IfErr, IfSome, IsSomeAnd, IsTrue, IsFalse, Some, Err};
+ghost use Rattle.std.specs.Prelude.{◌≡◌, ◌<◌, true, false, IfOk, IfErr, IfSome, IsSomeAnd, IsTrue, IsFalse, Some, Err};
 ghost use Rattle.sam_script.specs.Script.{keys_of, mouse_of};
-ghost use Rattle.sam_spawn.specs.Promised.{KeepPromises, TasksKept, SomeRefused, fault_of};
+ghost use Rattle.sam_spawn.specs.Promised.{AreOfKinds, KeepPromises, TasksKept, SomeRefused, fault_of};
 ghost use Rattle.sam_spawn.specs.Tasks.{AreReady};
 ghost use Rattle.sam_workers.specs.Gates.{GatesLetIn, GatesLetOn};
 ghost use Rattle.sam_workers.specs.WorkerEnds.{Told, AllPassed, GatesTold, RefusesSome};
 ghost use Rattle.sam_spawn.specs.declared.run.RunFault.TheVariants.{GateTimedOut};
 
-use crate::spawning::{Handles, Shared, join_all, spawn_all};
+use crate::spawning::{Handles, join_all, spawn_all};
 use crate::tasks::{Tasks, ready_tasks};
+use crate::work::Shared;
 use sam_script::Script;
 use sam_workers::{Ends, Gate, Lines, Starts};
 use std::alloc::Global;
@@ -144,6 +145,7 @@ fn joined<'s, 'q, R: Threads, G: Gate>(
     rt: &R,
     handles: Option<Handles<'s, 'q, G>>,
 ) -> Option<Ends<'q>>
+    requires { IfSome handles AreOfKinds }
     ensures { IfSome result (λ ends. IsSomeAnd handles.entry (λ h. KeepPromises G.may_refuse G.must_refuse h ends)) }
 {
     join_all(rt, handles?)
@@ -160,10 +162,19 @@ fn begun(ends: Option<Ends<'_>>) -> Result<Ends<'_>, RunFault>
     let Some(ends) = ends else {
         return Err(RunFault::NoThread);
     };
-    if !all_passed(&ends) {
+    let passed = all_passed(&ends);
+    if_passed(passed, ends)
+}
+
+/// Returns the value if the workers passed, and else the error `GateTimedOut`. It lets go of ends by one call, as of any type.
+fn if_passed<T: Drop>(passed: bool, value: T) -> Result<T, RunFault>
+    ensures passed { IfOk result (λ it. (passed ≡ true) × (it ≡ value)) }
+    ensures refused { IfErr result (λ why. (passed ≡ false) × (why ≡ RunFault.GateTimedOut)) }
+{
+    if !passed {
         return Err(RunFault::GateTimedOut);
     }
-    Ok(ends)
+    Ok(value)
 }
 
 /// Returns whether the gate let each worker begin.

@@ -1,5 +1,5 @@
 //! A whole session of five threads.
-ghost use Rattle.std.specs.Prelude.{◌≡◌, ◌<◌, IfOk, IfErr, OnOk, Err};
+ghost use Rattle.std.specs.Prelude.{◌≡◌, ◌<◌, IfOk, IfErr, OnOk, Ok, Err};
 ghost use Rattle.sam_script.specs.Script.{without_lines};
 ghost use Rattle.sam_spawn.specs.Session.{IsLeft, IsSession, IsSettled, SessionOf};
 ghost use Rattle.sam_spawn.specs.Tasks.{AreReady};
@@ -104,8 +104,16 @@ fn settle_run<'q, R: Wait>(rt: &R, alloc: Global, ends: Ends<'q>) -> Result<Sett
     ensures settled { IfOk result (IsSettled ends.entry) }
     ensures memory { IfErr result (λ why. why ≡ RunFault.OutOfMemory) }
 {
-    let Ok(settled) = settle(rt, alloc, ends) else {
-        return Err(RunFault::OutOfMemory);
-    };
-    Ok(settled)
+    or_no_memory(settle(rt, alloc, ends))
+}
+
+/// Returns the value, and else the error `OutOfMemory`. It lets go of another error, which may hold the ends of a run, by one call.
+fn or_no_memory<T: Drop, E: Drop>(came: Result<T, E>) -> Result<T, RunFault>
+    ensures value { IfOk result (λ it. came ≡ Ok it) }
+    ensures memory { IfErr result (λ why. why ≡ RunFault.OutOfMemory) }
+{
+    match came {
+        Ok(it) => Ok(it),
+        Err(_) => Err(RunFault::OutOfMemory),
+    }
 }

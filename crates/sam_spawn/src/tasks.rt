@@ -1,19 +1,16 @@
 //! What the five workers begin with. All their memory is had before a thread is started.
-ghost use Rattle.std.specs.Prelude.{◌≡◌, ◌≤◌, length, All, IfOk, OnErr, OnOk};
-ghost use Rattle.sam_runes.specs.Texts.{most_files};
-ghost use Rattle.sam_host.specs.Host.{new_host};
+ghost use Rattle.std.specs.Prelude.{◌≡◌, IfOk, Ok, OnErr, OnOk};
 ghost use Rattle.sam_queue.specs.Views.{new_post, new_take};
-ghost use Rattle.sam_world.specs.Given.{IsFile};
 ghost use Rattle.sam_script.specs.Script.{keys_of, mouse_of, without_lines};
-ghost use Rattle.sam_spawn.specs.Tasks.{AreNewSides, AreReady, HasRoomFor, IsHostRole};
+ghost use Rattle.sam_spawn.specs.Tasks.{AreNewSides, AreReady, IsHostRole};
 
 use crate::users::{Users, copied_users, room_for, users_of};
 use sam_host::host::Host;
 use sam_queue::{Line, Post, Start, Take};
 use sam_runes::Runes;
-use sam_script::{Numbered, Script};
+use sam_script::Script;
 use sam_term::event::UserEvent;
-use sam_workers::{HostTask, Input, Lines, Starts};
+use sam_workers::{HostTask, Input, KEYBOARD, Lines, MOUSE, Starts};
 use sam_world::given_files;
 use std::alloc::{AllocError, Global};
 use std::marker::PhantomData;
@@ -23,6 +20,8 @@ use std::marker::PhantomData;
 /// What the worker of the keyboard or of the mouse begins with. Nothing is put yet.
 #[derive(Drop)]
 pub struct UserTask<'q> {
+    /// The worker's number: 0 for the keyboard, 1 for the mouse.
+    pub worker: usize,
     /// The post to the line of events: number 0 for the keyboard, 1 for the mouse.
     pub post: Post<'q, Input>,
     /// What the user does there, in order.
@@ -85,11 +84,9 @@ struct LineSides<'q> {
     events_take: Take<'q, Input>,
 }
 
-/// What the user is to do, and what the host begins with.
+/// What the host begins with.
 #[derive(Drop)]
-struct Roles {
-    /// What the user does at the keyboard and with the mouse.
-    users: Users,
+struct HostRole {
     /// The names and texts of the host's files, by tags from 1.
     files: Vec<(Runes, Runes)>,
     /// A new host of these files.
@@ -111,9 +108,9 @@ pub fn ready_tasks<'q>(
     ensures clicks { IfOk result (λ s. s.mouse.events.items ≡ mouse_of script.now.lines) }
     ensures files { IfOk result (λ s. s.host.files.items ≡ script.now.files) }
 {
-    let roles = roles_of(alloc, script)?;
-    let sides = split_lines(alloc, lines, starts)?;
-    Ok(tasks_of(lines, sides, roles))
+    let users = copied_users(alloc, script);
+    let (users, (sides, role)) = both(users, places_of(alloc, lines, starts, script))?;
+    Ok(tasks_of(lines, sides, role, users))
 }
 
 /// Makes what [`ready_tasks`] makes, but moves the events out of the script, which is left without lines. Its files are copied, and stay.
@@ -133,38 +130,50 @@ pub fn moved_tasks<'q>(
     ensures moved { OnOk result (script.new ≡ without_lines script.old) }
     ensures kept { OnErr result (script.new ≡ script.old) }
 {
-    let roles = room_of(alloc, script)?;
-    let sides = split_lines(alloc, lines, starts)?;
-    Ok(tasks_of(lines, sides, with_users(roles, script.take_lines())))
+    let room = room_for(alloc, script.lines());
+    let (room, (sides, role)) = both(room, places_of(alloc, lines, starts, script))?;
+    Ok(tasks_of(lines, sides, role, users_of(script.take_lines(), room)))
 }
 
-/// Gives each worker its ends of the lines and its role.
-fn tasks_of<'q>(lines: &'q Lines, sides: LineSides<'q>, roles: Roles) -> Tasks<'q>
+/// Pairs two results. With it a caller has one exit, at which it holds nothing.
+fn both<A: Drop, B: Drop>(
+    first: Result<A, AllocError>,
+    second: Result<B, AllocError>,
+) -> Result<(A, B), AllocError>
+    ensures { IfOk result (λ p. (first ≡ Ok p.0) × (second ≡ Ok p.1)) }
+{
+    Ok((first?, second?))
+}
+
+/// Gives each worker its ends of the lines, and what it is to do.
+fn tasks_of<'q>(lines: &'q Lines, sides: LineSides<'q>, role: HostRole, users: Users) -> Tasks<'q>
     requires sides { AreNewSides lines.now sides }
-    requires host { IsHostRole roles }
+    requires host { IsHostRole role }
     ensures lines { result.lines.now ≡ lines.now }
     ensures ready { AreReady lines.now result }
-    ensures keys { result.keyboard.events.items ≡ roles.users.keys.items }
-    ensures clicks { result.mouse.events.items ≡ roles.users.clicks.items }
-    ensures files { result.host.files.items ≡ roles.files.items }
+    ensures keys { result.keyboard.events.items ≡ users.keys.items }
+    ensures clicks { result.mouse.events.items ≡ users.clicks.items }
+    ensures files { result.host.files.items ≡ role.files.items }
 {
     Tasks {
         lines,
         keyboard: UserTask {
+            worker: KEYBOARD,
             post: sides.keyboard,
-            events: roles.users.keys,
+            events: users.keys,
             held: PhantomData,
         },
         mouse: UserTask {
+            worker: MOUSE,
             post: sides.mouse,
-            events: roles.users.clicks,
+            events: users.clicks,
             held: PhantomData,
         },
         host: HostTask {
             take: sides.up_take,
             post: sides.down_post,
-            files: roles.files,
-            host: roles.host,
+            files: role.files,
+            host: role.host,
             held: PhantomData,
         },
         reader: ReaderTask {
@@ -180,44 +189,19 @@ fn tasks_of<'q>(lines: &'q Lines, sides: LineSides<'q>, roles: Roles) -> Tasks<'
     }
 }
 
-/// Copies out of the script what the workers do, and makes the host.
-fn roles_of(alloc: Global, script: &Script) -> Result<Roles, AllocError>
-    ensures keys { IfOk result (λ r. r.users.keys.items ≡ keys_of script.now.lines) }
-    ensures clicks { IfOk result (λ r. r.users.clicks.items ≡ mouse_of script.now.lines) }
-    ensures files { IfOk result (λ r. r.files.items ≡ script.now.files) }
-    ensures host { IfOk result IsHostRole }
+/// Makes the ends of the lines, and what the host begins with.
+fn places_of<'q>(
+    alloc: Global,
+    lines: &'q Lines,
+    starts: Starts,
+    script: &Script,
+) -> Result<(LineSides<'q>, HostRole), AllocError>
+    requires together { starts ≡ lines.now }
+    ensures sides { IfOk result (λ r. AreNewSides lines.now r.0) }
+    ensures host { IfOk result (λ r. IsHostRole r.1) }
+    ensures files { IfOk result (λ r. r.1.files.items ≡ script.now.files) }
 {
-    let users = copied_users(alloc, script)?;
-    let (files, host) = first_host(alloc, script)?;
-    Ok(Roles { users, files, host })
-}
-
-/// Makes the host, and room for what the user does by the script.
-fn room_of(alloc: Global, script: &Script) -> Result<Roles, AllocError>
-    ensures room { IfOk result (λ r. HasRoomFor script.now.lines r.users) }
-    ensures files { IfOk result (λ r. r.files.items ≡ script.now.files) }
-    ensures host { IfOk result IsHostRole }
-{
-    let users = room_for(alloc, script.lines())?;
-    let (files, host) = first_host(alloc, script)?;
-    Ok(Roles { users, files, host })
-}
-
-/// Moves the events of these lines into the room that was made for them.
-fn with_users(roles: Roles, lines: Vec<Numbered>) -> Roles
-    requires room { HasRoomFor lines.items roles.users }
-    requires host { IsHostRole roles }
-    ensures keys { result.users.keys.items ≡ keys_of lines.items }
-    ensures clicks { result.users.clicks.items ≡ mouse_of lines.items }
-    ensures files { result.files.items ≡ roles.files.items }
-    ensures host { IsHostRole result }
-{
-    let Roles { users, files, host } = roles;
-    Roles {
-        users: users_of(lines, users),
-        files,
-        host,
-    }
+    both(split_lines(alloc, lines, starts), host_role(alloc, script))
 }
 
 /// Makes the ends of the three lines, with nothing put and nothing taken.
@@ -230,9 +214,14 @@ fn split_lines<'q>(
     ensures { IfOk result (AreNewSides lines.now) }
 {
     let (up, down, events) = starts.parts();
-    let (up_post, up_take) = split_in_one(alloc, up, lines.up())?;
-    let (down_post, down_take) = split_in_one(alloc, down, lines.down())?;
-    let (keyboard, mouse, reader, events_take) = split_in_three(alloc, events, lines.events())?;
+    let up = split_in_one(alloc, up, lines.up());
+    let down = split_in_one(alloc, down, lines.down());
+    let (bytes, events) = both(
+        both(up, down),
+        split_in_three(alloc, events, lines.events()),
+    )?;
+    let ((up_post, up_take), (down_post, down_take)) = bytes;
+    let (keyboard, mouse, reader, events_take) = events;
     // The terminal waits for events alone, also while the line up has no room for its bytes.
     let up_take = up_take.waking(lines.events());
     Ok(LineSides {
@@ -297,10 +286,9 @@ fn split_in_three<'q, T>(
 
 /// Copies the names and texts of a script's files, and makes the host that begins with them.
 #[tactic(auto, using(sam_world::proofs::GivenLaws::given_many))]
-fn first_host(alloc: Global, script: &Script) -> Result<(Vec<(Runes, Runes)>, Host), AllocError>
-    ensures files { IfOk result (λ r. r.0.items ≡ script.now.files) }
-    ensures host { IfOk result (λ r. r.1 ≡ new_host script.now.files) }
-    ensures limits { (length script.now.files ≤ most_files) × All IsFile script.now.files }
+fn host_role(alloc: Global, script: &Script) -> Result<HostRole, AllocError>
+    ensures files { IfOk result (λ r. r.files.items ≡ script.now.files) }
+    ensures host { IfOk result IsHostRole }
 {
     let names_and_texts = script.files();
     let files = copied_files(alloc, names_and_texts)?;
@@ -308,7 +296,7 @@ fn first_host(alloc: Global, script: &Script) -> Result<(Vec<(Runes, Runes)>, Ho
     let Ok(host) = Host::new(alloc, given) else {
         return Err(AllocError);
     };
-    Ok((files, host))
+    Ok(HostRole { files, host })
 }
 
 /// Copies names and texts.

@@ -1,0 +1,331 @@
+"""What earlier sessions left: texts that the host saved beside the files, and those that were written here. A key takes one back, compares
+it with its file, or drops it."""
+import difflib
+import os
+import re
+import time
+from typing import Dict, List, NamedTuple, Optional, Tuple
+
+import rescue
+from keeping import shown_name
+from keys import Input, Key, Mouse, Paste, Text
+from notes import printable
+from texts import COMMAND, GAP, MOST_RUNES, Change
+from undo import Step
+from windows import end_of_load
+
+# The name in the session of a text that the host saved: the tag of its file, 0 for what was cut last; whether it is newer; and when it
+# was saved.
+NAMED = re.compile(r"~~left~~ (\d{1,5}) ([+-]) (.*)")
+MOST_COMPARED = 1_000  # lines that differ, from the first to the last, of which it is shown how
+REACH = 32_768  # runes that are loaded in one round trip
+
+
+class Old(NamedTuple):
+    """A text that an earlier session left of a file."""
+
+    of: int  # the file; COMMAND for what was cut last
+    when: str
+    is_newer: Optional[bool]  # than the file; None where nobody knows
+    tag: int = COMMAND  # of the text, where the host has it
+    path: str = ""  # else where it is here
+
+
+class Left:
+    """The texts that are left, and what the user does with them."""
+
+    def __init__(self, editor):
+        self.editor, self.terminal = editor, editor.terminal
+        self.tags: Dict[int, Old] = {}  # those that the host has
+        self._here: Dict[str, Old] = {}  # those that are here, by their paths
+        self._taken: Dict[int, Tuple[List[Old], Step]] = {}  # of a file, what was taken into it and not written yet; and that step of undo
+        self._written: List[int] = []  # files that were written since
+        self._times: Dict[str, int] = {}  # when files were written last, by the paths that the host tells
+        self._warned: Optional[Old] = None  # the text of which the user knows that it lacks something
+        self._whole: Optional[Old] = None  # the one from which all came that it lacks
+
+    # ---- What there is
+
+    def hear_written(self, path: str, when: int) -> None:
+        self._times[path] = when
+
+    def find(self, known: List[int]) -> None:
+        """The names of the host's files are known: some are texts that it saved. Others of the files may be here."""
+        for tag in known:
+            if found := NAMED.fullmatch(self.terminal.name(tag)):
+                self.tags[tag] = Old(int(found[1]), found[3], found[2] == "+", tag=tag)
+        names = {tag: self.terminal.name(tag) for tag in self.editor.tags}
+        here = rescue.left(names.values())
+        for tag, name in names.items():
+            for path in here[name]:
+                self._note_here(tag, name, path)
+
+    def _note_here(self, tag: int, name: str, path: str) -> None:
+        try:
+            saved = os.stat(path).st_mtime
+        except OSError:
+            return
+        written = next((when for told, when in self._times.items() if printable(shown_name(told)) == printable(name)), None)
+        when = time.strftime("%Y-%m-%d %H:%M:%S", time.localtime(saved))
+        old = Old(tag, when, None if written is None else int(saved) >= written, path=path)
+        self._here[path] = old
+        age = {None: "", True: ", newer than the file", False: ", older than the file"}[old.is_newer]
+        self.editor.notes.keep(1, f"of {name} a text was written here: it is in {path}, of {when}{age}; F9 takes it, compares or drops it")
+
+    @property
+    def all(self) -> List[Old]:
+        return sorted([*self.tags.values(), *self._here.values()], key=lambda old: (old.of, old.when))
+
+    def line(self, old: Old) -> str:
+        what = "what was cut last" if old.of == COMMAND else self.editor.name(old.of)
+        age = {None: "", True: ", newer than the file", False: ", older than the file"}[None if old.of == COMMAND else old.is_newer]
+        return f"{what}: {'written here' if old.path else 'saved by the host'} {old.when}{age}"
+
+    def begin(self) -> None:
+        if self.all:
+            self.editor.menu = Choice(self)
+        else:
+            self.editor.message = "no earlier session left a text of these files"
+
+    def drop(self, tag: int) -> None:
+        """The file is closed."""
+        self.tags.pop(tag, None)
+        self._taken.pop(tag, None)
+
+    # ---- Taking one back
+
+    def take(self, old: Old) -> bool:
+        """Puts a text in the place of its file's. Returns whether that is done; else the key acts again."""
+        editor, tag = self.editor, old.of
+        if tag == COMMAND:
+            return self._snarf(old)
+        if not self.terminal.is_known(tag):
+            editor.message = "its file is closed"
+            return True
+        editor.show(tag)
+        if not editor.window_of(tag).is_settled:
+            editor.act_again("waits for the file")
+            return False
+        text = rescue.read(old.path) if old.path else ""
+        if text is None:
+            editor.message = f"{old.path} can't be read"
+            return True
+        filled = self._filled(old, text)
+        if filled is None or not self._may_go(tag):
+            return False
+        if len(filled) > MOST_RUNES:
+            editor.message = f"{old.path} is too long"
+            return True
+        self._put(old, filled)
+        editor.message = f"{editor.name(tag)} has that text now. ^Z takes it back; once ^W has written it, the old one is dropped"
+        return True
+
+    def _filled(self, old: Old, text: str) -> Optional[str]:
+        """A text with what it lacks, from what the host saved of its file, else from the file itself, once the user was told. None where
+        the key acts again, or asks."""
+        lacks, self._whole = rescue.lacking(text), None
+        if not lacks:
+            return text
+        whole = self._newest_of(old.of)
+        tag = old.of if whole is None else whole.tag
+        if (whole is not None and not self._is_opened(whole)) or not self._is_loaded(tag):
+            return None
+        text = rescue.filled(text, self.editor.texts.read(tag, 0, self.terminal.len(tag)))
+        self._whole = None if rescue.lacking(text) else whole
+        if self._warned != old and not self._is_warned(lacks, rescue.lacking(text), "the file" if whole is None else "what the host saved"):
+            return None
+        self._warned = old
+        return text
+
+    def _newest_of(self, tag: int) -> Optional[Old]:
+        """What the host saved last of a file."""
+        return max((old for old in self.tags.values() if old.of == tag), key=lambda old: old.when, default=None)
+
+    def _is_warned(self, before: int, lacks: int, source: str) -> bool:
+        """Whether the user takes a text all the same that lacked so many characters, and still lacks some."""
+        came = f"; {before - lacks} that it lacked came from {source}" if lacks < before else ""
+        return self.editor.is_sure(f"it lacks {lacks} characters that were not loaded{came}. Enter again takes it")
+
+    def _may_go(self, tag: int) -> bool:
+        """Whether the file's text may go, which `^Z` brings back."""
+        length = self.terminal.len(tag)
+        gaps = self.editor.texts.read(tag, 0, length).count(GAP)
+        question = f"{gaps} characters of the text are not loaded: ^Z can't bring them back. Enter again goes on"
+        return gaps == 0 or self.editor.is_kept_or_sure(tag, 0, length, question)
+
+    def _put(self, old: Old, text: str) -> None:
+        """Puts a text of this machine, or one that the host has, in the place of its file's."""
+        editor, tag = self.editor, old.of
+        editor.log.begin(tag)
+        olds = [old] if self._whole is None else [old, self._whole]  # the text has all of both
+        self._taken[tag] = (olds, editor.log.past[tag][-1])
+        if not old.path:
+            editor.vault.bring(old.tag, tag)
+            return
+        gone = editor.texts.read(tag, 0, self.terminal.len(tag))
+        self.terminal.edit(tag, 0, len(gone), text)
+        editor.texts.tell([Change(tag, 0, gone, text)])
+        editor.window_of(tag).select(0)
+
+    def _snarf(self, old: Old) -> bool:
+        """Makes a text that was cut the one that `^V` pastes."""
+        if not self._is_opened(old):
+            return False
+        length = self.terminal.len(old.tag)
+        self.terminal.select(old.tag, 0, length)
+        self.terminal.snarf(old.tag)
+        self.editor.note_snarfed(self.editor.texts.read(old.tag, 0, length))
+        self.editor.message = "^V pastes it"
+        return True
+
+    def _is_opened(self, old: Old) -> bool:
+        """Whether a text of the host is open. If not, it is opened, and the key acts again."""
+        if self.terminal.is_open(old.tag):
+            return True
+        self.terminal.open(old.tag)
+        if self.editor.active is not self.editor.command and self.editor.active.is_open:
+            self.terminal.work(self.editor.active.tag)
+        self.editor.act_again("opens it")
+        return False
+
+    # ---- Dropping
+
+    def remove(self, old: Old) -> bool:
+        """Drops a text for good, once the user is sure. The host does so where it is written empty. Returns whether that is done."""
+        if not old.path and not self._is_opened(old):
+            return False
+        if not self.editor.is_sure(f"{self.line(old)}. d again drops it for good"):
+            return False
+        self._remove(old)
+        return True
+
+    def _remove(self, old: Old) -> None:
+        if old.path:
+            self._here.pop(old.path, None)
+            try:
+                os.unlink(old.path)
+            except OSError as error:
+                self.editor.message = f"{old.path} is not dropped: {error.strerror}"
+        else:
+            self.terminal.edit(old.tag, 0, self.terminal.len(old.tag), "")
+            self.terminal.write(old.tag)
+            self.terminal.close(old.tag)
+
+    def meet_written(self, tag: int) -> None:
+        if tag in self._taken:
+            self._written.append(tag)
+
+    def go_on(self) -> None:
+        """Drops what was taken back and is in its file by now, unless it was taken out again, or the write failed."""
+        editor = self.editor
+        while self._written and editor.way.is_confirmed and not editor.keeping.is_writing(self._written[0]):
+            tag = self._written.pop(0)
+            olds, step = self._taken.get(tag, ([], None))
+            if editor.is_changed(tag) or step not in editor.log.past.get(tag, []):
+                continue
+            self._taken.pop(tag, None)
+            for old in olds:
+                if old.path or self.terminal.is_open(old.tag):
+                    self._remove(old)
+
+    # ---- Comparing
+
+    def compare(self, old: Old) -> bool:
+        """Shows in which lines a text and its file differ, once both are loaded. Returns whether that is done."""
+        editor = self.editor
+        if not self.terminal.is_known(old.of) or old.of == COMMAND:
+            editor.message = "there is no file to compare it with"
+            return True
+        if old.of not in editor.all_windows or not self.terminal.is_open(old.of):
+            editor.show(old.of)
+            editor.act_again("opens the file")
+            return False
+        if not old.path and not self._is_opened(old):
+            return False
+        if not (self._is_loaded(old.of) and (old.path or self._is_loaded(old.tag))):
+            return False
+        text = rescue.read(old.path) if old.path else editor.texts.read(old.tag, 0, self.terminal.len(old.tag))
+        lines = differences(editor.texts.read(old.of, 0, self.terminal.len(old.of)), text or "")
+        editor.menu = Differences(f"- {editor.name(old.of)}   + {self.line(old)}", lines)
+        return True
+
+    def _is_loaded(self, tag: int) -> bool:
+        """Whether a file is loaded whole. If not, more of it is asked for, and the key acts again."""
+        gap = self.terminal.first_gap(tag)
+        if gap is None:
+            return True
+        end = min(self.terminal.len(tag), gap + REACH)
+        self.terminal.load(tag, gap, end_of_load(self.terminal, tag, gap, end) - gap)
+        self.editor.act_again("loads both texts")
+        return False
+
+
+def differences(file: str, other: str) -> List[str]:
+    """The lines in which two texts differ, those of the first with a `-`, those of the second with a `+`."""
+    ours, theirs = file.split("\n"), other.split("\n")
+    first = next((at for at, (one, two) in enumerate(zip(ours, theirs)) if one != two), min(len(ours), len(theirs)))
+    most = min(len(ours), len(theirs)) - first
+    last = next((at for at in range(most) if ours[-1 - at] != theirs[-1 - at]), most)
+    ours, theirs = ours[first : len(ours) - last], theirs[first : len(theirs) - last]
+    if not ours and not theirs:
+        return ["no line differs"]
+    if len(ours) > MOST_COMPARED or len(theirs) > MOST_COMPARED:
+        return [f"from line {first + 1} on {len(ours)} lines are in the file, and {len(theirs)} others in the old text"]
+    lines = []
+    for mark, start, end, low, high in difflib.SequenceMatcher(None, ours, theirs, autojunk=False).get_opcodes():
+        if mark != "equal":
+            lines.append(f"from line {first + start + 1} on:")
+            lines += [f"- {line}" for line in ours[start:end]] + [f"+ {line}" for line in theirs[low:high]]
+    return lines
+
+
+class Choice:
+    """The menu of what is left."""
+
+    title, is_box, goes_by_place = "Left of earlier sessions: Enter takes the text, c compares it, d drops it", True, False
+
+    def __init__(self, left: Left):
+        self.left, self.is_over, self.chosen = left, False, 0
+
+    def lines(self, height: int) -> List[Tuple[str, bool]]:
+        first = max(0, self.chosen - height + 1)
+        return [(printable(self.left.line(old)), at == self.chosen) for at, old in enumerate(self.left.all)][first : first + height]
+
+    def take(self, key: Input) -> bool:
+        """Returns whether the key is for the windows, as this is over."""
+        olds, steps = self.left.all, {"Up": -1, "Down": 1}
+        acts = {"\n": self.left.take, "c": self.left.compare, "d": self.left.remove}
+        self.chosen = max(0, min(self.chosen, len(olds) - 1))
+        if self.left.editor.is_lost:
+            self.is_over = True
+        elif isinstance(key, Key) and key.name in steps:
+            self.chosen = max(0, min(self.chosen + steps[key.name], len(olds) - 1))
+        elif isinstance(key, Text) and key.runes in acts and olds:
+            self.is_over = acts[key.runes](olds[self.chosen])
+        elif isinstance(key, (Key, Paste, Text)):
+            self.is_over = True
+        return isinstance(key, (Paste, Text)) and not (isinstance(key, Text) and key.runes in acts)
+
+
+class Differences:
+    """Lines over the windows, which scroll."""
+
+    is_box, goes_by_place = True, False
+
+    def __init__(self, title: str, lines: List[str]):
+        self.title, self._lines, self.is_over, self.first = title, [printable(line.expandtabs()) for line in lines], False, 0
+        self._page = 1
+
+    def lines(self, height: int) -> List[Tuple[str, bool]]:
+        self._page = height
+        self.first = max(0, min(self.first, len(self._lines) - height))
+        return [(line, False) for line in self._lines[self.first : self.first + height]]
+
+    def take(self, key: Input) -> bool:
+        """As the help does."""
+        steps = {"Down": 1, "Up": -1, "Page Down": self._page, "Page Up": -self._page}
+        if isinstance(key, Key) and key.name in steps:
+            self.first = max(0, self.first + steps[key.name])
+        elif not isinstance(key, Mouse):
+            self.is_over = True
+        return isinstance(key, Paste)

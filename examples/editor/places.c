@@ -1,0 +1,115 @@
+/* places.c: folders for what can't stand beside its file: the user's own, so that no other user reads or names what is there. */
+#define _XOPEN_SOURCE 700
+#include <errno.h>
+#include <inttypes.h>
+#include <stdlib.h>
+#include <string.h>
+#include <sys/stat.h>
+#include <unistd.h>
+
+#include "samhost.h"
+
+#define NAME "sulgrevad"
+
+/* A variable of the environment that names a folder by its whole path; NULL where it doesn't. */
+static const char *named(const char *variable)
+{
+    const char *value = getenv(variable);
+
+    return value != NULL && *value == '/' ? value : NULL;
+}
+
+/* The path of a folder, without a slash at its end: for the user's state, else in one for temporary files, where its name has the user's
+ * number. ENOENT where there is no such folder. */
+static int path_of_own(int which, char **path)
+{
+    const char *state = named("XDG_STATE_HOME"), *home = named("HOME"), *temporary = named("TMPDIR");
+
+    *path = NULL;
+    if (which == 0 && state != NULL)
+        *path = formatted("%s/" NAME, state);
+    else if (which == 0 && home != NULL)
+        *path = formatted("%s/.local/state/" NAME, home);
+    else if (which == 1 && temporary != NULL)
+        *path = formatted("%s/" NAME "-%lu", temporary, (unsigned long)geteuid());
+    else if (which == 2)
+        *path = formatted("/tmp/" NAME "-%lu", (unsigned long)geteuid());
+    else
+        return ENOENT;
+    return *path == NULL ? ENOMEM : 0;
+}
+
+/* Makes a folder, and those above it that are not there, for the user alone. */
+static void make_folders(char *path)
+{
+    for (char *slash = strchr(path + 1, '/'); slash != NULL; slash = strchr(slash + 1, '/')) {
+        *slash = '\0';
+        (void)mkdir(path, 0700); /* what fails shows at the last one */
+        *slash = '/';
+    }
+    (void)mkdir(path, 0700);
+}
+
+/* Whether a folder is the user's own, and nobody else's to read or to write. */
+static int check_own(const char *path)
+{
+    struct stat status;
+
+    if (lstat(path, &status) != 0)
+        return errno;
+    if (!S_ISDIR(status.st_mode) || status.st_uid != geteuid())
+        return EPERM;
+    return (status.st_mode & 077) != 0 && chmod(path, 0700) != 0 ? errno : 0;
+}
+
+int own_folder(int which, bool makes, char **folder)
+{
+    char *path = NULL;
+    int error = path_of_own(which, &path);
+
+    *folder = NULL;
+    if (error == 0) {
+        if (makes)
+            make_folders(path);
+        error = check_own(path);
+    }
+    if (error == 0) {
+        *folder = formatted("%s/", path);
+        error = *folder == NULL ? ENOMEM : 0;
+    }
+    free(path);
+    return error;
+}
+
+/* The whole path of a file, in memory of its own; also of one whose folder isn't there. NULL where memory is out. */
+static char *whole_path(const char *path)
+{
+    char *folder = folder_of(path), *whole = NULL, *own = NULL;
+    const char *slash = strrchr(path, '/'), *rest = slash == NULL ? path : slash + 1;
+
+    errno = ENOMEM;
+    if (folder != NULL)
+        whole = realpath(*folder == '\0' ? "." : folder, NULL);
+    if (whole == NULL && errno != ENOMEM) {
+        rest = path;
+        whole = *path == '/' ? formatted("") : realpath(".", NULL);
+    }
+    if (whole != NULL)
+        own = formatted("%s/%s", whole, rest);
+    free(whole);
+    free(folder);
+    return own;
+}
+
+char *own_front(const char *path)
+{
+    char base[BASE_ROOM];
+    char *whole = whole_path(path);
+
+    if (whole == NULL)
+        return NULL;
+    struct content content = content_of(&(struct text){(uint8_t *)whole, strlen(whole)});
+    free(whole);
+    base_of(path, base);
+    return formatted("%016" PRIx64 "-%s", content.hash, base);
+}
