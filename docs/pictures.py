@@ -67,26 +67,28 @@ FURTHEST = BOX_WIDTH / 2 - 12
 PLACES = {
     "sam_play": (430, 0, "the program"),
     "sam_session": (430, 1, "the program by its modes"),
-    "sam_spawn": (270, 2, "starts and joins them"),
-    "sam_modes": (740, 2, "words, inputs, faults"),
-    "sam_c": (900, 2, "the library for C"),
-    "sam_rest": (100, 3, "no session is stuck"),
-    "sam_settle": (270, 3, "five ends, one run"),
-    "sam_script": (655, 3, "scripts, read and shown"),
-    "sam_workers": (270, 4, "five workers"),
-    "sam_world": (450, 4, "both sides as one state"),
-    "sam_queue": (100, 5, "lines between threads"),
-    "sam_local": (450, 5, "as if no network"),
-    "sam_crossing": (450, 6, "crossing messages agree"),
-    "sam_sides": (360, 7, "what each side did"),
-    "sam_endpoint": (740, 7, "a side with its bytes"),
-    "sam_frame": (100, 8, "streams of messages"),
-    "sam_host": (280, 8, "the host"),
-    "sam_term": (460, 8, "the terminal"),
-    "sam_mesg": (190, 9, "messages and their bytes"),
-    "sam_text": (370, 9, "files, command lines"),
-    "sam_rasp": (550, 9, "texts with gaps"),
-    "sam_runes": (370, 10, "texts as lists of runes"),
+    "sam_spawn": (380, 2, "starts and joins them"),
+    "sam_modes": (540, 2, "words, inputs, faults"),
+    "sam_c": (700, 2, "the library for C"),
+    "sam_settle": (320, 3, "five ends, one run"),
+    "sam_joined": (860, 2, "two endpoints, one run"),
+    "sam_apart": (230, 4, "sides apart are one run"),
+    "sam_rest": (510, 4, "no session is stuck"),
+    "sam_script": (890, 4, "scripts, read and shown"),
+    "sam_workers": (310, 5, "five workers"),
+    "sam_world": (510, 5, "both sides as one state"),
+    "sam_queue": (390, 6, "lines between threads"),
+    "sam_local": (550, 6, "as if no network"),
+    "sam_crossing": (550, 7, "crossing messages agree"),
+    "sam_sides": (300, 8, "what each side did"),
+    "sam_endpoint": (700, 8, "a side with its bytes"),
+    "sam_frame": (100, 9, "streams of messages"),
+    "sam_host": (280, 9, "the host"),
+    "sam_term": (460, 9, "the terminal"),
+    "sam_mesg": (190, 10, "messages and their bytes"),
+    "sam_text": (370, 10, "files, command lines"),
+    "sam_rasp": (550, 10, "texts with gaps"),
+    "sam_runes": (370, 11, "texts as lists of runes"),
 }
 LEFT_OUT = {
     *("sam_tests_whole", "sam_tests_codec", "sam_tests_lines", "sam_tests_gates", "sam_test_support", "sam_examples"),
@@ -134,7 +136,7 @@ def crates_picture():
         kind = "side" if name in ("sam_host", "sam_term") else "box"
         parts += [box(x - BOX_WIDTH / 2, y - BOX_HEIGHT / 2, BOX_WIDTH, BOX_HEIGHT, kind)]
         parts += [text(x, y - 3, name, "name"), text(x, y + 13, words, "grey")]
-    return picture("The crates and what each stands on", 1000, FIRST_ROW + ROW_HEIGHT * 10 + 44, parts)
+    return picture("The crates and what each stands on", 1000, FIRST_ROW + ROW_HEIGHT * 11 + 44, parts)
 
 
 # ---- The threads

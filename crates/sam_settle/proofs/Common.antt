@@ -1,49 +1,38 @@
 -- What the proofs of this crate cite most from its definitions and from the crates below.
-pub use Rattle.std.proofs.Common.{Err, IsTrue, List, None, Ok, Option, Result, Some, Vec, [], ap, append-nil, append_assoc, arith, drop, eqb-true, false, inl, inr, le-ltb, length, length-append, map, refl, slice_get, subst, suc, sum_by, sym, take, true, zero, ℕ, ◌++◌, ◌+◌, ◌<◌, ◌==◌, ◌^◌, ◌∙◌, ◌∷◌, ◌≡◌, ◌≢◌, ◌≤◌, ◌⊎◌}
-pub use Rattle.std.proofs.lemmas.Bool.{or_from}
+pub use Rattle.std.proofs.Common.{Err, IsTrue, List, None, Option, Some, Vec, [], ap, append-nil, append_assoc, arith, eqb-true, false, inl, inr, length, length-append, map, refl, slice_get, subst, suc, sum_by, sym, take, true, zero, ℕ, ◌++◌, ◌+◌, ◌<◌, ◌==◌, ◌^◌, ◌∙◌, ◌∷◌, ◌≡◌, ◌≢◌, ◌≤◌, ◌⊎◌}
 pub use Rattle.std.proofs.lemmas.List.{append_cancel_left, map-append, nil_from_length}
 pub use Rattle.std.proofs.lemmas.Option.{same_Some, slice_get_cases}
 pub use Rattle.std.specs.Global.{Global}
-pub use Rattle.sam_frame.proofs.Fronts.{stream_of-append, stream_of-one, version_after-append}
-pub use Rattle.sam_frame.specs.Direction.{Direction, frame_of, host, terminal}
-pub use Rattle.sam_frame.specs.Stream.{FitInTurn, IsOpen, Shows, stream_of, version_after}
-pub use Rattle.sam_host.proofs.SoundLaws.{frames_fit, reply_stands, starts_sound, stays_sound}
-pub use Rattle.sam_host.specs.Host.{PlainHost, Reply, host_checks, new_host, reply_to, stamped, told_names}
-unfoldable pub use Rattle.sam_host.specs.Host.{answer, reply_version}
-pub use Rattle.sam_host.specs.Laws.{AreGiven, FitInPlace, IsSound}
+pub use Rattle.sam_frame.specs.Direction.{frame_of, host, terminal}
+pub use Rattle.sam_frame.specs.Stream.{Shows, stream_of, version_after}
+unfoldable pub use Rattle.sam_host.specs.Host.{answer}
+pub use Rattle.sam_host.specs.Laws.{AreGiven}
 pub use Rattle.sam_host.specs.declared.fault.HostFault.{HostFault}
-pub use Rattle.sam_mesg.specs.HostKinds.{FitsH, after_h, fits_h}
-pub use Rattle.sam_mesg.specs.TerminalKinds.{FitsT, after_t, fits_t}
+pub use Rattle.sam_mesg.specs.HostKinds.{FitsH, fits_h}
+pub use Rattle.sam_mesg.specs.TerminalKinds.{FitsT, fits_t}
 pub use Rattle.sam_mesg.specs.declared.fault.MesgFault.{MesgFault}
 pub use Rattle.sam_mesg.specs.declared.hmesg.HFrame.{HFrame}
 pub use Rattle.sam_mesg.specs.declared.tmesg.Tmesg.{Tmesg}
 pub use Rattle.sam_queue.specs.History.{all_of, has_left, items_of, loads}
 pub use Rattle.sam_queue.specs.Views.{PostView, TakeView}
 pub use Rattle.sam_queue.specs.declared.rule.Entry.{Entry}
-pub use Rattle.sam_settle.specs.Apart.{Apart, Joined, Understood}
+pub use Rattle.sam_apart.specs.Apart.{Apart, Joined, Understood}
 pub use Rattle.sam_settle.specs.Headline.{Gives, Headline}
 pub use Rattle.sam_settle.specs.Settled.{AreFull, HasStreams, HasUsers, IsDrained, IsFull, IsWhole, MissesHost, count_gone, counts_left, left_in, left_of, as_list, stops_of}
 pub use Rattle.sam_settle.specs.Settling.{ComesTo, IsReady, IsScheduled, IsSource, LinesGive, schedule_from, world_from}
 pub use Rattle.sam_settle.specs.declared.settled.Settled.{Settled}
-pub use Rattle.sam_term.specs.Term.{Made, PlainTerminal, act_on, decided, event_checks, event_outcome, gaps_shown, has_long_text, new_terminal, request_for, requests_for, sends, sends_all, sends_if, unchanged, unsent_message}
-unfoldable pub use Rattle.sam_term.specs.Term.{act_of, all_wanted, flush_of, flushed, made_by_cut, made_by_edit, made_by_load, made_by_paste, made_by_snarf, made_by_type, made_by_view, requested, take_of}
-pub use Rattle.sam_term.specs.declared.event.Acted.{Acted}
+pub use Rattle.sam_term.specs.Term.{new_terminal}
 pub use Rattle.sam_term.specs.declared.event.UserEvent.{UserEvent}
-pub use Rattle.sam_term.specs.declared.fault.TermFault.{TermFault}
-pub use Rattle.sam_workers.proofs.ApartTurns.{InTurn, InTurn-append, IsFree, each_h, each_t, free_turn, in_turn}
+pub use Rattle.sam_apart.proofs.ApartTurns.{each_h}
 pub use Rattle.sam_workers.specs.Inputs.{bytes_of, frame_of_load, frames_in}
-pub use Rattle.sam_sides.specs.RealSides.{acted, sides, unless_refused}
 pub use Rattle.sam_workers.specs.WorkerEnds.{AreEnds, HostStopped, IsForeign, IsFullUp, ReaderStopped, RefusesFrame, TermStopped, Told}
 pub use Rattle.sam_workers.specs.declared.ends.Ends.{Ends}
 pub use Rattle.sam_workers.specs.declared.input.Input.{Input}
 pub use Rattle.sam_workers.specs.declared.input.Input.TheVariants.{Host, User}
-pub use Rattle.sam_crossing.proofs.OrderLaws.{host_never_refuses, quiet_means_agreement, reached_in_order, starts_in_order, steps_in_order, terminal_never_refuses, version_at_its_place}
-pub use Rattle.sam_world.proofs.ComesToSync.{FitsUnder, each_append, each_front, fits, settles, users_merged_from}
-pub use Rattle.sam_crossing.specs.RunOrder.{IsInOrder}
-pub use Rattle.sam_crossing.specs.World.{mesgs, PlainWorld, after_answer, composed_by, host_takes, new_world, run_of, step_of}
+pub use Rattle.sam_crossing.proofs.OrderLaws.{quiet_means_agreement, reached_in_order}
+pub use Rattle.sam_world.proofs.ComesToSync.{each_append, each_front}
+pub use Rattle.sam_crossing.specs.World.{PlainWorld, new_world, run_of, step_of}
 pub use Rattle.sam_world.specs.Reached.{IsSoundWorld}
-pub use Rattle.sam_world.specs.Sides.{Counts, Each, HostRuns, Steps, TermRuns, World, if_given, answered, composed, host_take, run, step, term_take, world}
-pub use Rattle.sam_world.specs.Prefixes.{Begins}
-pub use Rattle.sam_world.specs.Merging.{is_bad_log, merged}
+pub use Rattle.sam_world.specs.Sides.{Each}
+pub use Rattle.sam_world.specs.Merging.{merged}
 pub use Rattle.sam_crossing.specs.declared.event.Event.{Event}
-pub use Rattle.sam_sides.specs.declared.log.TermLog.{TermLog}

@@ -1,8 +1,4 @@
 pub mod Common
-pub mod RealLaws
-pub mod ApartKinds
-pub mod ApartWalk
-pub mod ApartLaws
 pub mod SettlingLists
 pub mod SettlingRuns
 pub mod SettlingClauses

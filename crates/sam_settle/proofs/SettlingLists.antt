@@ -5,7 +5,7 @@ use Rattle.std.proofs.lemmas.List.Sums.{sum_by-cons}
 use Rattle.sam_queue.specs.Audits.{AllAccounted, HasHistory}
 use Rattle.sam_queue.proofs.Histories.{loads_mine, loads_other, loads-append, none_after_mark, items_said}
 use Rattle.sam_queue.proofs.Lists.{found_at}
-use Rattle.sam_settle.proofs.RealLaws.{each_of_all}
+use Rattle.sam_apart.proofs.RealLaws.{each_of_all}
 
 -- ## Lists
 

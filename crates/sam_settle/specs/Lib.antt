@@ -1,4 +1,3 @@
-pub mod Apart
 pub mod Headline
 pub mod Settled
 pub mod Settling

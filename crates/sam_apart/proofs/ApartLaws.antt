@@ -1,14 +1,15 @@
 -- Two sides that worked apart are one run of the world; each read the other's stream, and neither refused the other.
-use Rattle.sam_settle.proofs.Common.{◌≡◌, ℕ, false, List, [], ◌∷◌, ◌++◌, Some, None, Err, refl, sym, append_assoc, arith, le-ltb, append-nil, or_from, append_cancel_left, MesgFault, FitsT, Tmesg, FitsH, HFrame, Direction, terminal, host, frame_of, FitInTurn, version_after, stream_of, IsOpen, Shows, stream_of-append, stream_of-one, PlainHost, answer, new_host, HostFault, starts_sound, PlainTerminal, new_terminal, take_of, TermFault, TermLog, PlainWorld, new_world, run_of, merged, is_bad_log, IsInOrder, HostRuns, TermRuns, world, Begins, settles, fits, each_append, users_merged_from, FitsUnder, starts_in_order, reached_in_order, host_never_refuses, terminal_never_refuses, sides, Apart, Joined, Understood, in_turn, each_t, each_h}
+use Rattle.sam_apart.proofs.Common.{◌≡◌, ℕ, false, List, [], ◌∷◌, ◌++◌, Some, None, Err, refl, sym, append_assoc, arith, le-ltb, append-nil, or_from, append_cancel_left, MesgFault, FitsT, Tmesg, FitsH, HFrame, Direction, terminal, host, frame_of, FitInTurn, version_after, stream_of, IsOpen, Shows, stream_of-append, stream_of-one, PlainHost, answer, new_host, HostFault, starts_sound, PlainTerminal, new_terminal, take_of, TermFault, TermLog, PlainWorld, new_world, run_of, merged, is_bad_log, IsInOrder, HostRuns, TermRuns, world, Begins, settles, fits, each_append, users_merged_from, FitsUnder, starts_in_order, reached_in_order, host_never_refuses, terminal_never_refuses, sides, Apart, Joined, Understood}
 use Rattle.sam_frame.specs.Reading.{IsStream, IsSound}
 use Rattle.sam_frame.proofs.Unique.{one_reading}
 use Rattle.sam_frame.proofs.Cuttings.{Shows-longer}
 use Rattle.sam_host.specs.declared.fault.HostFault.TheVariants as hostfault
 use Rattle.sam_term.specs.declared.fault.TermFault.TheVariants as fault
 use Rattle.sam_world.proofs.Carries.{begins_from_bytes}
-use Rattle.sam_settle.proofs.RealLaws.{counts, up_sound, down_sound, up_free, down_free, plain_run}
-use Rattle.sam_settle.proofs.ApartKinds.{answers_turn}
-use Rattle.sam_settle.proofs.ApartWalk.{composed_turn}
+use Rattle.sam_apart.proofs.RealLaws.{counts, up_sound, down_sound, up_free, down_free, plain_run}
+use Rattle.sam_apart.proofs.ApartKinds.{answers_turn}
+use Rattle.sam_apart.proofs.ApartWalk.{composed_turn}
+use Rattle.sam_apart.proofs.ApartTurns.{in_turn, each_t, each_h}
 
 -- ## Small facts
 
@@ -20,7 +21,7 @@ good_log (e ∷ es) n l = grind (arith, le-ltb, or_from, (good_log es n))
 written : {M : Type 0} (d : Direction M) (ms : List M) → FitInTurn d 1 ms → IsStream d 1 (stream_of d ms) ms [] None
 written d ms p = record { splits = record { whole = sym (append-nil (stream_of d ms)); fit = p }; ends = tt }
 
-no_fault : {M : Type 0} (d : Direction M) → IsSound d → (whole front : List M) (shown more : List ℕ) (fault : MesgFault) → FitInTurn d 1 whole → FitInTurn d 1 front
+pub no_fault : {M : Type 0} (d : Direction M) → IsSound d → (whole front : List M) (shown more : List ℕ) (fault : MesgFault) → FitInTurn d 1 whole → FitInTurn d 1 front
     → stream_of d whole ≡ (stream_of d front ++ shown) ++ more → Shows d (version_after d 1 front) shown fault → ⊥
 no_fault d sound whole front shown more fault p q e s = grind (
   arith,
@@ -30,7 +31,7 @@ no_fault d sound whole front shown more fault p q e s = grind (
   (one_reading d sound 1 (stream_of d whole) whole front [] (shown ++ more) None (Some fault)),
 )
 
-all_read : {M : Type 0} (d : Direction M) → IsSound d → (whole front : List M) (rest : List ℕ) → FitInTurn d 1 whole → FitInTurn d 1 front
+pub all_read : {M : Type 0} (d : Direction M) → IsSound d → (whole front : List M) (rest : List ℕ) → FitInTurn d 1 whole → FitInTurn d 1 front
     → stream_of d whole ≡ stream_of d front ++ rest → IsOpen d (version_after d 1 front) rest → front ≡ whole
 all_read d sound whole front rest p q e s = grind (arith, (written d whole p), (one_reading d sound 1 (stream_of d whole) whole front [] rest None None))
 

@@ -1,5 +1,5 @@
 //! What holds of a host and a terminal that work apart from each other, joined only by streams of bytes.
-ghost use Rattle.sam_settle.specs.Apart.{ApartSidesJoin, ApartSidesUnderstand};
+ghost use Rattle.sam_apart.specs.Apart.{ApartSidesJoin, ApartSidesUnderstand};
 
 /// States that a host and a terminal that worked apart, each at its own pace, are one run of the world. The terminal's log, merged with
 /// the number of messages that the host took, is a schedule that leads from the first world to the states of both sides. What was composed

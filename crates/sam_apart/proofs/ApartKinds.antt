@@ -1,5 +1,5 @@
 -- What a host answers and what a terminal composes fits at its place of the stream: a case for each message and for each event.
-use Rattle.sam_settle.proofs.Common.{◌≡◌, ℕ, false, List, [], ◌∷◌, ◌++◌, Option, Some, None, Ok, refl, arith, drop, after_h, HFrame, after_t, Tmesg, host, terminal, version_after, PlainHost, Reply, answer, host_checks, told_names, stamped, reply_version, reply_to, IsSound, FitInPlace, frames_fit, reply_stands, stays_sound, PlainTerminal, Made, flushed, sends, sends_all, sends_if, unchanged, requested, request_for, requests_for, gaps_shown, all_wanted, event_outcome, made_by_type, made_by_cut, made_by_paste, made_by_snarf, made_by_view, made_by_load, made_by_edit, event_checks, has_long_text, act_of, act_on, decided, flush_of, take_of, Acted, UserEvent, Each, HostRuns, composed_by, sides, InTurn, InTurn-append, IsFree, free_turn}
+use Rattle.sam_apart.proofs.Common.{◌≡◌, ℕ, false, List, [], ◌∷◌, ◌++◌, Option, Some, None, Ok, refl, arith, drop, after_h, HFrame, after_t, Tmesg, host, terminal, version_after, PlainHost, Reply, answer, host_checks, told_names, stamped, reply_version, reply_to, IsSound, FitInPlace, frames_fit, reply_stands, stays_sound, PlainTerminal, Made, flushed, sends, sends_all, sends_if, unchanged, requested, request_for, requests_for, gaps_shown, all_wanted, event_outcome, made_by_type, made_by_cut, made_by_paste, made_by_snarf, made_by_view, made_by_load, made_by_edit, event_checks, has_long_text, act_of, act_on, decided, flush_of, take_of, Acted, UserEvent, Each, HostRuns, composed_by, sides}
 use Rattle.std.specs.Prelude.{Bool, true, ◌==◌, ◌&&◌, if◌then◌else◌, length}
 use Rattle.sam_runes.specs.Checks.{first_of_checks}
 use Rattle.sam_runes.specs.Texts.{common_version, is_empty}
@@ -15,7 +15,8 @@ use Rattle.sam_crossing.proofs.RunLaws.{counted-result}
 use Rattle.sam_term.specs.Editing.{shown_from}
 use Rattle.sam_term.specs.Term.{edit_messages, pieces, replaced, typed_pieces}
 use Rattle.sam_term.specs.declared.event.UserEvent.TheVariants.{Load, Edit}
-use Rattle.sam_settle.proofs.RealLaws.{answered_as}
+use Rattle.sam_apart.proofs.RealLaws.{answered_as}
+use Rattle.sam_apart.proofs.ApartTurns.{InTurn, InTurn-append, IsFree, free_turn}
 
 -- ## What the host answers: its version is that after its answers
 

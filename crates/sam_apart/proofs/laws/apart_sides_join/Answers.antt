@@ -1,5 +1,5 @@
-use Rattle.sam_settle.proofs.ApartLaws as laws
-use Rattle.sam_settle.proofs.laws.apart_sides_join.Goals as goal
+use Rattle.sam_apart.proofs.ApartLaws as laws
+use Rattle.sam_apart.proofs.laws.apart_sides_join.Goals as goal
 
 pub returns-clause-joined : goal.returns-clause-joined
 returns-clause-joined c = laws.joins

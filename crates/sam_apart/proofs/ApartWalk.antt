@@ -1,13 +1,14 @@
 -- The sides of a joined run with the messages that each has handled or composed so far: what was composed fits, each message at its place.
-use Rattle.sam_settle.proofs.Common.{◌≡◌, ℕ, false, List, [], ◌∷◌, ◌++◌, Option, Some, None, Result, Ok, Err, refl, sym, ap, ◌∙◌, subst, append_assoc, arith, append-nil, same_Some, HFrame, after_t, Tmesg, terminal, version_after, version_after-append, PlainHost, answer, HostFault, PlainTerminal, act_of, flush_of, take_of, unsent_message, Event, TermLog, PlainWorld, after_answer, host_takes, step_of, merged, IsInOrder, mesgs, Steps, Counts, HostRuns, TermRuns, World, world, if_given, composed, answered, host_take, term_take, step, run, steps_in_order, version_at_its_place, settles, sides, unless_refused, acted, InTurn, InTurn-append}
+use Rattle.sam_apart.proofs.Common.{◌≡◌, ℕ, false, List, [], ◌∷◌, ◌++◌, Option, Some, None, Result, Ok, Err, refl, sym, ap, ◌∙◌, subst, append_assoc, arith, append-nil, same_Some, HFrame, after_t, Tmesg, terminal, version_after, version_after-append, PlainHost, answer, HostFault, PlainTerminal, act_of, flush_of, take_of, unsent_message, Event, TermLog, PlainWorld, after_answer, host_takes, step_of, merged, IsInOrder, mesgs, Steps, Counts, HostRuns, TermRuns, World, world, if_given, composed, answered, host_take, term_take, step, run, steps_in_order, version_at_its_place, settles, sides, unless_refused, acted}
 use Rattle.sam_crossing.specs.Order.{InOrder, views}
 use Rattle.sam_crossing.specs.StreamVersions.{version_behind}
 use Rattle.sam_crossing.proofs.Composing.{not_done_ahead}
 use Rattle.sam_crossing.proofs.Streaming.{still_done}
 use Rattle.sam_crossing.specs.declared.event.Event.TheVariants.{User, Act, Flush, HostTake, TermTake}
 use Rattle.sam_sides.specs.declared.log.TermLog.TheVariants as log
-use Rattle.sam_settle.proofs.RealLaws.{counts, answered_as}
-use Rattle.sam_settle.proofs.ApartKinds.{act_turn, flush_turn, take_turn, answered as answer_is}
+use Rattle.sam_apart.proofs.RealLaws.{counts, answered_as}
+use Rattle.sam_apart.proofs.ApartKinds.{act_turn, flush_turn, take_turn, answered as answer_is}
+use Rattle.sam_apart.proofs.ApartTurns.{InTurn, InTurn-append}
 
 -- ## Sides with their messages
 

@@ -1,0 +1,6 @@
+pub mod Common
+pub mod ApartTurns
+pub mod RealLaws
+pub mod ApartKinds
+pub mod ApartWalk
+pub mod ApartLaws

@@ -1,0 +1,4 @@
+pub mod Words
+pub mod Joining
+pub mod Carrying
+pub mod Calling

@@ -1,0 +1,134 @@
+-- A host endpoint and a terminal endpoint that carry each other's bytes: they are one run of a world.
+use Rattle.std.specs.Prelude.{◌≡◌, ℕ, true, false, List, [], ◌++◌, Some, None}
+use Rattle.sam_mesg.specs.HostKinds.{FitsH}
+use Rattle.sam_mesg.specs.TerminalKinds.{FitsT}
+use Rattle.sam_frame.specs.Direction.{host, terminal}
+use Rattle.sam_frame.specs.Stream.{stream_of}
+use Rattle.sam_host.specs.Host.{new_host}
+use Rattle.sam_host.specs.Laws.{AreGiven}
+use Rattle.sam_host.specs.declared.fault.HostFault.TheVariants as host_fault
+use Rattle.sam_term.specs.Term.{is_open}
+use Rattle.sam_term.specs.declared.event.UserEvent.{UserEvent}
+use Rattle.sam_term.specs.declared.fault.Refusal.{Refusal}
+use Rattle.sam_term.specs.declared.fault.TermFault.TheVariants as term_fault
+use Rattle.sam_endpoint.specs.HostEndpoints.{PlainHostEndpoint, IsIdle as IsHostIdle}
+use Rattle.sam_endpoint.specs.HostRuns.{HasServed, HasStopped as HostHasStopped}
+use Rattle.sam_endpoint.specs.TermEndpoints.{PlainTermEndpoint, IsIdle as IsTermIdle, IsQuiet}
+use Rattle.sam_endpoint.specs.TermRuns.{HasDone, HasStopped as TermHasStopped}
+use Rattle.sam_endpoint.specs.declared.fault.HostStop.{HostStop}
+use Rattle.sam_endpoint.specs.declared.fault.HostStop.TheVariants as host_stop
+use Rattle.sam_endpoint.specs.declared.fault.TermStop.{TermStop}
+use Rattle.sam_endpoint.specs.declared.fault.TermStop.TheVariants as term_stop
+use Rattle.sam_sides.specs.Sides.{Each}
+use Rattle.sam_crossing.specs.World.{PlainWorld, SidesAgree, is_locked, new_world, run_of, user_events}
+use Rattle.sam_crossing.specs.declared.event.Event.{Event}
+use Rattle.sam_local.specs.Local.{at_rest, carried_all}
+use Rattle.sam_local.specs.Worlds.{ShowsFile}
+use Rattle.sam_rest.specs.Rest.{HasRoom, IsDone}
+
+-- ## What is joined
+
+-- A host endpoint that began with these files took in the bytes `came_up` and handed out `went_down`. A terminal endpoint, at which the
+-- user did all of `said`, took in `came_down` and handed out `went_up`. All that the terminal endpoint handed out, or has pending, is what
+-- the host endpoint took in, and then what is on its way up; and likewise down. What is pending is counted, since a program may show it to
+-- the other endpoint before it takes it out
+pub record AreCarried (given : List (List ℕ × List ℕ)) (said : List UserEvent) (up down : List ℕ)
+    (e : PlainHostEndpoint) (g : PlainTermEndpoint) : Type 0 where
+  pub came_up : List ℕ
+  pub went_down : List ℕ
+  pub came_down : List ℕ
+  pub went_up : List ℕ
+  pub written : List ℕ
+  pub refused : List (ℕ × Refusal)
+  pub given_fit : AreGiven given
+  pub served : HasServed (new_host given) came_up went_down written e
+  pub did : HasDone came_down said went_up refused g
+  pub upwards : went_up ++ g.pending_bytes ≡ came_up ++ up
+  pub downwards : went_down ++ e.pending_bytes ≡ came_down ++ down
+
+-- Each frame that the host answered, and each message that the terminal composed, is a value of its type and can be written, as all those
+-- of endpoints are: its numbers have their widths, and its text is runes and within its limit
+pub record CanCross {given : List (List ℕ × List ℕ)} {said : List UserEvent} {up down : List ℕ} {e : PlainHostEndpoint}
+    {g : PlainTermEndpoint} (c : AreCarried given said up down e g) : Type 0 where
+  pub frames : Each (FitsH 2) c.served.frames
+  pub messages : Each (FitsT 2) c.did.composed
+
+-- the two sides, with nothing between them
+abbrev pub both : PlainHostEndpoint → PlainTermEndpoint → PlainWorld
+both e g = record { host = e.host; term = g.term; up = []; down = [] }
+
+-- nothing is on its way, nothing waits at either endpoint, and no rune is unsent
+pub record IsAllCarried (up down : List ℕ) (e : PlainHostEndpoint) (g : PlainTermEndpoint) : Type 0 where
+  pub none_up : up ≡ []
+  pub none_down : down ≡ []
+  pub host_idle : IsHostIdle e
+  pub term_idle : IsTermIdle g
+  pub none_unsent : g.term.unsent ≡ None
+
+-- ## What follows
+
+-- A run of one world of these files, in which the user did all of `said`, leads to the very host and the very terminal. What is under way
+-- between them is, in bytes: what waits at the one, the front of a frame that its framer holds, what is on its way, and what the other has
+-- not written yet
+pub record AreOneRun (given : List (List ℕ × List ℕ)) (said : List UserEvent) (up down : List ℕ)
+    (e : PlainHostEndpoint) (g : PlainTermEndpoint) : Type 0 where
+  pub events : List Event
+  pub world : PlainWorld
+  pub run : run_of (new_world given) events ≡ Some world
+  pub users : user_events events ≡ said
+  pub host_is : world.host ≡ e.host
+  pub term_is : world.term ≡ g.term
+  pub upwards : stream_of terminal world.up ≡ ((stream_of terminal e.waiting ++ e.framer.bytes) ++ up) ++ stream_of terminal g.unwritten
+  pub downwards : stream_of host world.down ≡ ((stream_of host g.waiting ++ g.framer.bytes) ++ down) ++ stream_of host e.unwritten
+
+-- neither endpoint has read a fault, and each stops only where a count is full
+pub record GoOn (e : PlainHostEndpoint) (g : PlainTermEndpoint) : Type 0 where
+  pub host_reads : e.broken_by ≡ None
+  pub term_reads : g.broken_by ≡ None
+  pub host_stops : (why : HostStop) → HostHasStopped e why → why ≡ host_stop.Refused host_fault.CountFull
+  pub term_stops : (why : TermStop) → TermHasStopped g why → why ≡ term_stop.Refused term_fault.CountFull
+
+-- no lock is held, each open file's loaded runes are the host's there, and the same files are open; and no framer holds half a frame
+pub record AreAgreed (e : PlainHostEndpoint) (g : PlainTermEndpoint) : Type 0 where
+  pub agree : SidesAgree (both e g)
+  pub none_half_up : e.framer.bytes ≡ []
+  pub none_half_down : g.framer.bytes ≡ []
+
+-- All that the user did, but what is still held, has acted or was refused. An open file that is not locked is shown as these events leave
+-- it in the editor without a network. Where all is carried, both sides are where they lead that editor, but for runes that are not loaded
+-- and for counts
+pub record AreAsIfLocal (given : List (List ℕ × List ℕ)) (said : List UserEvent) (up down : List ℕ)
+    (e : PlainHostEndpoint) (g : PlainTermEndpoint) : Type 0 where
+  pub acted : List UserEvent
+  pub are : said ≡ acted ++ g.term.held
+  pub shows : (f : ℕ) → is_locked g.term f ≡ false → is_open g.term f ≡ true → ShowsFile (both e g) (carried_all given acted) f
+  pub carried : IsAllCarried up down e g → at_rest e.host g.term ≡ carried_all given acted
+
+-- ## The laws
+
+abbrev pub EndpointsJoin : Type 0
+EndpointsJoin =
+    (given : List (List ℕ × List ℕ)) (said : List UserEvent) (up down : List ℕ) (e : PlainHostEndpoint) (g : PlainTermEndpoint)
+    → (c : AreCarried given said up down e g) → CanCross c → AreOneRun given said up down e g
+
+abbrev pub NeitherStops : Type 0
+NeitherStops =
+    (given : List (List ℕ × List ℕ)) (said : List UserEvent) (up down : List ℕ) (e : PlainHostEndpoint) (g : PlainTermEndpoint)
+    → (c : AreCarried given said up down e g) → CanCross c → GoOn e g
+
+abbrev pub CarriedAgree : Type 0
+CarriedAgree =
+    (given : List (List ℕ × List ℕ)) (said : List UserEvent) (up down : List ℕ) (e : PlainHostEndpoint) (g : PlainTermEndpoint)
+    → (c : AreCarried given said up down e g) → CanCross c → IsAllCarried up down e g → AreAgreed e g
+
+abbrev pub JoinedAreAsIfLocal : Type 0
+JoinedAreAsIfLocal =
+    (given : List (List ℕ × List ℕ)) (said : List UserEvent) (up down : List ℕ) (e : PlainHostEndpoint) (g : PlainTermEndpoint)
+    → (c : AreCarried given said up down e g) → CanCross c → AreAsIfLocal given said up down e g
+
+-- where all is carried and the terminal can't act, which each call that ends well leaves so, all is done
+abbrev pub NeverStuck : Type 0
+NeverStuck =
+    (given : List (List ℕ × List ℕ)) (said : List UserEvent) (up down : List ℕ) (e : PlainHostEndpoint) (g : PlainTermEndpoint)
+    → (c : AreCarried given said up down e g) → CanCross c → IsAllCarried up down e g
+    → IsQuiet g.term → HasRoom (both e g) → IsDone (both e g)
