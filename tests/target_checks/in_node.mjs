@@ -1,0 +1,4 @@
+/* The checks of binding.mjs in Node. */
+import { checkAll } from "./binding.mjs";
+
+console.log(checkAll());
