@@ -103,7 +103,18 @@ export class ScriptFault extends SamError {
 }
 
 const KINDS = {
-  SamError, NoMemory, Unfinished, CountFull, HandleFault, NotText, Missing, AddRefused, StreamFault, HostRefused, TerminalRefused, ScriptFault,
+  SamError,
+  NoMemory,
+  Unfinished,
+  CountFull,
+  HandleFault,
+  NotText,
+  Missing,
+  AddRefused,
+  StreamFault,
+  HostRefused,
+  TerminalRefused,
+  ScriptFault,
 };
 for (const [name, kind] of Object.entries(KINDS)) kind.prototype.name = name;
 

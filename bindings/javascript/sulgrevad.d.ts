@@ -1,5 +1,5 @@
-/* The types of the package. Places and lengths count runes (Unicode scalar values): a character outside the first plane is one rune, and two
- * of a string's units. A text is a string, or its UTF-8. */
+/* The types of the package. Places and lengths count runes (Unicode scalar values): a character outside the first plane is one rune, and
+ * two of a string's units. A text is a string, or its UTF-8. */
 
 export type Text = string | Uint8Array;
 export type Range = { start: number; end: number };

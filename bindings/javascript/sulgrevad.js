@@ -1,4 +1,4 @@
-/* A proved host and a proved terminal for editors whose screen and text live apart, after Rob Pike's sam. README.md explains the package. */
+/* A proved host and a proved terminal for editors whose screen and text live apart, after Rob Pike's sam. README.md explains it. */
 export { memory } from "./module.js";
 export { replay } from "./scripts.js";
 export { Host, Terminal } from "./sides.js";

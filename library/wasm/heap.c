@@ -11,8 +11,8 @@ enum { HEAD = 16, LEAST = 32, IN_USE = 1, PARTS = 4, FIRST_POWER = 5, POWERS = 4
 static const size_t MOST = (size_t)1 << 46;
 
 struct block {
-    size_t before; /* the size of the block before, 0 at the first */
-    size_t size;   /* of this block with its head, a multiple of 16; and IN_USE */
+    size_t before;                 /* the size of the block before, 0 at the first */
+    size_t size;                   /* of this block with its head, a multiple of 16; and IN_USE */
     struct block *next, *previous; /* these two stand in free blocks alone */
 };
 

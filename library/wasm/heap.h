@@ -23,8 +23,8 @@ size_t heap_used(void);
 uint64_t heap_asked(void);
 void heap_refuse(uint64_t first, uint64_t count);
 
-/* What the machine is asked for: at least so many bytes more, right after those that it gave before. Returns how many, a multiple of 16; 0
- * if there are none. The first are at heap_first, aligned to 16 bytes. */
+/* What the machine is asked for: at least so many bytes more, right after those that it gave before. Returns how many, a multiple of 16;
+ * 0 if there are none. The first are at heap_first, aligned to 16 bytes. */
 size_t heap_grow(size_t bytes);
 void *heap_first(void);
 

@@ -89,7 +89,8 @@ function checkFiles() {
   same([host.text(one), terminal.text(one), terminal.current], ["a\nB\n", "a\nB\n", one]);
   terminal.write(one);
   carry(terminal, host);
-  same([[...host.written()], host.saved(one), host.savedLen(one), host.savedLen(two), host.nextWritten()], [[one], "a\nB\n", 4, null, null]);
+  same([[...host.written()], host.nextWritten()], [[one], null]);
+  same([host.saved(one), host.savedLen(one), host.savedLen(two)], ["a\nB\n", 4, null]);
   terminal.select(one, 0, 1);
   terminal.snarf(one);
   terminal.getSnarf();

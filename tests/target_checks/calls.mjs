@@ -216,7 +216,8 @@ function compare() {
     const [start] = told.at(-1);
     const bytes = (from) => from.subarray(start, start + 64).toString("hex");
     const shown = told.map(([, call]) => call.slice(0, 300)).join("\n");
-    throw new Error(`the answers differ in byte ${at - start} of the last of these:\n${shown}\nmodule ${bytes(got)}\nnative ${bytes(wanted)}`);
+    const both = `module ${bytes(got)}\nnative ${bytes(wanted)}`;
+    throw new Error(`the answers differ in byte ${at - start} of the last of these:\n${shown}\n${both}`);
   }
   const compared = got.length;
   [orders, answers, begun] = [new Bytes(), new Bytes(), []];
@@ -228,7 +229,8 @@ function compare() {
 const ENCODER = new TextEncoder();
 const PIECES = ["a", "b", "word ", "\n", "line\n", "é", "€", "𝄞", "\u0000", "\ufeff", "x".repeat(100), "ab\n".repeat(60)];
 const LINES = [
-  ",x/a/c/b/", ",p", "=", "n", "s/a/b/", ",d", "0i/new\\n/", "/b/", "u", ",s/b/é/g", ",g/line/d", "b two", "x/.*\\n/-;p", "q1", ",m0", "$a/end\\n/",
+  ",x/a/c/b/", ",p", "=", "n", "s/a/b/", ",d", "0i/new\\n/", "/b/", "u", ",s/b/é/g", ",g/line/d", "b two", "x/.*\\n/-;p", "q1", ",m0",
+  "$a/end\\n/",
 ];
 
 function text() {
