@@ -1,3 +1,4 @@
+/// <reference lib="esnext.disposable" />
 /* The types of the package. Places and lengths count runes (Unicode scalar values): a character outside the first plane is one rune, and
  * two of a string's units. A text is a string, or its UTF-8. */
 
