@@ -80,7 +80,7 @@ function checkTexts() {
 
 function checkFiles() {
   const [host, terminal, one, two] = opened(["one", "a\nb\n"], ["two", ""]);
-  same([host.tags, host.files(), terminal.files()], [3, [0, 1, 2], [0, 1, 2]]);
+  same([host.tags, host.files(), terminal.files()], [3, [0, 1, 2], [1, 2]]);
   same([host.hasFile(9), terminal.isKnown(two), terminal.isOpen(two), terminal.isOpen(9)], [false, true, true, false]);
   terminal.openCmd();
   terminal.work(one);
