@@ -19,6 +19,7 @@ const NO_MEMORY = 1;
 const BATCH = 1 << 23;
 const PER_SESSION = 500;
 const REFUSED_EVENTS = 25;
+const NONE = 2 ** 32 - 1;
 const SPACE_SIZE = 1 << 21;
 
 // ---- Chance
@@ -154,11 +155,13 @@ function make(name, ...words) {
   for (const [at, length] of handedOut) answers.bytes(part(at, length));
 }
 
-/** Carries pending bytes to the other side, in both. */
-function carry(isUp, length) {
-  note(`carry ${isUp ? "up" : "down"} ${length}`);
+/** Carries pending bytes to the other side, in both; one of them is changed if there are so many. */
+function carry(isUp, length, spoiled = NONE, value = 0) {
+  note(`carry ${isUp ? "up" : "down"} ${length} ${spoiled} ${value}`);
   orders.byte(CARRY);
   orders.byte(isUp ? 1 : 0);
+  orders.number(spoiled);
+  orders.byte(value);
   orders.number(length);
   free = SPACE;
   const at = room(length);
@@ -170,6 +173,7 @@ function carry(isUp, length) {
   const count = new DataView(library.memory.buffer).getBigUint64(Number(counted), true);
   answers.number(Number(count));
   answers.bytes(part(at, length));
+  if (spoiled < count) part(at, length)[spoiled] = value;
   const feed = isUp ? library.sam_host_feed : library.sam_term_feed;
   for (let tries = 0, status = NO_MEMORY; tries < TRIES && status === NO_MEMORY; tries++) {
     status = feed(isUp ? host : term, at, count);
@@ -275,10 +279,16 @@ function commandLine() {
   make("sam_term_type", 0, 0, ENCODER.encode(`${any(LINES)}\n`));
 }
 
+function longEdit() {
+  make("sam_term_edit", 0, 1 + chance(2), chance(50), 50 + chance(50), ENCODER.encode(any(PIECES).repeat(1 + chance(300))));
+}
+
 function one() {
   const drawn = chance(1000);
-  if (drawn < 3) rare();
-  else if (drawn < 5) make(any([...BAD_STREAMS]), 0, chance(2) ? text() : new Uint8Array(0));
+  if (drawn < 1) rare();
+  else if (drawn < 2) carry(chance(2) === 1, 600, chance(40), chance(256));
+  else if (drawn < 5) make(any([...BAD_STREAMS]), 0, chance(20) ? new Uint8Array(0) : text());
+  else if (drawn < 15) longEdit();
   else if (drawn < 60) commandLine();
   else if (drawn < 350) carry(drawn % 2 === 1, 1 + chance(600));
   else if (drawn < 450) make("sam_term_type", 0, 1 + chance(2), text());

@@ -130,15 +130,19 @@ static void reset(void)
     refused_from = refused_to = asked = 0;
 }
 
-/* Carries pending bytes to the other side. Where they are not taken it tries again. */
+/* Carries pending bytes to the other side, one of them changed if there are so many. Where they are not taken it tries again. */
 static void carry(void)
 {
     bool is_up = getchar() == 1;
+    uint32_t spoiled = number();
+    int value = getchar();
     struct lent bytes = filled(1);
     size_t count = 0;
     put_number(is_up ? sam_term_take_out(terms, bytes.at, bytes.length, &count) : sam_host_take_out(hosts, bytes.at, bytes.length, &count));
     put_number((uint32_t)count);
     put(bytes.at, bytes.length);
+    if (spoiled < count)
+        bytes.at[spoiled] = (uint8_t)value;
     sam_status status = SAM_NO_MEMORY;
     for (int i = 0; i < TRIES && status == SAM_NO_MEMORY; i++) {
         status = is_up ? sam_host_feed(hosts, bytes.at, count) : sam_term_feed(terms, bytes.at, count);
