@@ -18,7 +18,7 @@ void heap_limit(size_t bytes);
 size_t heap_taken(void);
 size_t heap_used(void);
 
-/* For tests: how many requests were made (malloc, realloc), and refuses so many from now on: the first of them is request `first`, where the
+/* For tests: how many requests were made (malloc, realloc); and refuses so many from now on, the first of them request `first`, where the
  * next is 1. */
 uint64_t heap_asked(void);
 void heap_refuse(uint64_t first, uint64_t count);
