@@ -49,6 +49,10 @@ export function part(place, length) {
   return new Uint8Array(library.memory.buffer, Number(place), length);
 }
 
+export function canCall() {
+  return stopped === null;
+}
+
 /** Makes a call, and returns its status. Where the machine breaks it off, as where its stack is full, nobody knows what was done: so no
  * other call is made after that. */
 export function call(name, ...words) {
@@ -124,7 +128,7 @@ export function lend(pieces, use) {
     }
     return use(places);
   } finally {
-    if (place !== SPACE && !stopped) call("free", place);
+    if (place !== SPACE && canCall()) call("free", place);
   }
 }
 

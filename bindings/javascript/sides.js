@@ -10,7 +10,9 @@ const GAP = 2 ** 32 - 1; // what stands for a rune that is not loaded
 
 const PREFIX = Symbol("prefix"); // how the names of its calls begin
 const handles = new WeakMap(); // of each side where its handle is, 0n once it was freed
-const lost = new FinalizationRegistry(({ prefix, at }) => release(prefix, at));
+const lost = new FinalizationRegistry(({ prefix, at }) => {
+  if (module.canCall()) release(prefix, at);
+});
 
 function release(prefix, at) {
   call(`${prefix}_free`, at);
