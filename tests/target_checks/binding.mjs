@@ -113,6 +113,39 @@ function checkFiles() {
   same([host.taken, terminal.sent], [terminal.sent, host.taken]);
 }
 
+function checkEditing() {
+  const [host, terminal, tag] = opened(["one", "a word and a word\n"]);
+  const dotAfter = (event) => {
+    event();
+    carry(terminal, host);
+    const { start, end } = terminal.dot(tag);
+    return [start, end];
+  };
+  same([host.version, terminal.version, terminal.isDirty(tag), terminal.len(tag), host.pending], [2, 2, false, 18, 0]);
+  expect(terminal.tags > tag, `${terminal.tags} tags`);
+  same(dotAfter(() => terminal.dclick(tag, 3)), [2, 6]);
+  same(dotAfter(() => terminal.cut(tag)), [2, 2]);
+  same(dotAfter(() => terminal.paste(tag)), [2, 6]);
+  same(dotAfter(() => terminal.look(tag)), [13, 17]);
+  same(dotAfter(() => terminal.search(tag)), [2, 6]);
+  same([terminal.text(tag), host.isDirty(tag), terminal.isChanged(tag)], ["a word and a word\n", true, true]);
+  terminal.openCmd();
+  same(dotAfter(() => terminal.send(tag)), [2, 6]);
+  expect(host.text(0).startsWith("word"), host.text(0));
+  terminal.setSnarf("snärf");
+  terminal.select(tag, 18, 18);
+  same(dotAfter(() => terminal.paste(tag)), [18, 23]);
+  same(host.text(tag), "a word and a word\nsnärf");
+  terminal.type(tag, "x");
+  terminal.flush();
+  same(terminal.unsent, 0);
+  terminal.view(tag, 18, 5);
+  terminal.scroll(tag, 1);
+  terminal.check(tag);
+  carry(terminal, host);
+  same([terminal.viewOf(tag).start, terminal.underWay, host.text(tag)], [0, 0, "a word and a word\nx"]);
+}
+
 function checkRefusals() {
   const [host, terminal, tag] = opened(["one", "abc"]);
   terminal.select(tag, 9, 9);
@@ -202,6 +235,6 @@ function keyTime() {
 
 /** Runs all checks. Throws where one fails; returns what was measured. */
 export function checkAll() {
-  for (const check of [checkTexts, checkFiles, checkRefusals, checkNumbers, checkEnds, checkMemory, checkScripts]) check();
+  for (const check of [checkTexts, checkFiles, checkEditing, checkRefusals, checkNumbers, checkEnds, checkMemory, checkScripts]) check();
   return keyTime();
 }
