@@ -113,6 +113,12 @@ export function bytesOf(text) {
   return text.isWellFormed() ? ENCODER.encode(text) : null;
 }
 
+/** Writes a short text where a call is lent it, and returns how many bytes it has; -1 if it isn't short, or has a lone surrogate. */
+export function written(text) {
+  if (typeof text !== "string" || 3 * text.length > PIECE || !text.isWellFormed()) return -1;
+  return ENCODER.encodeInto(text, part(SPACE, PIECE)).written;
+}
+
 /** Lends a call these pieces of bytes: gives `use` where each of them stands, or null where there is no memory for them. */
 export function lend(pieces, use) {
   const length = pieces.reduce((sum, piece) => sum + piece.length, 0);

@@ -37,6 +37,11 @@ function ifAny(reading) {
 
 /** Makes a call whose last words are a text's place and length. */
 function makeOfText(side, name, words, text) {
+  const length = module.written(text);
+  if (length >= 0) {
+    make(side, name, ...words, space(), BigInt(length));
+    return;
+  }
   const bytes = module.bytesOf(text);
   if (bytes === null) throw errorOf(handles.get(side) === 0n ? Status.NO_HANDLE : Status.NOT_TEXT);
   makeOfBytes(side, name, words, bytes);
