@@ -1,0 +1,193 @@
+/* The WebAssembly module: where it is, its memory, and how its calls are made. */
+
+const PLACE = new URL("sulgrevad.wasm", import.meta.url);
+const VERSION = 0x0001; // the major and the minor number of the library that this package is for, a byte each
+const LARGEST = 2 ** 32 - 1;
+
+export const PIECE = 65536; // bytes of a text that are moved at a time
+
+async function read() {
+  if (PLACE.protocol === "file:") {
+    const files = "node:fs/promises"; // not a constant of the import, so that no packer looks for it
+    return (await import(/* @vite-ignore */ files)).readFile(PLACE);
+  }
+  const answer = await fetch(PLACE);
+  if (!answer.ok) throw new Error(`${PLACE} can't be read: ${answer.status}`);
+  return answer.arrayBuffer();
+}
+
+async function load() {
+  const bytes = await read();
+  try {
+    return (await WebAssembly.instantiate(bytes, {})).instance.exports;
+  } catch (error) {
+    if (!(error instanceof WebAssembly.CompileError)) throw error;
+    throw new Error("this engine has no WebAssembly with a memory of 64 bits", { cause: error });
+  }
+}
+
+/** The module's functions and its memory. */
+export const library = await load();
+if (library.sam_library_version() >>> 8 !== VERSION) throw new Error(`${PLACE} has another version than this package`);
+
+// What a call hands out stands at RESULTS, and what it is lent at SPACE, if there is room.
+const RESULTS = library.malloc(BigInt(64 + PIECE));
+const SPACE = RESULTS + 64n;
+const ENCODER = new TextEncoder();
+const DECODER = new TextDecoder("utf-8", { fatal: true, ignoreBOM: true });
+let stopped = null; // why no call can be made
+let view = new DataView(library.memory.buffer);
+
+/** The memory, which is another buffer each time that it has grown. */
+function data() {
+  if (view.buffer !== library.memory.buffer) view = new DataView(library.memory.buffer);
+  return view;
+}
+
+/** A part of the memory, up to the next call. */
+export function part(place, length) {
+  return new Uint8Array(library.memory.buffer, Number(place), length);
+}
+
+export function canCall() {
+  return stopped === null;
+}
+
+/** Makes a call, and returns its status. Where the machine breaks it off, as where its stack is full, nobody knows what was done: so no
+ * other call is made after that. */
+export function call(name, ...words) {
+  if (stopped) throw new Error("the library was broken off, and can't be used any more", { cause: stopped });
+  try {
+    return library[name](...words);
+  } catch (error) {
+    if (!(error instanceof TypeError || error instanceof SyntaxError)) stopped = error;
+    throw error;
+  }
+}
+
+/** Where a call hands out its result of this number, from 0 on. */
+export function result(number) {
+  return RESULTS + BigInt(8 * number);
+}
+
+export function truth(number = 0) {
+  return data().getUint8(Number(RESULTS) + 8 * number) !== 0;
+}
+
+export function u16(number = 0) {
+  return data().getUint16(Number(RESULTS) + 8 * number, true);
+}
+
+export function u32(number = 0) {
+  return data().getUint32(Number(RESULTS) + 8 * number, true);
+}
+
+/** A count of 64 bits: exact up to 2^53. */
+export function u64(number = 0) {
+  return Number(data().getBigUint64(Number(RESULTS) + 8 * number, true));
+}
+
+/** Where a call writes at most PIECE bytes. */
+export function space() {
+  return SPACE;
+}
+
+export function bytesOut(length) {
+  return part(SPACE, length);
+}
+
+export function textOut(length) {
+  return DECODER.decode(bytesOut(length));
+}
+
+/** So many numbers of 32 bits that a call wrote. */
+export function numbersOut(count) {
+  const memory = data();
+  return Array.from({ length: count }, (_, at) => memory.getUint32(Number(SPACE) + 4 * at, true));
+}
+
+/** Bytes of a text, or null if it has a surrogate that stands alone, which UTF-8 can't have. */
+export function bytesOf(text) {
+  if (text instanceof Uint8Array) return text;
+  if (typeof text !== "string") throw new TypeError("a text is a string, or its UTF-8 as a Uint8Array");
+  return text.isWellFormed() ? ENCODER.encode(text) : null;
+}
+
+/** Writes a short text where a call is lent it, and returns how many bytes it has; -1 if it isn't short, or has a lone surrogate. */
+export function written(text) {
+  if (typeof text !== "string" || 3 * text.length > PIECE || !text.isWellFormed()) return -1;
+  return ENCODER.encodeInto(text, part(SPACE, PIECE)).written;
+}
+
+/** Lends a call these pieces of bytes: gives `use` where each of them stands, or null where there is no memory for them. */
+export function lend(pieces, use) {
+  const length = pieces.reduce((sum, piece) => sum + piece.length, 0);
+  const place = length <= PIECE ? SPACE : call("malloc", BigInt(length));
+  if (place === 0n) return use(null);
+  try {
+    let at = place;
+    const places = [];
+    for (const piece of pieces) {
+      part(at, piece.length).set(piece);
+      places.push(at);
+      at += BigInt(piece.length);
+    }
+    return use(places);
+  } finally {
+    if (place !== SPACE && canCall()) call("free", place);
+  }
+}
+
+function index(number, end) {
+  if (typeof number !== "number") throw new TypeError(`${typeof number === "symbol" ? "a symbol" : number} is not a number`);
+  if (!Number.isInteger(number) || number < 0 || number > end) throw new RangeError(`${number} is not a whole number from 0 to ${end}`);
+  return number;
+}
+
+/** The number, if it is one that a tag or a version can be. */
+export function short(number) {
+  return index(number, 65535);
+}
+
+/** The number, if it is one that a place or a count of runes can be. */
+export function long(number) {
+  return index(number, LARGEST);
+}
+
+/** The number as C's size_t. */
+export function size(number) {
+  return BigInt(index(number, Number.MAX_SAFE_INTEGER));
+}
+
+/** The smaller of a wished number, if there is one, and of how many there are. */
+export function least(most, there) {
+  return most === undefined || most === Infinity ? there : Math.min(index(most, Number.MAX_SAFE_INTEGER), there);
+}
+
+/** A handle: 16 bytes that are zero; 0n if there is no memory. */
+export function makeHandle() {
+  const at = call("malloc", 16n);
+  if (at !== 0n) part(at, 16).fill(0);
+  return at;
+}
+
+export function dropHandle(at) {
+  call("free", at);
+}
+
+/** The text that ends in NUL there. */
+export function textAt(place) {
+  const bytes = new Uint8Array(library.memory.buffer, Number(place));
+  return DECODER.decode(bytes.subarray(0, bytes.indexOf(0)));
+}
+
+/** The memory of the library. */
+export const memory = {
+  limit: (bytes) => call("heap_limit", size(bytes)),
+  get taken() {
+    return Number(call("heap_taken"));
+  },
+  get used() {
+    return Number(call("heap_used"));
+  },
+};

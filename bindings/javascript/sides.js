@@ -1,0 +1,385 @@
+/* The two sides: what they share, the host, and the terminal. */
+import * as module from "./module.js";
+import { PIECE, call, least, lend, long, result, short, size, space, truth, u16, u32, u64 } from "./module.js";
+import { Missing, Status, errorOf } from "./status.js";
+
+const MOST_IN_NAME = 256; // bytes of the longest name
+const MOST_IN_PATTERN = 512; // bytes of the longest pattern
+const LEAST_PIECE = 256; // bytes that are read of a text, where so few runes are wished for
+const GAP = 2 ** 32 - 1; // what stands for a rune that is not loaded
+
+const PREFIX = Symbol("prefix"); // how the names of its calls begin
+const handles = new WeakMap(); // of each side where its handle is, 0n once it was freed
+const lost = new FinalizationRegistry(({ prefix, at }) => {
+  if (module.canCall()) release(prefix, at);
+});
+
+function release(prefix, at) {
+  call(`${prefix}_free`, at);
+  module.dropHandle(at);
+}
+
+/** Makes a call of a side, and throws what it answers other than SAM_OK. */
+function make(side, name, ...words) {
+  const code = call(`${side[PREFIX]}_${name}`, handles.get(side), ...words);
+  if (code !== Status.OK) throw errorOf(code);
+}
+
+/** What `reading` hands out; null if it answers SAM_NONE. */
+function ifAny(reading) {
+  try {
+    return reading();
+  } catch (error) {
+    if (error instanceof Missing) return null;
+    throw error;
+  }
+}
+
+/** Makes a call whose last words are a text's place and length. */
+function makeOfText(side, name, words, text) {
+  const length = module.written(text);
+  if (length >= 0) {
+    make(side, name, ...words, space(), BigInt(length));
+    return;
+  }
+  const bytes = module.bytesOf(text);
+  if (bytes === null) throw errorOf(handles.get(side) === 0n ? Status.NO_HANDLE : Status.NOT_TEXT);
+  makeOfBytes(side, name, words, bytes);
+}
+
+function makeOfBytes(side, name, words, bytes) {
+  lend([bytes], (places) => {
+    if (places === null) throw errorOf(handles.get(side) === 0n ? Status.NO_HANDLE : Status.NO_MEMORY);
+    make(side, name, ...words, places[0], BigInt(bytes.length));
+  });
+}
+
+/** The call's first result, as `as` reads it. */
+function one(side, name, as, ...words) {
+  make(side, name, ...words, result(0));
+  return as(0);
+}
+
+function range(side, name, tag) {
+  make(side, name, short(tag), result(0), result(1));
+  return { start: u32(0), end: u32(1) };
+}
+
+function shortText(side, name, room, ...words) {
+  make(side, name, ...words, space(), BigInt(room), result(0));
+  return module.textOut(u64(0));
+}
+
+/** The first runes of a text. */
+function front(text, runes) {
+  let end = 0;
+  while (runes-- > 0) end += text.codePointAt(end) > 0xffff ? 2 : 1;
+  return text.slice(0, end);
+}
+
+/** The runes of a text from a place on: so many at most, all if that is undefined. */
+function longText(side, name, place, most, ...words) {
+  let left = least(most, 2 ** 32);
+  let text = "";
+  for (place = long(place); ; ) {
+    const room = Math.min(PIECE, Math.max(LEAST_PIECE, left)); // where runes take more than a byte each, more pieces come
+    make(side, name, ...words, place, space(), BigInt(room), result(0), result(1));
+    const runes = Math.min(u32(1), left);
+    const piece = module.textOut(u64(0));
+    text += runes < u32(1) ? front(piece, runes) : piece;
+    place += runes;
+    left -= runes;
+    if (runes === 0 || left === 0) return text;
+  }
+}
+
+/** What host and terminal share: a handle, and the bytes that are pending. */
+class Side {
+  constructor() {
+    const at = module.makeHandle();
+    if (at === 0n) throw errorOf(Status.NO_MEMORY);
+    const code = call(`${this[PREFIX]}_new`, at);
+    if (code !== Status.OK) {
+      module.dropHandle(at);
+      throw errorOf(code);
+    }
+    handles.set(this, at);
+    lost.register(this, { prefix: this[PREFIX], at }, this);
+  }
+
+  feed(bytes = new Uint8Array(0)) {
+    if (!(bytes instanceof Uint8Array)) throw new TypeError("what is fed is a Uint8Array");
+    makeOfBytes(this, "feed", [], bytes);
+  }
+
+  finish() {
+    make(this, "finish");
+  }
+
+  get pending() {
+    return one(this, "pending", u64);
+  }
+
+  takeOut(most) {
+    const bytes = new Uint8Array(least(most, this.pending));
+    for (let at = 0; at < bytes.length; ) {
+      make(this, "take_out", space(), BigInt(Math.min(PIECE, bytes.length - at)), result(0));
+      bytes.set(module.bytesOut(u64(0)), at);
+      at += u64(0);
+    }
+    return bytes;
+  }
+
+  get version() {
+    return one(this, "version", u16);
+  }
+
+  get tags() {
+    return one(this, "tags", u64);
+  }
+
+  name(tag) {
+    return shortText(this, "name", MOST_IN_NAME, short(tag));
+  }
+
+  isDirty(tag) {
+    return one(this, "is_dirty", truth, short(tag));
+  }
+
+  len(tag) {
+    return one(this, "len", u32, short(tag));
+  }
+
+  text(tag, place = 0, runes = undefined) {
+    return longText(this, "text", place, runes, short(tag));
+  }
+
+  dot(tag) {
+    return range(this, "dot", tag);
+  }
+
+  free() {
+    const at = handles.get(this);
+    if (at === 0n) return;
+    handles.set(this, 0n);
+    lost.unregister(this);
+    release(this[PREFIX], at);
+  }
+}
+if (Symbol.dispose) Side.prototype[Symbol.dispose] = Side.prototype.free;
+
+/** The side that holds whole texts and runs commands. */
+export class Host extends Side {
+  get [PREFIX]() {
+    return "sam_host";
+  }
+
+  addFile(name, text = "") {
+    const pieces = [module.bytesOf(name), module.bytesOf(text)];
+    if (pieces.includes(null)) return this.#refuseText(pieces);
+    return lend(pieces, (places) => {
+      if (places === null) throw errorOf(handles.get(this) === 0n ? Status.NO_HANDLE : Status.NO_MEMORY);
+      const words = pieces.flatMap((piece, at) => [places[at], BigInt(piece.length)]);
+      return one(this, "add_file", u16, ...words);
+    });
+  }
+
+  /** Has the library say what is wrong, which may be more than a surrogate. */
+  #refuseText(pieces) {
+    const wrong = new Uint8Array([0xff]);
+    return this.addFile(pieces[0] ?? wrong, pieces[1] ?? wrong);
+  }
+
+  nextWritten() {
+    return ifAny(() => one(this, "next_written", u16));
+  }
+
+  *written() {
+    for (let tag = this.nextWritten(); tag !== null; tag = this.nextWritten()) yield tag;
+  }
+
+  get isDone() {
+    return one(this, "is_done", truth);
+  }
+
+  get taken() {
+    return one(this, "taken", u64);
+  }
+
+  hasFile(tag) {
+    return one(this, "has_file", truth, short(tag));
+  }
+
+  files() {
+    return Array.from({ length: this.tags }, (_, tag) => tag).filter((tag) => this.hasFile(tag));
+  }
+
+  savedLen(tag) {
+    return ifAny(() => one(this, "saved_len", u32, short(tag)));
+  }
+
+  saved(tag, place = 0, runes = undefined) {
+    return longText(this, "saved", place, runes, short(tag));
+  }
+}
+
+/** The side with the windows. */
+export class Terminal extends Side {
+  get [PREFIX]() {
+    return "sam_term";
+  }
+
+  type(tag, text) {
+    makeOfText(this, "type", [short(tag)], text);
+  }
+
+  edit(tag, start, end, text) {
+    makeOfText(this, "edit", [short(tag), long(start), long(end)], text);
+  }
+
+  select(tag, start, end) {
+    make(this, "select", short(tag), long(start), long(end));
+  }
+
+  dclick(tag, place) {
+    make(this, "dclick", short(tag), long(place));
+  }
+
+  scroll(tag, lines) {
+    make(this, "scroll", short(tag), long(lines));
+  }
+
+  view(tag, place, length) {
+    make(this, "view", short(tag), long(place), long(length));
+  }
+
+  load(tag, place, length) {
+    make(this, "load", short(tag), long(place), long(length));
+  }
+
+  setSnarf(text) {
+    makeOfText(this, "set_snarf", [], text);
+  }
+
+  offerVersion(version) {
+    make(this, "offer_version", short(version));
+  }
+
+  nextRefusal() {
+    return ifAny(() => {
+      make(this, "next_refusal", result(0), result(1));
+      return { event: u64(0), why: u32(1) };
+    });
+  }
+
+  *refusals() {
+    for (let refusal = this.nextRefusal(); refusal !== null; refusal = this.nextRefusal()) yield refusal;
+  }
+
+  isKnown(tag) {
+    return one(this, "is_known", truth, short(tag));
+  }
+
+  files() {
+    return Array.from({ length: this.tags }, (_, tag) => tag).filter((tag) => this.isKnown(tag));
+  }
+
+  isChanged(tag) {
+    return one(this, "is_changed", truth, short(tag));
+  }
+
+  isOpen(tag) {
+    return one(this, "is_open", truth, short(tag));
+  }
+
+  get current() {
+    return ifAny(() => one(this, "current", u16));
+  }
+
+  read(tag, place, count) {
+    const runes = [];
+    const most = least(count, Math.max(0, this.len(tag) - long(place)));
+    while (runes.length < most) {
+      const room = Math.min(PIECE / 4, most - runes.length);
+      make(this, "read", short(tag), place + runes.length, space(), BigInt(room), result(0));
+      for (const rune of module.numbersOut(u32(0))) runes.push(rune === GAP ? null : String.fromCodePoint(rune));
+    }
+    return runes;
+  }
+
+  bytes(tag, start, end) {
+    make(this, "bytes", short(tag), long(start), long(end), result(0), result(1));
+    return { bytes: u64(0), gaps: u32(1) };
+  }
+
+  place(tag, start, bytes) {
+    return one(this, "place", u32, short(tag), long(start), size(bytes));
+  }
+
+  line(tag, start, lines) {
+    return ifAny(() => one(this, "line", u32, short(tag), long(start), long(lines)));
+  }
+
+  changed(tag) {
+    make(this, "changed", short(tag), result(0), result(1), result(2));
+    return { start: u32(0), gone: u32(1), came: u32(2) };
+  }
+
+  firstGap(tag, place = 0) {
+    return ifAny(() => one(this, "first_gap", u32, short(tag), long(place)));
+  }
+
+  viewOf(tag) {
+    return range(this, "view_of", tag);
+  }
+
+  locked(tag) {
+    return one(this, "locked", truth, short(tag));
+  }
+
+  get pattern() {
+    return shortText(this, "pattern", MOST_IN_PATTERN);
+  }
+
+  snarfed(place = 0, runes = undefined) {
+    return longText(this, "snarfed", place, runes);
+  }
+}
+
+/** Gives a class a method, or a reader, for each of these calls. */
+function define(kind, calls, descriptor) {
+  for (const name of calls) {
+    const word = name.replace(/_(\w)/g, (_, letter) => letter.toUpperCase());
+    Object.defineProperty(kind.prototype, word, { configurable: true, ...descriptor(name) });
+  }
+}
+
+const EVENTS_OF_A_FILE = ["cut", "paste", "snarf", "look", "search", "send", "open", "write", "close", "work", "check"];
+const EVENTS = ["open_cmd", "new_file", "get_snarf", "flush", "exit", "flush_now"];
+const COUNTS = ["events", "decided", "held", "sent", "under_way"];
+
+function method(value) {
+  return { writable: true, value };
+}
+
+define(Terminal, EVENTS_OF_A_FILE, (name) =>
+  method(function (tag) {
+    make(this, name, short(tag));
+  }),
+);
+define(Terminal, EVENTS, (name) =>
+  method(function () {
+    make(this, name);
+  }),
+);
+for (const [calls, as] of [
+  [COUNTS, u64],
+  [["unsent", "snarf_len"], u32],
+  [["command_locked", "exited"], truth],
+]) {
+  define(Terminal, calls, (name) => ({
+    get() {
+      return one(this, name, as);
+    },
+  }));
+}

@@ -1,0 +1,135 @@
+/* What a call answers: the status codes, and the errors that carry them. */
+import { call, library, textAt } from "./module.js";
+
+/** What a call answers (enum sam_status of sulgrevad.h). */
+export const Status = Object.freeze({
+  OK: 0,
+  NO_MEMORY: 1,
+  UNFINISHED: 2,
+  COUNT_FULL: 3,
+  NO_HANDLE: 4,
+  MADE: 5,
+  NOT_TEXT: 6,
+  NONE: 7,
+  ADD_BEGUN: 17,
+  ADD_TOO_LONG: 19,
+  ADD_NO_TAG: 20,
+  BAD_KIND: 33,
+  BAD_LENGTH: 34,
+  BAD_TEXT: 35,
+  TRUNCATED: 36,
+  HOST_NO_FILE: 65,
+  HOST_NOT_OPEN: 66,
+  HOST_BAD_POSITION: 67,
+  HOST_TOO_LONG: 68,
+  HOST_BAD_VERSION: 69,
+  HOST_COUNT_FULL: 70,
+  HOST_COMMAND_FILE: 72,
+  TERM_FROM_THE_FUTURE: 97,
+  TERM_NO_FILE: 98,
+  TERM_NOT_OPEN: 99,
+  TERM_ALREADY_BOUND: 100,
+  TERM_BAD_POSITION: 101,
+  TERM_TOO_LONG: 102,
+  TERM_LOCK_NOT_HELD: 103,
+  TERM_COUNT_FULL: 104,
+  REFUSAL_EXITED: 129,
+  REFUSAL_NO_FILE: 130,
+  REFUSAL_NOT_OPEN: 131,
+  REFUSAL_BAD_POSITION: 132,
+  REFUSAL_TOO_LONG: 133,
+  REFUSAL_TEXT_TOO_LONG: 134,
+  REFUSAL_COMMAND_FILE: 135,
+  REFUSAL_BAD_VERSION: 136,
+  SCRIPT_LINE: 161,
+  SCRIPT_COUNT_FULL: 162,
+});
+
+/** The name of a status and a sentence about it, as "SAM_NOT_TEXT: the bytes are not UTF-8"; "unknown status" for any other number. */
+export function statusText(code) {
+  if (!Number.isInteger(code) || code < 0 || code >= 2 ** 32) throw new RangeError(`${code} is not from 0 to ${2 ** 32 - 1}`);
+  return textAt(call("sam_status_text", code));
+}
+
+/** The version of the library: the major, the minor and the patch number. */
+export function libraryVersion() {
+  const number = library.sam_library_version();
+  return [number >>> 16, (number >>> 8) & 0xff, number & 0xff];
+}
+
+/** A call that did not answer SAM_OK; `code` is what it answered. */
+export class SamError extends Error {
+  constructor(code) {
+    super(statusText(code));
+    this.code = code;
+  }
+}
+
+/** Out of memory, and what the call brought was not taken: make it again (SAM_NO_MEMORY). */
+export class NoMemory extends SamError {}
+
+/** Out of memory, but what the call brought was taken: the next feed, event or `flushNow` goes on with what waits (SAM_UNFINISHED). */
+export class Unfinished extends SamError {}
+
+/** A stream of 2^64 bytes, or 2^64 events (SAM_COUNT_FULL). */
+export class CountFull extends SamError {}
+
+/** The host or terminal was freed (SAM_NO_HANDLE), or was made twice (SAM_MADE). */
+export class HandleFault extends SamError {}
+
+/** The text is not UTF-8, or has a surrogate that stands alone (SAM_NOT_TEXT). */
+export class NotText extends SamError {}
+
+/** There is no such file, it is not open, or it was never written (SAM_NONE). */
+export class Missing extends SamError {}
+
+/** A file can't be added: too late, too long, or no tag is left (SAM_ADD_..). The host is as it was. */
+export class AddRefused extends SamError {}
+
+/** The other side's stream is wrong, and this side has stopped (SAM_BAD_..); or `finish` found that it ends inside a message or frame
+ * (SAM_TRUNCATED). */
+export class StreamFault extends SamError {}
+
+/** The host refused a message, and has stopped (SAM_HOST_..). */
+export class HostRefused extends SamError {}
+
+/** The terminal refused a frame, and has stopped (SAM_TERM_..). */
+export class TerminalRefused extends SamError {}
+
+/** A script can't be replayed (SAM_SCRIPT_..). `line` is its first wrong line, counted from 1, or if none is wrong the line at which
+ * nothing is there to take; null if a count is full. */
+export class ScriptFault extends SamError {
+  line = null;
+}
+
+const KINDS = {
+  SamError,
+  NoMemory,
+  Unfinished,
+  CountFull,
+  HandleFault,
+  NotText,
+  Missing,
+  AddRefused,
+  StreamFault,
+  HostRefused,
+  TerminalRefused,
+  ScriptFault,
+};
+for (const [name, kind] of Object.entries(KINDS)) kind.prototype.name = name;
+
+const SINGLE = [undefined, NoMemory, Unfinished, CountFull, HandleFault, HandleFault, NotText, Missing];
+// The first number of each family, and the first after it.
+const FAMILIES = [
+  [16, 32, AddRefused],
+  [32, 64, StreamFault],
+  [64, 96, HostRefused],
+  [96, 128, TerminalRefused],
+  [160, 192, ScriptFault],
+];
+
+/** The error of a status code. */
+export function errorOf(code) {
+  const kind = SINGLE[code] ?? FAMILIES.find(([first, end]) => first <= code && code < end)?.[2] ?? SamError;
+  return new kind(code);
+}

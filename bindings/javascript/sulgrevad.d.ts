@@ -1,0 +1,264 @@
+/// <reference lib="esnext.disposable" />
+/* The types of the package. Places and lengths count runes (Unicode scalar values): a character outside the first plane is one rune, and
+ * two of a string's units. A text is a string, or its UTF-8. */
+
+export type Text = string | Uint8Array;
+export type Range = { start: number; end: number };
+
+/** What a call answers (enum sam_status of sulgrevad.h). */
+export declare const Status: {
+  readonly OK: 0;
+  readonly NO_MEMORY: 1;
+  readonly UNFINISHED: 2;
+  readonly COUNT_FULL: 3;
+  readonly NO_HANDLE: 4;
+  readonly MADE: 5;
+  readonly NOT_TEXT: 6;
+  readonly NONE: 7;
+  readonly ADD_BEGUN: 17;
+  readonly ADD_TOO_LONG: 19;
+  readonly ADD_NO_TAG: 20;
+  readonly BAD_KIND: 33;
+  readonly BAD_LENGTH: 34;
+  readonly BAD_TEXT: 35;
+  readonly TRUNCATED: 36;
+  readonly HOST_NO_FILE: 65;
+  readonly HOST_NOT_OPEN: 66;
+  readonly HOST_BAD_POSITION: 67;
+  readonly HOST_TOO_LONG: 68;
+  readonly HOST_BAD_VERSION: 69;
+  readonly HOST_COUNT_FULL: 70;
+  readonly HOST_COMMAND_FILE: 72;
+  readonly TERM_FROM_THE_FUTURE: 97;
+  readonly TERM_NO_FILE: 98;
+  readonly TERM_NOT_OPEN: 99;
+  readonly TERM_ALREADY_BOUND: 100;
+  readonly TERM_BAD_POSITION: 101;
+  readonly TERM_TOO_LONG: 102;
+  readonly TERM_LOCK_NOT_HELD: 103;
+  readonly TERM_COUNT_FULL: 104;
+  readonly REFUSAL_EXITED: 129;
+  readonly REFUSAL_NO_FILE: 130;
+  readonly REFUSAL_NOT_OPEN: 131;
+  readonly REFUSAL_BAD_POSITION: 132;
+  readonly REFUSAL_TOO_LONG: 133;
+  readonly REFUSAL_TEXT_TOO_LONG: 134;
+  readonly REFUSAL_COMMAND_FILE: 135;
+  readonly REFUSAL_BAD_VERSION: 136;
+  readonly SCRIPT_LINE: 161;
+  readonly SCRIPT_COUNT_FULL: 162;
+};
+
+/** The name of a status and a sentence about it. */
+export declare function statusText(code: number): string;
+/** The version of the library: the major, the minor and the patch number. */
+export declare function libraryVersion(): [number, number, number];
+/** What the `show` lines of a script print, which is run over a host and a terminal of its own. Throws ScriptFault, NotText, NoMemory. */
+export declare function replay(script: Text): Uint8Array;
+
+/** The memory of the library, which all hosts and terminals share. */
+export declare const memory: {
+  /** The library takes no more than so many bytes for what it holds; a call that wants more throws NoMemory or Unfinished. */
+  limit(bytes: number): void;
+  /** How many bytes it has taken, which it keeps, and how many of them are in use. */
+  readonly taken: number;
+  readonly used: number;
+};
+
+/** A call that did not answer SAM_OK; `code` is what it answered. */
+export declare class SamError extends Error {
+  code: number;
+}
+/** Out of memory, and what the call brought was not taken: make it again. */
+export declare class NoMemory extends SamError {}
+/** Out of memory, but what the call brought was taken: the next feed, event or `flushNow` goes on with what waits. */
+export declare class Unfinished extends SamError {}
+/** A stream of 2^64 bytes, or 2^64 events. */
+export declare class CountFull extends SamError {}
+/** The host or terminal was freed. */
+export declare class HandleFault extends SamError {}
+/** The text is not UTF-8, or has a surrogate that stands alone. */
+export declare class NotText extends SamError {}
+/** There is no such file, it is not open, or it was never written. */
+export declare class Missing extends SamError {}
+/** A file can't be added. The host is as it was. */
+export declare class AddRefused extends SamError {}
+/** The other side's stream is wrong, and this side has stopped; or `finish` found that it ends inside a message or frame. */
+export declare class StreamFault extends SamError {}
+/** The host refused a message, and has stopped. */
+export declare class HostRefused extends SamError {}
+/** The terminal refused a frame, and has stopped. */
+export declare class TerminalRefused extends SamError {}
+/** A script can't be replayed; `line` is the line that is wrong or can't be done, counted from 1; null if a count is full. */
+export declare class ScriptFault extends SamError {
+  line: number | null;
+}
+/** The error of a status code. */
+export declare function errorOf(code: number): SamError;
+
+/** What host and terminal share. */
+declare class Side {
+  /** Takes bytes of the other side, in whatever pieces they come, and does what they say. Without bytes it goes on with what waits after
+   * `Unfinished`. Throws NoMemory, Unfinished, CountFull, or why this side has stopped, now or before. */
+  feed(bytes?: Uint8Array): void;
+  /** Asks whether the other side's stream may end here. It changes nothing. Throws StreamFault with the code TRUNCATED if it ends inside a
+   * message or frame, Unfinished if some of what came still waits for memory, or why this side has stopped before. */
+  finish(): void;
+  /** How many bytes are pending for the other side. */
+  readonly pending: number;
+  /** Moves out the pending bytes, all or the first `most`. */
+  takeOut(most?: number): Uint8Array;
+  /** The version of the protocol: 1 or 2. */
+  readonly version: number;
+  /** Each file has a tag below this. */
+  readonly tags: number;
+  /** The tags of all files that this side knows, ascending. */
+  files(): number[];
+  /** The name of a file. Throws Missing. */
+  name(tag: number): string;
+  /** Whether a file was edited since it was made or written; at a terminal, as the host said last. Throws Missing. */
+  isDirty(tag: number): boolean;
+  /** The length of a file's text in runes. Throws Missing. */
+  len(tag: number): number;
+  /** A file's text from a place on: so many runes, or all; at a terminal up to the first rune that is not loaded. Throws Missing. */
+  text(tag: number, place?: number, runes?: number): string;
+  /** The places where the selection of a file begins and ends. Throws Missing. */
+  dot(tag: number): Range;
+  /** Frees it, with what was pending. Any later call but this one throws HandleFault. */
+  free(): void;
+  [Symbol.dispose](): void;
+}
+
+/** The side that holds whole texts and runs commands. It begins with the command file alone, whose tag is 0. */
+export declare class Host extends Side {
+  /** Adds a file, clean and closed, and returns its tag. Throws, in this order: AddRefused after the first feed; NotText; AddRefused for a
+   * name above 64 runes or a text above 1,000,000, and if no tag is left; NoMemory. The host is then as it was. */
+  addFile(name: Text, text?: Text): number;
+  /** The tag of a file that the terminal asked the host to write: write `saved` of it now. Each Twrite gives its tag once, in order; null
+   * if there is none left. */
+  nextWritten(): number | null;
+  /** The tags of `nextWritten`, up to the last. */
+  written(): Generator<number, void>;
+  /** Whether the session is over. */
+  readonly isDone: boolean;
+  /** How many messages the host has answered. */
+  readonly taken: number;
+  /** Whether the tag has a file now. */
+  hasFile(tag: number): boolean;
+  /** The length of what a file was when it was written last; null if it never was. */
+  savedLen(tag: number): number | null;
+  /** What a file was when it was written last, from a place on. Throws Missing, also if it never was. */
+  saved(tag: number, place?: number, runes?: number): string;
+}
+
+/** An event of the user that could not be done: which one, counted from 1 over all event calls, and why (Status.REFUSAL_..). */
+export type Refusal = { event: number; why: number };
+/** From the place `start` on `gone` runes or gaps of the old text gave way to `came` of the new one. */
+export type Change = { start: number; gone: number; came: number };
+
+/** The side with the windows. It begins without any file. An event acts at once if it can, or is held until the locks that it waits for are
+ * free. One that can't be done is reported by `refusals`. */
+export declare class Terminal extends Side {
+  /** Puts a text of at most 512 runes in the place of the dot. Throws NotText, too. */
+  type(tag: number, text: Text): void;
+  /** Puts a text of any length in the place of the runes from `start` to `end`, all or nothing. Throws NotText, too. */
+  edit(tag: number, start: number, end: number, text: Text): void;
+  /** Sets the dot. */
+  select(tag: number, start: number, end: number): void;
+  /** Selects the word round a place. */
+  dclick(tag: number, place: number): void;
+  /** Cuts the dot into the snarf buffer. */
+  cut(tag: number): void;
+  /** Copies the dot into the snarf buffer. */
+  snarf(tag: number): void;
+  /** Puts the snarf buffer in the place of the dot, and selects it. */
+  paste(tag: number): void;
+  /** Selects the next occurrence of the dot's text, which becomes the pattern. */
+  look(tag: number): void;
+  /** Selects the next occurrence of the pattern. */
+  search(tag: number): void;
+  /** Prints the dot's text in the command file, and runs its last line as a command line. */
+  send(tag: number): void;
+  /** Shows the file from so many lines further up. */
+  scroll(tag: number, lines: number): void;
+  /** Shows at most so many runes from a place on, and asks for those that are not loaded: at most 512 at a time. */
+  view(tag: number, place: number, length: number): void;
+  /** Shows the same as `view`, and asks for all that is not loaded at once. */
+  load(tag: number, place: number, length: number): void;
+  /** Asks for the first gap that the view shows. */
+  check(tag: number): void;
+  /** Opens a file; command lines work on it then. */
+  open(tag: number): void;
+  /** Opens the command file. */
+  openCmd(): void;
+  /** Makes an empty file, and opens it. */
+  newFile(): void;
+  /** Has the host write a file. */
+  write(tag: number): void;
+  /** Closes a file for good. */
+  close(tag: number): void;
+  /** Makes a file, with its dot, the one that command lines work on. */
+  work(tag: number): void;
+  /** Asks for the host's snarf buffer, which `snarfed` then has. */
+  getSnarf(): void;
+  /** Gives the host another snarf buffer: at most 4,096 bytes, 32,000 in version 2. Throws NotText, too. */
+  setSnarf(text: Text): void;
+  /** Offers a version of the protocol, and asks for the names of all files. Before it the terminal knows none of them. */
+  offerVersion(version: number): void;
+  /** Sends the typed runes, once the events before this one have acted. */
+  flush(): void;
+  /** Ends the session. */
+  exit(): void;
+  /** Composes the typed runes that are not sent yet; to be called when the user pauses. */
+  flushNow(): void;
+  /** The oldest refused event that was not handed out yet; null if there is none. */
+  nextRefusal(): Refusal | null;
+  /** The refused events that were not handed out yet, oldest first. */
+  refusals(): Generator<Refusal, void>;
+  /** How many event calls were taken. */
+  readonly events: number;
+  /** How many of them have acted or were refused. */
+  readonly decided: number;
+  /** How many events are held. */
+  readonly held: number;
+  /** Whether the terminal knows a file of this tag. */
+  isKnown(tag: number): boolean;
+  /** Whether a file is open. */
+  isOpen(tag: number): boolean;
+  /** Whether a file may differ from what was written last. */
+  isChanged(tag: number): boolean;
+  /** The file that the host's answer to `work` or `newFile` named last; null before the first. */
+  readonly current: number | null;
+  /** The runes of an open file from a place on, at most `count`; null stands for one that is not loaded. Throws Missing. */
+  read(tag: number, place: number, count: number): (string | null)[];
+  /** How many bytes the loaded runes from a place to a place take in UTF-8, and how many runes there are not loaded. Throws Missing. */
+  bytes(tag: number, start: number, end: number): { bytes: number; gaps: number };
+  /** The place after the loaded runes from a place on that so many bytes of UTF-8 hold whole. Throws Missing. */
+  place(tag: number, start: number, bytes: number): number;
+  /** The place after so many line ends from a place on; null if a gap or the end comes before, or the file isn't open. */
+  line(tag: number, start: number, lines: number): number | null;
+  /** What changed in an open file since this was asked of it last. Throws Missing, and the first time NoMemory. */
+  changed(tag: number): Change;
+  /** The first place, there or after it, whose rune is not loaded; null if there is none, or the file isn't open. */
+  firstGap(tag: number, place?: number): number | null;
+  /** The places where the view of an open file begins and ends. Throws Missing. */
+  viewOf(tag: number): Range;
+  /** Whether an edit of the file would wait for the command lock, or for a lock of the file. */
+  locked(tag: number): boolean;
+  /** Whether the command lock is held. */
+  readonly commandLocked: boolean;
+  /** How many typed runes are not sent yet. */
+  readonly unsent: number;
+  /** How many messages were composed. */
+  readonly sent: number;
+  /** How many of the composed messages the host has not taken, as far as its frames say: an upper bound, and 0 if it has taken all. */
+  readonly underWay: number;
+  /** The pattern that the host reported last. */
+  readonly pattern: string;
+  /** The snarfed text that the host sent last (`getSnarf`), from a place on. */
+  snarfed(place?: number, runes?: number): string;
+  /** How many runes the host's snarf buffer has, as it said last. */
+  readonly snarfLen: number;
+  /** Whether the host has ended the session. */
+  readonly exited: boolean;
+}

@@ -1,0 +1,22 @@
+/* A proved host and a proved terminal for editors whose screen and text live apart, after Rob Pike's sam. README.md explains it. */
+export { memory } from "./module.js";
+export { replay } from "./scripts.js";
+export { Host, Terminal } from "./sides.js";
+export {
+  AddRefused,
+  CountFull,
+  HandleFault,
+  HostRefused,
+  Missing,
+  NoMemory,
+  NotText,
+  SamError,
+  ScriptFault,
+  Status,
+  StreamFault,
+  TerminalRefused,
+  Unfinished,
+  errorOf,
+  libraryVersion,
+  statusText,
+} from "./status.js";

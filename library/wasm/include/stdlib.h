@@ -1,0 +1,2 @@
+/* The part of <stdlib.h> that the library uses: its heap's. */
+#include "../heap.h"

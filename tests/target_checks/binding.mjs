@@ -1,0 +1,240 @@
+/* What bindings/javascript promises: results, errors by code, texts, ends, numbers. Node and a page of a browser run it. */
+import * as sulgrevad from "../../bindings/javascript/sulgrevad.js";
+
+const { Host, Terminal, Status, memory, replay, statusText, libraryVersion } = sulgrevad;
+const KEYS = 20000;
+
+function expect(holds, told) {
+  if (!holds) throw new Error(told);
+}
+
+function same(got, wanted) {
+  expect(JSON.stringify(got) === JSON.stringify(wanted), `${JSON.stringify(got)}, wanted ${JSON.stringify(wanted)}`);
+}
+
+function throws(kind, code, call) {
+  try {
+    call();
+  } catch (error) {
+    expect(error instanceof sulgrevad[kind] && error instanceof sulgrevad.SamError && error.name === kind, `${error}, wanted ${kind}`);
+    same(error.code, Status[code]);
+    expect(error.message.startsWith(`SAM_${code}: `), error.message);
+    return error;
+  }
+  throw new Error(`${call} throws nothing, wanted ${kind}`);
+}
+
+function throwsPlain(kind, call) {
+  try {
+    call();
+  } catch (error) {
+    expect(error.constructor === kind, `${error}, wanted ${kind.name}`);
+    return;
+  }
+  throw new Error(`${call} throws nothing, wanted ${kind.name}`);
+}
+
+/** Carries bytes both ways until neither side has any. */
+function carry(terminal, host) {
+  terminal.flushNow();
+  while (terminal.pending > 0) {
+    host.feed(terminal.takeOut());
+    terminal.feed(host.takeOut());
+    terminal.flushNow();
+  }
+}
+
+function opened(...files) {
+  const host = new Host();
+  const terminal = new Terminal();
+  const tags = files.map(([name, text]) => host.addFile(name, text));
+  terminal.offerVersion(2);
+  for (const tag of tags) {
+    terminal.open(tag);
+    terminal.load(tag, 0, 30000);
+  }
+  carry(terminal, host);
+  return [host, terminal, ...tags];
+}
+
+function checkTexts() {
+  const text = "hello, wörld 𝄞\u0000\ufeff\n";
+  const [host, terminal, tag] = opened(["notes", text]);
+  same([tag, host.text(tag), terminal.text(tag)], [1, text, text]);
+  same([host.len(tag), host.name(tag), terminal.name(tag)], [17, "notes", "notes"]);
+  same(terminal.read(tag, 12, 3), [" ", "𝄞", "\u0000"].slice(0, 3));
+  same([host.text(tag, 13, 1), host.text(tag, 16), host.text(tag, 99), host.text(tag, 0, 0)], ["𝄞", "\n", "", ""]);
+  same(terminal.bytes(tag, 0, 14), { bytes: 18, gaps: 0 });
+  same([terminal.place(tag, 0, 18), terminal.line(tag, 0, 1), terminal.line(tag, 0, 2)], [14, 17, null]);
+  terminal.select(tag, 0, 5);
+  terminal.type(tag, new TextEncoder().encode("Ἑλλάς"));
+  same(terminal.dot(tag), { start: 5, end: 5 });
+  carry(terminal, host);
+  same([host.text(tag), host.dot(tag)], ["Ἑλλάς, wörld 𝄞\u0000\ufeff\n", { start: 5, end: 5 }]);
+  terminal.edit(tag, 0, 17, "𝄞".repeat(100000));
+  carry(terminal, host);
+  same([host.len(tag), host.text(tag) === "𝄞".repeat(100000)], [100000, true]);
+  same(terminal.isChanged(tag) && host.isDirty(tag), true);
+  same([terminal.changed(tag).start, terminal.firstGap(tag)], [0, null]);
+}
+
+function checkFiles() {
+  const [host, terminal, one, two] = opened(["one", "a\nb\n"], ["two", ""]);
+  same([host.tags, host.files(), terminal.files()], [3, [0, 1, 2], [1, 2]]);
+  same([host.hasFile(9), terminal.isKnown(two), terminal.isOpen(two), terminal.isOpen(9)], [false, true, true, false]);
+  terminal.openCmd();
+  terminal.work(one);
+  terminal.type(0, ",x/b/c/B/\n");
+  carry(terminal, host);
+  same([host.text(one), terminal.text(one), terminal.current], ["a\nB\n", "a\nB\n", one]);
+  terminal.write(one);
+  carry(terminal, host);
+  same([[...host.written()], host.nextWritten()], [[one], null]);
+  same([host.saved(one), host.savedLen(one), host.savedLen(two)], ["a\nB\n", 4, null]);
+  terminal.select(one, 0, 1);
+  terminal.snarf(one);
+  terminal.getSnarf();
+  carry(terminal, host);
+  same([terminal.snarfed(), terminal.snarfLen], ["a", 1]);
+  terminal.look(one);
+  carry(terminal, host);
+  same(terminal.pattern, "a");
+  terminal.view(one, 1, 2);
+  same(terminal.viewOf(one), { start: 1, end: 3 });
+  terminal.newFile();
+  carry(terminal, host);
+  same([terminal.current, host.tags], [3, 4]);
+  terminal.close(two);
+  terminal.exit();
+  carry(terminal, host);
+  same([host.hasFile(two), host.isDone, terminal.exited, terminal.underWay, terminal.held, terminal.unsent], [false, true, true, 0, 0, 0]);
+  host.finish();
+  terminal.finish();
+  same([host.taken, terminal.sent], [terminal.sent, host.taken]);
+}
+
+function checkEditing() {
+  const [host, terminal, tag] = opened(["one", "a word and a word\n"]);
+  const dotAfter = (event) => {
+    event();
+    carry(terminal, host);
+    const { start, end } = terminal.dot(tag);
+    return [start, end];
+  };
+  same([host.version, terminal.version, terminal.isDirty(tag), terminal.len(tag), host.pending], [2, 2, false, 18, 0]);
+  expect(terminal.tags > tag, `${terminal.tags} tags`);
+  same(dotAfter(() => terminal.dclick(tag, 3)), [2, 6]);
+  same(dotAfter(() => terminal.cut(tag)), [2, 2]);
+  same(dotAfter(() => terminal.paste(tag)), [2, 6]);
+  same(dotAfter(() => terminal.look(tag)), [13, 17]);
+  same(dotAfter(() => terminal.search(tag)), [2, 6]);
+  same([terminal.text(tag), host.isDirty(tag), terminal.isChanged(tag)], ["a word and a word\n", true, true]);
+  terminal.openCmd();
+  same(dotAfter(() => terminal.send(tag)), [2, 6]);
+  expect(host.text(0).startsWith("word"), host.text(0));
+  terminal.setSnarf("snärf");
+  terminal.select(tag, 18, 18);
+  same(dotAfter(() => terminal.paste(tag)), [18, 23]);
+  same(host.text(tag), "a word and a word\nsnärf");
+  terminal.type(tag, "x");
+  terminal.flush();
+  same(terminal.unsent, 0);
+  terminal.view(tag, 18, 5);
+  terminal.scroll(tag, 1);
+  terminal.check(tag);
+  carry(terminal, host);
+  same([terminal.viewOf(tag).start, terminal.underWay, host.text(tag)], [0, 0, "a word and a word\nx"]);
+}
+
+function checkRefusals() {
+  const [host, terminal, tag] = opened(["one", "abc"]);
+  terminal.select(tag, 9, 9);
+  terminal.type(tag, "x".repeat(513));
+  terminal.type(77, "x");
+  const events = terminal.events;
+  same([...terminal.refusals()], [
+    { event: events - 2, why: Status.REFUSAL_BAD_POSITION },
+    { event: events - 1, why: Status.REFUSAL_TEXT_TOO_LONG },
+    { event: events, why: Status.REFUSAL_NO_FILE },
+  ]);
+  same([terminal.nextRefusal(), terminal.decided, terminal.locked(tag), terminal.commandLocked], [null, events, false, false]);
+  throws("AddRefused", "ADD_BEGUN", () => host.addFile("late"));
+  throws("Missing", "NONE", () => host.text(9));
+  throws("Missing", "NONE", () => host.saved(tag));
+  throws("NotText", "NOT_TEXT", () => terminal.type(tag, "\ud834"));
+  throws("NotText", "NOT_TEXT", () => terminal.type(tag, new Uint8Array([0xff])));
+  throws("NotText", "NOT_TEXT", () => new Host().addFile("a", "\udd1e"));
+  throws("AddRefused", "ADD_TOO_LONG", () => new Host().addFile("n".repeat(65)));
+  throws("StreamFault", "BAD_KIND", () => host.feed(new Uint8Array([0xff, 0, 0])));
+  throws("StreamFault", "BAD_KIND", () => host.feed());
+  const other = new Host();
+  other.feed(new Terminal().takeOut());
+  const piece = new Terminal();
+  piece.offerVersion(2);
+  other.feed(piece.takeOut(1));
+  throws("StreamFault", "TRUNCATED", () => other.finish());
+}
+
+function checkNumbers() {
+  const [host, terminal, tag] = opened(["one", "abc"]);
+  for (const wrong of [-1, 65536, 0.5, NaN, Infinity]) throwsPlain(RangeError, () => host.text(wrong));
+  for (const wrong of ["1", null, undefined, 1n, {}]) throwsPlain(TypeError, () => host.text(wrong));
+  throwsPlain(RangeError, () => terminal.select(tag, 0, 2 ** 32));
+  throwsPlain(RangeError, () => host.takeOut(-1));
+  throwsPlain(TypeError, () => host.feed("text"));
+  throwsPlain(TypeError, () => terminal.type(tag, 7));
+  throwsPlain(RangeError, () => statusText(2 ** 32));
+  same(statusText(99999), "unknown status");
+  same(statusText(Status.NOT_TEXT), "SAM_NOT_TEXT: the bytes are not UTF-8");
+  same(libraryVersion(), [0, 1, 0]);
+}
+
+function checkEnds() {
+  const host = new Host();
+  const used = memory.used;
+  const terminal = new Terminal();
+  terminal.free();
+  terminal.free();
+  same(memory.used, used);
+  throws("HandleFault", "NO_HANDLE", () => terminal.type(1, "x"));
+  throws("HandleFault", "NO_HANDLE", () => terminal.type(1, "\ud834"));
+  throws("HandleFault", "NO_HANDLE", () => terminal.pending);
+  throws("HandleFault", "NO_HANDLE", () => terminal.feed());
+  host.free();
+  throws("HandleFault", "NO_HANDLE", () => host.addFile("\ud834"));
+}
+
+function checkMemory() {
+  const [host, terminal, tag] = opened(["one", "abc"]);
+  memory.limit(memory.taken);
+  throws("NoMemory", "NO_MEMORY", () => terminal.edit(tag, 0, 0, "x".repeat(900000)));
+  throws("NoMemory", "NO_MEMORY", () => {
+    for (let at = 0; at < 1000; at++) new Host().addFile("big", "x".repeat(50000));
+  });
+  same(host.text(tag), "abc");
+  memory.limit(Number.MAX_SAFE_INTEGER);
+  terminal.edit(tag, 0, 0, "x".repeat(900000));
+  carry(terminal, host);
+  same(host.len(tag), 900003);
+}
+
+function checkScripts() {
+  const shown = (script) => new TextDecoder().decode(replay(script));
+  same(shown(""), "");
+  const error = throws("ScriptFault", "SCRIPT_LINE", () => replay("\nnonsense\n"));
+  same(error.line, 2);
+  throws("NotText", "NOT_TEXT", () => replay("\ud834"));
+}
+
+function keyTime() {
+  const [, terminal, tag] = opened(["one", "abc"]);
+  const start = performance.now();
+  for (let key = 0; key < KEYS; key++) terminal.type(tag, "x");
+  return `a key takes ${((1000 * (performance.now() - start)) / KEYS).toFixed(2)} microseconds`;
+}
+
+/** Runs all checks. Throws where one fails; returns what was measured. */
+export function checkAll() {
+  for (const check of [checkTexts, checkFiles, checkEditing, checkRefusals, checkNumbers, checkEnds, checkMemory, checkScripts]) check();
+  return keyTime();
+}

@@ -1,0 +1,368 @@
+/* calls.mjs CALLS NATIVE SCRIPTS COUNT SEED: makes COUNT calls at random of the module for web pages, and by NATIVE the same of the native
+ * library, and compares each status, all that is handed out, and each buffer whole. Then it refuses each request for memory of short
+ * sessions in turn, in both. CALLS is what signatures.py knows, SCRIPTS a folder of scripts to replay. It prints what was compared. */
+import { spawnSync } from "node:child_process";
+import { readFileSync } from "node:fs";
+import { library } from "../../bindings/javascript/module.js";
+
+const [callsFile, native, scriptsFile, countWord, seedWord] = process.argv.slice(2);
+const CALLS = JSON.parse(readFileSync(callsFile, "utf8"));
+const SCRIPTS = JSON.parse(readFileSync(scriptsFile, "utf8")).map((text) => new TextEncoder().encode(text));
+const CODE = Object.fromEntries(CALLS.map(([name], code) => [name, code]));
+const RESET = 255;
+const REFUSE = 254;
+const CARRY = 253;
+const ASKED = 252;
+const FILLER = 0xa5;
+const TRIES = 3;
+const NO_MEMORY = 1;
+const BATCH = 1 << 23;
+const PER_SESSION = 500;
+const REFUSED_EVENTS = 25;
+const NONE = 2 ** 32 - 1;
+const SPACE_SIZE = 1 << 21;
+
+// ---- Chance
+
+let state = 0;
+
+function seed(number) {
+  state = (number * 2654435761 + 12345) >>> 0 || 1;
+}
+
+function chance(below) {
+  state ^= state << 13;
+  state ^= state >>> 17;
+  state ^= state << 5;
+  return (state >>> 0) % below;
+}
+
+function any(list) {
+  return list[chance(list.length)];
+}
+
+// ---- What is written: the orders for the native program, and the answers of the module
+
+class Bytes {
+  constructor() {
+    this.all = new Uint8Array(1 << 16);
+    this.view = new DataView(this.all.buffer);
+    this.length = 0;
+  }
+
+  make(more) {
+    if (this.length + more <= this.all.length) return;
+    const grown = new Uint8Array(2 * (this.length + more));
+    grown.set(this.all);
+    this.all = grown;
+    this.view = new DataView(grown.buffer);
+  }
+
+  byte(value) {
+    this.make(1);
+    this.all[this.length++] = value;
+  }
+
+  number(value) {
+    this.make(4);
+    this.view.setUint32(this.length, value, true);
+    this.length += 4;
+  }
+
+  bytes(values) {
+    this.make(values.length);
+    this.all.set(values, this.length);
+    this.length += values.length;
+  }
+
+  done() {
+    return this.all.subarray(0, this.length);
+  }
+}
+
+let orders = new Bytes();
+let answers = new Bytes();
+let begun = []; // of each order where its answer begins, and what it is
+
+function note(told) {
+  begun.push([answers.length, told]);
+}
+
+// ---- The module's side
+
+const SPACE = library.malloc(BigInt(SPACE_SIZE));
+const HANDLES = library.malloc(64n);
+let baseline = 0n; // how many requests were made when the session began
+part(HANDLES, 64).fill(0);
+
+function part(place, length) {
+  return new Uint8Array(library.memory.buffer, Number(place), length);
+}
+
+/** Gives out parts of the space of a call. */
+let free = SPACE;
+function room(length) {
+  const at = free;
+  free += BigInt((length + 31) & ~15);
+  if (free > SPACE + BigInt(SPACE_SIZE)) throw new Error("a call wants more space than the test has");
+  part(at, length).fill(FILLER);
+  return at;
+}
+
+function handle(kind, which) {
+  return which === 2 ? 0n : HANDLES + BigInt((kind === "host" ? 0 : 32) + 16 * which);
+}
+
+/** Makes a call with these words, one for each kind, in both. */
+function make(name, ...words) {
+  const kinds = CALLS[CODE[name]][1];
+  const given = [];
+  const handedOut = [];
+  let next = 0;
+  note(`${name}(${words.map((word) => (word instanceof Uint8Array ? Buffer.from(word).toString() : word))})`);
+  orders.byte(CODE[name]);
+  free = SPACE;
+  for (const kind of kinds) {
+    if (kind.startsWith("out ")) {
+      const at = room(8);
+      given.push(at);
+      handedOut.push([at, 8]);
+      continue;
+    }
+    const word = words[next++];
+    if (kind === "host" || kind === "term") {
+      orders.byte(word);
+      given.push(handle(kind, word));
+    } else if (kind === "lent") {
+      orders.number(word.length);
+      orders.bytes(word);
+      const at = room(word.length);
+      part(at, word.length).set(word);
+      given.push(at, BigInt(word.length));
+    } else {
+      orders.number(word);
+      if (kind.startsWith("room")) {
+        const length = word * Number(kind[4]);
+        const at = room(length);
+        given.push(at, BigInt(word));
+        handedOut.push([at, length]);
+      } else {
+        given.push(kind === "size" ? BigInt(word) : word);
+      }
+    }
+  }
+  answers.number(library[name](...given));
+  for (const [at, length] of handedOut) answers.bytes(part(at, length));
+}
+
+/** Carries pending bytes to the other side, in both; one of them is changed if there are so many. */
+function carry(isUp, length, spoiled = NONE, value = 0) {
+  note(`carry ${isUp ? "up" : "down"} ${length} ${spoiled} ${value}`);
+  orders.byte(CARRY);
+  orders.byte(isUp ? 1 : 0);
+  orders.number(spoiled);
+  orders.byte(value);
+  orders.number(length);
+  free = SPACE;
+  const at = room(length);
+  const counted = room(8);
+  part(counted, 8).fill(0);
+  const [host, term] = [handle("host", 0), handle("term", 0)];
+  const takeOut = isUp ? library.sam_term_take_out : library.sam_host_take_out;
+  answers.number(takeOut(isUp ? term : host, at, BigInt(length), counted));
+  const count = new DataView(library.memory.buffer).getBigUint64(Number(counted), true);
+  answers.number(Number(count));
+  answers.bytes(part(at, length));
+  if (spoiled < count) part(at, length)[spoiled] = value;
+  const feed = isUp ? library.sam_host_feed : library.sam_term_feed;
+  for (let tries = 0, status = NO_MEMORY; tries < TRIES && status === NO_MEMORY; tries++) {
+    status = feed(isUp ? host : term, at, count);
+    answers.number(status);
+  }
+}
+
+function reset() {
+  note("reset");
+  orders.byte(RESET);
+  for (const which of [0, 1]) {
+    library.sam_host_free(handle("host", which));
+    library.sam_term_free(handle("term", which));
+  }
+  library.heap_refuse(0n, 0n);
+  baseline = library.heap_asked();
+}
+
+function refuse(first, count) {
+  orders.byte(REFUSE);
+  orders.number(first);
+  orders.number(count);
+  library.heap_refuse(BigInt(first), BigInt(count));
+}
+
+function asked() {
+  note("asked");
+  orders.byte(ASKED);
+  const number = Number(library.heap_asked() - baseline);
+  answers.number(number);
+  return number;
+}
+
+/** Has the native program obey, and compares. */
+function compare() {
+  const ended = spawnSync(native, { input: orders.done(), maxBuffer: 1 << 30 });
+  if (ended.status !== 0) throw new Error(`the native program ends with ${ended.status ?? ended.signal ?? ended.error}`);
+  const wanted = ended.stdout;
+  const got = Buffer.from(answers.done());
+  if (!got.equals(wanted)) {
+    let at = 0;
+    while (at < got.length && got[at] === wanted[at]) at++;
+    const told = begun.filter(([start]) => start <= at).slice(-5);
+    const [start] = told.at(-1);
+    const bytes = (from) => from.subarray(start, start + 64).toString("hex");
+    const shown = told.map(([, call]) => call.slice(0, 300)).join("\n");
+    const both = `module ${bytes(got)}\nnative ${bytes(wanted)}`;
+    throw new Error(`the answers differ in byte ${at - start} of the last of these:\n${shown}\n${both}`);
+  }
+  const compared = got.length;
+  [orders, answers, begun] = [new Bytes(), new Bytes(), []];
+  return compared;
+}
+
+// ---- Calls at random
+
+const ENCODER = new TextEncoder();
+const PIECES = ["a", "b", "word ", "\n", "line\n", "é", "€", "𝄞", "\u0000", "\ufeff", "x".repeat(100), "ab\n".repeat(60)];
+const LINES = [
+  ",x/a/c/b/", ",p", "=", "n", "s/a/b/", ",d", "0i/new\\n/", "/b/", "u", ",s/b/é/g", ",g/line/d", "b two", "x/.*\\n/-;p", "q1", ",m0",
+  "$a/end\\n/",
+];
+
+function text() {
+  let made = "";
+  for (let pieces = chance(4); pieces >= 0; pieces--) made += any(PIECES);
+  const bytes = ENCODER.encode(made);
+  if (chance(40) === 0) bytes[chance(bytes.length)] = 0x80 + chance(128);
+  return bytes;
+}
+
+function which() {
+  const drawn = chance(200);
+  return drawn < 2 ? 1 : drawn === 2 ? 2 : 0;
+}
+
+/** A word of a kind: most are such that the call does something. */
+function word(kind) {
+  if (kind === "host" || kind === "term") return which();
+  if (kind === "u16") return chance(60) === 0 ? chance(65536) : chance(4);
+  if (kind === "u32") return chance(60) === 0 ? chance(2 ** 31) * 2 : chance(chance(3) === 0 ? 4000 : 60);
+  if (kind === "size") return chance(3000);
+  if (kind.startsWith("room")) return chance(10) === 0 ? chance(3000) : chance(80);
+  return text();
+}
+
+const RARE = new Set(["sam_host_free", "sam_term_free", "sam_host_new", "sam_term_new", "sam_term_exit", "sam_term_close", "sam_replay"]);
+const BAD_STREAMS = new Set(["sam_host_feed", "sam_term_feed"]);
+const COMMON = CALLS.map(([name]) => name).filter((name) => !RARE.has(name) && !BAD_STREAMS.has(name));
+
+function common() {
+  const name = any(COMMON);
+  make(name, ...CALLS[CODE[name]][1].filter((kind) => !kind.startsWith("out ")).map(word));
+}
+
+function rare() {
+  const name = any([...RARE]);
+  if (name === "sam_replay") return make(name, any(SCRIPTS), chance(2) ? 20000 : chance(300));
+  make(name, ...CALLS[CODE[name]][1].filter((kind) => !kind.startsWith("out ")).map(word));
+}
+
+function commandLine() {
+  make("sam_term_type", 0, 0, ENCODER.encode(`${any(LINES)}\n`));
+}
+
+function longEdit() {
+  make("sam_term_edit", 0, 1 + chance(2), chance(50), 50 + chance(50), ENCODER.encode(any(PIECES).repeat(1 + chance(300))));
+}
+
+function one() {
+  const drawn = chance(1000);
+  if (drawn < 1) rare();
+  else if (drawn < 2) carry(chance(2) === 1, 600, chance(40), chance(256));
+  else if (drawn < 5) make(any([...BAD_STREAMS]), 0, chance(20) ? new Uint8Array(0) : text());
+  else if (drawn < 15) longEdit();
+  else if (drawn < 60) commandLine();
+  else if (drawn < 350) carry(drawn % 2 === 1, 1 + chance(600));
+  else if (drawn < 450) make("sam_term_type", 0, 1 + chance(2), text());
+  else common();
+}
+
+/** A session with files that are open. It returns how many calls it made. */
+function begin() {
+  reset();
+  make("sam_host_new", 0);
+  make("sam_term_new", 0);
+  make("sam_host_add_file", 0, ENCODER.encode("one"), ENCODER.encode("some line of text\n".repeat(chance(200))));
+  make("sam_host_add_file", 0, ENCODER.encode("two"), text());
+  make("sam_term_offer_version", 0, 1 + chance(2));
+  for (const isUp of [true, false, true, false]) carry(isUp, 600);
+  for (const tag of [1, 2]) make("sam_term_open", 0, tag);
+  make("sam_term_open_cmd", 0);
+  for (const isUp of [true, false, true, false]) carry(isUp, 600);
+  return 17;
+}
+
+/** Calls at random, in sessions. Returns how many were made, and how many bytes were compared. */
+function randomCalls(count, first) {
+  let made = 0;
+  let compared = 0;
+  for (let session = first; made < count; session++) {
+    seed(session);
+    made += begin();
+    for (let calls = 0; calls < PER_SESSION; calls++) one();
+    made += PER_SESSION;
+    asked();
+    if (orders.length > BATCH || answers.length > BATCH) compared += compare();
+  }
+  return [made, compared + compare()];
+}
+
+/** A session in which a request for memory is refused, and no other. Returns how many requests there were. */
+function refusing(session, request) {
+  seed(session);
+  reset();
+  if (request > 0) refuse(request, 1);
+  refusedSession();
+  return asked();
+}
+
+function refusedSession() {
+  for (const name of ["sam_host_new", "sam_term_new"]) for (const _ of [1, 2]) make(name, 0);
+  make("sam_host_add_file", 0, ENCODER.encode("one"), ENCODER.encode("some line of text\n".repeat(20)));
+  make("sam_term_offer_version", 0, 2);
+  for (const isUp of [true, false, true, false]) carry(isUp, 600);
+  for (let events = 0; events < REFUSED_EVENTS; events++) {
+    one();
+    if (chance(2)) carry(chance(2) === 1, 600);
+  }
+}
+
+/** Each request for memory of a session is refused in turn. Returns how many there are, and how many bytes were compared. */
+function refusedInTurn(session) {
+  const requests = refusing(session, 0);
+  let compared = 0;
+  for (let request = 1; request <= requests; request++) {
+    refusing(session, request);
+    if (answers.length > BATCH) compared += compare();
+  }
+  return [requests, compared + compare()];
+}
+
+const [made, compared] = randomCalls(Number(countWord), Number(seedWord));
+console.log(`${made} calls compared, ${compared} bytes of answers`);
+const refused = [0, 0];
+for (let session = 1; session <= Math.max(2, Number(countWord) / 50000); session++) {
+  const [requests, bytes] = refusedInTurn(Number(seedWord) + session);
+  refused[0] += requests;
+  refused[1] += bytes;
+}
+console.log(`${refused[0]} requests for memory refused in turn, ${refused[1]} bytes of answers`);
+console.log(`${library.heap_taken()} bytes taken`);

@@ -1,0 +1,65 @@
+"""Of the calls of include/sulgrevad.h that answer a status: what each takes and hands out, for calls.mjs, and the C code by which native.c
+makes the call of a number."""
+import re
+
+DECLARATION = re.compile(r"^(?:SAM_MUST_USE )?sam_status (sam_\w+)\(([^)]*)\);", re.M)
+FIELDS = {"uint16_t": "u16", "uint32_t": "u32", "uint64_t": "u64", "size_t": "size", "bool": "truth", "sam_status": "status"}
+NUMBERS = {"uint16_t": "u16", "uint32_t": "u32", "size_t": "size"}
+HANDLES = {"sam_host": "host", "sam_term": "term"}
+
+
+def kinds_of(words):
+    """What each argument is: a handle, a number, lent bytes or a room (two arguments each), or what is handed out."""
+    kinds = []
+    while words:
+        kind, name = re.fullmatch(r"(.*?)(\w+)", words.pop(0)).groups()
+        kind = kind.strip()
+        if kind == "const uint8_t *":
+            kinds.append("lent")
+            words.pop(0)
+        elif kind == "uint8_t *" or (kind, name) == ("uint32_t *", "into"):
+            kinds.append("room4" if "32" in kind else "room1")
+            words.pop(0)
+        elif kind.rstrip(" *") in HANDLES:
+            kinds.append(HANDLES[kind.rstrip(" *")])
+        elif kind.endswith("*"):
+            kinds.append("out " + FIELDS[kind.rstrip(" *")])
+        else:
+            kinds.append(NUMBERS[kind])
+    return kinds
+
+
+def signatures(header):
+    """The calls, in the order of the header: their names and kinds."""
+    header = re.sub(r"/\*.*?\*/", "", header, flags=re.S)
+    return [(name, kinds_of([" ".join(word.split()) for word in words.split(",")])) for name, words in DECLARATION.findall(header)]
+
+
+def case(code, name, kinds):
+    """The C code of a call: it gets the arguments, makes it, and writes the answer."""
+    makers = {"lent": "lent()", "room1": "filled(1)", "room4": "filled(4)", "host": "host()", "term": "term()"}
+    types = {"host": "sam_host *", "term": "sam_term *", **{field: f"{kind} " for kind, field in NUMBERS.items()}}
+    makers |= {field: f"({kind})number()" for kind, field in NUMBERS.items()}
+    lines, words, after = [], [], []
+    for at, kind in enumerate(kinds):
+        if kind.startswith("out "):
+            lines.append(f"union out a{at} = filler();")
+            words.append(f"&a{at}.{kind[4:]}")
+            after.append(f"put(a{at}.bytes, 8);")
+        elif kind in types:
+            lines.append(f"{types[kind]}a{at} = {makers[kind]};")
+            words.append(f"a{at}")
+        else:
+            lines.append(f"struct lent a{at} = {makers[kind]};")
+            cast = "(uint32_t *)" if kind == "room4" else ""
+            words += [f"{cast}(void *)a{at}.at", f"a{at}.length"]
+            after += [f"put(a{at}.at, a{at}.length * {kind[-1]});"] if kind != "lent" else []
+            after.append(f"free(a{at}.at);")
+    body = "\n        ".join([*lines, f"put_number({name}({', '.join(words)}));", *after, "break;"])
+    return f"    case {code}: {{\n        {body}\n    }}\n"
+
+
+def code_of(calls):
+    """The C code of calls.h."""
+    cases = "".join(case(code, name, kinds) for code, (name, kinds) in enumerate(calls))
+    return f"static void call(int code)\n{{\n    switch (code) {{\n{cases}    default:\n        exit(1);\n    }}\n}}\n"
