@@ -2,7 +2,7 @@
 from commands import Commands, line_at
 from find import Find
 from keys import Paste, Text
-from menus import Menu
+from menus import Help, Menu
 from moving import Moves
 from texts import COMMAND, GAP, MOST_RUNES
 from windows import Window
@@ -79,6 +79,9 @@ class Actions(Commands, Moves):
         return self.is_sure(question)
 
     # ---- Actions: the screen
+
+    def do_help(self) -> None:
+        self.help = Help()
 
     def do_switch(self) -> None:
         self.go_to(self.active if self.focus is self.command else self.command)
