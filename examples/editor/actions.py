@@ -20,7 +20,10 @@ class Actions(Commands, Moves):
         window, runes, is_paste = self.focus, pressed.key.runes, isinstance(pressed.key, Paste)
         window.goal = window.anchor = None
         if window is not self.command:
-            self._type_in_file(window, runes if is_paste else self.first_of(pressed, self._typed_at_once(window, runes)), is_paste)
+            if not is_paste:
+                runes = self.first_of(pressed, self._typed_at_once(window, runes))
+                self._acting = Text(runes)
+            self._type_in_file(window, runes, is_paste)
             return
         ends_line = "\n" in runes
         if ends_line:

@@ -52,7 +52,7 @@ class Window:
         self.targets = Targets(self)
         self.y, self.height, self.width = 0, 1, 80  # row of the title, rows of text, columns
         self.anchor: Optional[int] = None  # the end of the selection that stays while the user extends it
-        self.goal: Optional[int] = None  # the column that moves by rows keep to
+        self.goal: Optional[Tuple[int, int]] = None  # the column that moves by rows keep to, and where the last one led
         self._top = 0
         self._followed: Optional[Tuple[int, int]] = None  # the dot that was brought into view
         self._aim: Optional[Aim] = None  # what is to be shown once the text above it is loaded

@@ -4,6 +4,7 @@ import os
 import random
 import re
 import signal
+import unicodedata
 
 from .model import Model, rows_of
 from .support import Failed, Session, expect, stat_of, wait_until
@@ -20,6 +21,11 @@ NEUTRAL = ("\x1b[6~", "\x1b[5~", "\x1bOPx", "\x07 ", "\x1b\x1b", "\x1b[15~")  # 
 LONG = 1000  # runes of a line, beyond which its rows may begin anywhere: they are shown before all of it is loaded
 UNKNOWN = "\x1b[99~"  # a key that only says so, once all before it have acted
 AFTER_ESC = "acdegxyz0,#"  # with what a text begins that comes at once with an Esc: others make a key with Alt or a sequence
+
+
+def without_marks(row):
+    """A row as tmux tells it: it may leave out a mark that stands on a wide character."""
+    return "".join(rune for rune in row if not unicodedata.combining(rune))
 
 
 def text_of(numbers):
@@ -177,7 +183,7 @@ class Run:
     def expect_screen(self, session):
         """The rows of the window are rows of the text, one after the other, and the caret stands where it is in the text. A row of a very
         long line may begin anywhere in it."""
-        model, rows = self.model, session.rows("a.txt")
+        model, rows = self.model, [without_marks(row) for row in session.rows("a.txt")]
         column, y = map(int, session.tmux("display-message", "-p", "#{cursor_x} #{cursor_y}").split())
         title = next(at for at, line in enumerate(session.screen()) if re.match(r"[> ][* ] a\.txt\s*$", line))
         below = y - title - 1
@@ -189,7 +195,7 @@ class Run:
         expect(column == wanted_column, f"the caret stands in column {column}, wanted {wanted_column}")
         expect(below <= at, f"the window shows {rows}, with {below} rows above the caret where there are {at}")
         first = next((row for row in range(below) if self.is_far(every[at - row - 1])), below)  # rows above that are known
-        shown = [row.drawn for row in every[at - first : at - below + len(rows)]]
+        shown = [without_marks(row.drawn) for row in every[at - first : at - below + len(rows)]]
         shown += [""] * (len(rows) - (below - first) - len(shown))
         expect(rows[below - first :] == shown, f"the window shows {rows[below - first :]}, wanted {shown}")
 

@@ -241,6 +241,7 @@ class Model:
         """`x/pattern/c/new/` on a range: the caret stands after the last one, and where there is none at the end of the range."""
         places = [start + found.start() for found in re.finditer(re.escape(pattern), self.text[start:end])]
         if not places:
+            self.goal = None
             if self.dot != (start, end):
                 self.select(end, end)
             return
