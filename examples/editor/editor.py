@@ -6,7 +6,7 @@ from typing import Callable, Iterable, List, Optional, Sequence, Set, Tuple
 from actions import TOO_LONG, Actions
 from desk import Desk
 from keeping import Keeping, shown_name
-from keys import PLACE, ROWS, Input, Key, Mouse, Paste, Text
+from keys import PLACE, Input, Key, Mouse, Paste, Text
 from left import Left
 from lines import Numbers
 from link import SECONDS_TO_END
@@ -366,8 +366,6 @@ class Editor(Desk, Waiting, Actions):
         if not binding.action:
             self.message = f"{key.name} does nothing; F1 or ^G shows the keys"
             return
-        if binding.waits == PLACE and binding.needs not in ("up", "down", ROWS):
-            self.focus.goal = None
         if binding.waits == PLACE and not self.focus.is_open:
             return
         getattr(self, f"do_{binding.action}")(*(["Shift-" in key.name] if binding.extends else []))

@@ -118,7 +118,7 @@ class Window:
 
     def hear(self, changes: List[Change]) -> None:
         """Changes of the text move the place where the window begins."""
-        self._top = moved(changes, self._top)
+        self._top, self.goal = moved(changes, self._top), None
         if self._aim is not None:
             self._aim = self._aim._replace(place=moved(changes, self._aim.place))
 
@@ -247,7 +247,7 @@ class Window:
 
     def select(self, place: int, extends: bool = False) -> None:
         """Moves the caret, and shows it; the anchor stays where the selection is extended."""
-        self._followed = None
+        self._followed = self.goal = None
         if extends:
             if self.anchor is None or self.anchor not in self.dot:
                 start, end = self.dot
