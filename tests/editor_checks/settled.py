@@ -218,7 +218,7 @@ def check_ahead_of_waiting_keys(folder):
             session.type("$a/!/")
             session.keys("Enter")
             session.tmux("resize-window", "-x", "70", "-y", "30")
-            wait_until(lambda: len(session.screen()) == 30 and "| up" in "".join(session.screen()[-3:]), "it keeps its size")
+            wait_until(lambda: session.status() in session.screen()[28:29], "it keeps its size")
             session.keys("Escape")
             session.wait_to_go_to("a.txt")
             session.keys("W")
