@@ -338,7 +338,8 @@ class Editor(Desk, Waiting, Actions):
     def _act_in_help(self, pressed: Pressed) -> Optional[Input]:
         """What is pressed over the help. Returns what of it is for the windows."""
         self.notes.take(pressed.has_read)
-        key, rest = pressed.key, None
+        key = pressed.key
+        rest: Optional[Input] = None
         if isinstance(key, Text) and len(key.runes) > 1:
             key, rest = Text(key.runes[:1]), Text(key.runes[1:])
         if self.help.take(key):

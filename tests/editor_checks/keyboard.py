@@ -47,9 +47,11 @@ def check_key_after_esc(folder):
     locale.setlocale(locale.LC_CTYPE, "C.UTF-8")
     for data, wanted in (
         ((b"\x1b2,3d\r",), [("Esc",), ("2,3d\n",)]), ((b"\x1b\x07",), [("Esc",), ("^G",)]), ((b"\x1b\r",), [("Esc",), ("\n",)]),
-        ((b"\x1b\x7f",), [("Esc",), ("Backspace",)]), ((b"\x1b\x1b[A",), [("Esc",), ("Up",)]), ((b"\x1b\x1b\x1bOP",), [("Esc",), ("Esc",), ("F1",)]),
+        ((b"\x1b\x7f",), [("Esc",), ("Backspace",)]), ((b"\x1b\x1b[A",), [("Esc",), ("Up",)]),
+        ((b"\x1b\x1b\x1bOP",), [("Esc",), ("Esc",), ("F1",)]),
         ((b"\x1bb\x1bfx",), [("Alt-b",), ("Alt-f",), ("x",)]), ((b"\x1bB",), [("Esc",), ("B",)]),
-        ((b"\x1b\xe8", b"\xb1\x86x"), [("Esc",), ("豆x",)]), ((b"\x1b\xe9ABC",), [("Esc",), ("\ufffdABC",)]), ((b"\x1b\xc3", b"\xa9"), [("Esc",), ("é",)]),
+        ((b"\x1b\xe8", b"\xb1\x86x"), [("Esc",), ("豆x",)]), ((b"\x1b\xe9ABC",), [("Esc",), ("\ufffdABC",)]),
+        ((b"\x1b\xc3", b"\xa9"), [("Esc",), ("é",)]),
         *(((f"\x1b{sign}lease note".encode(),), [("Esc",), (f"{sign}lease note",)]) for sign in "]PX^_"),
     ):  # fmt: skip
         decoder = Decoder()

@@ -30,7 +30,8 @@ def check_ends_of_long_lines(folder):
                     pair.settle() if is_slow else pair.finish()
                 pair.finish()
                 got = pair.host.text(1)
-                expect(got == wanted, f"{count}, {size}, {keys}: it has {len(got)} characters, Z at {got.find('Z')}, wanted {wanted.find('Z')}")
+                told = f"it has {len(got)} characters, Z at {got.find('Z')}, wanted {wanted.find('Z')}"
+                expect(got == wanted, f"{count}, {size}, {keys}: {told}")
 
 
 def check_end_on_the_screen(folder):
@@ -72,7 +73,8 @@ def check_moves_by_model(folder):
             editor.take(key(names[-1]))
             if seed % 2:
                 pair.finish()
-                expect((editor.focus.dot, editor.focus.caret) == (model.dot, model.caret), f"seed {seed}: {names} lead to {editor.focus.dot}, wanted {model.dot}")
+                got, wanted = (editor.focus.dot, editor.focus.caret), (model.dot, model.caret)
+                expect(got == wanted, f"seed {seed}: {names} lead to {got}, wanted {wanted}")
             else:
                 pair.settle()
         pair.finish()
@@ -87,7 +89,8 @@ def check_a_click_waits_for_text(folder):
     for is_slow in (False, True):
         pair, editor, key, text = opened(lines, size=(30, 80))
         mouse = pair.keys.Mouse
-        for each in (key("^End"), key("Page Up"), mouse("press", editor.focus.y + 9, 5, 0.0), mouse("release", editor.focus.y + 9, 5, 0.0), text("!")):
+        row = editor.focus.y + 9
+        for each in (key("^End"), key("Page Up"), mouse("press", row, 5, 0.0), mouse("release", row, 5, 0.0), text("!")):
             editor.take(each)
             pair.settle() if is_slow else pair.finish()
         pair.finish()
@@ -103,7 +106,8 @@ def check_caret_after_a_line(folder):
         (",x/old/c/new/", "new one\nnew two\nend\n", (11, 11)), (",x/old/c/newer/", "newer one\nnewer two\nend\n", (15, 15)),
         (",x/old/d", " one\n two\nend\n", (5, 5)), ("2c/x/", "old one\nxend\n", (9, 9)), ("1a/x/", "old one\nxold two\nend\n", (9, 9)),
         ("0i/x/", "xold one\nold two\nend\n", (1, 1)), ("1,2d", "end\n", (0, 0)), ("2p", before, (16, 16)), (",p", before, (20, 20)),
-        (",x/none/c/new/", before, (20, 20)), (",y/old/d", "oldold", (6, 6)), (",", before, (0, 20)), ("2", before, (8, 16)), ("/two/", before, (12, 15)),
+        (",x/none/c/new/", before, (20, 20)), (",y/old/d", "oldold", (6, 6)), (",", before, (0, 20)), ("2", before, (8, 16)),
+        ("/two/", before, (12, 15)),
         ("p", before, (4, 7)), ("f name", before, (4, 7)), ("wrong line", before, (4, 7)),
     ):  # fmt: skip
         for keys in ((), ("x",)):
@@ -118,7 +122,7 @@ def check_caret_after_a_line(folder):
                 start, end = dot
                 text_then, dot_then = (wanted[:start] + "x" + wanted[end:], (start + 1, start + 1)) if keys else (wanted, dot)
                 got = pair.host.text(1), editor.files[0].dot
-                expect(got == (text_then, dot_then), f"{line}, {keys}, one by one: {waits}: it has {got}, wanted {text_then!r}, {dot_then}")
+                expect(got == (text_then, dot_then), f"{line}, {keys}, one by one: {waits}: {got}, wanted {text_then!r}, {dot_then}")
     pair, editor, key, text = opened("old " * 3000 + "end\n", has_vault=True, size=(20, 80))
     pair.press(key("Esc"), text(",x/old/c/new/\n"), key("Esc"), text("x"))
     expect(pair.host.text(1) == "new " * 2999 + "newx end\n", f"where little is loaded it ends in {pair.host.text(1)[-20:]!r}")
