@@ -99,8 +99,8 @@ def check_a_click_waits_for_text(folder):
 
 
 def check_caret_after_a_line(folder):
-    """After a command line the caret stands after its last change, or at the end of what it has selected, and the next key replaces nothing.
-    An address alone selects; a line that selects nothing leaves what is selected."""
+    """After a command line the caret stands after its last change, or at the end of what it has selected, and the next key replaces
+    nothing. An address alone selects; a line that selects nothing leaves what is selected."""
     before = "old one\nold two\nend\n"
     for line, wanted, dot in (
         (",x/old/c/new/", "new one\nnew two\nend\n", (11, 11)), (",x/old/c/newer/", "newer one\nnewer two\nend\n", (15, 15)),
