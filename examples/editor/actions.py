@@ -2,7 +2,7 @@
 from commands import Commands, line_at
 from find import Find
 from keys import Paste, Text
-from menus import Menu
+from menus import Help, Menu
 from moving import Moves
 from texts import COMMAND, GAP, MOST_RUNES
 from windows import Window
@@ -18,9 +18,12 @@ class Actions(Commands, Moves):
 
     def type(self, pressed) -> None:
         window, runes, is_paste = self.focus, pressed.key.runes, isinstance(pressed.key, Paste)
-        window.goal = window.anchor = None
+        window.anchor = None
         if window is not self.command:
-            self._type_in_file(window, runes if is_paste else self.first_of(pressed, self._typed_at_once(window, runes)), is_paste)
+            if not is_paste:
+                runes = self.first_of(pressed, self._typed_at_once(window, runes))
+                self._acting = Text(runes)
+            self._type_in_file(window, runes, is_paste)
             return
         ends_line = "\n" in runes
         if ends_line:
@@ -79,6 +82,9 @@ class Actions(Commands, Moves):
         return self.is_sure(question)
 
     # ---- Actions: the screen
+
+    def do_help(self) -> None:
+        self.help = Help()
 
     def do_switch(self) -> None:
         self.go_to(self.active if self.focus is self.command else self.command)
@@ -164,7 +170,7 @@ class Actions(Commands, Moves):
         if not self._may_go(self.focus, f"{key} again"):
             return False
         self.log.begin(self.focus.tag)
-        self.focus.anchor = None
+        self.focus.anchor = self.focus.goal = None
         return True
 
     def _clip(self, is_cut: bool = False) -> None:
@@ -206,21 +212,21 @@ class Actions(Commands, Moves):
             Find(self).go_on(self.sought_here)
         else:
             self.terminal.look(self.focus.tag)
-        self.focus.anchor = None
+        self.focus.anchor = self.focus.goal = None
 
     def do_search(self) -> None:
         if self.is_lost:
             Find(self).go_on(self.sought_here or self.terminal.pattern)
         else:
             self.terminal.search(self.focus.tag)
-        self.focus.anchor = None
+        self.focus.anchor = self.focus.goal = None
 
     def do_search_back(self) -> None:
         pattern = self.sought_here or self.terminal.pattern
         self._sought_above = Find(self).go_back(pattern, self._sought_above if self._is_again else None)
 
     def do_find(self) -> None:
-        self.focus.anchor = None
+        self.focus.anchor = self.focus.goal = None
         self.menu = Find(self)
 
     def do_send(self) -> None:
@@ -235,10 +241,10 @@ class Actions(Commands, Moves):
 
     def do_word(self) -> None:
         self.terminal.dclick(self.focus.tag, self.focus.caret)
-        self.focus.anchor = None
+        self.focus.anchor = self.focus.goal = None
 
     def do_select_all(self) -> None:
-        self.focus.anchor = None
+        self.focus.anchor = self.focus.goal = None
         self.texts.select(self.focus.tag, 0, self.focus.length)
 
     def _erase(self, start: int, end: int) -> None:
@@ -277,7 +283,7 @@ class Actions(Commands, Moves):
 
     def _can_turn(self, step, lacks, nothing: str) -> bool:
         """Whether there is a step, and all of its text is known."""
-        self.focus.anchor = None
+        self.focus.anchor = self.focus.goal = None
         if step is None:
             self.message = f"{nothing} in the command window: Esc goes to the text" if self.focus is self.command else nothing
         elif lacks:

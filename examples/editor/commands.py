@@ -82,6 +82,7 @@ class Commands:
 
     def _work(self) -> None:
         """Has command lines work on the file that was used last, and on what is selected there."""
+        self.active.goal = None
         if self.active is not self.command and self.active.is_open:
             self.terminal.work(self.active.tag)
 

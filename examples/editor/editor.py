@@ -10,7 +10,6 @@ from keys import PLACE, Input, Key, Mouse, Paste, Text
 from left import Left
 from lines import Numbers
 from link import SECONDS_TO_END
-from menus import Help
 from notes import OFFER, REPEAT, Notes, said
 from pointing import Pointer
 from sulgrevad import Refusal, SamError, Status, Terminal
@@ -59,8 +58,7 @@ class Editor(Desk, Waiting, Actions):
         self.stream = Stream(terminal, self.texts, told)
         self.texts.listeners = [self.log.hear, self.numbers.hear, self.keeping.hear_changes, self.hear_changes, self.hear_run]
         self._known: Optional[List[int]] = None  # all files, since thousands take long to ask for; None where some came or went
-        self.pointer, self.menu = Pointer(self), None
-        self.help: Optional[Help] = None  # what lies over all else
+        self.pointer, self.menu, self.help = Pointer(self), None, None  # the help lies over all else
         self.is_lost = self.is_leaving = self.is_over = self.has_begun = False
         self.leaves_alone = False  # the user leaves, and the host has not answered that
         self.kept_here: Optional[List[str]] = None  # what was told of texts that were written here, as the host was lost
@@ -337,16 +335,18 @@ class Editor(Desk, Waiting, Actions):
         if goes_on:
             self.deferred.appendleft(pressed)
 
-    def show_help(self) -> None:
-        self.help = Help()
-
-    def _act_in_help(self, pressed: Pressed) -> bool:
-        """What is pressed over the help. Returns whether the key is for the windows."""
+    def _act_in_help(self, pressed: Pressed) -> Optional[Input]:
+        """What is pressed over the help. Returns what of it is for the windows."""
         self.notes.take(pressed.has_read)
-        goes_on = self.help.take(pressed.key)
+        key = pressed.key
+        rest: Optional[Input] = None
+        if isinstance(key, Text) and len(key.runes) > 1:
+            key, rest = Text(key.runes[:1]), Text(key.runes[1:])
+        if self.help.take(key):
+            rest = key
         if self.help.is_over:
             self.help = None
-        return goes_on
+        return rest
 
     def _ask(self, question: str, key: Input) -> None:
         self._asked_by = last_of(key)
@@ -367,8 +367,6 @@ class Editor(Desk, Waiting, Actions):
         if not binding.action:
             self.message = f"{key.name} does nothing; F1 or ^G shows the keys"
             return
-        if binding.action not in ("up", "down"):
-            self.focus.goal = None
         if binding.waits == PLACE and not self.focus.is_open:
             return
         getattr(self, f"do_{binding.action}")(*(["Shift-" in key.name] if binding.extends else []))

@@ -21,8 +21,9 @@ class Moves:
 
     def _by_row(self, action: str, extends: bool) -> None:
         """To the row above or below, in the column that such moves keep to."""
-        self.focus.goal = self.focus.targets.column()
+        column = self.focus.targets.column()
         self._move(action, extends)
+        self.focus.goal = (column, self.focus.caret)
 
     def do_up(self, extends: bool) -> None:
         self._by_row("up", extends)

@@ -35,7 +35,6 @@ class Pointer:
 
     def _press(self, window: Window, mouse: Mouse) -> None:
         self.editor.go_to(window)
-        window.goal = None
         if mouse.row == window.y:
             return
         place = window.layout().place_at(mouse.row - window.y - 1, mouse.column)

@@ -190,9 +190,9 @@ class Targets:
 
     def column(self) -> int:
         """The column that moves by rows keep to."""
-        if self.window.goal is not None:
-            return self.window.goal
-        caret = self.window.caret
+        goal, caret = self.window.goal, self.window.caret
+        if goal is not None and goal[1] == caret:
+            return goal[0]
         start = self._row(caret)
         return self._rows_from(start, 2).position_of(caret)[1]
 

@@ -93,6 +93,11 @@ class Waiting:
         if self._leaves_at is not None or self._stops(key) or (is_leave and self._leaves_silence(key)):
             return
         self._pressed_at = when
+        if self.help is not None and not is_leave:
+            rest = self._act_in_help(pressed)
+            if rest is not None:
+                self.take(rest, when)
+            return
         if self._acts_ahead(pressed):
             return
         if binding.waits == PLACE and binding.needs != ROWS:
@@ -106,13 +111,11 @@ class Waiting:
                 self.message = "keys wait for the host"
 
     def _acts_ahead(self, pressed: Pressed) -> bool:
-        """Whether a key acts before those that wait: the help, what is pressed over it, and Esc where these keys lead nowhere else. They
-        go to the window then to which they went."""
-        if self.help is not None and action_of(pressed.key) != "leave":
-            return not self._act_in_help(pressed)
+        """Whether a key acts before those that wait: the help, and Esc where these keys lead nowhere else. They go to the window then to
+        which they went."""
         if bound(pressed.key).waits == NOTHING:
             self.notes.take(pressed.has_read)
-            self.show_help()
+            self.do_help()
             return True
         if action_of(pressed.key) != "switch" or not self.deferred or self._is_led_elsewhere:
             return False

@@ -52,7 +52,7 @@ class Window:
         self.targets = Targets(self)
         self.y, self.height, self.width = 0, 1, 80  # row of the title, rows of text, columns
         self.anchor: Optional[int] = None  # the end of the selection that stays while the user extends it
-        self.goal: Optional[int] = None  # the column that moves by rows keep to
+        self.goal: Optional[Tuple[int, int]] = None  # the column that moves by rows keep to, and where the last one led
         self._top = 0
         self._followed: Optional[Tuple[int, int]] = None  # the dot that was brought into view
         self._aim: Optional[Aim] = None  # what is to be shown once the text above it is loaded
@@ -118,7 +118,7 @@ class Window:
 
     def hear(self, changes: List[Change]) -> None:
         """Changes of the text move the place where the window begins."""
-        self._top = moved(changes, self._top)
+        self._top, self.goal = moved(changes, self._top), None
         if self._aim is not None:
             self._aim = self._aim._replace(place=moved(changes, self._aim.place))
 
@@ -247,7 +247,7 @@ class Window:
 
     def select(self, place: int, extends: bool = False) -> None:
         """Moves the caret, and shows it; the anchor stays where the selection is extended."""
-        self._followed = None
+        self._followed = self.goal = None
         if extends:
             if self.anchor is None or self.anchor not in self.dot:
                 start, end = self.dot

@@ -186,14 +186,15 @@ class Noted:
     def change(self):
         """Does something that changes the text, or moves."""
         key, text, choose = self.key, self.text, self.random.choice
-        keys = [text(choose(("x", "yy", "w\n", "日")))]
+        keys = [text(rune) for rune in choose(("x", "yy", "w\n", "日"))]  # a newline is a step of its own
         if self.random.random() < 0.4:
             keys = [key("Esc"), text(choose(self.LINES) + "\n"), key("Esc")]
         elif self.random.random() < 0.6:
             keys = [key(choose(("Backspace", "Delete", "^X", "^V", "^A", "Page Down", "Down", "Shift-Down", "^C", "^End")))]
-        self.pair.press(*keys)
-        if self.steps:
-            self.texts[self.steps] = self.pair.host.text(1)
+        for each in keys:
+            self.pair.press(each)
+            if self.steps:
+                self.texts[self.steps] = self.pair.host.text(1)
 
     def expect_text(self, told):
         got, wanted = self.pair.host.text(1), self.texts[self.steps]

@@ -66,11 +66,11 @@ def check_help_after_new_and_close(folder):
             before = pair.terminal.files()
             editor.take(key(name))
             editor.take(key(help_key))
-            expect(editor.menu is not None and pair.terminal.files() == before, f"{name}: {help_key} waits")
+            expect(editor.help is not None and pair.terminal.files() == before, f"{name}: {help_key} waits")
             for typed in (key("Esc"), key("F8"), text("x")):
                 editor.take(typed)
             is_waiting = editor.typed_ahead == "x" and not editor.is_small
-            expect(editor.menu is None and is_waiting, f"{name}: what is pressed after the help doesn't wait")
+            expect(editor.help is None and is_waiting, f"{name}: what is pressed after the help doesn't wait")
             pair.finish()
             got = [pair.host.text(tag) for tag in pair.terminal.files() if tag]
             expect(got == texts and editor.is_small, f"{name}: the texts are {got}")

@@ -1,0 +1,236 @@
+"""Keys mean the same however they arrive, and go where they say over text that is not loaded."""
+import contextlib
+import os
+import random
+import signal
+
+from .model import Model
+from .pairs import opened
+from .support import COMMAND_WINDOW, Session, expect, made, stat_of, wait_until
+
+ENDS = ((2_700, (24, 80)), (10_000, (50, 80)), (20_000, (24, 80)))  # of long lines, and the screen
+SELECTING = ("left", "right", "up", "down", "home", "end", "word_left", "word_right")
+NAMES = {"word_left": "^Left", "word_right": "^Right", "first": "^Home", "last": "^End"}
+
+
+def check_ends_of_long_lines(folder):
+    """Home and End go to the ends of a line that is not loaded, and what comes next waits for that. No screen is between them."""
+    for count, size in ENDS:
+        line = ("x" * count + "word")[-count:]
+        for is_slow in (False, True):
+            for keys, wanted in (
+                (("End", "Z"), f"{line}Z\nend\n"), (("^End", "Up", "Up", "Home", "Z"), f"Z{line}\nend\n"),
+                (("Down", "End", "Z"), f"{line}Z\nend\n" if count > size[1] else ""),
+                (("^End", "Left", "Up", "End", "Shift-Home", "^X"), "\nend\n"), (("Shift-End", "Z"), "Z\nend\n"),
+                (("^Right", "Z"), f"{line}Z\nend\n"), (("End", "^Left", "Z"), f"Z{line}\nend\n"),
+            ):  # fmt: skip
+                pair, editor, key, text = opened(f"{line}\nend\n", has_vault=True, size=size)
+                for name in keys:
+                    editor.take(text(name) if name == "Z" else key(name))
+                    pair.settle() if is_slow else pair.finish()
+                pair.finish()
+                got = pair.host.text(1)
+                told = f"it has {len(got)} characters, Z at {got.find('Z')}, wanted {wanted.find('Z')}"
+                expect(got == wanted, f"{count}, {size}, {keys}: {told}")
+
+
+def check_end_on_the_screen(folder):
+    """The same as the user sees it, over a slow line."""
+    (path,) = made(folder, a="x" * 2_700 + "\nend\n")
+    with Session(folder, "a.txt", slow=50) as session:
+        session.wait_for("xxx")
+        session.keys("End", "Z")
+        session.wait_for("2701,2701 of 2706")
+        session.wait_for("xZ")
+        session.keys("C-w")
+        wait_until(lambda: path.read_text() == "x" * 2_700 + "Z\nend\n", "Z stands elsewhere")
+        session.leave()
+
+
+def moves_text(numbers):
+    words = ("a", "to", "日本", "e\u0301te\u0301", "\t", "x" * 90, "x, " * 900, "long" * 3000)
+    lines = [" ".join(numbers.choice(words[:6]) for _ in range(numbers.randrange(9))) for _ in range(100)]
+    for word in words[6:]:
+        lines.insert(numbers.randrange(100), word)
+    return numbers.choice(("\n", "\n", "\r\n")).join(lines)
+
+
+def check_moves_by_model(folder):
+    """Moves and selections lead where a model says that knows the whole text, however much of it is loaded, and however the keys arrive."""
+    for seed in range(6):
+        numbers = random.Random(seed)
+        whole = moves_text(numbers)
+        model, (pair, editor, key, text) = Model(whole, 80), opened(whole, size=(22, 80))
+        at = numbers.randrange(len(whole))
+        at = model.line_start(at)
+        pair.press(key("Esc"), text(f"#{at}\n"), key("Esc"))
+        model.select(at, at)
+        names = []
+        for _ in range(14):
+            name, extends = numbers.choice((*SELECTING, "up", "down", "up", "down", "first", "last")), numbers.random() < 0.3
+            names.append(("Shift-" if extends and name in SELECTING else "") + NAMES.get(name, name.capitalize()))
+            getattr(model, name)(*([extends] if name in SELECTING else []))
+            editor.take(key(names[-1]))
+            if seed % 2:
+                pair.finish()
+                got, wanted = (editor.focus.dot, editor.focus.caret), (model.dot, model.caret)
+                expect(got == wanted, f"seed {seed}: {names} lead to {got}, wanted {wanted}")
+            else:
+                pair.settle()
+        pair.finish()
+        got, wanted = (editor.focus.dot, editor.focus.caret), (model.dot, model.caret)
+        expect(got == wanted, f"seed {seed}, at once from {at}: {names} lead to {got}, wanted {wanted}")
+
+
+def check_a_click_waits_for_text(folder):
+    """A press goes by what is shown once all of that is loaded."""
+    lines = "".join(f"line {at} {'x' * (at * 37 % 150)}\n" for at in range(2000))
+    dots = []
+    for is_slow in (False, True):
+        pair, editor, key, text = opened(lines, size=(30, 80))
+        mouse = pair.keys.Mouse
+        row = editor.focus.y + 9
+        for each in (key("^End"), key("Page Up"), mouse("press", row, 5, 0.0), mouse("release", row, 5, 0.0), text("!")):
+            editor.take(each)
+            pair.settle() if is_slow else pair.finish()
+        pair.finish()
+        dots.append(editor.focus.dot)
+    expect(dots[0] == dots[1], f"a click after a page key leads to {dots}")
+
+
+def check_caret_after_a_line(folder):
+    """After a command line the caret stands after its last change, or at the end of what it has selected, and the next key replaces
+    nothing. An address alone selects; a line that selects nothing leaves what is selected."""
+    before = "old one\nold two\nend\n"
+    for line, wanted, dot in (
+        (",x/old/c/new/", "new one\nnew two\nend\n", (11, 11)), (",x/old/c/newer/", "newer one\nnewer two\nend\n", (15, 15)),
+        (",x/old/d", " one\n two\nend\n", (5, 5)), ("2c/x/", "old one\nxend\n", (9, 9)), ("1a/x/", "old one\nxold two\nend\n", (9, 9)),
+        ("0i/x/", "xold one\nold two\nend\n", (1, 1)), ("1,2d", "end\n", (0, 0)), ("2p", before, (16, 16)), (",p", before, (20, 20)),
+        (",x/none/c/new/", before, (20, 20)), (",y/old/d", "oldold", (6, 6)), (",", before, (0, 20)), ("2", before, (8, 16)),
+        ("/two/", before, (12, 15)),
+        ("p", before, (4, 7)), ("f name", before, (4, 7)), ("wrong line", before, (4, 7)),
+    ):  # fmt: skip
+        for keys in ((), ("x",)):
+            for waits in (True, False):
+                pair, editor, key, text = opened(before, has_vault=True)
+                pair.press(key("^Right"), key("Right"), *[key("Shift-Right")] * 3)
+                for each in (key("Esc"), text(line + "\n"), key("Esc"), *map(text, keys)):
+                    editor.take(each)
+                    if waits:
+                        pair.finish()
+                pair.finish()
+                start, end = dot
+                text_then, dot_then = (wanted[:start] + "x" + wanted[end:], (start + 1, start + 1)) if keys else (wanted, dot)
+                got = pair.host.text(1), editor.files[0].dot
+                expect(got == (text_then, dot_then), f"{line}, {keys}, one by one: {waits}: {got}, wanted {text_then!r}, {dot_then}")
+    pair, editor, key, text = opened("old " * 3000 + "end\n", has_vault=True, size=(20, 80))
+    pair.press(key("Esc"), text(",x/old/c/new/\n"), key("Esc"), text("x"))
+    expect(pair.host.text(1) == "new " * 2999 + "newx end\n", f"where little is loaded it ends in {pair.host.text(1)[-20:]!r}")
+    pair.press(key("^Z"), key("^Z"))
+    expect(pair.host.text(1) == "old " * 3000 + "end\n", f"it is not taken back: {editor.message}")
+
+
+def check_lines_at_once(folder):
+    """Text that comes at once does what it does one by one: Enter repeats the blanks, and undo has the same steps."""
+    typed = "\none();\n\ttwo();\n" + "word " * 30 + "\n" + "y"
+    ends = []
+    for count in (1, len(typed), 7):
+        pair, editor, key, text = opened("  begin\n")
+        pair.press(key("End"))
+        for at in range(0, len(typed), count):
+            pair.press(text(typed[at : at + count]))
+        ends.append([pair.host.text(1)])
+        for _ in range(9):
+            pair.press(key("^Z"))
+            ends[-1].append(pair.host.text(1))
+    wanted = "  begin\n  one();\n  \ttwo();\n  \t" + "word " * 30 + "\n  \ty\n"
+    expect(ends[0][0] == wanted, f"one by one it is {ends[0][0]!r}")
+    expect(ends[0] == ends[1] == ends[2], f"at once it is {ends[1]}, or {ends[2]}, one by one {ends[0]}")
+
+
+@contextlib.contextmanager
+def held_up(session):
+    process = session.terminal()
+    os.kill(process, signal.SIGSTOP)
+    try:
+        wait_until(lambda: stat_of(process)[0] == "T", "samterm doesn't stop")
+        yield
+    finally:
+        os.kill(process, signal.SIGCONT)
+
+
+def check_esc_while_held_up(folder):
+    """An Esc and a command line that samterm finds at once, since it was held up, are that."""
+    made(folder, a="one\ntwo\nthree\nfour\n")
+    with Session(folder, "a.txt") as session:
+        session.wait_for("four")
+        with held_up(session):
+            session.keys("Escape")
+            session.type("2,3d")
+            session.keys("Enter", "Escape")
+        wait_until(lambda: session.rows("a.txt")[:3] == ["one", "four", ""], lambda: f"the text is {session.rows('a.txt')}")
+        session.wait_to_go_to("a.txt")
+        with held_up(session):
+            session.keys("End", "Enter")
+            session.type("\tone()")
+            session.keys("Enter")
+            session.type("two()")
+        wanted = ["one", "four", "        one()", "        two()", ""]
+        wait_until(lambda: session.rows("a.txt")[:5] == wanted, lambda: f"the text is {session.rows('a.txt')}")
+        session.leave_unwritten()
+
+
+# The actions that need no settled place, each with what it waits for. All others wait for that.
+FREE = {"help", "switch", "next_window", "menu", "split", "unsplit", "small", "redraw", "suspend", "old", "new"}
+
+
+def check_all_actions_wait(folder):
+    """Each action waits while its file is locked, but for those that need no settled place."""
+    import keys as table
+
+    for binding in table.BINDINGS:
+        for name in binding.keys:
+            pair, editor, key, text = opened("one two\n", "b\n")
+            pair.terminal.set_snarf("pasted")
+            pair.finish()
+            editor.take(key("^V"))
+            expect(pair.terminal.locked(editor.focus.tag), "this test is wrong: the file is not locked")
+            editor.take(key(name))
+            expect(bool(editor.deferred) == (binding.action not in FREE), f"{name} waits: {bool(editor.deferred)}")
+
+
+def check_ahead_of_waiting_keys(folder):
+    """The help, what is pressed over it, Esc and another size of the screen come before keys that wait. Those go where they would have
+    gone, and so does what comes after Esc."""
+    made(folder, a="x" * 5_000 + "\nend\n", b="b\n")
+    with Session(folder, "a.txt", "b.txt") as session:
+        session.wait_for("xxx")
+        session.keys("C-t")
+        session.wait_for("b.txt")
+        session.keys("C-p", "C-p")
+        session.wait_to_go_to("a.txt")
+        session.wait_for_quiet()
+        with session.stopped_host():
+            session.keys("End", "Z", "Y")
+            session.wait_for("held 2")  # text that comes together is one
+            session.keys("F1")
+            session.wait_for("shows these keys")
+            session.keys("Down", "q")
+            wait_until(lambda: not session.shows("shows these keys") and session.shows("xxx"), "the help stays")
+            session.keys("Escape")
+            session.wait_to_go_to(COMMAND_WINDOW)
+            session.type("$a/!/")
+            session.keys("Enter")
+            session.tmux("resize-window", "-x", "70", "-y", "30")
+            wait_until(lambda: session.status() in session.screen()[28:29], "it keeps its size")
+            session.keys("Escape")
+            session.wait_to_go_to("a.txt")
+            session.keys("W")
+            expect(session.held() > 0, "nothing waits: this test is wrong")
+        session.wait_for("end")
+        session.wait_for_quiet()
+        session.keys("C-w")
+        wanted = "x" * 5_000 + "ZY\nend\n!W"
+        path = folder / "a.txt"
+        wait_until(lambda: path.read_text() == wanted, lambda: f"it has {path.read_text()[4_990:]!r}")
+        session.leave()
