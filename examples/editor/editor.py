@@ -129,21 +129,18 @@ class Editor(Desk, Waiting, Actions):
             self.way.hear()
 
     def hear(self, line: str) -> None:
-        """A line of the host's standard error. What it says of a text stays on the screen until it is read."""
+        """A line of the host's standard error. What it says of a text stays on the screen until it is read. Where `^W` was the last key, and
+        it may replace another program's text, this asks; else the next `^W` does."""
         told = said(line)
-        self.keeping.hear_host(told, line)
+        tags = self.keeping.hear_host(told, line)
         if told.what == "written":
             self.left.hear_written(told.names[0], told.when)
-        elif told.replaces and self._may_ask_to_replace():
+        elif told.replaces and self.active.tag in tags and action_of(self._last.key) == "write" and not self.deferred:
             self._ask(self.keeping.question(self.active.tag), Key("^W"))
         elif told.rank:
             self.notes.keep(told.rank, line + OFFER if told.what == "left" else line)
         else:
             self.message = line
-
-    def _may_ask_to_replace(self) -> bool:
-        """Whether `^W` was the last key, so that the answer to it may ask. Else the next `^W` does."""
-        return action_of(self._last.key) == "write" and not self.deferred and bool(self.keeping.question(self.active.tag))
 
     def _meet_clean(self, frame: Frame) -> None:
         """The host has written a file, or could not. It may say that a little later, so it is asked once more."""

@@ -61,8 +61,8 @@ class Keeping:
     def hear_changes(self, changes: List[Change]) -> None:
         self._changes[changes[0].tag] += len(changes)
 
-    def hear_host(self, told: Said, line: str = "") -> None:
-        """A line of the host's standard error."""
+    def hear_host(self, told: Said, line: str) -> Set[int]:
+        """A line of the host's standard error. Returns the files that it may be about."""
         if told.what == "lost":
             self.is_hopeless = True
         self.is_cut_saved = self.is_cut_saved or told.what == "cut"
@@ -76,10 +76,11 @@ class Keeping:
             if "saved" not in told.what:
                 self._saved.pop(tag, None)
         if "saved" in told.what and len(tags) == 1:  # of several files of a name, nobody knows which one it is
-            tag = tags.pop()
+            (tag,) = tags
             self._saved[tag] = self._written.get(tag, -1) if "failed" in told.what else self._changes[tag]
             if told.what == "saved":
                 self._dropped.pop(tag, None)
+        return tags
 
     def _tags_of(self, told: Said) -> Set[int]:
         """The files that a line of the host may be about, also those that were dropped."""
