@@ -38,10 +38,11 @@ class Left:
         self.editor, self.terminal = editor, editor.terminal
         self.tags: Dict[int, Old] = {}  # those that the host has
         self._here: Dict[str, Old] = {}  # those that are here, by their paths
-        self._taken: Dict[int, Tuple[Old, Step]] = {}  # of a file, what was taken back into it and not written yet; and that step of undo
+        self._taken: Dict[int, Tuple[List[Old], Step]] = {}  # of a file, what was taken into it and not written yet; and that step of undo
         self._written: List[int] = []  # files that were written since
         self._times: Dict[str, int] = {}  # when files were written last, by the paths that the host tells
         self._warned: Optional[Old] = None  # the text of which the user knows that it lacks something
+        self._whole: Optional[Old] = None  # the one from which all came that it lacks
 
     # ---- What there is
 
@@ -121,7 +122,7 @@ class Left:
 
     def _filled(self, old: Old, text: str) -> Optional[str]:
         """A text with what it lacks, as far as the host has saved that, once the user was told. None where the key acts again, or asks."""
-        lacks = rescue.lacking(text)
+        lacks, self._whole = rescue.lacking(text), None
         if not lacks:
             return text
         whole = self._newest_of(old.of)
@@ -129,6 +130,7 @@ class Left:
             return None
         if whole is not None:
             text = rescue.filled(text, self.editor.texts.read(whole.tag, 0, self.terminal.len(whole.tag)))
+            self._whole = whole if not rescue.lacking(text) else None
         if self._warned != old and not self._is_warned(lacks, rescue.lacking(text)):
             return None
         self._warned = old
@@ -154,7 +156,8 @@ class Left:
         """Puts a text of this machine, or one that the host has, in the place of its file's."""
         editor, tag = self.editor, old.of
         editor.log.begin(tag)
-        self._taken[tag] = (old, editor.log.past[tag][-1])
+        olds = [old] if self._whole is None else [old, self._whole]  # the text has all of both
+        self._taken[tag] = (olds, editor.log.past[tag][-1])
         if not old.path:
             editor.vault.bring(old.tag, tag)
             return
@@ -216,12 +219,13 @@ class Left:
         editor = self.editor
         while self._written and editor.way.is_confirmed and not editor.keeping.is_writing(self._written[0]):
             tag = self._written.pop(0)
-            old, step = self._taken.get(tag, (None, None))
-            if old is None or editor.is_changed(tag) or step not in editor.log.past.get(tag, []):
+            olds, step = self._taken.get(tag, ([], None))
+            if editor.is_changed(tag) or step not in editor.log.past.get(tag, []):
                 continue
-            del self._taken[tag]
-            if old.path or self.terminal.is_open(old.tag):
-                self._remove(old)
+            self._taken.pop(tag, None)
+            for old in olds:
+                if old.path or self.terminal.is_open(old.tag):
+                    self._remove(old)
 
     # ---- Comparing
 
