@@ -36,7 +36,7 @@ struct folder {
     bool is_own; /* it is for copies that can't stand beside their files */
 };
 
-/* A copy of a text, when it was saved, and whether that was after its file was written last. */
+/* A copy of a text, when it was saved, and whether that was when its file was written last, or after it. */
 struct left {
     char *path;
     struct stat status;
@@ -126,7 +126,7 @@ static bool look_at(struct search *search, const char *place, const char *entry,
         return false;
     const struct timespec *saved = &left->status.st_mtim, *written = &file.st_mtim;
     left->is_newer = of == NULL || stat(of, &file) != 0 || saved->tv_sec > written->tv_sec ||
-                     (saved->tv_sec == written->tv_sec && saved->tv_nsec > written->tv_nsec);
+                     (saved->tv_sec == written->tv_sec && saved->tv_nsec >= written->tv_nsec);
     struct tm time;
     if (localtime_r(&saved->tv_sec, &time) == NULL || strftime(left->when, sizeof left->when, "%Y-%m-%d %H:%M:%S", &time) == 0)
         left->when[0] = '\0';

@@ -67,7 +67,7 @@ class Left:
             return
         written = next((when for told, when in self._times.items() if printable(shown_name(told)) == printable(name)), None)
         when = time.strftime("%Y-%m-%d %H:%M:%S", time.localtime(saved))
-        old = Old(tag, when, None if written is None else saved > written, path=path)
+        old = Old(tag, when, None if written is None else int(saved) >= written, path=path)
         self._here[path] = old
         age = {None: "", True: ", newer than the file", False: ", older than the file"}[old.is_newer]
         self.editor.notes.keep(1, f"of {name} a text was written here: it is in {path}, of {when}{age}; F9 takes it, compares or drops it")

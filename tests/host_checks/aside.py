@@ -1,4 +1,5 @@
 """What the host saves by itself, and what it says is left of earlier sessions."""
+import contextlib
 import os
 import resource
 import signal
@@ -10,8 +11,8 @@ from pathlib import Path
 from checks import SECONDS, expect, wait_until
 
 from .support import (
-    IDLE, IS_ROOT, LATE, LONGEST_UNSAVED, NOBODY, SAMHOST, Session, as_nobody, expect_equal, expect_line, expect_only, made,
-    own_lines, stop, text_of,
+    AGE, IDLE, IS_ROOT, LATE, LONGEST_UNSAVED, NOBODY, SAMHOST, Session, as_nobody, expect_equal, expect_line, expect_only, front_of,
+    made, names_in, own_copy, own_lines, stop, text_of,
 )  # fmt: skip
 
 
@@ -34,7 +35,7 @@ def check_journal(folder):
         expect_equal(session.told(), [], "what it says")
         session.kill()
     with Session(folder, "a.txt") as session:
-        expect_line(session.lines, "a.txt has a text that was not written: it is in a.txt.sam-saved")
+        expect_line(session.lines, f"a.txt has a text that was not written: it is in a.txt.sam-saved{AGE}")
         session.type("four\n")
         session.end("exit")
         expect_line(session.lines, "a.txt was not written; its text is in a.txt.sam-saved.2")
@@ -56,7 +57,7 @@ def check_journal_is_removed(folder):
         wait_until(copy.exists, "a later text is not saved", IDLE + LATE)
         end = session.terminal.len(1)
         session.terminal.select(1, end - 1, end)
-        session.terminal.cut(1)
+        session.terminal.type(1, "")
         session.settle()
         wait_until(lambda: not copy.exists(), "the copy stays though the file has the text", IDLE + LATE)
         expect_equal(session.end(), 0, "the status")
@@ -114,6 +115,80 @@ def check_copy_of_the_user(folder):
     expect_only(folder, "a.txt", "a.txt.sam-saved")
 
 
+def check_stale_host(folder):
+    """A host whose line is dead saves again at its end what it has saved before only if nobody has taken that copy away: one who wrote
+    the text and dropped the copy doesn't find it as unwritten work. What came later is saved."""
+    (path,) = made(folder, a="one\n")
+    copy = folder / "a.txt.sam-saved"
+    for how in ("input", signal.SIGHUP):
+        for rest, is_saved in (("is gone", False), ("is another's", False), ("is there", True), ("is gone, and more was typed", True)):
+            with Session(folder, "a.txt") as session:
+                session.type("two\n")
+                wait_until(copy.exists, "the text is not saved", IDLE + LATE)
+                session.let_pass(0.2)
+                if rest != "is there":
+                    path.write_text("one\ntwo\nthree\n")
+                    copy.unlink()
+                if rest == "is another's":
+                    copy.write_text("another's\n")
+                if "more" in rest:
+                    session.terminal.type(1, "late ")
+                    session.send()
+                expect_equal(session.end(how), 0, "the status")
+                copies = {text_of(left) for left in folder.glob("a.txt.sam-saved*")} - {"another's\n"}
+                wanted = {"one\ntwo\nlate " if "more" in rest else "one\ntwo\n"} if is_saved else set()
+                expect_equal(copies, wanted, f"{how}, the copy {rest}: what is saved")
+            for left in folder.glob("a.txt.sam-saved*"):
+                left.unlink()
+            path.write_text("one\n")
+
+
+def check_offered(folder):
+    """A terminal that keeps text for undo is offered the texts that earlier sessions saved, each as a file named by the tag of its file,
+    whether it is newer, and when it was saved. Written empty it goes, unless it has changed. One that its file has goes at once."""
+    made(folder, a="one\n", b="b\n")
+    own = own_copy(folder, "b.txt")
+    own.parent.mkdir(mode=0o700)
+    texts = {"a.txt.sam-saved": "saved\n", "a.txt.sam-saved.2": "older\n", "a.txt.sam-saved.3": "one\n", "cut.sam-saved": "cut"}
+    for name, text in texts.items():
+        (folder / name).write_text(text)
+    own.write_text("own\n")
+    when = 1_700_000_000
+    os.utime(folder / "a.txt.sam-saved.2", (when, when))
+    with Session(folder, "a.txt", "b.txt", options=("--undo",)) as session:
+        lines = session.told()
+        shown = time.strftime("%Y-%m-%d %H:%M:%S", time.localtime(when))
+        expect_line(lines, f"a.txt has a text that was not written: it is in a.txt.sam-saved.2, of {shown}, older than the file")
+        expect_line(lines, r"what was cut last in an earlier session is in cut.sam-saved, of \d.*")
+        terminal = session.terminal
+        offered = {terminal.name(tag): tag for tag in terminal.files() if terminal.name(tag).startswith("~~left~~ ")}
+        expect_equal(sorted(name[9:12] for name in offered), ["0 +", "1 +", "1 -", "2 +"], "what is offered")
+        expect(f"~~left~~ 1 - {shown}" in offered, f"the times are wrong: {offered}")
+        expect_equal(terminal.name(terminal.files()[-1]), "~~undo~~", "the last name")
+        for name, tag in offered.items():
+            terminal.load(tag, 0, terminal.len(tag))
+            session.settle()
+            text = terminal.text(tag, 0, terminal.len(tag))
+            expect(text in ("saved\n", "older\n", "own\n", "cut"), f"{name} has {text!r}")
+            if text == "older\n":
+                (folder / "a.txt.sam-saved.2").write_text("changed since\n")
+            terminal.edit(tag, 0, terminal.len(tag), "")
+            terminal.write(tag)
+            terminal.close(tag)
+        expect_line(session.told(), "a.txt.sam-saved.2 is not dropped: it has changed since")
+        expect_equal(session.end("exit"), 0, "the status")
+        expect_equal(session.lines, [], "what it says at the end")
+    expect_only(folder, "a.txt", "b.txt", "a.txt.sam-saved.2")
+
+
+def check_times(folder):
+    """With --times it says when the files were written last."""
+    (path,) = made(folder, a="one\n")
+    os.utime(path, (1_700_000_000, 1_700_000_000))
+    with Session(folder, "a.txt", "new.txt", options=("--times",)) as session:
+        expect_equal(session.told(), ["samhost: a.txt was written last at 1700000000"], "what it says")
+
+
 def check_left(folder):
     """What writes left that were broken off is reported, and stays."""
     made(folder, a="one\n")
@@ -123,19 +198,23 @@ def check_left(folder):
     left.update({"b.txt.sam-saved": "another's", "a.txt.sam-saved.x": "another's", "unnamed-3.sam-saved": "nameless"})
     for name, text in left.items():
         (folder / name).write_text(text)
-    (folder / "temporary" / "a.txt.sam-saved").write_text("temporary")
-    if IS_ROOT:  # what another user has left in the folder for temporary files means nothing
-        (folder / "temporary" / ".sam-Ab12Cd").write_text("")
-        os.chown(folder / "temporary" / ".sam-Ab12Cd", NOBODY, NOBODY)
+    (folder / "temporary" / "a.txt.sam-saved").write_text("of any a.txt")
+    own = own_copy(folder, "a.txt", ".sam-saved.2")
+    own.parent.mkdir(mode=0o700)
+    own.write_text("own")
+    own_copy(folder, "d/a.txt").write_text("another's")
+    if IS_ROOT:  # what another user has left of a write means nothing
+        (folder / ".sam-Ef34Gh").write_text("")
+        os.chown(folder / ".sam-Ef34Gh", NOBODY, NOBODY)
     with Session(folder, "a.txt", "link") as session:
         lines = session.told()
         for pattern in (
             r"\.sam-Ab12Cd is left of a write that was broken off",
             r"\.sam-a\.txt-Ab12Cd is left of a write that was broken off",
             r"a\.txt may be broken: what it was before a write is in a\.txt\.sam-old",
-            r"a\.txt has a text that was not written: it is in a\.txt\.sam-saved\.7",
+            rf"a\.txt has a text that was not written: it is in a\.txt\.sam-saved\.7{AGE}",
             r"link may be broken: what it was before a write is in d/b\.txt\.sam-old\.2",
-            rf"a\.txt, or another file of that name, has a text that was not written: it is in {folder}/temporary/a\.txt\.sam-saved",
+            rf"a\.txt has a text that was not written: it is in {own}{AGE}",
             r"a file without a name was not written: its text is in unnamed-3\.sam-saved",
         ):
             expect_line(lines, pattern)
@@ -230,67 +309,77 @@ def check_closed(folder):
     expect_only(folder, "a.txt", "a.txt.sam-saved", "b.txt")
 
 
-def check_temporary_folder(folder):
-    """TMPDIR that is empty, or names no folder, means /tmp."""
-    name = f"c-{os.getpid()}-{threading.get_ident()}.txt"
-    copy = Path("/tmp") / f"{name}.sam-saved"
-    for value in ("", str(folder / "no folder")):
+def check_own_folder(folder):
+    """What can't stand beside its file stands in the user's own folder for state, else in one among those for temporary files, with the
+    user's number; never in a folder that is another's, or that others may read, and nowhere by the file's bare name."""
+    own = f"sulgrevad-{os.geteuid()}"
+    (folder / "full").write_text("no folder")
+    (folder / "elsewhere").mkdir()
+    (folder / "link").mkdir()
+    (folder / "link" / "sulgrevad").symlink_to(folder / "elsewhere")
+    home = {"XDG_STATE_HOME": "", "HOME": str(folder / "home")}
+    for at, (environment, place) in enumerate((
+        ({}, folder / "temporary" / "sulgrevad"), (home, folder / "home" / ".local" / "state" / "sulgrevad"),
+        ({"XDG_STATE_HOME": "relative", "HOME": "also"}, folder / "temporary" / own),
+        ({"XDG_STATE_HOME": str(folder / "full")}, folder / "temporary" / own),
+        ({"XDG_STATE_HOME": str(folder / "link")}, folder / "temporary" / own),
+        ({"XDG_STATE_HOME": str(folder / "full"), "TMPDIR": str(folder / "full")}, Path("/tmp") / own),
+    )):  # fmt: skip
         made(folder, a="one\n")
-        with Session(folder, "a.txt", environment={"TMPDIR": value}) as session:
+        is_there = place.exists()
+        if at == 3:
+            place.chmod(0o755)
+        with Session(folder, "a.txt", environment=environment) as session:
             session.type("two\n")
-            session.rename(f"nowhere/{name}")
+            session.rename(f"nowhere/{at}.txt")
             session.write()
-            lines, text = session.told(), text_of(copy)
+            copy = place / (front_of(folder / f"nowhere/{at}.txt") + ".sam-saved")
+            lines, text, mode = session.told(), text_of(copy), place.stat().st_mode & 0o777
             copy.unlink(missing_ok=True)
-            expect_line(lines, rf"\? write nowhere/{name}: .*; its text is in {copy}")
-            expect_equal(text, "one\ntwo\n", "the copy")
-            session.write()
-            session.rename("a.txt")
-            session.write()
-            session.end()
-        expect_equal(text_of(copy), None, "the copy of a text that was written")
+            expect_line(lines, rf"\? write nowhere/{at}.txt: .*; its text is in {copy}")
+            expect_equal((text, mode), ("one\ntwo\n", 0o700), f"{environment}: the copy, and the mode of the folder")
+        with contextlib.suppress(OSError):  # another check's host has a copy there
+            if not is_there and place.parent == Path("/tmp"):
+                place.rmdir()
+    expect_equal(names_in(folder / "elsewhere"), [], "what is where a link leads")
 
 
 def check_left_where_a_file_lies(folder):
-    """What is left in the folder for temporary files is reported also where a file of the session lies there, and what another user has
-    left of a write there is not."""
+    """What is left in the user's own folder is reported also where a file of the session lies there."""
     made(folder)
     (folder / "etc").mkdir()
     (folder / "etc" / "hosts").write_text("hosts\n")
-    place = folder / "temporary"
-    names = ("x", "hosts.sam-saved", "hosts.sam-old", "x.sam-saved", "other.sam-saved", ".sam-hosts-Ab12Cd", "unnamed-3.sam-saved")
-    for name in names:
+    place = folder / "temporary" / "sulgrevad"
+    place.mkdir(mode=0o700)
+    hosts = front_of(folder / "etc" / "hosts")
+    for name in ("x", f"{hosts}.sam-saved", f"{hosts}.sam-old", "hosts.sam-saved", "x.sam-saved", f".sam-{hosts}-Ab12Cd"):
         (place / name).write_text(name)
-    if IS_ROOT:  # a copy beside a file may be its owner's
-        (place / ".sam-x-Ef34Gh").write_text("")
-        (place / "unnamed-4.sam-saved").write_text("")
-        (place / "x.sam-saved.2").write_text("")
-        (place / "hosts.sam-saved.2").write_text("")
-        for name in (".sam-x-Ef34Gh", "unnamed-4.sam-saved", "x.sam-saved.2", "hosts.sam-saved.2"):
-            os.chown(place / name, NOBODY, NOBODY)
-    for paths in (("temporary/x", "etc/hosts"), ("etc/hosts", "temporary/x")):
+    nameless = front_of(folder / "unnamed-3")
+    (place / f"{nameless}.sam-saved").write_text("")
+    for paths in (("temporary/sulgrevad/x", "etc/hosts"), ("etc/hosts", "temporary/sulgrevad/x")):
         with Session(folder, *paths) as session:
             lines = session.told()
             for pattern in (
-                rf"etc/hosts, or another file of that name, has a text that was not written: it is in {place}/hosts\.sam-saved",
-                rf"etc/hosts, or another file of that name, may be broken: what it was before a write is in {place}/hosts\.sam-old",
-                r"temporary/x has a text that was not written: it is in temporary/x\.sam-saved",
-                rf"{place}/\.sam-hosts-Ab12Cd is left of a write that was broken off",
-                rf"a file without a name was not written: its text is in {place}/unnamed-3\.sam-saved",
-                *([r"temporary/x has a text that was not written: it is in temporary/x\.sam-saved\.2"] if IS_ROOT else []),
+                rf"etc/hosts has a text that was not written: it is in {place}/{hosts}\.sam-saved{AGE}",
+                rf"etc/hosts may be broken: what it was before a write is in {place}/{hosts}\.sam-old",
+                rf"temporary/sulgrevad/x has a text that was not written: it is in temporary/sulgrevad/x\.sam-saved{AGE}",
+                rf"{place}/\.sam-{hosts}-Ab12Cd is left of a write that was broken off",
+                rf"a file without a name was not written: its text is in {place}/{nameless}\.sam-saved",
             ):
                 expect_line(lines, pattern, f"{paths}: ")
-            expect_equal(len(lines), 6 if IS_ROOT else 5, f"{paths}: how many lines it says")
+            expect_equal(len(lines), 5, f"{paths}: how many lines it says")
 
 
-def check_left_beside_a_full_folder(folder):
-    """What is left in /tmp is reported also where TMPDIR names a folder, which may have been full."""
+def check_left_of_another_file(folder):
+    """A copy in /tmp, or in the folder that TMPDIR names, is not taken for that of a file elsewhere that has the same name."""
     name = f"left-{os.getpid()}-{threading.get_ident()}.txt"
-    copy = Path("/tmp") / f"{name}.sam-saved"
+    copies = Path("/tmp") / f"{name}.sam-saved", folder / "temporary" / f"{name}.sam-saved"
+    made(folder)
     (folder / name).write_text("one\n")
-    copy.write_text("one\ntwo\n")
+    for copy in copies:
+        copy.write_text("one\ntwo\n")
     try:
         with Session(folder, name) as session:
-            expect_line(session.told(), rf"{name}, or another file of that name, has a text that was not written: it is in {copy}")
+            expect_equal(session.told(), [], "what it says")
     finally:
-        copy.unlink()
+        copies[0].unlink()

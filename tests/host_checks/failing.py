@@ -5,7 +5,10 @@ from pathlib import Path
 
 from checks import expect, wait_until
 
-from .support import LATE, LONGEST_UNSAVED, Session, expect_equal, expect_line, expect_only, made, names_in, text_of, with_mount
+from .support import (
+    LATE, LONGEST_UNSAVED, Session, expect_equal, expect_line, expect_only, front_of, made, names_in, own_copy, text_of,
+    with_mount,
+)  # fmt: skip
 
 
 def check_failed_write(folder):
@@ -18,7 +21,7 @@ def check_failed_write(folder):
         session.send()
         wait_until(lambda: session.receive(0.1) and (session.lines or not session.terminal.is_dirty(1)), "no answer")
         expect(session.lines, "the terminal hears that the file is clean before the host says that it is not written")
-        copy = folder / "temporary" / "c.txt.sam-saved"
+        copy = own_copy(folder, "nowhere/c.txt")
         line = rf"\? write nowhere/c.txt: No such file or directory; its text is in {copy}"
         expect_line(session.told(), line)
         expect_equal(text_of(copy), "one\ntwo\n", "the copy")
@@ -101,7 +104,7 @@ def check_full_disk(folder):
         (inside / "filler").write_bytes(bytes(40_000))
         session.type("x" * 50_000)
         session.write()
-        copy = folder / "temporary" / "a.txt.sam-saved"
+        copy = own_copy(folder, "full/a.txt")
         expect_line(session.told(), rf"\? write full/a.txt: No space left on device; its text is in {copy}")
         expect_equal(text_of(inside / "a.txt"), "one\n", "the file")
         expect_equal(text_of(copy), "one\n" + "x" * 50_000, "the copy")
@@ -115,14 +118,14 @@ def check_full_disk(folder):
 
 
 def check_read_only_disk(folder):
-    """On a disk that is read only the text goes to the folder for temporary files."""
+    """On a disk that is read only the text goes to the user's own folder."""
     made(folder)
     (folder / "disk").mkdir()
     mount = "mount -t tmpfs none disk && printf 'one\\n' >disk/a.txt && mount -o remount,ro disk"
     with Session(folder, "disk/a.txt", prefix=with_mount(folder, mount)) as session:
         session.type("two\n")
         session.write()
-        copy = folder / "temporary" / "a.txt.sam-saved"
+        copy = own_copy(folder, "disk/a.txt")
         expect_line(session.told(), rf"\? write disk/a.txt: Read-only file system; its text is in {copy}")
         expect_equal(session.end(), 0, "the status")
     expect_equal(text_of(copy), "one\ntwo\n", "the copy")
@@ -139,7 +142,7 @@ def check_not_regular(folder):
         expect_line(session.told(), r"\? write fifo: it is not a regular file; its text is in fifo.sam-saved")
         session.rename("no/where/")
         session.write()
-        copy = folder / "temporary" / "unnamed.sam-saved"
+        copy = folder / "temporary" / "sulgrevad" / (front_of(f"{folder}/no/where/", "unnamed") + ".sam-saved")
         expect_line(session.told(), r"\? write no/where/: No such file or directory; its text is in fifo.sam-saved")
         (folder / "fifo.sam-saved").unlink()
         session.write()

@@ -7,8 +7,8 @@ import subprocess
 from checks import SECONDS, Skipped, expect
 
 from .support import (
-    IS_ROOT, NOBODY, OPEN, SAMHOST, WRITE, Session, as_nobody, expect_equal, expect_line, expect_only, made, names_in, names_of,
-    on_file, text_of, typed, with_mount,
+    AGE, IS_ROOT, NOBODY, OPEN, SAMHOST, WRITE, Session, as_nobody, expect_equal, expect_line, expect_only, files_below, made,
+    names_in, names_of, on_file, own_copy, text_of, typed, with_mount,
 )  # fmt: skip
 
 ACCESS_LIST = "system.posix_acl_access"
@@ -31,7 +31,7 @@ def in_place(folder, path, prefix=(), text="two\n", **more):
     expect_equal(marks[1], marks[0], "device, mode, owner, group and links")
     expect_equal(text_of(path), f"one\n{text}three\n", "the file")
     expect_equal(names_in(path.parent), names, "what is in the folder")
-    expect_equal(names_in(folder / "temporary"), [], "what is in the folder for temporary files")
+    expect_equal(files_below(folder / "temporary"), [], "what is in the folder for temporary files")
 
 
 def check_hard_link(folder):
@@ -112,7 +112,7 @@ def check_attributes(folder):
 
 
 def check_folder_not_writable(folder):
-    """What the file was goes to the folder for temporary files meanwhile, and so does a copy."""
+    """What the file was goes to the user's own folder meanwhile, and so does a copy."""
     made(folder)
     prefix = as_nobody(folder)
     place = folder / "place"
@@ -126,10 +126,10 @@ def check_folder_not_writable(folder):
     with Session(folder, "place/a.txt", prefix=prefix) as session:
         session.type("four\n")
         session.end()
-        expect_line(session.lines, f"place/a.txt was not written; its text is in {folder}/temporary/a.txt.sam-saved")
+        copy = own_copy(folder, "place/a.txt")
+        expect_line(session.lines, f"place/a.txt was not written; its text is in {copy}")
     with Session(folder, "place/a.txt", prefix=prefix) as session:
-        line = f"place/a.txt, or another file of that name, has a text that was not written: it is in {folder}/temporary/a.txt.sam-saved"
-        expect_line(session.lines, line)
+        expect_line(session.lines, f"place/a.txt has a text that was not written: it is in {copy}{AGE}")
     place.chmod(0o755)
 
 
@@ -323,7 +323,7 @@ def check_long_path(folder):
     with Session(folder, str(absent)) as session:
         session.type("two\n")
         session.write()
-        copy = folder / "temporary" / "new.sam-saved"
+        copy = own_copy(folder, absent)
         expect_line(session.told(), rf"\? write {absent}: File name too long; its text is in {copy}")
         expect_equal(text_of(copy), "two\n", "the copy")
 

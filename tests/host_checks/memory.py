@@ -75,7 +75,8 @@ def run_refused(place, library, scene, number, count):
     """Runs a host that gets no memory at its request of that number, and those after it: so many in all. If it waits for memory longer, a
     signal ends it. Returns its status, its lines, and whether it made that request."""
     met = place.parent / f"{place.name}.met"
-    settings = (f"LD_PRELOAD={library}", f"REFUSE={number}", f"REFUSE_COUNT={count}", f"TMPDIR={place / 'temporary'}")
+    state = f"XDG_STATE_HOME={place / 'temporary'}"
+    settings = (f"LD_PRELOAD={library}", f"REFUSE={number}", f"REFUSE_COUNT={count}", f"TMPDIR={place / 'temporary'}", state)
     words, lines = ("sh", "-c", 'exec "$@" 9>"$0"', met, "env", *settings, SAMHOST, *scene.words), []
     source, end = os.pipe()
     os.write(end, scene.stream)
@@ -98,7 +99,7 @@ def texts_found(place, lines):
     files = [path for path in place.rglob("*") if path.is_file() and not path.is_symlink()]
     found = {str(path.relative_to(place)): path.read_text() for path in files}
     for line in lines:
-        copy = re.search(r"; its text is in (/tmp/[^/]*)$", line)
+        copy = re.search(r"; its text is in (/tmp/sulgrevad-\d+/[^/]*)$", line)
         if copy:  # there was no memory for the name of the other folder
             found[copy[1]] = text_of(Path(copy[1]))
             Path(copy[1]).unlink(missing_ok=True)

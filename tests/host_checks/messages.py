@@ -13,8 +13,8 @@ from pathlib import Path
 from checks import SECONDS, Skipped, expect, wait_until
 
 from .support import (
-    CLOSE, CUT, EXIT, IDLE, LATE, OPEN, REQUEST, SAMHOST, WRITE, Session, as_nobody, expect_equal, expect_line, expect_only, made,
-    message, names_in, on_file, own_lines, text_of, typed,
+    AGE, CLOSE, CUT, EXIT, IDLE, LATE, OPEN, REQUEST, SAMHOST, WRITE, Session, as_nobody, expect_equal, expect_line, expect_only,
+    made, message, names_in, on_file, own_lines, text_of, typed,
 )  # fmt: skip
 
 DATA, LAST = 73, 88  # frames: Hdata, Hexit
@@ -252,7 +252,7 @@ def check_long_names(folder):
             session.end()
         expect_only(place, name, copy)
         with Session(place, name) as session:
-            expect_line(session.lines, f"{name} has a text that was not written: it is in {copy}")
+            expect_line(session.lines, f"{name} has a text that was not written: it is in {copy}{AGE}")
             session.type("two\n")
             session.write()
             session.end()

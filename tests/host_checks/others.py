@@ -25,7 +25,8 @@ def check_changed_by_another(folder):
         expect_line(session.told(), line, "changed again: ")
         expect_equal(text_of(path), "again\n", "the file that was changed again")
         session.write()
-        expect_equal(session.told(), [], "what it says")
+        expect_line(session.told(), "a.txt is replaced; what another program had written there is in a.txt.sam-theirs")
+        expect_equal(text_of(folder / "a.txt.sam-theirs"), "again\n", "the other program's text")
         expect_equal(text_of(path), "one\ntwo\n", "the file")
         path.write_text("other\n")
         session.write()
@@ -34,6 +35,55 @@ def check_changed_by_another(folder):
         expect_line(session.lines, "a.txt was not written; its text is in a.txt.sam-saved")
     expect_equal(text_of(path), "other\n", "the file at the end")
     expect_equal(text_of(folder / "a.txt.sam-saved"), "one\ntwo\n", "the copy at the end")
+
+
+def check_theirs_is_kept(folder):
+    """Another program's text that a write replaces is kept beside the file, also where that is written in place, or no link can be made. A
+    text that is the document's own, or the same, is not."""
+    without = ("strace", "-qq", "-o", "/dev/null", "-e", "inject=link:error=EPERM")
+    for at, (is_linked, prefix) in enumerate(((False, ()), (True, ()), (False, without))):
+        if prefix and shutil.which("strace") is None:
+            raise Skipped("no strace")
+        place = folder / str(at)
+        place.mkdir()
+        (path,) = made(place, a="one\n")
+        if is_linked:
+            os.link(path, place / "b.txt")
+        theirs = place / "a.txt.sam-theirs"
+        with Session(place, "a.txt", prefix=prefix) as session:
+            session.type("two\n")
+            for text, copy in (("first\n", theirs), ("second\n", place / "a.txt.sam-theirs.2")):
+                path.write_text(text)
+                session.write()
+                expect_line(session.told(), r"\? write a.txt: another program changed it, .*")
+                session.write()
+                expect_line(session.told(), f"a.txt is replaced; what another program had written there is in {copy.name}")
+                expect_equal((text_of(path), text_of(copy)), ("one\ntwo\n", text), f"linked: {is_linked}: the file and the copy")
+            session.type("three\n")
+            session.write()
+            path.write_text("other\n")
+            session.write()
+            path.write_text("one\ntwo\nthree\n")
+            session.told()
+            session.write()
+            expect_equal(session.told(), [], "what it says where the file has that text")
+            expect_equal(session.end(), 0, "the status")
+        expect_only(place, "a.txt", "a.txt.sam-theirs", "a.txt.sam-theirs.2", *(["b.txt"] if is_linked else []))
+
+
+def check_theirs_without_room(folder):
+    """Where another program's text can't be kept it is not replaced."""
+    (path,) = made(folder, a="one\n")
+    os.link(path, folder / "b.txt")
+    with Session(folder, "a.txt", limit=1000) as session:
+        session.type("two\n")
+        path.write_text("x" * 2000)
+        session.write()
+        session.told()
+        session.write()
+        expect_line(session.told(), r"\? write a.txt: File too large; its text is in a.txt.sam-saved")
+        session.end()
+    expect_equal(text_of(path), "x" * 2000, "the file")
 
 
 def check_changed_within_its_marks(folder):
@@ -50,7 +100,7 @@ def check_changed_within_its_marks(folder):
         path.unlink()
         path.write_text("ONE\n")
         session.write()
-        expect_equal(session.told(), [], "what it says")
+        expect_line(session.told(), "a.txt is replaced; what another program had written there is in a.txt.sam-theirs")
         expect_equal(text_of(path), "one\ntwo\n", "the file")
         path.unlink()
         session.write()
@@ -144,8 +194,8 @@ def check_came_since(folder):
         expect_equal(text_of(path), "other\n", "the file")
         session.write()
         session.end()
-    expect_equal(text_of(path), "two\n", "the file")
-    expect_only(folder, "new.txt")
+    expect_equal((text_of(path), text_of(folder / "new.txt.sam-theirs")), ("two\n", "other\n"), "the file, and the other one's text")
+    expect_only(folder, "new.txt", "new.txt.sam-theirs")
 
 
 def check_named_onto_a_file(folder):
@@ -158,6 +208,7 @@ def check_named_onto_a_file(folder):
         expect_line(session.told(), r"\? write b.txt: it is there already, and the next write replaces it; its text is in b.txt.sam-saved")
         expect_equal(text_of(second), "other\n", "the file")
         session.write()
+        expect_line(session.told(), "b.txt is replaced; what another program had written there is in b.txt.sam-theirs")
         expect_equal(text_of(second), "one\ntwo\n", "the file")
         session.rename("a.txt")
         session.type("three\n")
@@ -165,7 +216,8 @@ def check_named_onto_a_file(folder):
         expect_equal(session.told(), [], "what it says")
         expect_equal(session.end(), 0, "the status")
     expect_equal(text_of(first), "one\ntwo\nthree\n", "its own file")
-    expect_only(folder, "a.txt", "b.txt")
+    expect_equal(text_of(folder / "b.txt.sam-theirs"), "other\n", "the other one's text")
+    expect_only(folder, "a.txt", "b.txt", "b.txt.sam-theirs")
 
 
 def check_named_as_another(folder):

@@ -6,7 +6,7 @@ import subprocess
 
 from checks import SECONDS, expect, wait_until
 
-from .support import IDLE, LATE, OPEN, SAMHOST, WRITE, expect_equal, expect_line, made, message, on_file, text_of, typed
+from .support import IDLE, LATE, OPEN, SAMHOST, WRITE, expect_equal, expect_line, made, message, on_file, own_copy, text_of, typed
 
 
 def check_control_characters(folder):
@@ -29,7 +29,7 @@ def unread(folder, *words):
     os.set_blocking(sink, True)
     with subprocess.Popen(
         [SAMHOST, *words], cwd=folder, stdin=subprocess.PIPE, stdout=subprocess.DEVNULL, stderr=sink, bufsize=0,
-        env={**os.environ, "TMPDIR": str(folder / "temporary")},
+        env={**os.environ, "XDG_STATE_HOME": str(folder / "temporary")},
     ) as process:  # fmt: skip
         try:
             yield process, source, sink
@@ -43,7 +43,7 @@ def check_nobody_reads_what_it_says(folder):
     """A host whose standard error has no room saves texts all the same, and says later that lines are missing. Others who have that
     standard error find it as it was."""
     made(folder, a="one\n")
-    copy = folder / "temporary" / "c.txt.sam-saved"
+    copy = own_copy(folder, "no/c.txt")
     failing = typed(1, 0, b"2") + on_file(WRITE)
     with unread(folder, "a.txt") as (process, source, sink):
         process.stdin.write(message(2) + on_file(OPEN) + typed(0, 0, b"f no/c.txt\n") + failing + typed(1, 0, b"3"))

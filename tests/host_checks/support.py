@@ -21,11 +21,9 @@ LATE = 3.0  # seconds that a busy machine may add
 NOBODY = 65534
 IS_ROOT = os.geteuid() == 0
 REQUEST, OPEN, CUT, WRITE, CLOSE, EXIT = 4, 6, 9, 13, 14, 22  # kinds of the terminal's messages
-# What a host that begins says of a /tmp that it shares with those of other checks.
-OF_OTHERS = re.compile(
-    r"samhost: (/tmp/\.sam-[^/]* is left of a write .*|a file without a name .* in /tmp/[^/]*"
-    r"|(?!left-)\S+, or another file .* in /tmp/[^/]*)"
-)
+# What a host that begins says of the user's folder in a /tmp that it shares with those of other checks.
+OF_OTHERS = re.compile(r"samhost: (/tmp/sulgrevad-\d+/\.sam-[^/]* is left .*|a file without a name .* in /tmp/sulgrevad-\d+/[^/]*)")
+AGE = r", of \d{4}-\d\d-\d\d \d\d:\d\d:\d\d, newer than the file"
 
 
 def expect_equal(got, wanted, what):
@@ -57,7 +55,7 @@ class Session:
         import sulgrevad
 
         self.folder, self.lines, self._line, self.terminal = folder, [], b"", sulgrevad.Terminal()
-        more = {"TMPDIR": str(folder / "temporary"), **(environment or {})}
+        more = {"TMPDIR": str(folder / "temporary"), "XDG_STATE_HOME": str(folder / "temporary"), **(environment or {})}
         pipe = subprocess.PIPE
         set_limit = (lambda: resource.setrlimit(resource.RLIMIT_FSIZE, (limit, resource.RLIM_INFINITY))) if limit else None
         self.process = subprocess.Popen(
@@ -219,7 +217,24 @@ def expect_line(lines, pattern, what=""):
 def expect_only(folder, *names):
     """Nothing else is in the folder, and nothing in the one for temporary files."""
     expect_equal(names_in(folder), sorted(["temporary", *names]), "what is in the folder")
-    expect_equal(names_in(folder / "temporary"), [], "what is in the folder for temporary files")
+    expect_equal(files_below(folder / "temporary"), [], "what is in the folder for temporary files")
+
+
+def files_below(folder):
+    return sorted(str(path.relative_to(folder)) for path in folder.rglob("*") if path.is_file())
+
+
+def front_of(path, name=None):
+    """What the name of a copy begins with in the user's own folder: FNV-1a of 64 bits of the whole path, and the name."""
+    number = 0xCBF29CE484222325
+    for byte in os.fsencode(path):
+        number = (number ^ byte) * 0x100000001B3 % 2**64
+    return f"{number:016x}-{name or Path(path).name}"
+
+
+def own_copy(folder, path, suffix=".sam-saved"):
+    """Where the copy of a file stands that has no place beside it."""
+    return folder / "temporary" / "sulgrevad" / (front_of(folder / path) + suffix)
 
 
 def as_nobody(folder):

@@ -1,0 +1,131 @@
+"""What was cut last, and stands in no file."""
+import os
+import signal
+import subprocess
+import time
+
+from checks import SECONDS, expect, wait_until
+
+from .support import IDLE, LATE, OPEN, SAMHOST, Session, expect_equal, made, message, on_file, text_of, typed
+
+
+def is_cut_saved(folder, session, cut, how):
+    """Ends a session in which a text was cut; answers what the host has saved of it."""
+    session.told()
+    status = session.end(how)
+    expect_equal(status, 0, f"{how}: the status")
+    lines = [line for line in session.lines if "cut last" in line]
+    copies = list(folder.glob("cut.sam-saved*"))
+    texts = [text_of(copy) for copy in copies]
+    expect_equal(lines, [f"samhost: what was cut last is in {copy.name}" for copy in copies], f"{how}: what it says")
+    for copy in copies:
+        copy.unlink()
+    expect(texts in ([], [cut]), f"{how}: {texts} is saved")
+    return texts == [cut]
+
+
+def check_cut(folder):
+    """What was cut last and stands nowhere else is saved whole, however the session ends but by the user's leaving."""
+    lines = "".join(f"line {number} \u8c46\n" for number in range(3000))
+    start, end = 1000, 20_000
+    for how, wanted in (("input", True), (signal.SIGTERM, True), (signal.SIGHUP, True), ("exit", False), ("q", False)):
+        made(folder, a=lines)
+        with Session(folder, "a.txt", options=("--undo",)) as session:
+            session.terminal.select(1, start, end)
+            session.terminal.cut(1)
+            session.write()
+            expect_equal(is_cut_saved(folder, session, lines[start:end], how), wanted, f"{how}: whether it is saved")
+        expect_equal(text_of(folder / "a.txt"), lines[:start] + lines[end:], "the file")
+
+
+def check_cut_and_more(folder):
+    """A text that was pasted, or only copied, stands in a file; of two cuts the last counts. One that a terminal has put into the file for
+    undo meanwhile is saved as well, and what that copies is not."""
+
+    def cut(session, tag, start, end):
+        session.terminal.select(tag, start, end)
+        session.terminal.cut(tag)
+
+    def paste(session, tag, place):
+        session.terminal.select(tag, place, place)
+        session.terminal.paste(tag)
+
+    def copy(session, tag, start, end):
+        session.terminal.select(tag, start, end)
+        session.terminal.snarf(tag)
+
+    def into_vault(session, goes_on):
+        cut(session, 1, 0, 3)
+        paste(session, 2, 0)
+        copy(session, 1, 0, 4)
+        if goes_on:
+            paste(session, 2, 3)
+            cut(session, 2, 0, 3)
+
+    for what, does, wanted in (
+        ("pasted", lambda session: (cut(session, 1, 0, 3), paste(session, 1, 5)), None),
+        ("copied", lambda session: copy(session, 1, 0, 3), None), ("cut", lambda session: cut(session, 1, 4, 7), "two"),
+        ("cut again", lambda session: (cut(session, 1, 0, 3), cut(session, 1, 1, 4)), "two"),
+        ("copied and erased", lambda session: (copy(session, 1, 0, 3), session.terminal.edit(1, 0, 8, "")), "one"),
+        ("set", lambda session: session.terminal.set_snarf("none"), "none"),
+        ("in the vault", lambda session: into_vault(session, False), "one"), ("back", lambda session: into_vault(session, True), "one"),
+        ("back and pasted", lambda session: (into_vault(session, True), paste(session, 1, 0)), None),
+    ):  # fmt: skip
+        made(folder, a="one\ntwo\nthree\n")
+        with Session(folder, "a.txt", options=("--undo",)) as session:
+            does(session)
+            session.settle()
+            is_saved = is_cut_saved(folder, session, wanted, "input")
+            expect(is_saved == (wanted is not None), f"{what}: it is saved: {is_saved}")
+        (folder / "a.txt.sam-saved").unlink(missing_ok=True)
+
+
+def check_cut_is_saved_by_itself(folder):
+    """What was cut is saved after some quiet seconds, so that a kill costs no more, for its owner alone. The copy goes once the text is
+    pasted, or the terminal leaves. Where somebody took it away it is not saved again at the end."""
+    copy = folder / "cut.sam-saved"
+    (folder / "cut").write_text("open to all")
+    for how in ("kill", "paste", "exit", "taken"):
+        made(folder, a="one\ntwo\n")
+        with Session(folder, "a.txt", options=("--undo",)) as session:
+            session.terminal.select(1, 0, 3)
+            session.terminal.cut(1)
+            session.write()
+            wait_until(copy.exists, "it is not saved", IDLE + LATE)
+            expect_equal((text_of(copy), copy.stat().st_mode & 0o777), ("one", 0o600), "the copy and its mode")
+            session.let_pass(0.2)
+            if how == "kill":
+                session.kill()
+                expect_equal(text_of(copy), "one", "the copy after a kill")
+                copy.unlink()
+                continue
+            if how == "paste":
+                session.terminal.paste(1)
+                session.settle()
+                wait_until(lambda: not copy.exists(), "it stays though it was pasted", IDLE + LATE)
+            if how == "taken":
+                copy.unlink()
+            expect_equal(session.end("exit" if how == "exit" else "input"), 0, f"{how}: the status")
+        expect(not copy.exists(), f"{how}: it is there at the end")
+        (folder / "a.txt.sam-saved").unlink(missing_ok=True)
+
+
+def check_cut_by_broken_lines(folder):
+    """So it is where the line breaks inside a message, or the stream is wrong after it."""
+    first_three = ((1).to_bytes(2, "big"), bytes(4), (3).to_bytes(4, "big"))
+    snarf = message(11, *first_three) + message(9, *first_three)
+    for rest, status in ((b"", 0), (typed(1, 0, b"ab")[:-1], 6), (b"\xff", 3)):
+        made(folder, a="one\n")
+        for pieces in ([on_file(OPEN) + snarf + rest], [bytes([byte]) for byte in on_file(OPEN) + snarf + rest]):
+            pipe = subprocess.PIPE
+            with subprocess.Popen([SAMHOST, "a.txt"], cwd=folder, stdin=pipe, stdout=subprocess.DEVNULL, stderr=pipe) as process:
+                for piece in pieces:
+                    os.write(process.stdin.fileno(), piece)
+                    time.sleep(0.002 if len(pieces) > 1 else 0)
+                process.stdin.close()
+                said = process.stderr.read().decode()
+                expect_equal(process.wait(SECONDS), status, "the status")
+            expect("what was cut last is in cut.sam-saved" in said, f"{rest}: it says {said}")
+            expect_equal(text_of(folder / "cut.sam-saved"), "one", f"after {rest} in {len(pieces)} pieces: what was cut")
+            for name in ("cut.sam-saved", "a.txt.sam-saved"):
+                (folder / name).unlink()
