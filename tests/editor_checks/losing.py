@@ -380,6 +380,7 @@ def check_left_of_another_host(folder):
 
     (folder / "one").mkdir()
     (folder / "two").mkdir()
+    os.environ["XDG_STATE_HOME"] = str(folder / STATE)
     os.chdir(folder / "one")
     rescue.host = ("ssh", "first", "samhost", "--undo")
 
