@@ -123,8 +123,11 @@ int note_snarf(struct session *session, const uint8_t *bytes, size_t len)
     uint16_t tag = (uint16_t)(bytes[TAG_AT] << 8 | bytes[TAG_AT + 1]);
     bool is_of_vault = tag != 0 && tag == session->vault;
     if (bytes[0] == KIND_SNARF) {
+        size_t before = cut->snarf.len;
         int error = take_range(session, tag, number_at(bytes + START_AT), number_at(bytes + END_AT), &cut->snarf);
-        return error == ENOENT ? 0 : error; /* the host finds what is wrong with it */
+        if (error == ENOENT) /* the host finds what is wrong with it, and its snarf buffer stays */
+            cut->snarf.len = before;
+        return error == ENOENT ? 0 : error;
     }
     if (bytes[0] == KIND_PASTE && is_of_vault)
         note_paste(session);

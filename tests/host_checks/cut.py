@@ -114,7 +114,7 @@ def check_cut_by_broken_lines(folder):
     """So it is where the line breaks inside a message, or the stream is wrong after it."""
     first_three = ((1).to_bytes(2, "big"), bytes(4), (3).to_bytes(4, "big"))
     snarf = message(11, *first_three) + message(9, *first_three)
-    for rest, status in ((b"", 0), (typed(1, 0, b"ab")[:-1], 6), (b"\xff", 3)):
+    for rest, status in ((b"", 0), (typed(1, 0, b"ab")[:-1], 6), (b"\xff", 3), (message(11, b"\0\7", bytes(8)), 3)):
         made(folder, a="one\n")
         for pieces in ([on_file(OPEN) + snarf + rest], [bytes([byte]) for byte in on_file(OPEN) + snarf + rest]):
             pipe = subprocess.PIPE
