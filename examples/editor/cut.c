@@ -74,7 +74,7 @@ static int take_range(struct session *session, uint16_t tag, uint32_t start, uin
         size_t room = (size_t)(end - place) * 4, left = MOST_BYTES - text->len;
         uint32_t code = sam_host_text(&session->host, tag, place, text->bytes + text->len, room < left ? room : left, &bytes, &runes);
         if (code != SAM_OK)
-            return code == SAM_NO_MEMORY ? ENOMEM : ENOENT;
+            return ENOMEM;
         place += runes;
     }
     if (place > end)
@@ -123,11 +123,10 @@ int note_snarf(struct session *session, const uint8_t *bytes, size_t len)
     uint16_t tag = (uint16_t)(bytes[TAG_AT] << 8 | bytes[TAG_AT + 1]);
     bool is_of_vault = tag != 0 && tag == session->vault;
     if (bytes[0] == KIND_SNARF) {
-        size_t before = cut->snarf.len;
-        int error = take_range(session, tag, number_at(bytes + START_AT), number_at(bytes + END_AT), &cut->snarf);
-        if (error == ENOENT) /* the host finds what is wrong with it, and its snarf buffer stays */
-            cut->snarf.len = before;
-        return error == ENOENT ? 0 : error;
+        uint32_t start = number_at(bytes + START_AT), end = number_at(bytes + END_AT), len = 0;
+        if (sam_host_len(&session->host, tag, &len) != SAM_OK || start > end || end > len)
+            return 0; /* the host finds what is wrong with it, and its snarf buffer stays */
+        return take_range(session, tag, start, end, &cut->snarf);
     }
     if (bytes[0] == KIND_PASTE && is_of_vault)
         note_paste(session);
