@@ -67,6 +67,7 @@ class Editor(Desk, Waiting, Actions):
         self._known: Optional[List[int]] = None  # all files, since thousands take long to ask for; None where some came or went
         self.pointer, self.menu = Pointer(self), None
         self.is_lost = self.is_leaving = self.is_over = self.has_begun = False
+        self.leaves_alone = False  # the user leaves, and the host has not answered that
         self.kept_here: Optional[List[str]] = None  # what was told of texts that were written here, as the host was lost
         self.wishes: List[str] = []  # what the screen is to do: "redraw", "suspend"
         self.clip: Optional[str] = None  # what the user's clipboard is to have
@@ -238,9 +239,10 @@ class Editor(Desk, Waiting, Actions):
             self._update_windows()
         elif self.is_lost:
             self._update_windows()
-        is_left_alone = self.is_leaving and self.way.silence >= SECONDS_TO_END
-        if self.terminal.exited or is_left_alone or (self._leaves_at is not None and self.clock() >= self._leaves_at):
-            self.is_over = True
+        is_time = self._leaves_at is not None and self.clock() >= self._leaves_at
+        goes = is_time or (self.is_leaving and self.way.silence >= SECONDS_TO_END)
+        self.leaves_alone = goes and not self.is_lost and not self.terminal.exited
+        self.is_over = self.is_over or self.terminal.exited or goes
 
     def _go_on_with_vault(self) -> None:
         self.vault.go_on()

@@ -182,7 +182,7 @@ class Left:
         if self.terminal.is_open(old.tag):
             return True
         self.terminal.open(old.tag)
-        if self.editor.active.is_open:
+        if self.editor.active is not self.editor.command and self.editor.active.is_open:
             self.terminal.work(self.editor.active.tag)
         self.editor.act_again("opens it")
         return False

@@ -102,7 +102,7 @@ class Session:
 
     def _tell_of_leaving(self) -> None:
         """The user has left: what was typed since, and where he didn't wait for the host, that it still has some time."""
-        if self.editor.is_over and not self.ended_by:
+        if self.editor.is_over and not self.ended_by and not self.editor.leaves_alone:
             self.editor.cut_text = ""
         if self.terminal.exited:
             if self.editor.typed_ahead:

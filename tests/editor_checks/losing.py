@@ -70,6 +70,30 @@ def check_cut_and_a_killed_host(folder):
     expect("characters were not loaded" in told and "unless it was killed" in told, f"it tells {told!r}")
 
 
+def check_cut_and_leaving(folder):
+    """Who leaves has no more use for what he cut; but who leaves a host that doesn't answer may not have got at it."""
+    for is_silent in (False, True):
+        place = folder / str(is_silent)
+        place.mkdir()
+        (path,) = made(place, a="one\n")
+        with Session(place, "a.txt") as session:
+            session.wait_for("one")
+            session.keys("S-Right", "C-x", "C-w")
+            wait_for_text(path, "ne\n")
+            session.wait_for_quiet()
+            if is_silent:
+                with session.stopped_host():
+                    session.keys("C-d")
+                    session.wait_for("no answer for")
+                    session.keys("C-q")
+                    session.wait_for_end(3)
+                wait_for_text(place / "cut.sam-saved", "o")
+            else:
+                session.leave()
+        left = sorted(entry.name for entry in place.glob("*.sam-*"))
+        expect(left == (["cut.sam-here", "cut.sam-saved"] if is_silent else []), f"silent: {is_silent}: there are {left}")
+
+
 def check_cut_that_the_host_saved(folder):
     """What the host has told that it saved of a cut is not written here as well, where it has got all that was sent."""
     for is_told, has_all in ((True, True), (True, False), (False, True)):
