@@ -121,17 +121,18 @@ class Left:
         return True
 
     def _filled(self, old: Old, text: str) -> Optional[str]:
-        """A text with what it lacks, as far as the host has saved that, once the user was told. None where the key acts again, or asks."""
+        """A text with what it lacks, from what the host saved of its file, else from the file itself, once the user was told. None where the
+        key acts again, or asks."""
         lacks, self._whole = rescue.lacking(text), None
         if not lacks:
             return text
         whole = self._newest_of(old.of)
-        if whole is not None and not (self._is_opened(whole) and self._is_loaded(whole.tag)):
+        tag = old.of if whole is None else whole.tag
+        if (whole is not None and not self._is_opened(whole)) or not self._is_loaded(tag):
             return None
-        if whole is not None:
-            text = rescue.filled(text, self.editor.texts.read(whole.tag, 0, self.terminal.len(whole.tag)))
-            self._whole = whole if not rescue.lacking(text) else None
-        if self._warned != old and not self._is_warned(lacks, rescue.lacking(text)):
+        text = rescue.filled(text, self.editor.texts.read(tag, 0, self.terminal.len(tag)))
+        self._whole = None if rescue.lacking(text) else whole
+        if self._warned != old and not self._is_warned(lacks, rescue.lacking(text), "the file" if whole is None else "what the host saved"):
             return None
         self._warned = old
         return text
@@ -140,9 +141,9 @@ class Left:
         """What the host saved last of a file."""
         return max((old for old in self.tags.values() if old.of == tag), key=lambda old: old.when, default=None)
 
-    def _is_warned(self, before: int, lacks: int) -> bool:
+    def _is_warned(self, before: int, lacks: int, source: str) -> bool:
         """Whether the user takes a text all the same that lacked so many characters, and still lacks some."""
-        came = f"; {before - lacks} that it lacked came from what the host saved" if lacks < before else ""
+        came = f"; {before - lacks} that it lacked came from {source}" if lacks < before else ""
         return self.editor.is_sure(f"it lacks {lacks} characters that were not loaded{came}. Enter again takes it")
 
     def _may_go(self, tag: int) -> bool:

@@ -478,22 +478,25 @@ def check_gaps_are_filled(folder):
         got = rescue.filled(text, whole)
         expect(got == (text if filled is None else filled), f"{text[:40]}..: it is filled as {got[:100]!r}..")
     (path,) = made(folder, a=old)
-    (folder / "a.txt.sam-saved").write_text("earlier " + old)
-    (folder / "a.txt.sam-here").write_text("late earlier " + old[:900] + f"[{len(old) - 900} characters that were not loaded]")
-    with Session(folder, "a.txt", slow=20, width=140) as session:
-        session.wait_for("newer than the file; F9 takes it")
-        session.read()
-        session.wait_for("newer than the file; F9 takes it")
-        session.read()
-        open_left(session, "a.txt: ")
-        session.keys("Down", "Enter")
-        session.answer(f"it lacks 0 characters that were not loaded; {len(old) - 900} that it lacked came from what the host saved", "Enter")
-        session.wait_for("a.txt has that text now")
-        session.wait_for_quiet()
-        session.keys("C-w")
-        wait_for_text(path, "late earlier " + old)
-        wait_until(lambda: not list(folder.glob("a.txt.sam-*")), "the old texts stay, though all of both is written")
-        session.leave()
+    for earlier, source in (("earlier ", "what the host saved"), ("", "the file")):
+        path.write_text(old)
+        if earlier:
+            (folder / "a.txt.sam-saved").write_text(earlier + old)
+        (folder / "a.txt.sam-here").write_text(f"late {earlier}{old[:900]}[{len(old) - 900} characters that were not loaded]")
+        with Session(folder, "a.txt", slow=20, width=140) as session:
+            session.wait_for("newer than the file; F9 takes it")
+            session.read()
+            session.read()
+            open_left(session, "a.txt: ")
+            session.keys(*["Down"] * bool(earlier), "Enter")
+            session.answer(f"it lacks 0 characters that were not loaded; {len(old) - 900} that it lacked came from {source}", "Enter")
+            session.wait_for("a.txt has that text now")
+            session.wait_for_quiet()
+            session.keys("C-w")
+            wait_for_text(path, f"late {earlier}{old}")
+            wait_until(lambda: not list(folder.glob("a.txt.sam-*")), "the old texts stay, though all of both is written")
+            session.leave()
+        (folder / "status").unlink()
 
 
 def check_cut_is_taken(folder):
