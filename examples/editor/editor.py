@@ -130,8 +130,8 @@ class Editor(Desk, Waiting, Actions):
             self.way.hear()
 
     def hear(self, line: str) -> None:
-        """A line of the host's standard error. What it says of a text stays on the screen until it is read. Where `^W` was the last key, and
-        it may replace another program's text, this asks; else the next `^W` does."""
+        """A line of the host's standard error. What it says of a text stays on the screen until it is read. Where `^W` was the last key,
+        and it may replace another program's text, this asks; else the next `^W` does."""
         told = said(line)
         tags = self.keeping.hear_host(told, line)
         if told.what == "written":

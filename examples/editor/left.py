@@ -121,8 +121,8 @@ class Left:
         return True
 
     def _filled(self, old: Old, text: str) -> Optional[str]:
-        """A text with what it lacks, from what the host saved of its file, else from the file itself, once the user was told. None where the
-        key acts again, or asks."""
+        """A text with what it lacks, from what the host saved of its file, else from the file itself, once the user was told. None where
+        the key acts again, or asks."""
         lacks, self._whole = rescue.lacking(text), None
         if not lacks:
             return text
