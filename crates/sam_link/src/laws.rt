@@ -1,0 +1,10 @@
+//! Laws of a link, as functions that do nothing.
+
+ghost use Rattle.sam_link.specs.Ways.{AlwaysDelivers, CarriedIsAll};
+
+/// States that over any connections, broken anywhere, what has come is the front of what was put, once and in order; that nothing is
+/// dropped which has not come; and that all has come once a connection that holds has carried all.
+pub fn ways_deliver()
+    ensures delivers { AlwaysDelivers }
+    ensures carried { CarriedIsAll }
+{}

@@ -1,0 +1,11 @@
+//! A link: two ends, whose bytes and notes go over connections that may break anywhere, each once and in order.
+//!
+//! docs/LINK.md has the wire. An end keeps what it puts until the other side has acknowledged it, and each connection goes on where the
+//! other side's hello says.
+#![tactic(auto)]
+
+mod keeping;
+mod laws;
+
+pub use keeping::{Kept, PutFault, WrongCount};
+pub use laws::ways_deliver;
