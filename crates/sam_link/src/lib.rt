@@ -6,6 +6,10 @@
 
 mod keeping;
 mod laws;
+mod packet;
+mod reading;
 
 pub use keeping::{Kept, PutFault, WrongCount};
 pub use laws::ways_deliver;
+pub use packet::{Bytes, MOST_BODY, Packet};
+pub use reading::{PacketFault, Split, split_packets};
