@@ -1,3 +1,4 @@
+pub mod Hellos
 pub mod Keeping
 pub mod Packets
 pub mod Ways

@@ -4,11 +4,13 @@
 //! other side's hello says.
 #![tactic(auto)]
 
+mod hello;
 mod keeping;
 mod laws;
 mod packet;
 mod reading;
 
+pub use hello::{HELLO_BYTES, Hello, Id, Refusal, What, read_hello};
 pub use keeping::{Kept, PutFault, WrongCount};
 pub use laws::ways_deliver;
 pub use packet::{Bytes, MOST_BODY, Packet};
