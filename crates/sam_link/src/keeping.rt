@@ -1,7 +1,11 @@
 //! What one end keeps of what it puts.
 
-ghost use Rattle.std.specs.Prelude.{◌≡◌, ◌≤◌, ◌<◌, ◌+◌, ◌-◌, ◌++◌, ◌⊎◌, [], length, take, drop, min, max, OnOk, OnErr};
+ghost use Rattle.std.specs.Prelude.{◌≡◌, ◌≤◌, ◌<◌, ◌+◌, ◌-◌, ◌^◌, ◌++◌, [], length, take, drop, min, Decides};
+ghost use Rattle.sam_mesg.specs.Spelling.{frame};
+ghost use Rattle.sam_link.specs.Keeping.{HasRoom, MayHave, Puts, acknowledged, begun};
+ghost use Rattle.sam_link.specs.Putting.{data_stream};
 
+use crate::writing::{packets_needed, write_data, write_packet};
 use std::alloc::Global;
 use std::marker::Model;
 use thiserror::Error;
@@ -16,11 +20,6 @@ pub enum PutFault {
     #[error("out of memory")]
     OutOfMemory,
 }
-
-/// A count that the other side can't have.
-#[derive(Clone, Copy, Debug, PartialEq, Eq, Drop, Error)]
-#[error("a count that can't be")]
-pub struct WrongCount;
 
 /// What an end keeps: all that the other side has not acknowledged. Contracts see how many bytes were acknowledged (`base`), the bytes
 /// after these (`kept`), and how many of them this connection has been given (`sent`).
@@ -82,19 +81,71 @@ impl Kept {
         self.sent
     }
 
-    /// Puts bytes after the others, all or none.
-    pub fn put(&mut self, bytes: &[u8]) -> Result<(), PutFault>
-        ensures put { OnOk result (self.new ≡ record self.old { kept = self.old.kept ++ bytes.now }) }
-        ensures unchanged { OnErr result (self.new ≡ self.old) }
+    /// Returns whether so many bytes more can be counted.
+    fn has_room(&self, len: u64) -> bool
+        ensures { Decides result (HasRoom self.now len) }
     {
         let room = u64::MAX - self.base - self.len() as u64;
-        if bytes.len() as u64 > room {
+        len <= room
+    }
+
+    /// Puts a packet, if its bytes can be counted. The errors are `CountFull` and `OutOfMemory`, after which all is as before.
+    pub fn put_packet(&mut self, kind: u8, body: &[u8]) -> Result<(), PutFault>
+        requires { length body.now < 2 ^ 16 }
+        ensures { Puts self.old (frame kind body.now) result self.new }
+    {
+        if !self.has_room(body.len() as u64 + 3) {
             return Err(PutFault::CountFull);
         }
-        if self.bytes.extend_from_slice(bytes).is_err() {
-            return Err(PutFault::OutOfMemory);
+        match write_packet(&mut self.bytes, kind, body) {
+            Ok(()) => Ok(()),
+            Err(_) => Err(PutFault::OutOfMemory),
         }
-        Ok(())
+    }
+
+    /// Puts bytes as packets, if all can be counted, all or none. The errors are `CountFull` and `OutOfMemory`, after which all is as
+    /// before.
+    pub fn put_data(&mut self, bytes: &[u8]) -> Result<(), PutFault>
+        ensures { Puts self.old (data_stream bytes.now) result self.new }
+    {
+        let heads = packets_needed(bytes.len()) as u64 * 3;
+        if !self.has_room(bytes.len() as u64 + heads) {
+            return Err(PutFault::CountFull);
+        }
+        match write_data(&mut self.bytes, bytes) {
+            Ok(()) => Ok(()),
+            Err(_) => Err(PutFault::OutOfMemory),
+        }
+    }
+
+    /// Takes back the last bytes that were put, none of which went.
+    pub fn take_back(&mut self, count: usize)
+        requires { self.old.sent + count ≤ length self.old.kept }
+        ensures { self.new ≡ record self.old { kept = take (length self.old.kept - count) self.old.kept } }
+    {
+        let rest = self.bytes.len() - count;
+        self.bytes.truncate(rest);
+    }
+
+    /// What this connection has been given is given to another.
+    pub fn rewind(&mut self)
+        ensures { self.new ≡ record self.old { sent = 0 } }
+    {
+        self.sent = 0;
+    }
+
+    /// Returns whether the other side can have got so many bytes, over all connections.
+    pub fn may_have(&self, count: u64) -> bool
+        ensures { Decides result (MayHave self.now count) }
+    {
+        self.base <= count && count - self.base <= self.len() as u64
+    }
+
+    /// Returns whether this connection has been given fewer bytes than this count.
+    pub fn is_ahead(&self, count: u64) -> bool
+        ensures { Decides result (self.now.base + self.now.sent < count) }
+    {
+        count > self.base && count - self.base > self.sent as u64
     }
 
     /// Moves the next bytes for this connection into the buffer, as many as there are and have room, and returns how many. The rest of
@@ -125,44 +176,27 @@ impl Kept {
     }
 
     /// Another connection begins, whose hello tells how many bytes have come. So many are acknowledged, and it is given those after them.
-    pub fn begin(&mut self, count: u64) -> Result<(), WrongCount>
-        ensures begun { OnOk result ((self.old.base ≤ count) × (count ≤ self.old.base + length self.old.kept)
-            × (self.new ≡ record { base = count; kept = drop (count - self.old.base) self.old.kept; sent = 0 })) }
-        ensures wrong { OnErr result ((count < self.old.base) ⊎ (self.old.base + length self.old.kept < count)) }
-        ensures unchanged { OnErr result (self.new ≡ self.old) }
+    pub fn begin(&mut self, count: u64)
+        requires { MayHave self.old count }
+        ensures { self.new ≡ begun self.old count }
     {
-        if count < self.base || count - self.base > self.len() as u64 {
-            return Err(WrongCount);
-        }
         self.gone += (count - self.base) as usize;
         self.base = count;
         self.sent = 0;
         self.compact();
-        Ok(())
     }
 
     /// An acknowledgement has come on this connection, of which an older count changes nothing.
-    pub fn acknowledged(&mut self, count: u64) -> Result<(), WrongCount>
-        ensures taken { OnOk result (count ≤ self.old.base + self.old.sent) }
-        ensures kept { OnOk result (self.new ≡ record {
-          base = max self.old.base count;
-          kept = drop (count - self.old.base) self.old.kept;
-          sent = self.old.sent - (count - self.old.base);
-        }) }
-        ensures ahead { OnErr result (self.old.base + self.old.sent < count) }
-        ensures unchanged { OnErr result (self.new ≡ self.old) }
+    pub fn acknowledge(&mut self, count: u64)
+        requires { count ≤ self.old.base + self.old.sent }
+        ensures { self.new ≡ acknowledged self.old count }
     {
-        if count <= self.base {
-            return Ok(());
+        if count > self.base {
+            let gone = (count - self.base) as usize;
+            self.gone += gone;
+            self.sent -= gone;
+            self.base = count;
+            self.compact();
         }
-        if count - self.base > self.sent as u64 {
-            return Err(WrongCount);
-        }
-        let gone = (count - self.base) as usize;
-        self.gone += gone;
-        self.sent -= gone;
-        self.base = count;
-        self.compact();
-        Ok(())
     }
 }

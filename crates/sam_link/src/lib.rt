@@ -9,9 +9,10 @@ mod keeping;
 mod laws;
 mod packet;
 mod reading;
+mod writing;
 
 pub use hello::{HELLO_BYTES, Hello, Id, Refusal, What, read_hello};
-pub use keeping::{Kept, PutFault, WrongCount};
+pub use keeping::{Kept, PutFault};
 pub use laws::ways_deliver;
 pub use packet::{Bytes, MOST_BODY, Packet};
 pub use reading::{PacketFault, Split, split_packets};
