@@ -1,4 +1,5 @@
 pub mod Hellos
+pub mod Inbox
 pub mod Keeping
 pub mod Packets
 pub mod Putting

@@ -5,6 +5,7 @@
 #![tactic(auto)]
 
 mod hello;
+mod inbox;
 mod keeping;
 mod laws;
 mod packet;
@@ -12,6 +13,7 @@ mod reading;
 mod writing;
 
 pub use hello::{HELLO_BYTES, Hello, Id, Refusal, What, read_hello};
+pub use inbox::Inbox;
 pub use keeping::{Kept, PutFault};
 pub use laws::ways_deliver;
 pub use packet::{Bytes, MOST_BODY, Packet};

@@ -28,6 +28,16 @@ impl Model for Bytes {
 }
 
 impl Bytes {
+    /// No bytes. It takes no memory.
+    pub fn none(alloc: Global) -> Bytes
+        ensures { result ≡ [] }
+    {
+        Bytes {
+            bytes: Vec::new(alloc),
+            taken: 0,
+        }
+    }
+
     /// Copies the bytes. The only error is out of memory.
     pub fn of(alloc: Global, bytes: &[u8]) -> Result<Bytes, AllocError>
         ensures { IfOk result (λ copy. copy ≡ bytes.now) }
