@@ -1,3 +1,4 @@
+pub mod End
 pub mod Hellos
 pub mod Inbox
 pub mod Keeping

@@ -2,7 +2,7 @@
 
 ghost use Rattle.std.specs.Prelude.{◌≡◌, ◌≤◌, ◌<◌, ◌+◌, ◌-◌, ◌^◌, ◌++◌, [], length, take, drop, min, Decides};
 ghost use Rattle.sam_mesg.specs.Spelling.{frame};
-ghost use Rattle.sam_link.specs.Keeping.{HasRoom, MayHave, Puts, acknowledged, begun};
+ghost use Rattle.sam_link.specs.Keeping.{HasRoom, MayHave, Puts, may_have, acknowledged, begun};
 ghost use Rattle.sam_link.specs.Putting.{data_stream};
 
 use crate::writing::{packets_needed, write_data, write_packet};
@@ -136,9 +136,9 @@ impl Kept {
 
     /// Returns whether the other side can have got so many bytes, over all connections.
     pub fn may_have(&self, count: u64) -> bool
-        ensures { Decides result (MayHave self.now count) }
+        ensures { result ≡ may_have self.now count }
     {
-        self.base <= count && count - self.base <= self.len() as u64
+        self.base <= count && count <= self.base + self.len() as u64
     }
 
     /// Returns whether this connection has been given fewer bytes than this count.

@@ -4,17 +4,24 @@
 //! other side's hello says.
 #![tactic(auto)]
 
+mod answering;
+mod fault;
 mod hello;
 mod inbox;
 mod keeping;
 mod laws;
+mod link;
 mod packet;
+mod phase;
 mod reading;
 mod writing;
 
+pub use fault::{AnswerFault, CallFault, NotOpen, WelcomeFault};
 pub use hello::{HELLO_BYTES, Hello, Id, Refusal, What, read_hello};
 pub use inbox::Inbox;
 pub use keeping::{Kept, PutFault};
 pub use laws::ways_deliver;
+pub use link::Link;
 pub use packet::{Bytes, MOST_BODY, Packet};
+pub use phase::{Phase, Role};
 pub use reading::{PacketFault, Split, split_packets};
