@@ -1,4 +1,5 @@
 pub mod End
+pub mod Feeding
 pub mod Hellos
 pub mod Inbox
 pub mod Keeping

@@ -1,6 +1,7 @@
 //! Why a call of a link is refused.
 
 use crate::hello::Refusal;
+use crate::reading::PacketFault;
 use thiserror::Error;
 
 /// Why a terminal does not call. Nothing has changed.
@@ -46,3 +47,37 @@ pub enum WelcomeFault {
 #[derive(Clone, Copy, Debug, PartialEq, Eq, Drop, Error)]
 #[error("the connection is over")]
 pub struct NotOpen;
+
+/// Why a piece is not taken.
+#[derive(Clone, Copy, Debug, PartialEq, Eq, Drop, Error)]
+pub enum FeedFault {
+    /// The connection is not open, or is not the newest. Nothing has changed.
+    #[error("the connection is over")]
+    NotOpen,
+    /// 2^64-1 bytes would be passed. Nothing has changed.
+    #[error("a count is full")]
+    CountFull,
+    /// A request for memory was refused. Nothing has changed, and the piece may be fed again.
+    #[error("out of memory")]
+    OutOfMemory,
+    /// A packet is wrong. The connection is over, and nothing else has changed.
+    #[error("a wrong packet")]
+    Wrong(PacketFault),
+    /// Bytes are acknowledged that this connection was not given. It is over, and nothing else has changed.
+    #[error("bytes are acknowledged that did not go")]
+    AckAhead,
+}
+
+/// Why a note is not put. Nothing has changed.
+#[derive(Clone, Copy, Debug, PartialEq, Eq, Drop, Error)]
+pub enum NoteFault {
+    /// A note has at most 4,096 bytes.
+    #[error("a note of over 4,096 bytes")]
+    TooLong,
+    /// 2^64-1 bytes would be passed.
+    #[error("a count is full")]
+    CountFull,
+    /// A request for memory was refused.
+    #[error("out of memory")]
+    OutOfMemory,
+}

@@ -94,6 +94,20 @@ impl Inbox {
         add_items(&mut self.packets, packets)
     }
 
+    /// Returns how many packets wait behind what was begun.
+    pub fn len(&self) -> usize
+        ensures { result ≡ length self.now.packets }
+    {
+        self.packets.len()
+    }
+
+    /// Keeps the first packets, so many.
+    pub fn cut(&mut self, len: usize)
+        ensures { self.new ≡ record self.old { packets = take len self.old.packets } }
+    {
+        self.packets.truncate(len);
+    }
+
     /// Begins the next packet, if it is data and all of the one before was taken.
     fn make_ready(&mut self)
         ensures { self.new ≡ ready self.old }

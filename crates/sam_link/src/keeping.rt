@@ -118,15 +118,6 @@ impl Kept {
         }
     }
 
-    /// Takes back the last bytes that were put, none of which went.
-    pub fn take_back(&mut self, count: usize)
-        requires { self.old.sent + count ≤ length self.old.kept }
-        ensures { self.new ≡ record self.old { kept = take (length self.old.kept - count) self.old.kept } }
-    {
-        let rest = self.bytes.len() - count;
-        self.bytes.truncate(rest);
-    }
-
     /// What this connection has been given is given to another.
     pub fn rewind(&mut self)
         ensures { self.new ≡ record self.old { sent = 0 } }

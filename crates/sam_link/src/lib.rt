@@ -6,6 +6,7 @@
 
 mod answering;
 mod fault;
+mod feeding;
 mod hello;
 mod inbox;
 mod keeping;
@@ -16,7 +17,7 @@ mod phase;
 mod reading;
 mod writing;
 
-pub use fault::{AnswerFault, CallFault, NotOpen, WelcomeFault};
+pub use fault::{AnswerFault, CallFault, FeedFault, NotOpen, NoteFault, WelcomeFault};
 pub use hello::{HELLO_BYTES, Hello, Id, Refusal, What, read_hello};
 pub use inbox::Inbox;
 pub use keeping::{Kept, PutFault};

@@ -1,22 +1,31 @@
 //! One end of a link.
 
-ghost use Rattle.std.specs.Prelude.{◌≡◌, ◌++◌, drop, length, min, take};
+ghost use Rattle.std.specs.Prelude.{◌≡◌, ◌≤◌, ◌+◌, ◌++◌, [], OnOk, OnErr, drop, length, min, take};
 ghost use Rattle.std.specs.Prelude.{◌&&◌, ◌==◌, true, if◌then◌else◌};
-ghost use Rattle.sam_link.specs.End.{Calls, TakesOut, broken, fresh, is_up, may_send, same_id, says};
+ghost use Rattle.sam_link.specs.End.{Calls, TakesOut, broken, ended, fresh, is_up, may_send, same_id, says};
 ghost use Rattle.sam_link.specs.declared.hello.What.TheVariants as What;
 ghost use Rattle.sam_link.specs.declared.phase.Phase.TheVariants as Phase;
+ghost use Rattle.sam_link.specs.Feeding.{Feeds, PutsNote, TakesSplit, asks, ended_for, fed_to, is_open, top_of};
 ghost use Rattle.sam_link.specs.Inbox.{GivesNote, ready};
 ghost use Rattle.sam_link.specs.Keeping.{MayHave, Puts, begun, may_have};
+ghost use Rattle.sam_mesg.specs.Spelling.{eight, frame};
+ghost use Rattle.sam_link.specs.Packets.{IsSplit};
 ghost use Rattle.sam_link.specs.Putting.{data_stream};
 
-use crate::fault::{CallFault, NotOpen};
+use crate::fault::{CallFault, FeedFault, NotOpen, NoteFault};
+use crate::feeding::{Said, forget, read_piece, said_by, take_packets};
 use crate::hello::{HELLO_BYTES, Hello, Id, What};
 use crate::inbox::Inbox;
 use crate::keeping::{Kept, PutFault};
-use crate::packet::Bytes;
+use crate::packet::{Bytes, MOST_BODY, Packet};
 use crate::phase::{Phase, Role};
-use std::alloc::Global;
+use crate::reading::Split;
+use std::alloc::{AllocError, Global};
 use std::marker::Model;
+
+/// So many bytes may come before the other side is told. It has to exceed the 11 bytes of an acknowledgement, or two idle ends would answer
+/// each other for ever.
+const TELL_AFTER: u64 = 16_384;
 
 /// One end of a link: a machine below any transport, which opens no connection and knows no clock. The program moves the bytes of the
 /// newest connection between it and the transport.
@@ -136,9 +145,16 @@ impl Link {
         ensures { self.new ≡ broken self.old attempt }
     {
         if attempt == self.attempt {
-            self.phase = Phase::Down;
-            self.hello_gone = HELLO_BYTES;
+            self.end();
         }
+    }
+
+    /// The newest connection is over.
+    fn end(&mut self)
+        ensures { self.new ≡ ended self.old }
+    {
+        self.phase = Phase::Down;
+        self.hello_gone = HELLO_BYTES;
     }
 
     /// Puts bytes for the other side, all or none. Errors, in this order: `CountFull`, `OutOfMemory`.
@@ -147,6 +163,156 @@ impl Link {
         ensures others { self.new ≡ record self.old { keeps = self.new.keeps } }
     {
         self.kept.put_data(bytes)
+    }
+
+    /// Puts a note for the other side, behind all that was put. Errors, in this order: `TooLong`, `CountFull`, `OutOfMemory`.
+    pub fn put_note(&mut self, bytes: &[u8]) -> Result<(), NoteFault>
+        ensures note { PutsNote self.old.keeps bytes.now result self.new.keeps }
+        ensures others { self.new ≡ record self.old { keeps = self.new.keeps } }
+    {
+        if bytes.len() > MOST_BODY {
+            return Err(NoteFault::TooLong);
+        }
+        match self.kept.put_packet(2, bytes) {
+            Ok(()) => Ok(()),
+            Err(PutFault::CountFull) => Err(NoteFault::CountFull),
+            Err(PutFault::OutOfMemory) => Err(NoteFault::OutOfMemory),
+        }
+    }
+
+    /// Asks the other side to acknowledge now. Errors, in this order: `CountFull`, `OutOfMemory`.
+    pub fn ask(&mut self) -> Result<(), PutFault>
+        ensures asked { Puts self.old.keeps (frame 4 []) result self.new.keeps }
+        ensures others { self.new ≡ record self.old { keeps = self.new.keeps } }
+    {
+        self.kept.put_packet(4, &[])
+    }
+
+    /// Tells the other side how many of its bytes have come. Errors, in this order: `CountFull`, `OutOfMemory`.
+    pub fn acknowledge(&mut self) -> Result<(), PutFault>
+        ensures put { Puts self.old.keeps (frame 3 (eight self.old.received)) result self.new.keeps }
+        ensures told { OnOk result (self.new ≡ record self.old { keeps = self.new.keeps; told = self.old.received }) }
+        ensures unchanged { OnErr result (self.new ≡ self.old) }
+    {
+        match self.put_count() {
+            Ok(()) => {
+                self.told = self.received;
+                Ok(())
+            }
+            Err(fault) => Err(fault),
+        }
+    }
+
+    /// Puts an acknowledgement of all that has come.
+    fn put_count(&mut self) -> Result<(), PutFault>
+        ensures put { Puts self.old.keeps (frame 3 (eight self.old.received)) result self.new.keeps }
+        ensures others { self.new ≡ record self.old { keeps = self.new.keeps } }
+    {
+        self.kept.put_packet(3, &self.received.to_be_bytes())
+    }
+
+    /// Returns whether connection `attempt` is the newest, and both sides have said hello.
+    fn is_open(&self, attempt: u64) -> bool
+        ensures { result ≡ (is_open self.now.phase && (attempt == self.now.attempt)) }
+    {
+        match self.phase {
+            Phase::Down => false,
+            Phase::Asking => false,
+            Phase::Open => attempt == self.attempt,
+        }
+    }
+
+    /// Takes packets that have come whole, of which so many bytes are held, up to this count of all. The only error is out of memory, after
+    /// which all is as before.
+    fn take_packets(
+        &mut self,
+        packets: Vec<Packet>,
+        said: Said,
+        len: usize,
+        count: u64,
+    ) -> Result<(), AllocError>
+        requires told { self.old.told ≤ count }
+        requires said { (said.top ≡ top_of packets.items) × (said.asked ≡ asks packets.items) }
+        requires sent { top_of packets.items ≤ self.old.keeps.base + self.old.keeps.sent }
+        requires held { len ≤ length self.old.held }
+        ensures taken { OnOk result (self.new ≡ fed_to self.old packets.items (drop len self.old.held) count) }
+        ensures unchanged { OnErr result (self.new ≡ self.old) }
+    {
+        let owes = said.asked || count - self.told >= TELL_AFTER;
+        let did = take_packets(&mut self.kept, &mut self.inbox, packets, owes, count)?;
+        self.kept.acknowledge(said.top);
+        forget(&mut self.held, len);
+        self.received = count;
+        if did {
+            self.told = count;
+        }
+        Ok(())
+    }
+
+    /// Takes what was read of a piece, which is held, up to this count of all bytes.
+    fn take_split(&mut self, split: Split, count: u64) -> Result<(), FeedFault>
+        requires told { self.old.told ≤ count }
+        requires split { IsSplit self.old.held split }
+        ensures { TakesSplit self.old split count result self.new }
+    {
+        let Split {
+            packets,
+            len,
+            fault,
+        } = split;
+        if let Some(fault) = fault {
+            return Err(FeedFault::Wrong(fault));
+        }
+        let said = said_by(packets.as_slice());
+        if self.kept.is_ahead(said.top) {
+            return Err(FeedFault::AckAhead);
+        }
+        match self.take_packets(packets, said, len, count) {
+            Ok(()) => Ok(()),
+            Err(_) => Err(FeedFault::OutOfMemory),
+        }
+    }
+
+    /// Takes the next piece of the other side's stream on connection `attempt`: all of it, or nothing. It may begin and end anywhere in a
+    /// packet.
+    ///
+    /// Errors: `NotOpen`, then `CountFull`; then `OutOfMemory`, after which the piece may be fed again; or `Wrong` or `AckAhead`, after
+    /// which the connection is over. Nothing else has changed.
+    pub fn feed(&mut self, attempt: u64, piece: &[u8]) -> Result<(), FeedFault>
+        ensures { Feeds self.old attempt piece.now result self.new }
+    {
+        if !self.is_open(attempt) {
+            return Err(FeedFault::NotOpen);
+        }
+        if piece.len() as u64 > u64::MAX - self.received {
+            return Err(FeedFault::CountFull);
+        }
+        let before = self.held.len();
+        let Ok(split) = read_piece(self.alloc, &mut self.held, piece) else {
+            return Err(FeedFault::OutOfMemory);
+        };
+        let count = self.received + piece.len() as u64;
+        match self.take_split(split, count) {
+            Ok(()) => Ok(()),
+            Err(fault) => {
+                self.held.truncate(before);
+                self.end_for(fault);
+                Err(fault)
+            }
+        }
+    }
+
+    /// The connection is over, where the fault is of the other side.
+    fn end_for(&mut self, fault: FeedFault)
+        ensures { self.new ≡ ended_for fault self.old }
+    {
+        match fault {
+            FeedFault::Wrong(_) => self.end(),
+            FeedFault::AckAhead => self.end(),
+            FeedFault::NotOpen => {}
+            FeedFault::CountFull => {}
+            FeedFault::OutOfMemory => {}
+        }
     }
 
     /// Moves the next bytes of the other side's program into the buffer, and returns how many: as many as have room there, of one packet
