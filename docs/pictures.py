@@ -80,6 +80,7 @@ PLACES = {
     "sam_crossing": (450, 6, "crossing messages agree"),
     "sam_sides": (360, 7, "what each side did"),
     "sam_endpoint": (740, 7, "a side with its bytes"),
+    "sam_link": (100, 7, "over lines that break"),
     "sam_frame": (100, 8, "streams of messages"),
     "sam_host": (280, 8, "the host"),
     "sam_term": (460, 8, "the terminal"),

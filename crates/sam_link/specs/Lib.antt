@@ -1,3 +1,4 @@
+pub mod Carrying
 pub mod End
 pub mod Feeding
 pub mod Hellos

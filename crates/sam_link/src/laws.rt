@@ -1,5 +1,6 @@
 //! Laws of a link, as functions that do nothing.
 
+ghost use Rattle.sam_link.specs.Carrying.{PacketsCarry};
 ghost use Rattle.sam_link.specs.Ways.{AlwaysDelivers, CarriedIsAll};
 
 /// States that over any connections, broken anywhere, what has come is the front of what was put, once and in order; that nothing is
@@ -7,4 +8,10 @@ ghost use Rattle.sam_link.specs.Ways.{AlwaysDelivers, CarriedIsAll};
 pub fn ways_deliver()
     ensures delivers { AlwaysDelivers }
     ensures carried { CarriedIsAll }
+{}
+
+/// States that over any connections, broken anywhere, the packets that came are a front of those that were put, each once and in order;
+/// and so are the data and the notes among them.
+pub fn packets_carry()
+    ensures { PacketsCarry }
 {}
