@@ -1,5 +1,5 @@
 -- What is left of a piece that was not taken.
-use Rattle.std.proofs.Common.{◌≡◌, ℕ, ◌+◌, List, ◌++◌, length, take, drop, Err, subst, ap, sym, ◌∙◌, arith}
+use Rattle.std.proofs.Common.{◌≡◌, ℕ, List, ◌++◌, length, take, drop, Err, subst, ap, ◌∙◌}
 use Rattle.std.proofs.Math.Seq.{take-append_seam}
 use Rattle.sam_link.specs.End.{End, ended}
 use Rattle.sam_link.specs.Feeding.{Feeds, MayFeed, TakesSplit, ended_for}

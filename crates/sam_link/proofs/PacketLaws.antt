@@ -1,11 +1,10 @@
 -- No packet begins another, so a front of a stream of packets has a front of its packets.
-use Rattle.std.proofs.Common.{◌≡◌, ℕ, ◌+◌, ◌<◌, ◌^◌, List, [], ◌∷◌, ◌++◌, Option, None, Ok, true, length, w64, refl, sym, ap, ◌∙◌, subst, append_assoc, append-nil, arith}
+use Rattle.std.proofs.Common.{◌≡◌, ℕ, ◌<◌, ◌^◌, List, [], ◌++◌, None, true, length, w64, refl, sym, ap, ◌∙◌, append_assoc, append-nil, arith}
 use Rattle.std.proofs.lemmas.List.Concat.{flat_map-append}
 use Rattle.std.proofs.lemmas.Nat.{from_be_bytes-to_be_bytes_8}
 use Rattle.std.specs.Int.{from_be_bytes}
-use Rattle.sam_mesg.specs.Bounds.{header, may_be}
+use Rattle.sam_mesg.specs.Bounds.{may_be}
 use Rattle.sam_mesg.specs.Spelling.{eight}
-use Rattle.sam_mesg.specs.declared.fault.Header.TheVariants.{Length}
 use Rattle.sam_mesg.proofs.FrameLaws.{header_of_frame, same_frame}
 use Rattle.sam_frame.specs.Direction.{frame_of}
 use Rattle.sam_frame.specs.Reading.{IsSound}
@@ -58,8 +57,8 @@ packets_sound =
 front_read : (ps qs : List Packet) (came rest held : List ℕ) → FitInTurn packets 1 ps → stream_of packets ps ≡ came ++ rest → Splits packets 1 came qs held → (more : List Packet) × (ps ≡ qs ++ more)
 front_read ps qs came rest held fit whole splits =
     reads_on packets packets_sound 1 (stream_of packets ps) qs ps (held ++ rest) [] None
-        (record { whole = whole ∙ ap (λ b. b ++ rest) splits.whole ∙ append_assoc (stream_of packets qs) held rest; fit = splits.fit })
-        (record { whole = sym (append-nil (stream_of packets ps)); fit = fit }) tt
+    (record { whole = whole ∙ ap (λ b. b ++ rest) splits.whole ∙ append_assoc (stream_of packets qs) held rest; fit = splits.fit })
+    (record { whole = sym (append-nil (stream_of packets ps)); fit = fit }) tt
 
 pub packets_carry : (steps : List Step) (ps qs : List Packet) (held : List ℕ) → IsPut (after_all first steps) ps → Splits packets 1 (after_all first steps).came qs held → Carries ps qs
 packets_carry steps ps qs held put splits =

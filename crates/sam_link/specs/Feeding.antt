@@ -1,10 +1,10 @@
 -- What feeding a piece of the other side's stream does.
-use Rattle.std.specs.Prelude.{◌≡◌, ℕ, ◌+◌, ◌-◌, ◌^◌, ◌<◌, ◌≤◌, List, [], ◌∷◌, ◌++◌, length, drop, max, Bool, true, false, ◌&&◌, ◌||◌, ◌==◌, nat_le, nat_lt, if◌then◌else◌, Option, None, Some, Result, Ok, Err}
+use Rattle.std.specs.Prelude.{◌≡◌, ℕ, ◌+◌, ◌-◌, ◌^◌, ◌<◌, ◌≤◌, List, [], ◌∷◌, ◌++◌, length, drop, max, Bool, true, false, ◌&&◌, ◌||◌, ◌==◌, nat_le, nat_lt, if◌then◌else◌, None, Some, Result, Ok, Err}
 use Rattle.sam_mesg.specs.Spelling.{eight, frame}
 use Rattle.sam_frame.specs.Splitting.{Front}
 use Rattle.sam_frame.specs.Stream.{IsOpen, Shows}
 use Rattle.sam_link.specs.End.{End, ended}
-use Rattle.sam_link.specs.Inbox.{Waiting, items_of}
+use Rattle.sam_link.specs.Inbox.{items_of}
 use Rattle.sam_link.specs.Keeping.{Keeps, Puts, acknowledged, put}
 use Rattle.sam_link.specs.Packets.{mesg_fault, packets}
 use Rattle.sam_link.specs.declared.fault.FeedFault.{FeedFault}
@@ -14,7 +14,7 @@ use Rattle.sam_link.specs.declared.fault.NoteFault.TheVariants as notes
 use Rattle.sam_link.specs.declared.keeping.PutFault.TheVariants as puts
 use Rattle.sam_link.specs.declared.reading.Split.{Split}
 use Rattle.sam_link.specs.declared.packet.Packet.{Packet}
-use Rattle.sam_link.specs.declared.packet.Packet.TheVariants.{Data, Note, Acknowledge, Ask}
+use Rattle.sam_link.specs.declared.packet.Packet.TheVariants.{Acknowledge, Ask}
 use Rattle.sam_link.specs.declared.phase.Phase.{Phase}
 use Rattle.sam_link.specs.declared.phase.Phase.TheVariants.{Down, Asking, Open}
 

@@ -1,5 +1,5 @@
 -- The first 42 bytes each way of a connection.
-use Rattle.std.specs.Prelude.{◌≡◌, ◌≢◌, ℕ, ◌<◌, ◌≤◌, ◌-◌, List, [], ◌∷◌, ◌++◌, length, take, slice_index, nat_lt, Option, None, Some, Result, Ok, Err, if◌then◌else◌}
+use Rattle.std.specs.Prelude.{◌≡◌, ◌≢◌, ℕ, ◌<◌, ◌≤◌, List, [], ◌∷◌, ◌++◌, length, take, slice_index, nat_lt, Option, None, Some, Result, Ok, Err, if◌then◌else◌}
 use Rattle.sam_mesg.specs.Bounds.{entry}
 use Rattle.sam_mesg.specs.Spelling.{eight}
 use Rattle.sam_link.specs.declared.hello.Hello.{Hello}

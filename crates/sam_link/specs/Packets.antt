@@ -1,12 +1,12 @@
 -- The packets of a link's stream, and what stands first in bytes.
-use Rattle.std.specs.Prelude.{◌≡◌, ℕ, ◌<◌, ◌≤◌, ◌^◌, List, [], ◌∷◌, length, drop, Option, None, Some, true, max}
+use Rattle.std.specs.Prelude.{ℕ, ◌<◌, ◌≤◌, ◌^◌, List, [], ◌∷◌, length, drop, Option, None, Some, true}
 use Rattle.sam_mesg.specs.Bounds.{entry}
 use Rattle.sam_mesg.specs.Spelling.{eight}
 use Rattle.sam_mesg.specs.declared.fault.MesgFault.{MesgFault}
 use Rattle.sam_mesg.specs.declared.fault.MesgFault.TheVariants as wrong
 use Rattle.sam_frame.specs.Direction.{Direction}
 use Rattle.sam_frame.specs.First.{IsWhole}
-use Rattle.sam_frame.specs.Splitting.{Ends, Front}
+use Rattle.sam_frame.specs.Splitting.{Front}
 use Rattle.sam_frame.specs.Stream.{IsOpen, Shows}
 use Rattle.sam_link.specs.declared.packet.Packet.{Packet}
 use Rattle.sam_link.specs.declared.packet.Packet.TheVariants.{Data, Note, Acknowledge, Ask}

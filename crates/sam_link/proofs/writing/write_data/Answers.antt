@@ -1,7 +1,7 @@
 use Rattle.std.proofs.Common.{arith, append-nil, drop, ◌*◌}
 use Rattle.sam_frame.specs.Stream.{stream_of}
 use Rattle.sam_link.specs.Packets.{packets}
-use Rattle.sam_link.specs.Putting.{data_packets, data_stream}
+use Rattle.sam_link.specs.Putting.{data_packets}
 use Rattle.sam_link.proofs.Putting.{all_written, cut_again, data_none, data_written}
 use Rattle.sam_link.proofs.writing.write_data.Goals as goal
 

@@ -1,5 +1,4 @@
 use Rattle.std.proofs.Common.{◌+◌, length, arith}
-use Rattle.std.proofs.lemmas.Grind.{common_steps}
 use Rattle.sam_link.proofs.FeedLaws.{feed_failed}
 use Rattle.sam_link.proofs.link.Link.feed.Goals as goal
 
