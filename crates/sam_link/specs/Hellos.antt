@@ -1,5 +1,5 @@
 -- The first 42 bytes each way of a connection.
-use Rattle.std.specs.Prelude.{◌≡◌, ◌≢◌, ℕ, ◌<◌, ◌≤◌, List, [], ◌∷◌, ◌++◌, length, take, slice_index, nat_lt, Option, None, Some, Result, Ok, Err, if◌then◌else◌}
+use Rattle.std.specs.Prelude.{◌^◌, ◌≡◌, ◌≢◌, ℕ, ◌<◌, ◌≤◌, List, [], ◌∷◌, ◌++◌, length, take, slice_index, nat_lt, Option, None, Some, Result, Ok, Err, if◌then◌else◌}
 use Rattle.sam_mesg.specs.Bounds.{entry}
 use Rattle.sam_mesg.specs.Spelling.{eight}
 use Rattle.sam_link.specs.declared.hello.Hello.{Hello}
@@ -40,6 +40,10 @@ what_of number = if nat_lt number 17 then entry 1 whats number else entry 17 ref
 
 abbrev pub spelled : Hello → List ℕ
 spelled h = ((((mark ++ 1 ∷ what_number h.what ∷ []) ++ eight h.id.first) ++ eight h.id.last) ++ eight h.attempt) ++ eight h.received
+
+-- its numbers have eight bytes each
+abbrev pub IsHello : Hello → Type 0
+IsHello h = (h.id.first < 2 ^ 64) × (h.id.last < 2 ^ 64) × (h.attempt < 2 ^ 64) × (h.received < 2 ^ 64)
 
 -- so far the bytes are those of a hello: each of these is looked at as soon as it is there
 abbrev pub HasMark : List ℕ → Type 0

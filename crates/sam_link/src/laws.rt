@@ -1,6 +1,9 @@
 //! Laws of a link, as functions that do nothing.
 
 ghost use Rattle.sam_link.specs.Carrying.{PacketsCarry};
+ghost use Rattle.std.specs.Prelude.{◌≡◌};
+ghost use Rattle.sam_link.specs.Hellos.{IsHello, spelled};
+ghost use Rattle.sam_link.specs.declared.hello.Hello.{Hello};
 ghost use Rattle.sam_link.specs.Ways.{AlwaysDelivers, CarriedIsAll};
 
 /// States that over any connections, broken anywhere, what has come is the front of what was put, once and in order; that nothing is
@@ -14,4 +17,10 @@ pub fn ways_deliver()
 /// and so are the data and the notes among them.
 pub fn packets_carry()
     ensures { PacketsCarry }
+{}
+
+/// States that no two hellos have the same bytes: so a hello is read as the one that was written.
+#[tactic(auto, using(crate::proofs::HelloLaws::one_hello))]
+pub fn one_hello()
+    ensures { (g h : Hello) → IsHello g → IsHello h → spelled g ≡ spelled h → g ≡ h }
 {}
