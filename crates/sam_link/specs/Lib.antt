@@ -4,6 +4,7 @@ pub mod Feeding
 pub mod Hellos
 pub mod Inbox
 pub mod Keeping
+pub mod Meeting
 pub mod Packets
 pub mod Putting
 pub mod Ways

@@ -4,6 +4,7 @@ ghost use Rattle.sam_link.specs.Carrying.{PacketsCarry};
 ghost use Rattle.std.specs.Prelude.{◌≡◌};
 ghost use Rattle.sam_link.specs.Hellos.{IsHello, spelled};
 ghost use Rattle.sam_link.specs.declared.hello.Hello.{Hello};
+ghost use Rattle.sam_link.specs.Meeting.{HonestMeet};
 ghost use Rattle.sam_link.specs.Ways.{AlwaysDelivers, CarriedIsAll};
 
 /// States that over any connections, broken anywhere, what has come is the front of what was put, once and in order; that nothing is
@@ -23,4 +24,10 @@ pub fn packets_carry()
 #[tactic(auto, using(crate::proofs::HelloLaws::one_hello))]
 pub fn one_hello()
     ensures { (g h : Hello) → IsHello g → IsHello h → spelled g ≡ spelled h → g ≡ h }
+{}
+
+/// States that a host takes each new call of its session's terminal, and the terminal the welcome, whatever broke before: what is kept and
+/// counted on both sides has only to be that of two ways. So such ends refuse by `OldAttempt` alone.
+pub fn honest_meet()
+    ensures { HonestMeet }
 {}
