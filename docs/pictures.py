@@ -82,6 +82,7 @@ PLACES = {
     "sam_crossing": (550, 7, "crossing messages agree"),
     "sam_sides": (300, 8, "what each side did"),
     "sam_endpoint": (700, 8, "a side with its bytes"),
+    "sam_link": (100, 8, "over lines that break"),
     "sam_frame": (100, 9, "streams of messages"),
     "sam_host": (280, 9, "the host"),
     "sam_term": (460, 9, "the terminal"),

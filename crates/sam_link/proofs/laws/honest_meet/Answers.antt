@@ -1,0 +1,5 @@
+use Rattle.sam_link.proofs.MeetLaws.{honest_meet}
+use Rattle.sam_link.proofs.laws.honest_meet.Goals as goal
+
+pub returns : goal.returns
+returns c = honest_meet

@@ -1,0 +1,111 @@
+-- What feeding a piece of the other side's stream does.
+use Rattle.std.specs.Prelude.{◌≡◌, ℕ, ◌+◌, ◌-◌, ◌^◌, ◌<◌, ◌≤◌, List, [], ◌∷◌, ◌++◌, length, drop, max, Bool, true, false, ◌&&◌, ◌||◌, ◌==◌, nat_le, nat_lt, if◌then◌else◌, None, Some, Result, Ok, Err}
+use Rattle.sam_mesg.specs.Spelling.{eight, frame}
+use Rattle.sam_frame.specs.Splitting.{Front}
+use Rattle.sam_frame.specs.Stream.{IsOpen, Shows}
+use Rattle.sam_link.specs.End.{End, ended}
+use Rattle.sam_link.specs.Inbox.{items_of}
+use Rattle.sam_link.specs.Keeping.{Keeps, Puts, acknowledged, put}
+use Rattle.sam_link.specs.Packets.{mesg_fault, packets}
+use Rattle.sam_link.specs.declared.fault.FeedFault.{FeedFault}
+use Rattle.sam_link.specs.declared.fault.FeedFault.TheVariants.{NotOpen, CountFull, OutOfMemory, Wrong, AckAhead}
+use Rattle.sam_link.specs.declared.fault.NoteFault.{NoteFault}
+use Rattle.sam_link.specs.declared.fault.NoteFault.TheVariants as notes
+use Rattle.sam_link.specs.declared.keeping.PutFault.TheVariants as puts
+use Rattle.sam_link.specs.declared.reading.Split.{Split}
+use Rattle.sam_link.specs.declared.packet.Packet.{Packet}
+use Rattle.sam_link.specs.declared.packet.Packet.TheVariants.{Acknowledge, Ask}
+use Rattle.sam_link.specs.declared.phase.Phase.{Phase}
+use Rattle.sam_link.specs.declared.phase.Phase.TheVariants.{Down, Asking, Open}
+
+abbrev pub count_of : Packet → ℕ
+count_of (Acknowledge count) = count
+count_of p = 0
+
+-- the greatest count that is acknowledged
+abbrev pub top_of : List Packet → ℕ
+top_of [] = 0
+top_of (p ∷ ps) = max (count_of p) (top_of ps)
+
+abbrev pub is_ask : Packet → Bool
+is_ask Ask = true
+is_ask p = false
+
+abbrev pub asks : List Packet → Bool
+asks [] = false
+asks (p ∷ ps) = is_ask p || asks ps
+
+abbrev pub is_open : Phase → Bool
+is_open Down = false
+is_open Asking = false
+is_open Open = true
+
+abbrev pub has_room : Keeps → ℕ → Bool
+has_room k len = nat_lt (k.base + length k.kept + len) (2 ^ 64)
+
+-- an acknowledgement of this count is put, where one is owed and can be counted
+abbrev pub tells : Keeps → Bool → Bool
+tells k owes = owes && has_room k 11
+
+abbrev pub told : Keeps → Bool → ℕ → Keeps
+told k owes count = if tells k owes then put k (frame 3 (eight count)) else k
+
+-- the other side asks, or 16,384 bytes have come since it was told
+abbrev pub owes : End → List Packet → ℕ → Bool
+owes e ps count = asks ps || nat_le 16384 (count - e.told)
+
+abbrev pub fed_to : End → List Packet → List ℕ → ℕ → End
+fed_to e ps held count =
+    record e {
+      received = count;
+      told = if tells e.keeps (owes e ps count) then count else e.told;
+      keeps = acknowledged (told e.keeps (owes e ps count) count) (top_of ps);
+      held = held;
+      waiting = record e.waiting { packets = e.waiting.packets ++ items_of ps };
+    }
+
+abbrev pub fed : End → List ℕ → List Packet → ℕ → End
+fed e piece ps len = fed_to e ps (drop len (e.held ++ piece)) (e.received + length piece)
+
+abbrev pub MayFeed : End → ℕ → List ℕ → Type 0
+MayFeed e attempt piece = ((is_open e.phase && (attempt == e.attempt)) ≡ true) × (e.received + length piece < 2 ^ 64)
+
+-- what taking the packets of a piece that is held may answer, and leave as n
+abbrev pub TakesSplit : End → Split → ℕ → Result (Unit {0}) FeedFault → End → Type 0
+TakesSplit e s count (Ok done) n =
+    (s.fault ≡ None) × (top_of s.packets.items ≤ e.keeps.base + e.keeps.sent) × (n ≡ fed_to e s.packets.items (drop s.len e.held) count)
+TakesSplit e s count (Err (Wrong fault)) n = (s.fault ≡ Some fault) × (n ≡ e)
+TakesSplit e s count (Err AckAhead) n = (s.fault ≡ None) × (e.keeps.base + e.keeps.sent < top_of s.packets.items) × (n ≡ e)
+TakesSplit e s count (Err OutOfMemory) n = n ≡ e
+TakesSplit e s count (Err fault) n = ⊥
+
+-- a fault of the other side ends the connection
+abbrev pub ended_for : FeedFault → End → End
+ended_for (Wrong fault) e = ended e
+ended_for AckAhead e = ended e
+ended_for NotOpen e = e
+ended_for CountFull e = e
+ended_for OutOfMemory e = e
+
+-- what putting a note may answer, and leave as n
+abbrev pub PutsNote : Keeps → List ℕ → Result (Unit {0}) NoteFault → Keeps → Type 0
+PutsNote k bytes (Ok done) n = (length bytes ≤ 4096) × Puts k (frame 2 bytes) (Ok done) n
+PutsNote k bytes (Err notes.TooLong) n = (4096 < length bytes) × (n ≡ k)
+PutsNote k bytes (Err notes.CountFull) n = (length bytes ≤ 4096) × Puts k (frame 2 bytes) (Err puts.CountFull) n
+PutsNote k bytes (Err notes.OutOfMemory) n = (length bytes ≤ 4096) × Puts k (frame 2 bytes) (Err puts.OutOfMemory) n
+
+-- what feed may answer to a piece, and leave as n
+abbrev pub Feeds : End → ℕ → List ℕ → Result (Unit {0}) FeedFault → End → Type 0
+Feeds e attempt piece (Ok done) n =
+    (ps : List Packet) × (len : ℕ) × MayFeed e attempt piece × Front packets 1 (e.held ++ piece) ps 1 len
+    × IsOpen packets 1 (drop len (e.held ++ piece)) × (top_of ps ≤ e.keeps.base + e.keeps.sent) × (n ≡ fed e piece ps len)
+Feeds e attempt piece (Err NotOpen) n = ((is_open e.phase && (attempt == e.attempt)) ≡ false) × (n ≡ e)
+Feeds e attempt piece (Err CountFull) n =
+    ((is_open e.phase && (attempt == e.attempt)) ≡ true) × (2 ^ 64 ≤ e.received + length piece) × (n ≡ e)
+Feeds e attempt piece (Err OutOfMemory) n = MayFeed e attempt piece × (n ≡ e)
+Feeds e attempt piece (Err (Wrong fault)) n =
+    (ps : List Packet) × (len : ℕ) × MayFeed e attempt piece × Front packets 1 (e.held ++ piece) ps 1 len
+    × Shows packets 1 (drop len (e.held ++ piece)) (mesg_fault fault) × (n ≡ ended e)
+Feeds e attempt piece (Err AckAhead) n =
+    (ps : List Packet) × (len : ℕ) × MayFeed e attempt piece × Front packets 1 (e.held ++ piece) ps 1 len
+    × (e.keeps.base + e.keeps.sent < top_of ps) × (n ≡ ended e)

@@ -1,0 +1,10 @@
+pub mod Carrying
+pub mod End
+pub mod Feeding
+pub mod Hellos
+pub mod Inbox
+pub mod Keeping
+pub mod Meeting
+pub mod Packets
+pub mod Putting
+pub mod Ways

@@ -1,0 +1,28 @@
+//! A link: two ends, whose bytes and notes go over connections that may break anywhere, each once and in order.
+//!
+//! docs/LINK.md has the wire. An end keeps what it puts until the other side has acknowledged it, and each connection goes on where the
+//! other side's hello says.
+#![tactic(auto)]
+
+mod answering;
+mod fault;
+mod feeding;
+mod hello;
+mod inbox;
+mod keeping;
+mod laws;
+mod link;
+mod packet;
+mod phase;
+mod reading;
+mod writing;
+
+pub use fault::{AnswerFault, CallFault, FeedFault, NotOpen, NoteFault, WelcomeFault};
+pub use hello::{HELLO_BYTES, Hello, Id, Refusal, What, read_hello};
+pub use inbox::Inbox;
+pub use keeping::{Kept, PutFault};
+pub use laws::{honest_meet, one_hello, packets_carry, ways_deliver};
+pub use link::Link;
+pub use packet::{Bytes, MOST_BODY, Packet};
+pub use phase::{Phase, Role};
+pub use reading::{PacketFault, Split, split_packets};

@@ -1,0 +1,481 @@
+//! One end of a link.
+
+ghost use Rattle.std.specs.Prelude.{◌≡◌, ◌≤◌, ◌+◌, ◌++◌, [], OnOk, OnErr, drop, length, min, take};
+ghost use Rattle.std.specs.Prelude.{◌&&◌, ◌==◌, true, if◌then◌else◌};
+ghost use Rattle.sam_link.specs.End.{Calls, TakesOut, broken, ended, fresh, is_up, may_send, same_id, says};
+ghost use Rattle.sam_link.specs.declared.hello.What.TheVariants as What;
+ghost use Rattle.sam_link.specs.declared.phase.Phase.TheVariants as Phase;
+ghost use Rattle.sam_link.specs.Feeding.{Feeds, PutsNote, TakesSplit, asks, ended_for, fed_to, is_open, top_of};
+ghost use Rattle.sam_link.specs.Inbox.{GivesNote, ready};
+ghost use Rattle.sam_link.specs.Keeping.{MayHave, Puts, begun, may_have};
+ghost use Rattle.sam_mesg.specs.Spelling.{eight, frame};
+ghost use Rattle.sam_link.specs.Packets.{IsSplit};
+ghost use Rattle.sam_link.specs.Putting.{data_stream};
+
+use crate::fault::{CallFault, FeedFault, NotOpen, NoteFault};
+use crate::feeding::{Said, forget, read_piece, said_by, take_packets};
+use crate::hello::{HELLO_BYTES, Hello, Id, What};
+use crate::inbox::Inbox;
+use crate::keeping::{Kept, PutFault};
+use crate::packet::{Bytes, MOST_BODY, Packet};
+use crate::phase::{Phase, Role};
+use crate::reading::Split;
+use std::alloc::{AllocError, Global};
+use std::marker::Model;
+
+/// So many bytes may come before the other side is told. It has to exceed the 11 bytes of an acknowledgement, or two idle ends would answer
+/// each other for ever.
+const TELL_AFTER: u64 = 16_384;
+
+/// One end of a link: a machine below any transport, which opens no connection and knows no clock. The program moves the bytes of the
+/// newest connection between it and the transport.
+#[derive(Drop)]
+pub struct Link {
+    alloc: Global,
+    role: Role,
+    id: Id,
+    attempt: u64,
+    phase: Phase,
+    is_known: bool,
+    hello: [u8; HELLO_BYTES],
+    /// How many bytes of the hello went.
+    hello_gone: usize,
+    kept: Kept,
+    received: u64,
+    told: u64,
+    held: Vec<u8>,
+    inbox: Inbox,
+}
+
+impl Model for Link {
+    ghost use Rattle.std.specs.Prelude.{◌≡◌, ◌≤◌, drop, length};
+    ghost use Rattle.sam_link.specs.End.{End};
+
+    ghost Value = { End };
+
+    ghost view = { λ a. record {
+      role = a.role;
+      id = a.id;
+      attempt = a.attempt;
+      phase = a.phase;
+      is_known = a.is_known;
+      hello = drop a.hello_gone a.hello;
+      keeps = a.kept;
+      received = a.received;
+      told = a.told;
+      held = a.held.items;
+      waiting = a.inbox;
+    } };
+
+    ghost invariant = { λ a. (a.hello_gone ≤ 42) × (length a.hello ≡ 42) × (a.told ≤ a.received) };
+}
+
+/// Returns whether the ids are equal.
+pub fn same_id(a: Id, b: Id) -> bool
+    ensures { result ≡ same_id a b }
+{
+    a.first == b.first && a.last == b.last
+}
+
+impl Link {
+    /// Makes an end with this name of the session, before its first connection. It takes no memory.
+    pub fn new(alloc: Global, role: Role, id: Id) -> Link
+        ensures { result ≡ fresh role id }
+    {
+        Link {
+            alloc,
+            role,
+            id,
+            attempt: 0,
+            phase: Phase::Down,
+            is_known: false,
+            hello: [0; HELLO_BYTES],
+            hello_gone: HELLO_BYTES,
+            kept: Kept::new(alloc),
+            received: 0,
+            told: 0,
+            held: Vec::new(alloc),
+            inbox: Inbox::new(alloc),
+        }
+    }
+
+    /// A hello is to be sent on the newest connection.
+    fn say(&mut self, what: What)
+        ensures { self.new ≡ says self.old what }
+    {
+        let hello = Hello {
+            what,
+            id: self.id,
+            attempt: self.attempt,
+            received: self.received,
+        };
+        self.hello = hello.spell();
+        self.hello_gone = 0;
+        self.told = self.received;
+    }
+
+    /// The terminal makes another connection, and returns its number. The one before is over. `take_over` asks for a session of the texts
+    /// of another, as long as no welcome has come. Errors, in this order: `WrongRole`, `CountFull`.
+    pub fn call(&mut self, take_over: bool) -> Result<u64, CallFault>
+        ensures { Calls self.old take_over result self.new }
+    {
+        match self.role {
+            Role::Host => return Err(CallFault::WrongRole),
+            Role::Terminal => {}
+        }
+        if self.attempt == u64::MAX {
+            return Err(CallFault::CountFull);
+        }
+        let what = if self.is_known {
+            What::Resume
+        } else if take_over {
+            What::TakeOver
+        } else {
+            What::Begin
+        };
+        self.attempt += 1;
+        self.phase = Phase::Asking;
+        self.kept.rewind();
+        self.say(what);
+        Ok(self.attempt)
+    }
+
+    /// Connection `attempt` is over, or broke. An older one changes nothing.
+    pub fn broken(&mut self, attempt: u64)
+        ensures { self.new ≡ broken self.old attempt }
+    {
+        if attempt == self.attempt {
+            self.end();
+        }
+    }
+
+    /// The newest connection is over.
+    fn end(&mut self)
+        ensures { self.new ≡ ended self.old }
+    {
+        self.phase = Phase::Down;
+        self.hello_gone = HELLO_BYTES;
+    }
+
+    /// Puts bytes for the other side, all or none. Errors, in this order: `CountFull`, `OutOfMemory`.
+    pub fn put(&mut self, bytes: &[u8]) -> Result<(), PutFault>
+        ensures kept { Puts self.old.keeps (data_stream bytes.now) result self.new.keeps }
+        ensures others { self.new ≡ record self.old { keeps = self.new.keeps } }
+    {
+        self.kept.put_data(bytes)
+    }
+
+    /// Puts a note for the other side, behind all that was put. Errors, in this order: `TooLong`, `CountFull`, `OutOfMemory`.
+    pub fn put_note(&mut self, bytes: &[u8]) -> Result<(), NoteFault>
+        ensures note { PutsNote self.old.keeps bytes.now result self.new.keeps }
+        ensures others { self.new ≡ record self.old { keeps = self.new.keeps } }
+    {
+        if bytes.len() > MOST_BODY {
+            return Err(NoteFault::TooLong);
+        }
+        match self.kept.put_packet(2, bytes) {
+            Ok(()) => Ok(()),
+            Err(PutFault::CountFull) => Err(NoteFault::CountFull),
+            Err(PutFault::OutOfMemory) => Err(NoteFault::OutOfMemory),
+        }
+    }
+
+    /// Asks the other side to acknowledge now. Errors, in this order: `CountFull`, `OutOfMemory`.
+    pub fn ask(&mut self) -> Result<(), PutFault>
+        ensures asked { Puts self.old.keeps (frame 4 []) result self.new.keeps }
+        ensures others { self.new ≡ record self.old { keeps = self.new.keeps } }
+    {
+        self.kept.put_packet(4, &[])
+    }
+
+    /// Tells the other side how many of its bytes have come. Errors, in this order: `CountFull`, `OutOfMemory`.
+    pub fn acknowledge(&mut self) -> Result<(), PutFault>
+        ensures put { Puts self.old.keeps (frame 3 (eight self.old.received)) result self.new.keeps }
+        ensures told { OnOk result (self.new ≡ record self.old { keeps = self.new.keeps; told = self.old.received }) }
+        ensures unchanged { OnErr result (self.new ≡ self.old) }
+    {
+        match self.put_count() {
+            Ok(()) => {
+                self.told = self.received;
+                Ok(())
+            }
+            Err(fault) => Err(fault),
+        }
+    }
+
+    /// Puts an acknowledgement of all that has come.
+    fn put_count(&mut self) -> Result<(), PutFault>
+        ensures put { Puts self.old.keeps (frame 3 (eight self.old.received)) result self.new.keeps }
+        ensures others { self.new ≡ record self.old { keeps = self.new.keeps } }
+    {
+        self.kept.put_packet(3, &self.received.to_be_bytes())
+    }
+
+    /// Returns whether connection `attempt` is the newest, and both sides have said hello.
+    fn is_open(&self, attempt: u64) -> bool
+        ensures { result ≡ (is_open self.now.phase && (attempt == self.now.attempt)) }
+    {
+        match self.phase {
+            Phase::Down => false,
+            Phase::Asking => false,
+            Phase::Open => attempt == self.attempt,
+        }
+    }
+
+    /// Takes packets that have come whole, of which so many bytes are held, up to this count of all. The only error is out of memory, after
+    /// which all is as before.
+    fn take_packets(
+        &mut self,
+        packets: Vec<Packet>,
+        said: Said,
+        len: usize,
+        count: u64,
+    ) -> Result<(), AllocError>
+        requires told { self.old.told ≤ count }
+        requires said { (said.top ≡ top_of packets.items) × (said.asked ≡ asks packets.items) }
+        requires sent { top_of packets.items ≤ self.old.keeps.base + self.old.keeps.sent }
+        requires held { len ≤ length self.old.held }
+        ensures taken { OnOk result (self.new ≡ fed_to self.old packets.items (drop len self.old.held) count) }
+        ensures unchanged { OnErr result (self.new ≡ self.old) }
+    {
+        let owes = said.asked || count - self.told >= TELL_AFTER;
+        let did = take_packets(&mut self.kept, &mut self.inbox, packets, owes, count)?;
+        self.kept.acknowledge(said.top);
+        forget(&mut self.held, len);
+        self.received = count;
+        if did {
+            self.told = count;
+        }
+        Ok(())
+    }
+
+    /// Takes what was read of a piece, which is held, up to this count of all bytes.
+    fn take_split(&mut self, split: Split, count: u64) -> Result<(), FeedFault>
+        requires told { self.old.told ≤ count }
+        requires split { IsSplit self.old.held split }
+        ensures { TakesSplit self.old split count result self.new }
+    {
+        let Split {
+            packets,
+            len,
+            fault,
+        } = split;
+        if let Some(fault) = fault {
+            return Err(FeedFault::Wrong(fault));
+        }
+        let said = said_by(packets.as_slice());
+        if self.kept.is_ahead(said.top) {
+            return Err(FeedFault::AckAhead);
+        }
+        match self.take_packets(packets, said, len, count) {
+            Ok(()) => Ok(()),
+            Err(_) => Err(FeedFault::OutOfMemory),
+        }
+    }
+
+    /// Takes the next piece of the other side's stream on connection `attempt`: all of it, or nothing. It may begin and end anywhere in a
+    /// packet.
+    ///
+    /// Errors: `NotOpen`, then `CountFull`; then `OutOfMemory`, after which the piece may be fed again; or `Wrong` or `AckAhead`, after
+    /// which the connection is over. Nothing else has changed.
+    pub fn feed(&mut self, attempt: u64, piece: &[u8]) -> Result<(), FeedFault>
+        ensures { Feeds self.old attempt piece.now result self.new }
+    {
+        if !self.is_open(attempt) {
+            return Err(FeedFault::NotOpen);
+        }
+        if piece.len() as u64 > u64::MAX - self.received {
+            return Err(FeedFault::CountFull);
+        }
+        let before = self.held.len();
+        let Ok(split) = read_piece(self.alloc, &mut self.held, piece) else {
+            return Err(FeedFault::OutOfMemory);
+        };
+        let count = self.received + piece.len() as u64;
+        match self.take_split(split, count) {
+            Ok(()) => Ok(()),
+            Err(fault) => {
+                self.held.truncate(before);
+                self.end_for(fault);
+                Err(fault)
+            }
+        }
+    }
+
+    /// The connection is over, where the fault is of the other side.
+    fn end_for(&mut self, fault: FeedFault)
+        ensures { self.new ≡ ended_for fault self.old }
+    {
+        match fault {
+            FeedFault::Wrong(_) => self.end(),
+            FeedFault::AckAhead => self.end(),
+            FeedFault::NotOpen => {}
+            FeedFault::CountFull => {}
+            FeedFault::OutOfMemory => {}
+        }
+    }
+
+    /// Moves the next bytes of the other side's program into the buffer, and returns how many: as many as have room there, of one packet
+    /// at most. The rest of the buffer stays as it was. It is 0 where a note is next, or nothing.
+    pub fn take_in(&mut self, into: &mut [u8]) -> usize
+        ensures count { result ≡ min (length (ready self.old.waiting).part) (length into.old) }
+        ensures bytes { into.new ≡ take result (ready self.old.waiting).part ++ drop result into.old }
+        ensures rest { self.new ≡ record self.old {
+          waiting = record {
+            part = drop result (ready self.old.waiting).part;
+            packets = (ready self.old.waiting).packets;
+          };
+        } }
+    {
+        self.inbox.take_into(into)
+    }
+
+    /// Takes the note that is next, once all bytes in front of it are taken.
+    pub fn next_note(&mut self) -> Option<Bytes>
+        ensures note { GivesNote self.old.waiting result self.new.waiting }
+        ensures others { self.new ≡ record self.old { waiting = self.new.waiting } }
+    {
+        self.inbox.next_note()
+    }
+
+    /// Moves the next bytes of the hello into the buffer, and returns how many.
+    fn take_hello(&mut self, into: &mut [u8]) -> usize
+        ensures count { result ≡ min (length self.old.hello) (length into.old) }
+        ensures bytes { into.new ≡ take result self.old.hello ++ drop result into.old }
+        ensures rest { self.new ≡ record self.old { hello = drop result self.old.hello } }
+    {
+        let count = (HELLO_BYTES - self.hello_gone).min(into.len());
+        let end = self.hello_gone + count;
+        into[..count].copy_from_slice(&self.hello[self.hello_gone..end]);
+        self.hello_gone = end;
+        count
+    }
+
+    /// Returns whether bytes of the stream may go now.
+    fn may_send(&self) -> bool
+        ensures { result ≡ may_send self.now.phase self.now.attempt }
+    {
+        match self.phase {
+            Phase::Down => false,
+            Phase::Asking => self.attempt == 1,
+            Phase::Open => true,
+        }
+    }
+
+    /// Returns whether connection `attempt` is the newest, and not over.
+    fn is_up(&self, attempt: u64) -> bool
+        ensures { result ≡ (is_up self.now.phase && (attempt == self.now.attempt)) }
+    {
+        match self.phase {
+            Phase::Down => false,
+            Phase::Asking => attempt == self.attempt,
+            Phase::Open => attempt == self.attempt,
+        }
+    }
+
+    /// Moves the next bytes for connection `attempt` into the buffer, as many as there are and have room, and returns how many. The rest
+    /// of the buffer stays as it was. The error is `NotOpen`.
+    pub fn take_out(&mut self, attempt: u64, into: &mut [u8]) -> Result<usize, NotOpen>
+        ensures { TakesOut self.old attempt into.old result into.new self.new }
+    {
+        if !self.is_up(attempt) {
+            return Err(NotOpen);
+        }
+        let first = self.take_hello(into);
+        if !self.may_send() {
+            return Ok(first);
+        }
+        let (_, room) = into.split_at_mut(first);
+        let second = self.kept.take_into(room);
+        Ok(first + second)
+    }
+
+    /// A host takes a connection.
+    pub fn take_call(&mut self, attempt: u64, received: u64)
+        requires { MayHave self.old.keeps received }
+        ensures { self.new ≡ says (record self.old {
+          attempt = attempt;
+          phase = Phase.Open;
+          is_known = true;
+          keeps = begun self.old.keeps received;
+        }) What.Welcome }
+    {
+        self.attempt = attempt;
+        self.phase = Phase::Open;
+        self.is_known = true;
+        self.kept.begin(received);
+        self.say(What::Welcome);
+    }
+
+    /// A terminal is welcomed.
+    pub fn take_welcome(&mut self, received: u64)
+        requires { (self.old.attempt ≡ 1 → ⊥) → MayHave self.old.keeps received }
+        ensures { self.new ≡ record self.old {
+          phase = Phase.Open;
+          is_known = true;
+          keeps = if self.old.attempt == 1 then self.old.keeps else begun self.old.keeps received;
+        } }
+    {
+        self.phase = Phase::Open;
+        self.is_known = true;
+        if self.attempt != 1 {
+            self.kept.begin(received);
+        }
+    }
+
+    /// Returns which side this is.
+    pub fn role(&self) -> Role
+        ensures { result ≡ self.now.role }
+    {
+        self.role
+    }
+
+    /// Returns the name of the session.
+    pub fn id(&self) -> Id
+        ensures { result ≡ self.now.id }
+    {
+        self.id
+    }
+
+    /// Returns the number of the newest connection; 0 before the first.
+    pub fn attempt(&self) -> u64
+        ensures { result ≡ self.now.attempt }
+    {
+        self.attempt
+    }
+
+    /// Returns whether a connection was taken by both sides, as far as this one knows.
+    pub fn is_known(&self) -> bool
+        ensures { result ≡ self.now.is_known }
+    {
+        self.is_known
+    }
+
+    /// Returns whether the other side may have got so many bytes.
+    pub fn may_have(&self, count: u64) -> bool
+        ensures { result ≡ may_have self.now.keeps count }
+    {
+        self.kept.may_have(count)
+    }
+
+    /// Returns how the newest connection stands.
+    pub fn phase(&self) -> Phase
+        ensures { result ≡ self.now.phase }
+    {
+        self.phase
+    }
+
+    /// Returns how many bytes of the other side's stream have come.
+    pub fn received(&self) -> u64
+        ensures { result ≡ self.now.received }
+    {
+        self.received
+    }
+
+    /// Returns how many bytes of this side's stream the other side has acknowledged.
+    pub fn acknowledged(&self) -> u64
+        ensures { result ≡ self.now.keeps.base }
+    {
+        self.kept.base()
+    }
+}
