@@ -1,5 +1,5 @@
 -- A hello is read from its bytes alone.
-use Rattle.std.proofs.Common.{◌≡◌, ℕ, ◌<◌, ◌^◌, List, ◌++◌, get_or, take, drop, Some, w64, refl, sym, ap, ◌∙◌}
+use Rattle.std.proofs.Common.{◌≡◌, ℕ, ◌<◌, ◌^◌, get_or, take, drop, Some, w64, refl, sym, ap, ◌∙◌}
 use Rattle.std.proofs.lemmas.Nat.{from_be_bytes-to_be_bytes_8}
 use Rattle.std.specs.Int.{from_be_bytes}
 use Rattle.std.specs.Prelude.{Option}

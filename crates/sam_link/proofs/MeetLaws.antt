@@ -1,9 +1,9 @@
 -- Two ends of one session take each other's hellos, whatever broke before.
-use Rattle.std.proofs.Common.{◌≡◌, ℕ, ◌+◌, ◌-◌, ◌≤◌, ◌<◌, List, ◌++◌, length, drop, Bool, true, false, Option, None, refl, ap, arith, length-append, length-drop, ◌&&◌, nat_le}
+use Rattle.std.proofs.Common.{◌≡◌, ℕ, ◌+◌, ◌-◌, ◌≤◌, List, length, Bool, true, false, None, refl, ap, arith, length-append, length-drop, ◌&&◌, nat_le}
 use Rattle.std.specs.Prelude.{not, ◌==◌, if◌then◌else◌}
-use Rattle.sam_link.specs.End.{End, answered, called, first_word, is_call, is_resume, refusal_of, same_id, welcome_count, welcome_fault}
-use Rattle.sam_link.specs.Keeping.{Keeps, may_have}
-use Rattle.sam_link.specs.Meeting.{Joined, Meets, Stands, call_hello, welcome_hello}
+use Rattle.sam_link.specs.End.{End, first_word, is_call, is_resume, refusal_of, same_id}
+use Rattle.sam_link.specs.Keeping.{may_have}
+use Rattle.sam_link.specs.Meeting.{Joined, Meets, Stands, call_hello}
 use Rattle.sam_link.specs.Ways.{Delivers, Step, Way, after_all, first}
 use Rattle.sam_link.specs.declared.hello.Hello.{Hello}
 use Rattle.sam_link.specs.declared.hello.Id.{Id}

@@ -1,5 +1,5 @@
 -- When two ends take each other's hellos.
-use Rattle.std.specs.Prelude.{◌≡◌, ℕ, ◌+◌, ◌≤◌, List, length, drop, Bool, true, Option, None}
+use Rattle.std.specs.Prelude.{◌≡◌, ◌+◌, ◌≤◌, List, length, drop, Bool, true, None}
 use Rattle.sam_link.specs.End.{End, answered, called, first_word, refusal_of, welcome_fault}
 use Rattle.sam_link.specs.Ways.{Step, Way, after_all, first}
 use Rattle.sam_link.specs.declared.hello.Hello.{Hello}
