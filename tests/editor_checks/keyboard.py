@@ -79,7 +79,7 @@ def check_paste_over_the_windows(folder):
 
 def check_unknown_keys(folder):
     """On every kind of terminal, sequences that nobody knows change nothing; word moves move."""
-    unknown = ("1b 78", "1b 5b 49", "1b 5b 31 3b 37 41", "1b 5b 39 39 7e", "1b 4f 7a", "1b 5b 31 3b 33 43", "1b 5d 31 31 3b 78 07")
+    unknown = ("1b 5b 49", "1b 5b 31 3b 37 41", "1b 5b 39 39 7e", "1b 4f 7a", "1b 5b 31 3b 33 43", "1b 5d 31 31 3b 78 07")
     made(folder, a="one two three\n")
     for term in ("xterm-256color", "screen", "linux", "rxvt", "tmux-256color"):
         place = folder / term
