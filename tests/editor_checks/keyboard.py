@@ -47,6 +47,7 @@ def check_key_after_esc(folder):
     locale.setlocale(locale.LC_CTYPE, "C.UTF-8")
     for data, wanted in (
         ((b"\x1b2,3d\r",), [("Esc",), ("2,3d\n",)]), ((b"\x1b\x07",), [("Esc",), ("^G",)]), ((b"\x1b\r",), [("Esc",), ("\n",)]),
+        ((b"\x1b\t",), [("Esc",), ("\t",)]), ((b"\x1b\n",), [("Esc",), ("\n",)]), ((b"\x1bx",), [("Esc",), ("x",)]),
         ((b"\x1b\x7f",), [("Esc",), ("Backspace",)]), ((b"\x1b\x1b[A",), [("Esc",), ("Up",)]),
         ((b"\x1b\x1b\x1bOP",), [("Esc",), ("Esc",), ("F1",)]),
         ((b"\x1bb\x1bfx",), [("Alt-b",), ("Alt-f",), ("x",)]), ((b"\x1bB",), [("Esc",), ("B",)]),
