@@ -31,7 +31,7 @@ def removes(line: str) -> Tuple[str, Optional[str]]:
 
 def is_address(line: str) -> bool:
     """Whether a command line is an address alone, which selects."""
-    return _ADDRESS.fullmatch(line) is not None
+    return _ADDRESS.match(line).end() == len(line)  # a full match of a long number would try each way to part its digits
 
 
 def _unescaped(pattern: str) -> str:

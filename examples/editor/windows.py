@@ -1,10 +1,10 @@
 """Windows: what of a file is shown, and how it follows the user and the host. No text is kept here, each look reads the terminal."""
 from typing import List, NamedTuple, Optional, Tuple
 
-from layout import Layout, row_start, top_above
+from layout import Layout, line_start, row_start, top_above
 from sulgrevad import Terminal
 from targets import Targets
-from texts import Change, Texts, moved
+from texts import GAP, Change, Texts, moved
 
 MOST_STRETCHES, MOST_IN_STRETCH = 64, 512  # that one Load asks for, and the runes of each
 MOST_IN_LOAD = MOST_STRETCHES * MOST_IN_STRETCH
@@ -59,6 +59,7 @@ class Window:
         self._layout: Optional[Layout] = None
         self._layout_of: tuple = ()
         self._loaded: Optional[Layout] = None  # what is shown, where all of it is loaded and the terminal was told so
+        self._is_shifted = False  # text above it changed, so that it may not begin with a row any more
         self._turns = False  # the user turns pages, and those on either side were not asked for yet
 
     # ---- Reading
@@ -118,6 +119,7 @@ class Window:
 
     def hear(self, changes: List[Change]) -> None:
         """Changes of the text move the place where the window begins."""
+        self._is_shifted = self._is_shifted or any(change.place < self._top for change in changes)
         self._top, self.goal = moved(changes, self._top), None
         if self._aim is not None:
             self._aim = self._aim._replace(place=moved(changes, self._aim.place))
@@ -129,6 +131,8 @@ class Window:
     def update(self, is_busy: bool = False, rests: bool = False, turns: int = 0) -> None:
         """Follows what the host and the user did, and has the terminal load what is shown; while the user is busy only what he needs, and
         while he rests what he may turn to next. `turns` is how many page keys wait, as for `ask`."""
+        if self.is_open and self._is_shifted:
+            self._begin_with_a_row()
         if self.is_open and self.texts.is_final:
             self._follow_dot()
         elif self.is_open:
@@ -137,6 +141,12 @@ class Window:
             self._load(is_busy, turns)
             if rests and self._turns:
                 self._load_beside()
+
+    def _begin_with_a_row(self) -> None:
+        """Begins with the row of the place where it begins, if the start of its line is known."""
+        self._is_shifted, start = False, line_start(self.read, self.top)
+        if start == 0 or self.read(start - 1, 1) != GAP:
+            self._top = row_start(self.read, self.top, self.width)
 
     def _reach(self) -> None:
         """Shows what was aimed at, where the text above it has come. Of a line that is longer, no place is known at which a row begins: it

@@ -47,6 +47,7 @@ def check_key_after_esc(folder):
     locale.setlocale(locale.LC_CTYPE, "C.UTF-8")
     for data, wanted in (
         ((b"\x1b2,3d\r",), [("Esc",), ("2,3d\n",)]), ((b"\x1b\x07",), [("Esc",), ("^G",)]), ((b"\x1b\r",), [("Esc",), ("\n",)]),
+        ((b"\x1b\t",), [("Esc",), ("\t",)]), ((b"\x1b\n",), [("Esc",), ("\n",)]), ((b"\x1bx",), [("Esc",), ("x",)]),
         ((b"\x1b\x7f",), [("Esc",), ("Backspace",)]), ((b"\x1b\x1b[A",), [("Esc",), ("Up",)]),
         ((b"\x1b\x1b\x1bOP",), [("Esc",), ("Esc",), ("F1",)]),
         ((b"\x1bb\x1bfx",), [("Alt-b",), ("Alt-f",), ("x",)]), ((b"\x1bB",), [("Esc",), ("B",)]),
@@ -79,7 +80,7 @@ def check_paste_over_the_windows(folder):
 
 def check_unknown_keys(folder):
     """On every kind of terminal, sequences that nobody knows change nothing; word moves move."""
-    unknown = ("1b 78", "1b 5b 49", "1b 5b 31 3b 37 41", "1b 5b 39 39 7e", "1b 4f 7a", "1b 5b 31 3b 33 43", "1b 5d 31 31 3b 78 07")
+    unknown = ("1b 5b 49", "1b 5b 31 3b 37 41", "1b 5b 39 39 7e", "1b 4f 7a", "1b 5b 31 3b 33 43", "1b 5d 31 31 3b 78 07")
     made(folder, a="one two three\n")
     for term in ("xterm-256color", "screen", "linux", "rxvt", "tmux-256color"):
         place = folder / term

@@ -518,15 +518,6 @@ def check_long_numbers(folder):
     expect([tuple(key) for key in zeros] == [("^Delete",)], f"a number with zeros before it is taken for {zeros}")
 
 
-def check_alt_keys(folder):
-    """Alt with a key that is no character has that key's name."""
-    from decode import Decoder
-
-    for sent, name in ((b"\t", "Alt-Tab"), (b"\r", "Alt-Enter"), (b"\n", "Alt-Enter"), (b"\x7f", "Alt-Backspace"), (b"x", "Alt-x")):
-        got = Decoder().feed(b"\x1b" + sent, 0.0)
-        expect([tuple(key) for key in got] == [(name,)], f"Esc {sent} is taken for {got}")
-
-
 def check_control_characters(folder):
     """A line on standard error does nothing to the screen. A file whose name the host tells with question marks is known by it."""
     import session

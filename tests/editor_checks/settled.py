@@ -89,13 +89,29 @@ def check_a_click_waits_for_text(folder):
     for is_slow in (False, True):
         pair, editor, key, text = opened(lines, size=(30, 80))
         mouse = pair.keys.Mouse
-        row = editor.focus.y + 9
-        for each in (key("^End"), key("Page Up"), mouse("press", row, 5, 0.0), mouse("release", row, 5, 0.0), text("!")):
-            editor.take(each)
+        row = 100
+        for each in (text("x"), None, mouse("press", row, 5, 0.0), mouse("release", row, 5, 0.0), text("!")):
+            if each is None:  # what a larger screen shows is not asked for while the user types
+                editor.arrange(120, 80)
+            else:
+                editor.take(each)
             pair.settle() if is_slow else pair.finish()
         pair.finish()
         dots.append(editor.focus.dot)
-    expect(dots[0] == dots[1], f"a click after a page key leads to {dots}")
+    expect(dots[0] == dots[1], f"a click leads to {dots}")
+
+
+def check_rows_begin_with_their_lines(folder):
+    """Where a text grows above what a window shows, that still begins with a row of its line."""
+    pair, editor, key, text = opened("one x\n" + "word " * 400 + "\nend\n", has_vault=True, size=(20, 80))
+    pair.press(key("^End"), key("Esc"), text(",x/word/c/other/\n"), key("Esc"), key("Up"), key("Up"))
+    for names in ((), ("Left", "x", "y")):
+        pair.press(*(text(name) if name.islower() else key(name) for name in names))
+        window = editor.focus
+        whole, (row, column) = pair.host.text(1), window.layout().position_of(window.caret)
+        start = whole.rfind("\n", 0, window.caret) + 1
+        expect(column == (window.caret - start) % 80, f"the caret is drawn in column {column}, wanted {(window.caret - start) % 80}")
+        expect((window.top - start) % 80 == 0 or window.top <= start, f"the window begins at {window.top}, the line at {start}")
 
 
 def check_caret_after_a_line(folder):
