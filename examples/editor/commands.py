@@ -3,7 +3,7 @@ from typing import Dict, List, Optional, Tuple
 
 from layout import line_end, line_start
 from lines import is_address, line_number, removes
-from texts import COMMAND, GAP, Change, moved
+from texts import COMMAND, GAP, Change
 from windows import Window
 
 
@@ -53,8 +53,10 @@ class Commands:
         """Changes of a file, perhaps by a command line. The last one is that which stands farthest down, in whichever order they come."""
         if self._before is not None:
             tag = changes[0].tag
-            ends = [moved(changes[at + 1 :], change.place + len(change.came)) for at, change in enumerate(changes)]
-            self._ends[tag] = max(ends + [moved(changes, self._ends[tag])] if tag in self._ends else ends)
+            end = self._ends.get(tag, -1)
+            for change in changes:
+                end = max(change.moved(end), change.place + len(change.came))  # a change moves no place past another
+            self._ends[tag] = end
 
     def end_run(self) -> None:
         """The host has run a command line. Unless that was an address alone the next key replaces nothing that the line has selected: the
