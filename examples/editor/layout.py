@@ -73,6 +73,8 @@ class StripMaker:
         self._begin(end)
 
     def add(self, at: int, rune: str) -> None:
+        if rune == "\t" and self.column >= self.width:
+            self.finish(at)  # its columns count from the row's start
         text, width = (SHADE, 1) if rune == GAP else (" ", TAB - self.column % TAB) if rune == "\t" else looks(rune)
         if width == 0 and self.texts and not self.gaps[-1]:
             self.texts[-1].append(text)

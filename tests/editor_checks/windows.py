@@ -142,3 +142,12 @@ def check_folder(folder):
         session.keys("C-w")
         wait_for_text(folder / "d" / "e" / "c.txt", "xgamma\n")
         session.leave()
+
+
+def check_tab_after_a_full_row(folder):
+    """A tab for which a row has no column left begins the next row, and goes to the first stop of that."""
+    opened("")  # so that the editor's modules are found
+    import layout
+
+    widths = [strip.width for strip in layout.strips_of("a" * 101 + "\tb", 101, False)]
+    expect(widths == [101, 9], f"the rows have {widths} columns")
