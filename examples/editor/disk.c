@@ -236,12 +236,15 @@ static int move_to_free(const char *path, const char *name)
     return error;
 }
 
-/* Moves a file to the first of NAME, NAME.2 and so on that nobody has, and hands out which, in memory of the caller's. */
-static int move_to_first(const char *path, const char *name, char **found)
+/* Gives a file a name that nobody has, by a move or a link: 0, or the number of the error. */
+typedef int give_name(const char *path, const char *name);
+
+/* Gives a file the first of NAME, NAME.2 and so on that nobody has, and hands out which, in memory of the caller's. */
+static int give_first(give_name *give, const char *path, const char *name, char **found)
 {
     for (int at = 1; at <= MOST_KEPT; at++) {
         *found = at == 1 ? formatted("%s", name) : formatted("%s.%d", name, at);
-        int error = *found == NULL ? ENOMEM : move_to_free(path, *found);
+        int error = *found == NULL ? ENOMEM : give(path, *found);
         if (error == 0)
             return 0;
         free(*found);
@@ -282,7 +285,7 @@ static int keep_as(const struct text *text, const char *front, const char *suffi
     int error = name == NULL ? ENOMEM : make_copy(text, front, like, copy, &temporary);
 
     if (error == 0)
-        error = move_to_first(temporary, name, &copy->path);
+        error = give_first(move_to_free, temporary, name, &copy->path);
     if (error == 0)
         sync_folder(copy->path);
     drop_temporary(temporary, error == 0);
@@ -354,20 +357,10 @@ static bool may_replace(struct request *request, struct content found)
     return found.kind == NOT_THERE || is_same(found, request->known) || is_same(found, content_of(request->text));
 }
 
-/* Gives a file another name, the first of NAME, NAME.2 and so on that nobody has, and hands out which, in memory of the caller's. */
-static int link_to_first(const char *path, const char *name, char **found)
+/* Gives a file another name. */
+static int link_to(const char *path, const char *name)
 {
-    for (int at = 1; at <= MOST_KEPT; at++) {
-        *found = at == 1 ? formatted("%s", name) : formatted("%s.%d", name, at);
-        int error = *found == NULL ? ENOMEM : link(path, *found) == 0 ? 0 : errno;
-        if (error == 0)
-            return 0;
-        free(*found);
-        *found = NULL;
-        if (error != EEXIST)
-            return error;
-    }
-    return EEXIST;
+    return link(path, name) == 0 ? 0 : errno;
 }
 
 /* Before a new file takes the place of another program's: has that stay beside it, by another name or, where no link can be, by a copy. */
@@ -380,7 +373,7 @@ static int keep_theirs(struct request *request)
     if (!request->is_theirs || request->found.kind == NOT_THERE || is_same(request->found, content_of(request->text)))
         return 0;
     name = formatted("%s" THEIRS, request->path);
-    int error = name == NULL ? ENOMEM : link_to_first(request->path, name, &request->theirs);
+    int error = name == NULL ? ENOMEM : give_first(link_to, request->path, name, &request->theirs);
     free(name);
     if (error == 0 || error == ENOMEM)
         return error;
