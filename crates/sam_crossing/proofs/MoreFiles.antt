@@ -259,7 +259,7 @@ deaf_reply h m more r g deaf e = by h.is_done refl e deaf
 
 -- ## A message that does: after its answer none is up
 
-frees-behind : (xs ys : List Hmesg) → frees_command (at_file 0 ys) ≡ true → frees_command (at_file 0 (xs ++ ys)) ≡ true
+pub frees-behind : (xs ys : List Hmesg) → frees_command (at_file 0 ys) ≡ true → frees_command (at_file 0 (xs ++ ys)) ≡ true
 frees-behind [] ys e = e
 frees-behind (x ∷ xs) ys e = grind (arith, (frees-behind xs ys e))
 

@@ -123,11 +123,11 @@ answers_step w next i (m ∷ ms) eu s = by (answer w.host m) refl s
     }
 
 -- the file that joins
-record Joins (w next : PlainWorld) (name text : List ℕ) : Type 0 where
-  short : (length name ≤ most_in_name) × (length text ≤ max_runes)
-  is : next ≡ joined_by w name text
+pub record Joins (w next : PlainWorld) (name text : List ℕ) : Type 0 where
+  pub short : (length name ≤ most_in_name) × (length text ≤ max_runes)
+  pub is : next ≡ joined_by w name text
 
-joins_step : (w next : PlainWorld) (name text : List ℕ) → step_of w (Add name text) ≡ Some next → Joins w next name text
+pub joins_step : (w next : PlainWorld) (name text : List ℕ) → step_of w (Add name text) ≡ Some next → Joins w next name text
 joins_step w next name text s = by _ _ _ refl refl s
   where
     by : (a b c : Bool) → nat_le (length name) most_in_name ≡ b → nat_le (length text) max_runes ≡ c → (if a && b && c then Some (joined_by w name text) else None) ≡ Some next → Joins w next name text
