@@ -303,12 +303,12 @@ freed (a ∷ s) v w r f = by (is_free_command a) refl f (freed s t.mid w t.on)
     by true e k later = stays_free s t.mid w t.on (freed_by a v t.mid t.moves e)
     by false e k later = later k
 
-record Split (s u : List Action) (v w : Lens) : Type 0 where
-  mid : Lens
-  first : run s v ≡ Some mid
-  last : run u mid ≡ Some w
+pub record Split (s u : List Action) (v w : Lens) : Type 0 where
+  pub mid : Lens
+  pub first : run s v ≡ Some mid
+  pub last : run u mid ≡ Some w
 
-split : (s u : List Action) (v w : Lens) → run (s ++ u) v ≡ Some w → Split s u v w
+pub split : (s u : List Action) (v w : Lens) → run (s ++ u) v ≡ Some w → Split s u v w
 split [] u v w r = record { mid = v; first = refl; last = r }
 split (a ∷ s) u v w r =
     let t = stepped a (s ++ u) v w r in
@@ -344,12 +344,16 @@ deaf_answers h (m ∷ ms) x v w more g e q c =
     ap (λ (o : Option Reply). replied_then o (λ k. answers k ms)) now ∙ ap (after_frames t.first.1) later ∙ ap (λ (y : Reply). Some (with_more y.0 more, y.1)) (sym t.whole)
 
 -- what is up after such an answer doesn't hear
+pub answers_after : (h : PlainHost) (line : List Tmesg) (down : List Hmesg) (x : Reply) (v w : Lens) (more : Slots PlainFile) → HasGiven h.files → frees_command (at_file 0 down) ≡ true → answers h line ≡ Some x
+    → run (at_file 0 (down ++ x.1)) v ≡ Some w → answers (with_more h more) line ≡ Some (with_more x.0 more, x.1)
+answers_after h line down x v w more g f e q =
+    let parts = split (at_file 0 down) (at_file 0 x.1) v w (subst (λ (s : List Action). run s v ≡ Some w) (at_file-append 0 down x.1) q) in
+    deaf_answers h line x parts.mid w more g e parts.last (freed (at_file 0 down) v parts.mid parts.first f)
+
 pub answers_behind : (h : PlainHost) (t : PlainTerminal) (up : List Tmesg) (down : List Hmesg) (more : Slots PlainFile) (o : InOrder h t up down) → HasGiven h.files → frees_command (at_file 0 down) ≡ true
     → answers (with_more h more) (up ++ unsent_message t.unsent) ≡ Some (with_more o.kept.ahead more, o.kept.frames)
 answers_behind h t up down more o g f =
-    let x = o.kept.each 0 in
-    let parts = split (at_file 0 down) (at_file 0 o.kept.frames) (views t 0) x.final (subst (λ (s : List Action). run s (views t 0) ≡ Some x.final) (at_file-append 0 down o.kept.frames) x.runs) in
-    deaf_answers h (up ++ unsent_message t.unsent) (o.kept.ahead, o.kept.frames) parts.mid x.final more g o.kept.folds parts.last (freed (at_file 0 down) (views t 0) parts.mid parts.first f)
+    let x = o.kept.each 0 in answers_after h (up ++ unsent_message t.unsent) down (o.kept.ahead, o.kept.frames) (views t 0) x.final more g f o.kept.folds x.runs
 
 -- ## The host takes a message
 

@@ -12,7 +12,7 @@ use Rattle.sam_term.specs.declared.event.UserEvent.TheVariants as event
 use Rattle.sam_term.specs.declared.event.Verdict.{Verdict}
 use Rattle.sam_term.specs.Events.{is_command_line}
 use Rattle.sam_term.specs.declared.records.Window.{Window}
-use Rattle.sam_term.specs.Term.{event_checks, is_known, known_at, window_at}
+use Rattle.sam_term.specs.Term.{event_checks, known_at, window_at}
 use Rattle.sam_local.specs.Local.{PlainEditor, Doing, carried, carried_through, files_in, joined}
 
 -- ## What is looked at
@@ -297,13 +297,3 @@ FileJoins =
     let fs = h.files in
     joined editor (name, text)
     ≡ record editor { host = record h { files = record fs { slots = fs.slots ++ Some (record blank_file { name = name; text = text }) ∷ [] } } }
-
--- after a version that is agreed on, the terminal has each file of the host in its list, and each of which it was not told before by the
--- host's name
-abbrev pub VersionTellsFiles : Type 0
-VersionTellsFiles =
-    (editor : PlainEditor) (v f : ℕ) → IsReached editor → May editor (event.Version v) → (f == 0) ≡ false
-    → has_file editor.host.files f ≡ true
-    → let after = carried editor (event.Version v) in
-    (is_known after.term f ≡ true)
-    × ((file_at editor.host.files f).announced ≡ false → (known_at after.term f).name ≡ (file_at after.host.files f).name)
