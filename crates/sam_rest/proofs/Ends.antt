@@ -128,7 +128,7 @@ is_add HostTake = false
 is_add TermTake = false
 
 awaits-step : (w : PlainWorld) (e : Event) (next : PlainWorld) → IsKept w → is_add e ≡ false → step_of w e ≡ Some next → AreAwaited next.host next.term next.up (mesgs next.down)
-awaits-step w e next k no s = by e refl
+awaits-step w e next k none s = by e refl
   where
     n : IsInOrder next
     n = steps_in_order w next e k.order s
@@ -144,7 +144,7 @@ awaits-step w e next k no s = by e refl
     by (User x) q =
         let is : record w { term = record w.term { held = w.term.held ++ x ∷ [] } } ≡ next = same_Some _ _ (ap (step_of w) (sym q) ∙ s) in
         subst (λ (v : PlainWorld). AreAwaited v.host v.term v.up (mesgs v.down)) is k.awaited
-    by (Add name text) q = absurd (true≢false (ap is_add (sym q) ∙ no))
+    by (Add name text) q = absurd (true≢false (ap is_add (sym q) ∙ none))
     by Act q = acted (act-takes w next (ap (step_of w) (sym q) ∙ s))
     by Flush q = flushed-kept (flush-takes w next (ap (step_of w) (sym q) ∙ s))
     by HostTake q = (after-host w next k n (host-takes w next k.order (ap (step_of w) (sym q) ∙ s))).awaited
@@ -170,8 +170,11 @@ module _ (w next : PlainWorld) (k : IsKept w) (n : IsInOrder next) (t : HostTake
   next-order = grind (arith, n.ordered)
 
   next-joined : InOrder (with_more t.reply.0 (given_slots more)) w.term t.rest (mesgs w.down ++ t.reply.1)
-  next-joined = subst (λ (d : List Hmesg). InOrder (with_more t.reply.0 us) w.term t.rest d) t.down (subst (λ (u : List Tmesg). InOrder (with_more t.reply.0 us) w.term u (mesgs next.down)) t.up
-  (subst (λ (z : PlainTerminal). InOrder (with_more t.reply.0 us) z next.up (mesgs next.down)) t.term (subst (λ (h : PlainHost). InOrder (with_more h us) next.term next.up (mesgs next.down)) t.host (n.joined more few))))
+  next-joined =
+      subst (λ (d : List Hmesg). InOrder (with_more t.reply.0 us) w.term t.rest d) t.down
+      (subst (λ (u : List Tmesg). InOrder (with_more t.reply.0 us) w.term u (mesgs next.down)) t.up
+      (subst (λ (z : PlainTerminal). InOrder (with_more t.reply.0 us) z next.up (mesgs next.down)) t.term
+      (subst (λ (h : PlainHost). InOrder (with_more h us) next.term next.up (mesgs next.down)) t.host (n.joined more few))))
 
   host-deaf : is_heard w.host t.first ≡ false → AreAwaited (with_more t.reply.0 (given_slots more)) w.term t.rest (mesgs w.down ++ t.reply.1)
   host-deaf e =
@@ -216,7 +219,7 @@ module _ (w next : PlainWorld) (k : IsKept w) (n : IsInOrder next) (t : HostTake
 pub keeps-step : (w : PlainWorld) (e : Event) (next : PlainWorld) → IsKept w → step_of w e ≡ Some next → IsKept next
 keeps-step w (Add name text) next k s =
     let j = joins_step w next name text s in
-    let one = (name, text) in
+    let one : List ℕ × List ℕ = (name, text) in
     subst IsKept (sym j.is)
     (record {
       order = subst IsInOrder j.is (steps_in_order w next (Add name text) k.order s);
