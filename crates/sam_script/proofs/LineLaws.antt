@@ -1,7 +1,8 @@
 -- What is read of a line is what it says, and each line says one thing.
 use Rattle.sam_script.proofs.Common.{◌≡◌, ◌<◌, ◌≤◌, ◌∙◌, refl, sym, ap, subst, ℕ, List, [], ◌∷◌, ◌++◌, length, true, Some, Result, IfOk, IfErr, codes, flat_map, encode_utf8, arith, chars, encode_utf8_all, IsUtf8, le-leb, eqb-true, AllByRecursion, eqb_tells, same_Some, chars_from_encodes, encodes-chars, max_runes, most_in_name, Said, SpellsParts, IsWord, SpellsFile, SpellsLine, SaysNothing, SaysSo, Says, Rest, fitting_name, fitting_text, file_text_at, file_at, bare, line_readers, is_silent, line_at, IsUnsaid, ◌>>=◌, word_of, behind_word, word_at, Gives}
 use Rattle.sam_script.specs.declared.line.Line.{Line}
-use Rattle.sam_script.specs.declared.line.Line.TheVariants.{Key, Mouse, Add}
+use Rattle.sam_script.specs.declared.line.Line.TheVariants.{Key, Mouse, Add, Act, Flush, Host, Term, Drain, Show}
+use Rattle.sam_script.specs.Reading.{bare_readers, event_at}
 use Rattle.sam_script.specs.declared.fault.LineFault.{LineFault}
 use Rattle.sam_script.specs.declared.line.Said.TheVariants as said
 use Rattle.sam_world.specs.Given.{IsFile}
@@ -76,8 +77,24 @@ add_row bytes it u h =
 bare_row : (line : Line) (word : List ℕ) → ((bytes : List ℕ) → bytes ≡ [] → SpellsLine line (word ++ bytes)) → ReadsAs IsSaidBy (word, bare line)
 bare_row line word spells bytes it u h = grind arith
 
+key_row : ReadsAs IsSaidBy (codes "k", λ bytes. event_at bytes >>= λ e. Some (said.Line (Key e)))
+key_row bytes it u h = grind (arith, event_says)
+
+mouse_row : ReadsAs IsSaidBy (codes "m", λ bytes. event_at bytes >>= λ e. Some (said.Line (Mouse e)))
+mouse_row bytes it u h = grind (arith, event_says)
+
+bare_rows : AllByRecursion (ReadsAs IsSaidBy) bare_readers
+bare_rows =
+    (bare_row Act (codes "act") (λ bytes e. ap (λ xs. codes "act" ++ xs) e),
+    (bare_row Flush (codes "flush") (λ bytes e. ap (λ xs. codes "flush" ++ xs) e),
+    (bare_row Host (codes "host") (λ bytes e. ap (λ xs. codes "host" ++ xs) e),
+    (bare_row Term (codes "term") (λ bytes e. ap (λ xs. codes "term" ++ xs) e),
+    (bare_row Drain (codes "drain") (λ bytes e. ap (λ xs. codes "drain" ++ xs) e),
+    (bare_row Show (codes "show") (λ bytes e. ap (λ xs. codes "show" ++ xs) e),
+    tt))))))
+
 line_readers_say : AllByRecursion (ReadsAs IsSaidBy) line_readers
-line_readers_say = grind (arith, file_row, add_row, event_says)
+line_readers_say = (file_row, (add_row, (key_row, (mouse_row, bare_rows))))
 
 silent_says : (bytes : List ℕ) → is_silent bytes ≡ true → SaysNothing bytes
 silent_says bytes e = grind (arith, eqb_tells, eqb-true)
