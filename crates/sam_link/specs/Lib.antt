@@ -1,3 +1,4 @@
+pub mod Calls
 pub mod Carrying
 pub mod End
 pub mod Feeding
@@ -7,4 +8,5 @@ pub mod Keeping
 pub mod Meeting
 pub mod Packets
 pub mod Putting
+pub mod Sessions
 pub mod Ways

@@ -5,6 +5,7 @@ ghost use Rattle.std.specs.Prelude.{◌≡◌};
 ghost use Rattle.sam_link.specs.Hellos.{IsHello, spelled};
 ghost use Rattle.sam_link.specs.declared.hello.Hello.{Hello};
 ghost use Rattle.sam_link.specs.Meeting.{HonestMeet};
+ghost use Rattle.sam_link.specs.Sessions.{LinksCarry};
 ghost use Rattle.sam_link.specs.Ways.{AlwaysDelivers, CarriedIsAll};
 
 /// States that over any connections, broken anywhere, what has come is the front of what was put, once and in order; that nothing is
@@ -30,4 +31,10 @@ pub fn one_hello()
 /// counted on both sides has only to be that of two ways. So such ends refuse by `OldAttempt` alone.
 pub fn honest_meet()
     ensures { HonestMeet }
+{}
+
+/// States that whatever calls two ends of a session get, over any connections, broken anywhere, what comes out at each is the first of
+/// what was put at the other: each byte and each note once, in their order.
+pub fn links_carry()
+    ensures { LinksCarry }
 {}
