@@ -2,11 +2,10 @@
 use Rattle.std.proofs.Common.{◌≡◌, ℕ, zero, suc, ◌+◌, ◌-◌, ◌*◌, ◌<◌, ◌≤◌, ◌^◌, List, [], ◌∷◌, ◌++◌, length, take, drop, map, Bool, true, false, refl, sym, ap, ◌∙◌, subst, append_assoc, append-nil, arith, length-append, length-drop, length-take}
 use Rattle.std.proofs.lemmas.Grind.{flat_map-append}
 use Rattle.std.proofs.lemmas.List.{map-append, take_min}
-use Rattle.std.proofs.Math.ListN.{take_of_length-le}
 use Rattle.std.proofs.Math.Numerals.{add-one}
-use Rattle.std.proofs.Math.Seq.{take-add}
+use Rattle.std.proofs.Math.Seq.{take-add, take-length}
 use Rattle.std.specs.List.{flat_map}
-use Rattle.std.specs.Prelude.{max, if◌then◌else◌}
+use Rattle.std.specs.Prelude.{max, min, if◌then◌else◌}
 use Rattle.sam_mesg.specs.Spelling.{eight, frame}
 use Rattle.sam_frame.specs.Stream.{FitInTurn, stream_of, version_after}
 use Rattle.sam_frame.proofs.Fronts.{FitInTurn-append, stream_of-append, stream_of-one}
@@ -18,6 +17,9 @@ use Rattle.sam_link.specs.Packets.{IsPacket, packets}
 use Rattle.sam_link.specs.Putting.{data_packets, data_stream, packets_needed}
 use Rattle.sam_link.specs.declared.packet.Packet.{Packet}
 use Rattle.sam_link.specs.declared.packet.Packet.TheVariants as packet
+
+pub take_all : {A : Type 0} (n : ℕ) (l : List A) → length l ≤ n → take n l ≡ l
+take_all n l long = let all : min n (length l) ≡ length l = omega (arith, long) in sym (take_min n l) ∙ ap (λ k. take k l) all ∙ take-length l
 
 same_version : (ps : List Packet) → version_after packets 1 ps ≡ 1
 same_version [] = refl
@@ -82,7 +84,7 @@ data_of_top bytes = data_top bytes (packets_needed (length bytes))
 
 pub data_of_items : (bytes : List ℕ) → flat_map items_in (data_of bytes) ≡ map Byte bytes
 unfolding data_of
-data_of_items bytes = data_items bytes (packets_needed (length bytes)) ∙ ap (λ l. map Byte l) (take_of_length-le bytes {i = packets_needed (length bytes) * 4096} (omega arith))
+data_of_items bytes = data_items bytes (packets_needed (length bytes)) ∙ ap (λ l. map Byte l) (take_all (packets_needed (length bytes) * 4096) bytes (omega arith))
 
 pub data_of_stream : (bytes : List ℕ) → data_stream bytes ≡ stream_of packets (data_of bytes)
 unfolding data_of data_stream
