@@ -214,12 +214,14 @@ tail_from false received stream front zero s = rw (no_front front s.rest s.is) (
 first_from : (m received : ℕ) (stream front : List ℕ) → (m ≡ 1 → received ≡ 0) → StartsWith (first_tail m stream) front → StartsWith (drop received stream) front
 first_from m received stream front zero s = tail_from (m == 1) received stream front (λ e. zero (grind (arith, e))) s
 
+pub came_front : (id : Id) (t h : View) (piece : List ℕ) → Sound h → Joint id t h
+    → StartsWith (drop 42 (t.went h.attempt)) (h.fed h.attempt ++ piece) → StartsWith t.stream (h.came ++ piece)
+came_front id t h piece sound j carried =
+    comes_next t.stream (drop 42 (t.went h.attempt)) (h.fed h.attempt) piece h.came j.start h.received j.up carried j.came_h sound.came
+
 module _ (id : Id) (t h : View) (piece more : List ℕ) (acked told top : ℕ) (sound : Sound h) (sounds : Sound t) (j : Joint id t h)
     (open_now : is_open h.phase ≡ true) (carried : StartsWith (drop 42 (t.went h.attempt)) (h.fed h.attempt ++ piece))
     (known : acked ≤ t.received) (says : told ≤ max top h.told) (higher : h.top ≤ top) where
-  pub came_now : StartsWith t.stream (h.came ++ piece)
-  came_now = comes_next t.stream (drop 42 (t.went h.attempt)) (h.fed h.attempt) piece h.came j.start h.received j.up carried j.came_h sound.came
-
   here_or : may_send t.phase t.attempt ≡ true → h.attempt ≡ t.attempt
   here_or s = elim (sends_when t.phase t.attempt s) [
     inl one ↦ omega (arith, one, j.order, (j.open_h open_now))
@@ -262,7 +264,7 @@ module _ (id : Id) (t h : View) (piece more : List ℕ) (acked told top : ℕ) (
     up = rw (same_at h.attempt h.fed piece) (line_read t.stream (drop 42 (t.went h.attempt)) (h.fed h.attempt) piece j.start h.received j.up carried);
     down = λ same. line_longer h.stream (drop 42 (h.went h.attempt)) (t.fed h.attempt) more j.from t.received (j.down same);
     from_in = omega (arith, j.from_in, (length-append h.stream more));
-    came_h = came_now;
+    came_h = came_front id t h piece sound j carried;
     came_t = longer h.stream more t.came j.came_t;
     base_t = omega (arith, j.base_t);
     base_h = omega (arith, j.base_h, known);

@@ -46,7 +46,7 @@ one_packet p q a b good fine e =
     let same = same_frame bounds (kind_of p) (kind_of q) (body_of p) (body_of q) a b (allowed p good) (short p good) (allowed q fine) (short q fine) e in
     (same_packet p q good fine same.0 same.1, same.2)
 
-packets_sound : IsSound packets
+pub packets_sound : IsSound packets
 packets_sound =
     record {
       says = λ version p rest good. header_of_frame bounds (kind_of p) (body_of p) rest (allowed p good) (short p good);
@@ -54,7 +54,7 @@ packets_sound =
     }
 
 -- what is read of a front of a stream of packets
-front_read : (ps qs : List Packet) (came rest held : List ℕ) → FitInTurn packets 1 ps → stream_of packets ps ≡ came ++ rest → Splits packets 1 came qs held → (more : List Packet) × (ps ≡ qs ++ more)
+pub front_read : (ps qs : List Packet) (came rest held : List ℕ) → FitInTurn packets 1 ps → stream_of packets ps ≡ came ++ rest → Splits packets 1 came qs held → (more : List Packet) × (ps ≡ qs ++ more)
 front_read ps qs came rest held fit whole splits =
     reads_on packets packets_sound 1 (stream_of packets ps) qs ps (held ++ rest) [] None
     (record { whole = whole ∙ ap (λ b. b ++ rest) splits.whole ∙ append_assoc (stream_of packets qs) held rest; fit = splits.fit })

@@ -138,7 +138,7 @@ breaks id t h j = record {
 
 -- ## Dialling
 
-dialled_call : (id : Id) (t h : View) (x : Hello) → x.id ≡ id → x.attempt ≡ t.attempt + 1 → is_call x.what ≡ true → (is_resume x.what ≡ true → t.known ≡ true) → x.received ≡ t.received
+pub dialled_call : (id : Id) (t h : View) (x : Hello) → x.id ≡ id → x.attempt ≡ t.attempt + 1 → is_call x.what ≡ true → (is_resume x.what ≡ true → t.known ≡ true) → x.received ≡ t.received
     → (t.known ≡ true → h.known ≡ true) → IsCall id h.known h.attempt t.received (t.attempt + 1) x
 dialled_call id t h x a b c d e k = record { id_is = a; attempt_is = b; word = c; goes_on = λ r. k (d r); recent = λ l. e }
 
@@ -330,6 +330,12 @@ module _ (id : Id) (t h : View) (a b : ℕ) (j : Joint id t h) (up : is_up t.pha
 
 -- ## A piece comes
 
+pub came_front : (id : Id) (t h : View) (piece : List ℕ) → Sound t → Joint id t h → is_open t.phase ≡ true
+    → StartsWith (drop 42 (h.went t.attempt)) (t.fed t.attempt ++ piece) → StartsWith h.stream (t.came ++ piece)
+came_front id t h piece sound j open_now carried =
+    comes_next h.stream (drop 42 (h.went t.attempt)) (t.fed t.attempt) piece t.came j.from t.received
+    (subst (λ n. Line h.stream (drop 42 (h.went n)) (t.fed n) j.from t.received) (j.open_t open_now) (j.down (j.open_t open_now))) carried j.came_t sound.came
+
 module _ (id : Id) (t h : View) (piece more : List ℕ) (acked told top : ℕ) (sound : Sound t) (sounds : Sound h) (j : Joint id t h)
     (open_now : is_open t.phase ≡ true) (carried : StartsWith (drop 42 (h.went t.attempt)) (t.fed t.attempt ++ piece))
     (known : acked ≤ h.received) (says : told ≤ max top t.told) (higher : t.top ≤ top) where
@@ -341,9 +347,6 @@ module _ (id : Id) (t h : View) (piece more : List ℕ) (acked told top : ℕ) (
 
   call_still : (m : ℕ) (x : Hello) → (h.attempt < m → ⊥) → IsCall id h.known h.attempt t.received m x → IsCall id h.known h.attempt (t.received + length piece) m x
   call_still m x old c = record { id_is = c.id_is; attempt_is = c.attempt_is; word = c.word; goes_on = c.goes_on; recent = λ l. absurd (old l) }
-
-  pub came_now : StartsWith h.stream (t.came ++ piece)
-  came_now = comes_next h.stream (drop 42 (h.went t.attempt)) (t.fed t.attempt) piece t.came j.from t.received line carried j.came_t sound.came
 
   takes_ahead : is_open h.phase ≡ true → t.received + length piece ≤ h.given
   takes_ahead o =
@@ -382,7 +385,7 @@ module _ (id : Id) (t h : View) (piece more : List ℕ) (acked told top : ℕ) (
     down = λ same. rw (here, same_at t.attempt t.fed piece) (line_read h.stream (drop 42 (h.went t.attempt)) (t.fed t.attempt) piece j.from t.received line carried);
     from_in = j.from_in;
     came_h = longer t.stream more h.came j.came_h;
-    came_t = came_now;
+    came_t = came_front id t h piece sound j open_now carried;
     base_t = omega (arith, j.base_t, known);
     base_h = omega (arith, j.base_h);
     ahead_t = j.ahead_t;
