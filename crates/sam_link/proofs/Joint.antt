@@ -55,6 +55,7 @@ pub record Joint (id : Id) (t h : View) : Type 0 where
   pub up_t : is_up t.phase ≡ true → 1 ≤ t.attempt
   pub first : h.attempt ≡ 0 → h.received ≡ 0
   pub met : 1 ≤ h.attempt → h.known ≡ true
+  pub begins : h.attempt ≤ 1 → start ≡ 0
   pub fits : t.attempt < 2 ^ 64
   pub unsaid_t : (m : ℕ) → t.attempt < m → t.went m ≡ []
   pub unsaid_h : (m : ℕ) → h.attempt < m → h.went m ≡ []

@@ -21,7 +21,7 @@ use Rattle.sam_link.specs.declared.packet.Packet.TheVariants as packet
 pub take_all : {A : Type 0} (n : ℕ) (l : List A) → length l ≤ n → take n l ≡ l
 take_all n l long = let all : min n (length l) ≡ length l = omega (arith, long) in sym (take_min n l) ∙ ap (λ k. take k l) all ∙ take-length l
 
-same_version : (ps : List Packet) → version_after packets 1 ps ≡ 1
+pub same_version : (ps : List Packet) → version_after packets 1 ps ≡ 1
 same_version [] = refl
 same_version (p ∷ ps) = same_version ps
 

@@ -53,7 +53,7 @@ acks_known a n cs es ps qs us ks acked o p front most =
     let more = packets_front a n cs es ps qs ks us o p front in
     omega (arith, most, o.top, (ap top_of more.is), (top_more us more.rest))
 
-two_roles : Terminal ≡ Host → ⊥
+pub two_roles : Terminal ≡ Host → ⊥
 two_roles e = cc
 
 -- ## The terminal does something
@@ -202,6 +202,7 @@ joint_first id = record {
   up_t = λ e. absurd (true≢false (sym e));
   first = λ e. refl;
   met = λ l. absurd (omega (arith, l));
+  begins = λ l. refl;
   fits = omega arith;
   unsaid_t = λ m l. refl;
   unsaid_h = λ m l. refl;

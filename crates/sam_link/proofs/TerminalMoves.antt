@@ -66,6 +66,7 @@ adds id t h more told top sound says higher j = record {
   up_t = j.up_t;
   first = j.first;
   met = j.met;
+  begins = j.begins;
   fits = j.fits;
   unsaid_t = j.unsaid_t;
   unsaid_h = j.unsaid_h;
@@ -108,6 +109,7 @@ breaks id t h j = record {
   up_t = λ e. grind (arith, e);
   first = j.first;
   met = j.met;
+  begins = j.begins;
   fits = j.fits;
   unsaid_t = j.unsaid_t;
   unsaid_h = j.unsaid_h;
@@ -156,6 +158,7 @@ dials id t h x sound fits is says j = record {
   up_t = λ e. omega arith;
   first = j.first;
   met = j.met;
+  begins = j.begins;
   fits = fits;
   unsaid_t = λ m l. j.unsaid_t m (omega (arith, l));
   unsaid_h = j.unsaid_h;
@@ -300,6 +303,7 @@ module _ (id : Id) (t h : View) (a b : ℕ) (j : Joint id t h) (up : is_up t.pha
     up_t = j.up_t;
     first = j.first;
     met = j.met;
+    begins = j.begins;
     fits = j.fits;
     unsaid_t = λ m l. other_at t.attempt m t.went bytes (λ e. omega (arith, e, l)) ∙ j.unsaid_t m l;
     unsaid_h = j.unsaid_h;
@@ -368,6 +372,7 @@ module _ (id : Id) (t h : View) (piece more : List ℕ) (acked told top : ℕ) (
     up_t = j.up_t;
     first = j.first;
     met = j.met;
+    begins = j.begins;
     fits = j.fits;
     unsaid_t = j.unsaid_t;
     unsaid_h = j.unsaid_h;
@@ -408,19 +413,23 @@ asking_up Down e = e
 asking_up Asking e = refl
 asking_up Open e = refl
 
+-- a hello of the host on the terminal's newest connection
+pub answered_here : (id : Id) (t h : View) (x : Hello) (j : Joint id t h) → StartsWith (h.went t.attempt) (spelled x) → h.attempt ≡ t.attempt
+answered_here id t h x j carried = elim (at_most t.attempt h.attempt (nat_le t.attempt h.attempt) refl) [
+  inl most ↦ omega (arith, most, j.order)
+  | inr less ↦ absurd (no_hello x (subst (λ w. StartsWith w (spelled x)) (j.unsaid_h t.attempt less) carried))
+]
+
+pub at_start : (id : Id) (t h : View) (x : Hello) (j : Joint id t h) → IsHello x → StartsWith (h.went t.attempt) (spelled x) → x.received ≡ j.start
+at_start id t h x j is carried = (j.hellos_h t.attempt x is carried).recent (sym (answered_here id t h x j carried))
+
 module _ (id : Id) (t h : View) (x : Hello) (sound : Sound t) (j : Joint id t h) (asking : is_asking t.phase ≡ true) (is : IsHello x)
     (same : x.attempt ≡ t.attempt) (carried : StartsWith (h.went t.attempt) (spelled x)) (zero : t.attempt ≡ 1 → x.received ≡ 0) where
-  told_so : IsAnswer id h.attempt j.start t.attempt x
-  told_so = j.hellos_h t.attempt x is carried
-
   taken : h.attempt ≡ t.attempt
-  taken = elim (at_most t.attempt h.attempt (nat_le t.attempt h.attempt) refl) [
-    inl most ↦ omega (arith, most, j.order)
-    | inr less ↦ absurd (no_hello x (subst (λ w. StartsWith w (spelled x)) (j.unsaid_h t.attempt less) carried))
-  ]
+  taken = answered_here id t h x j carried
 
-  pub from_start : x.received ≡ j.start
-  from_start = told_so.recent (sym taken)
+  from_start : x.received ≡ j.start
+  from_start = at_start id t h x j is carried
 
   went_so : t.went t.attempt ++ (t.hello ++ drop (if t.attempt == 1 then t.given else x.received) t.stream) ≡ spelled j.call ++ drop j.start t.stream
   went_so = elim (eqb_tells t.attempt 1) [
@@ -428,7 +437,7 @@ module _ (id : Id) (t h : View) (x : Hello) (sound : Sound t) (j : Joint id t h)
     | inr other ↦ rw (other.0, from_start) (sym (append_assoc (t.went t.attempt) t.hello (drop j.start t.stream)) ∙ ap (λ w. w ++ drop j.start t.stream) (j.asks asking other.1))
   ]
 
-  nothing_read : t.attempt ≢ 1 → h.received ≡ j.start
+  pub nothing_read : t.attempt ≢ 1 → h.received ≡ j.start
   nothing_read other =
       let none_went : drop 42 (t.went h.attempt) ≡ [] = rw taken (hello_alone j.call (t.went t.attempt) t.hello (j.asks asking other)) in
       omega (arith, j.up.count, (ap length j.up.reads.is), (ap length none_went), (length-append (h.fed h.attempt) j.up.reads.rest))
@@ -468,6 +477,7 @@ module _ (id : Id) (t h : View) (x : Hello) (sound : Sound t) (j : Joint id t h)
     up_t = λ e. j.up_t up_so;
     first = j.first;
     met = j.met;
+    begins = j.begins;
     fits = j.fits;
     unsaid_t = j.unsaid_t;
     unsaid_h = j.unsaid_h;

@@ -1,5 +1,4 @@
 pub mod Calls
-pub mod Carrying
 pub mod End
 pub mod Feeding
 pub mod Hellos
@@ -9,4 +8,3 @@ pub mod Meeting
 pub mod Packets
 pub mod Putting
 pub mod Sessions
-pub mod Ways
