@@ -2,3 +2,4 @@ pub mod Words
 pub mod Joining
 pub mod Carrying
 pub mod Calling
+pub mod Linking

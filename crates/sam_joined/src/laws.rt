@@ -4,6 +4,7 @@
 //! They ask that the messages and frames are values of their types and can be written (`CanCross`), as all those of endpoints are; no
 //! clause of sam_endpoint says so.
 ghost use Rattle.sam_joined.specs.Calls.{CallsAreCarried, NoCallStopsTheTerminal, NoPieceStopsTheHost};
+ghost use Rattle.sam_joined.specs.Linked.{LinkedAreOneRun, LinksAreOneLine, MovedIsCarried};
 ghost use Rattle.sam_joined.specs.Joined.{CarriedAgree, EndpointsJoin, JoinedAreAsIfLocal, NeitherStops, NeverStuck};
 
 /// States that whatever calls two endpoints get, in whatever pieces and whenever memory is refused, bytes were carried between them, as
@@ -45,4 +46,14 @@ pub fn endpoints_are_as_if_local()
 /// well, nothing is held or locked and no request awaits its data, unless a count is full.
 pub fn endpoints_are_never_stuck()
     ensures { NeverStuck }
+{}
+
+/// States that two endpoints over a link, whose connections may break anywhere, are two endpoints over one unbroken line: so every law here
+/// holds of them. What each took in is the first of what the other handed out or has pending; it is all of that once a connection has
+/// carried all and both programs have moved all. So they are where one run of a world leaves them, neither stops but for a full count, and
+/// an unlocked open file shows what the editor without a network shows.
+pub fn endpoints_are_linked()
+    ensures line { LinksAreOneLine }
+    ensures all { MovedIsCarried }
+    ensures one_run { LinkedAreOneRun }
 {}

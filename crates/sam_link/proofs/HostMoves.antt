@@ -1,9 +1,8 @@
 -- What the host does keeps what holds of both ends.
-use Rattle.std.proofs.Common.{◌≡◌, ℕ, ◌+◌, ◌-◌, ◌<◌, ◌≤◌, ◌^◌, List, [], ◌∷◌, ◌++◌, length, take, drop, Bool, true, false, None, Some, Option, refl, sym, ap, ◌∙◌, subst, append_assoc, append-nil, arith, length-append, length-drop, drop-drop, nat_le, ◌⊎◌, inl, inr, true≢false, ◌≢◌}
-use Rattle.std.proofs.lemmas.List.{take-append-drop}
+use Rattle.std.proofs.Common.{◌≡◌, ℕ, ◌+◌, ◌<◌, ◌≤◌, List, [], ◌∷◌, ◌++◌, length, drop, Bool, true, false, refl, sym, ap, ◌∙◌, subst, arith, length-append, drop-drop, nat_le, ◌⊎◌, inl, inr, true≢false, ◌≢◌}
 use Rattle.std.proofs.lemmas.Bool.Decides.{eqb_tells}
 use Rattle.std.specs.Prelude.{max, ◌==◌, if◌then◌else◌}
-use Rattle.sam_link.specs.End.{End, is_asking, is_call, is_resume, is_up, may_send}
+use Rattle.sam_link.specs.End.{is_asking, is_up, may_send}
 use Rattle.sam_link.specs.Feeding.{is_open}
 use Rattle.sam_link.specs.Hellos.{IsHello, spelled}
 use Rattle.sam_link.specs.Sessions.{StartsWith}
@@ -12,8 +11,8 @@ use Rattle.sam_link.specs.declared.hello.Id.{Id}
 use Rattle.sam_link.specs.declared.phase.Phase.{Phase}
 use Rattle.sam_link.specs.declared.phase.Phase.TheVariants.{Down, Asking, Open}
 use Rattle.sam_link.proofs.Joint.{IsAnswer, IsCall, Joint, Sound, first_tail}
-use Rattle.sam_link.proofs.Lines.{Line, at_most, drop_grows, starts_on, gone_on, read_in, went_on, behind_hello, comes_next, drop_more, line_given, line_longer, line_read, longer, no_hello, none, same_hello}
-use Rattle.sam_link.proofs.TerminalMoves.{more_to_go, at_other, at_same, other_at, same_at}
+use Rattle.sam_link.proofs.Lines.{Line, at_most, drop_grows, starts_on, gone_on, read_in, went_on, behind_hello, comes_next, line_longer, line_read, longer, no_hello, none, same_hello}
+use Rattle.sam_link.proofs.TerminalMoves.{more_to_go, other_at, same_at}
 use Rattle.sam_link.proofs.Views.{Adds, Answers, Breaks, Goes, Takes, View, at, goes_on, moved}
 
 pub adds : (id : Id) (t h : View) (more : List ℕ) (told top : ℕ) → Sound h → told ≤ max top h.told → h.top ≤ top → Joint id t h → Joint id t (moved h (Adds more told top))
@@ -143,7 +142,7 @@ module _ (id : Id) (t h : View) (a b : ℕ) (j : Joint id t h) (up : is_up h.pha
 
   goes_hello : (m : ℕ) (x : Hello) → IsHello x → StartsWith (next m) (spelled x) → IsAnswer id h.attempt j.start m x
   goes_hello m x is starts = elim (went_now m) [
-    inl same ↦ subst (λ n. IsAnswer id h.attempt j.start n x) (sym same)
+    | inl same ↦ subst (λ n. IsAnswer id h.attempt j.start n x) (sym same)
         (now_hello x is (subst (λ w. StartsWith w (spelled x)) (ap next same ∙ same_at h.attempt h.went bytes) starts))
     | inr other ↦ j.hellos_h m x is (subst (λ w. StartsWith w (spelled x)) (other_at h.attempt m h.went bytes other) starts)
   ]
@@ -227,7 +226,7 @@ module _ (id : Id) (t h : View) (piece more : List ℕ) (acked told top : ℕ) (
     (known : acked ≤ t.received) (says : told ≤ max top h.told) (higher : h.top ≤ top) where
   here_or : may_send t.phase t.attempt ≡ true → h.attempt ≡ t.attempt
   here_or s = elim (sends_when t.phase t.attempt s) [
-    inl one ↦ omega (arith, one, j.order, (j.open_h open_now))
+    | inl one ↦ omega (arith, one, j.order, (j.open_h open_now))
     | inr o ↦ j.open_t o
   ]
 
@@ -292,7 +291,7 @@ module _ (id : Id) (t h : View) (g w : Hello) (sound : Sound h) (sounds : Sound 
 
   dialled : g.attempt ≤ t.attempt
   dialled = elim (at_most g.attempt t.attempt (nat_le g.attempt t.attempt) refl) [
-    inl most ↦ most
+    | inl most ↦ most
     | inr less ↦ absurd (no_hello g (subst (λ v. StartsWith v (spelled g)) (j.unsaid_t g.attempt less) carried))
   ]
 
@@ -312,7 +311,7 @@ module _ (id : Id) (t h : View) (g w : Hello) (sound : Sound h) (sounds : Sound 
 
   same_start : may_send t.phase t.attempt ≡ true → h.received ≡ j.start
   same_start s = elim (sends_when t.phase t.attempt s) [
-    inl one ↦ omega (arith, one, later, dialled, j.up.count, (j.first (omega (arith, one, later, dialled))))
+    | inl one ↦ omega (arith, one, later, dialled, j.up.count, (j.first (omega (arith, one, later, dialled))))
     | inr o ↦ absurd (not_open o)
   ]
 

@@ -1,15 +1,13 @@
 -- What holds of two ends of one session at each moment.
-use Rattle.std.proofs.Common.{◌≡◌, ℕ, ◌+◌, ◌-◌, ◌<◌, ◌≤◌, ◌^◌, List, [], ◌∷◌, ◌++◌, length, take, drop, Bool, true, false, None, Some, Option, refl, sym, ap, ◌∙◌, subst, append_assoc, append-nil, arith, length-append, length-drop, drop-drop, nat_le, ◌⊎◌, inl, inr}
+use Rattle.std.proofs.Common.{◌≡◌, ℕ, ◌<◌, ◌≤◌, ◌^◌, List, [], ◌++◌, length, drop, Bool, true, false}
 use Rattle.std.specs.Prelude.{max, ◌==◌, if◌then◌else◌}
-use Rattle.sam_link.specs.End.{End, is_asking, is_call, is_resume, is_up, may_send}
+use Rattle.sam_link.specs.End.{is_asking, is_call, is_resume, is_up, may_send}
 use Rattle.sam_link.specs.Feeding.{is_open}
 use Rattle.sam_link.specs.Hellos.{IsHello, spelled}
 use Rattle.sam_link.specs.Sessions.{StartsWith}
 use Rattle.sam_link.specs.declared.hello.Hello.{Hello}
 use Rattle.sam_link.specs.declared.hello.Id.{Id}
 use Rattle.sam_link.specs.declared.hello.What.TheVariants.{Welcome}
-use Rattle.sam_link.specs.declared.phase.Phase.{Phase}
-use Rattle.sam_link.specs.declared.phase.Phase.TheVariants.{Down, Asking, Open}
 use Rattle.sam_link.proofs.Lines.{Line}
 use Rattle.sam_link.proofs.Views.{View}
 

@@ -1,5 +1,5 @@
 -- What was written into a connection, what was read of it, and the stream that it carries.
-use Rattle.std.proofs.Common.{◌≡◌, ℕ, ◌+◌, ◌-◌, ◌<◌, ◌≤◌, ◌^◌, List, [], ◌∷◌, ◌++◌, length, take, drop, Bool, true, false, None, Some, Option, refl, sym, ap, ◌∙◌, subst, append_assoc, append-nil, arith, length-append, length-drop, drop-drop, nat_le, ◌⊎◌, inl, inr}
+use Rattle.std.proofs.Common.{◌≡◌, ℕ, ◌+◌, ◌<◌, ◌≤◌, List, [], ◌++◌, length, take, drop, Bool, true, false, refl, sym, ap, ◌∙◌, subst, append_assoc, append-nil, arith, length-append, length-drop, drop-drop, nat_le, ◌⊎◌, inl, inr}
 use Rattle.std.proofs.lemmas.List.{drop-append-le, take-append-drop}
 use Rattle.std.proofs.Math.ListN.{drop_of_length-le}
 use Rattle.std.proofs.Math.Seq.{drop-append_seam}
@@ -51,13 +51,13 @@ pub comes_next : (stream given read piece came : List ℕ) (start received : ℕ
     → StartsWith stream came → received ≡ length came → StartsWith stream (came ++ piece)
 comes_next stream given read piece came start received l reads front long =
     let next : drop start stream ≡ read ++ (piece ++ (reads.rest ++ l.goes.rest)) =
-        l.goes.is ∙ ap (λ b. b ++ l.goes.rest) reads.is ∙ grind (arith, append_assoc) in
+    l.goes.is ∙ ap (λ b. b ++ l.goes.rest) reads.is ∙ grind (arith, append_assoc) in
     let left : drop (length read) (drop start stream) ≡ piece ++ (reads.rest ++ l.goes.rest) =
-        ap (λ b. drop (length read) b) next ∙ drop-append_seam read (piece ++ (reads.rest ++ l.goes.rest)) in
+    ap (λ b. drop (length read) b) next ∙ drop-append_seam read (piece ++ (reads.rest ++ l.goes.rest)) in
     let there : drop (length came) stream ≡ piece ++ (reads.rest ++ l.goes.rest) =
-        grind (arith, left, (drop-drop (length read) start stream), l.count, long) in
+    grind (arith, left, (drop-drop (length read) start stream), l.count, long) in
     let behind : front.rest ≡ piece ++ (reads.rest ++ l.goes.rest) =
-        sym (drop-append_seam came front.rest) ∙ ap (λ b. drop (length came) b) (sym front.is) ∙ there in
+    sym (drop-append_seam came front.rest) ∙ ap (λ b. drop (length came) b) (sym front.is) ∙ there in
     record { rest = reads.rest ++ l.goes.rest; is = front.is ∙ ap (λ b. came ++ b) behind ∙ sym (append_assoc came piece (reads.rest ++ l.goes.rest)) }
 
 pub hello_long : (h : Hello) → length (spelled h) ≡ 42
@@ -79,7 +79,7 @@ at_most a b false e = inr (grind (arith, e))
 -- what was written behind a hello is the front of what is behind it
 pub behind_hello : (g : Hello) (went ahead tail : List ℕ) → went ++ ahead ≡ spelled g ++ tail → StartsWith tail (drop 42 went)
 behind_hello g went ahead tail e = elim (at_most 42 (length went) (nat_le 42 (length went)) refl) [
-  inl long ↦ record { rest = ahead; is = ap (λ b. drop 42 b) (sym e) ∙ drop-append-le 42 went ahead long }
+  | inl long ↦ record { rest = ahead; is = ap (λ b. drop 42 b) (sym e) ∙ drop-append-le 42 went ahead long }
   | inr short ↦ rw (drop_of_length-le went {i = 42} (omega (arith, short))) (none tail)
 ]
 
@@ -91,7 +91,7 @@ hello_alone g went ahead e =
 -- more is written
 pub drop_grows : (n : ℕ) (went bytes : List ℕ) → StartsWith (drop n (went ++ bytes)) (drop n went)
 drop_grows n went bytes = elim (at_most n (length went) (nat_le n (length went)) refl) [
-  inl long ↦ record { rest = bytes; is = drop-append-le n went bytes long }
+  | inl long ↦ record { rest = bytes; is = drop-append-le n went bytes long }
   | inr short ↦ rw (drop_of_length-le went {i = n} (omega (arith, short))) (none (drop n (went ++ bytes)))
 ]
 

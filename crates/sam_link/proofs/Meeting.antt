@@ -1,24 +1,24 @@
 -- Two ends of one session find no fault in each other, and keep what the other lacks.
-use Rattle.std.proofs.Common.{◌≡◌, ℕ, ◌+◌, ◌-◌, ◌<◌, ◌≤◌, ◌^◌, List, [], ◌∷◌, ◌++◌, length, take, drop, Bool, true, false, None, Some, Option, Ok, Err, Result, refl, sym, ap, ◌∙◌, subst, append_assoc, append-nil, arith, true≢false, length-append, length-drop, nat_le, ◌&&◌, ◌⊎◌, inl, inr, ◌≢◌}
+use Rattle.std.proofs.Common.{◌≡◌, ℕ, ◌+◌, ◌<◌, ◌≤◌, List, [], ◌∷◌, ◌++◌, length, drop, Bool, true, false, None, Some, Ok, Err, Result, refl, sym, ap, ◌∙◌, subst, append_assoc, append-nil, arith, true≢false, length-append, length-drop, nat_le, ◌&&◌, ◌⊎◌, inl, inr, ◌≢◌}
 use Rattle.std.proofs.lemmas.Bool.Decides.{eqb_tells}
 use Rattle.std.specs.List.{flat_map}
 use Rattle.std.specs.Prelude.{max, not, ◌==◌, if◌then◌else◌}
 use Rattle.sam_mesg.specs.declared.fault.MesgFault.{MesgFault}
 use Rattle.sam_frame.specs.Reading.{IsStream}
 use Rattle.sam_frame.specs.Splitting.{Front}
-use Rattle.sam_frame.specs.Stream.{FitInTurn, IsOpen, Shows, Splits, stream_of}
+use Rattle.sam_frame.specs.Stream.{FitInTurn, IsOpen, Shows, stream_of}
 use Rattle.sam_frame.proofs.Cuttings.{Shows-longer}
 use Rattle.sam_frame.proofs.Fronts.{stream_of-append}
 use Rattle.sam_frame.proofs.Unique.{one_reading}
 use Rattle.sam_link.specs.Calls.{Call, Does, fed, handed, items_in, out, put, waits}
 use Rattle.sam_link.specs.Calls.Call.{Answer, Feed, Welcome}
-use Rattle.sam_link.specs.End.{AnswersBy, End, WelcomesBy, fault_by_word, is_asking, is_call, is_resume, may_send, refusal_of, same_id, welcome_count, welcome_fault, welcome_refusal}
+use Rattle.sam_link.specs.End.{AnswersBy, End, WelcomesBy, fault_by_word, is_asking, is_call, is_resume, may_send, refusal_of, same_id, welcome_count, welcome_refusal}
 use Rattle.sam_link.specs.Feeding.{Feeds, has_room, is_open, top_of}
 use Rattle.sam_link.specs.Hellos.{IsHello, spelled}
 use Rattle.sam_link.specs.Keeping.{MayHave, may_have}
-use Rattle.sam_link.specs.Meeting.{AllCame, CarriedIsAll, FindsNoFault, HonestMeet, IsAllCarried, KeepsWhatLacks, LacksAreKept}
+use Rattle.sam_link.specs.Meeting.{CarriedIsAll, FindsNoFault, HonestMeet, LacksAreKept}
 use Rattle.sam_link.specs.Packets.{mesg_fault, packets}
-use Rattle.sam_link.specs.Sessions.{IsFrom, IsId, Leads, Session, StartsWith, Step, WasCarried, new_session}
+use Rattle.sam_link.specs.Sessions.{IsFrom, Session, StartsWith, WasCarried}
 use Rattle.sam_link.specs.declared.fault.AnswerFault.{AnswerFault}
 use Rattle.sam_link.specs.declared.fault.AnswerFault.TheVariants as answers
 use Rattle.sam_link.specs.declared.fault.FeedFault.{FeedFault}
@@ -36,11 +36,10 @@ use Rattle.sam_link.specs.declared.phase.Phase.TheVariants.{Down, Asking, Open}
 use Rattle.sam_link.specs.declared.phase.Role.{Role}
 use Rattle.sam_link.specs.declared.phase.Role.TheVariants.{Terminal, Host}
 use Rattle.sam_link.proofs.HostMoves as host
-use Rattle.sam_link.proofs.Joint.{IsAnswer, IsCall, Joint, Sound}
-use Rattle.sam_link.proofs.Lines.{Line}
+use Rattle.sam_link.proofs.Joint.{IsCall, Sound}
 use Rattle.sam_link.proofs.OwnMoves.{sound_of}
 use Rattle.sam_link.proofs.PacketLaws.{front_read, packets_sound}
-use Rattle.sam_link.proofs.Packing.{fit_more, items_more, same_version, top_more}
+use Rattle.sam_link.proofs.Packing.{fit_more, same_version, top_more}
 use Rattle.sam_link.proofs.SessionLaws.{Holds, session_holds, two_roles}
 use Rattle.sam_link.proofs.TerminalMoves as terminal
 use Rattle.sam_link.proofs.Views.{Own, View, view}
@@ -67,8 +66,8 @@ heard : (qs new : List Packet) (held piece rest : List ℕ) (len : ℕ) (whole :
     → Front packets 1 (held ++ piece) new 1 len → whole ≡ (stream_of packets (qs ++ new) ++ drop len (held ++ piece)) ++ rest
 heard qs new held piece rest len whole e front =
     let came : stream_of packets (qs ++ new) ++ drop len (held ++ piece) ≡ (stream_of packets qs ++ held) ++ piece =
-        ap (λ l. l ++ drop len (held ++ piece)) (stream_of-append packets qs new) ∙ append_assoc (stream_of packets qs) (stream_of packets new) (drop len (held ++ piece))
-        ∙ ap (λ l. stream_of packets qs ++ l) (sym front.splits.whole) ∙ sym (append_assoc (stream_of packets qs) held piece) in
+    ap (λ l. l ++ drop len (held ++ piece)) (stream_of-append packets qs new) ∙ append_assoc (stream_of packets qs) (stream_of packets new) (drop len (held ++ piece))
+    ∙ ap (λ l. stream_of packets qs ++ l) (sym front.splits.whole) ∙ sym (append_assoc (stream_of packets qs) held piece) in
     e ∙ ap (λ l. l ++ rest) (sym came)
 
 not_wrong : (e a : End) (cs ds : List Call) (ps qs rs us new : List Packet) (piece : List ℕ) (len : ℕ) (fault : MesgFault) → Own e cs ps qs → Own a ds rs us
@@ -83,7 +82,7 @@ not_ahead : (e a : End) (cs ds : List Call) (ps qs rs us new : List Packet) (pie
     → a.received ≤ e.keeps.base + e.keeps.sent → e.keeps.base + e.keeps.sent < top_of new → ⊥
 not_ahead e a cs ds ps qs rs us new piece len o p starts front most ahead =
     let read = front_read rs (qs ++ new) (stream_of packets (qs ++ new) ++ drop len (e.held ++ piece)) starts.rest (drop len (e.held ++ piece)) p.fit
-        (heard qs new e.held piece starts.rest len (stream_of packets rs) starts.is front) (record { whole = refl; fit = fit_more qs new o.taken_fit front.splits.fit }) in
+    (heard qs new e.held piece starts.rest len (stream_of packets rs) starts.is front) (record { whole = refl; fit = fit_more qs new o.taken_fit front.splits.fit }) in
     omega (arith, most, ahead, p.top, (ap top_of read.1), (top_more (qs ++ new) read.0), (top_more qs new))
 
 -- ## What is kept
@@ -149,17 +148,25 @@ carried_is_all id steps s fine leads c =
     let j = x.joint in
     let here : s.host.attempt ≡ s.terminal.attempt = j.open_t c.terminal_spent.is_open in
     let up_len : s.host.received ≡ length (stream_of packets x.up_put) =
-        omega (arith, j.up.count, (ap length c.up),
-            (all_went (out s.host.attempt s.terminal_calls) s.terminal.hello (stream_of packets x.up_put) (spelled j.call) j.start (s.terminal.keeps.base + s.terminal.keeps.sent)
-            (subst (λ n. out n s.terminal_calls ++ (s.terminal.hello ++ drop (s.terminal.keeps.base + s.terminal.keeps.sent) (stream_of packets x.up_put))
-                ≡ spelled j.call ++ drop j.start (stream_of packets x.up_put)) (sym here) (j.sends_t (open_sends s.terminal.phase s.terminal.attempt c.terminal_spent.is_open))) refl c.terminal_spent.no_hello
-            (omega (arith, c.terminal_spent.none_kept_back, x.own_t.long)) j.up.inside)) in
+    omega (
+      arith,
+      j.up.count,
+      (ap length c.up),
+      (all_went (out s.host.attempt s.terminal_calls) s.terminal.hello (stream_of packets x.up_put) (spelled j.call) j.start (s.terminal.keeps.base + s.terminal.keeps.sent)
+          (subst (λ n. out n s.terminal_calls ++ (s.terminal.hello ++ drop (s.terminal.keeps.base + s.terminal.keeps.sent) (stream_of packets x.up_put))
+          ≡ spelled j.call ++ drop j.start (stream_of packets x.up_put)) (sym here) (j.sends_t (open_sends s.terminal.phase s.terminal.attempt c.terminal_spent.is_open))) refl c.terminal_spent.no_hello
+          (omega (arith, c.terminal_spent.none_kept_back, x.own_t.long)) j.up.inside),
+    ) in
     let line = j.down here in
     let down_len : s.terminal.received ≡ length (stream_of packets x.down_put) =
-        omega (arith, line.count, (ap length (subst (λ n. fed n s.terminal_calls ≡ drop 42 (out n s.host_calls)) (sym here) c.down)),
-            (all_went (out s.host.attempt s.host_calls) s.host.hello (stream_of packets x.down_put) (spelled j.welcome) j.from (s.host.keeps.base + s.host.keeps.sent)
-            (j.sends_h c.host_spent.is_open) refl c.host_spent.no_hello
-            (omega (arith, c.host_spent.none_kept_back, x.own_h.long)) j.from_in)) in
+    omega (
+      arith,
+      line.count,
+      (ap length (subst (λ n. fed n s.terminal_calls ≡ drop 42 (out n s.host_calls)) (sym here) c.down)),
+      (all_went (out s.host.attempt s.host_calls) s.host.hello (stream_of packets x.down_put) (spelled j.welcome) j.from (s.host.keeps.base + s.host.keeps.sent)
+          (j.sends_h c.host_spent.is_open) refl c.host_spent.no_hello
+          (omega (arith, c.host_spent.none_kept_back, x.own_h.long)) j.from_in),
+    ) in
     let up_all : x.up_taken ≡ x.up_put = taken_all s.terminal s.host s.terminal_calls s.host_calls x.up_put x.down_taken x.down_put x.up_taken x.own_t x.own_h j.came_h up_len in
     let down_all : x.down_taken ≡ x.down_put = taken_all s.host s.terminal s.host_calls s.terminal_calls x.down_put x.up_taken x.up_put x.down_taken x.own_h x.own_t j.came_t down_len in
     record {
@@ -200,7 +207,7 @@ only_old id t h e g why named here c counted is =
     checks (is_call g.what) (is_resume g.what && not e.is_known) (same_id e.id g.id) (nat_le g.attempt e.attempt) (may_have e.keeps g.received) why
     c.word (goes_on_so (is_resume g.what) e.is_known c.goes_on) (same e.id g.id (named ∙ sym c.id_is))
     (λ later. let all : g.received ≡ t.received = c.recent (grind (arith, later)) in
-        within e.keeps.base g.received (e.keeps.base + length e.keeps.kept) (omega (arith, all, counted.0)) (omega (arith, all, counted.1)))
+    within e.keeps.base g.received (e.keeps.base + length e.keeps.kept) (omega (arith, all, counted.0)) (omega (arith, all, counted.1)))
     is
 
 welcome_checks : (c d f : Bool) (fault : WelcomeFault) → c ≡ true → (d ≡ true → f ≡ true)
@@ -218,7 +225,7 @@ not_asked false e x fault word is = inl cc
 
 counts : (e : End) (count : ℕ) → (e.attempt ≡ 1 → count ≡ 0) → (e.attempt ≢ 1 → MayHave e.keeps count) → welcome_count e count ≡ true
 counts e count one other = elim (eqb_tells e.attempt 1) [
-  inl first ↦ rw (first.0) (let zero : count ≡ 0 = one first.1 in grind (arith, zero))
+  | inl first ↦ rw (first.0) (let zero : count ≡ 0 = one first.1 in grind (arith, zero))
   | inr later ↦ rw (later.0) (within e.keeps.base count (e.keeps.base + length e.keeps.kept) (other later.1).0 (other later.1).1)
 ]
 
@@ -305,19 +312,19 @@ module _ (id : Id) (s : Session) (x : Holds id s) (next : End) where
       let here : h.attempt ≡ t.attempt = terminal.answered_here id t h y x.joint carried in
       let zero : (t.attempt ≡ 1 → y.received ≡ 0) = λ one. from ∙ x.joint.begins (omega (arith, one, here)) in
       counts s.terminal y.received zero (λ other.
-          let came : h.received ≡ x.joint.start = terminal.nothing_read id t h y sound_t x.joint asking is numbered carried zero other in
-          (omega (arith, from, came, x.joint.base_t), omega (arith, from, x.joint.up.inside, x.own_t.long)))
+      let came : h.received ≡ x.joint.start = terminal.nothing_read id t h y sound_t x.joint asking is numbered carried zero other in
+      (omega (arith, from, came, x.joint.base_t), omega (arith, from, x.joint.up.inside, x.own_t.long)))
 
   welcome_met : (role : Role) (y : Hello) (answer : Result (Unit {0}) WelcomeFault) → s.terminal.role ≡ role → WelcomesBy role s.terminal y answer next → IsFrom s.host_calls y
       → FindsNoFault (Welcome y answer)
   welcome_met Terminal y (Err fault) r d from =
       let said = x.joint.hellos_h y.attempt y from.0 from.1 in
       old_or_over y fault (elim (not_asked (is_asking s.terminal.phase) s.terminal y fault said.word d.0) [
-        inl over ↦ inl over
+        | inl over ↦ inl over
         | inr here ↦ inr (welcome_checks (same_id s.terminal.id y.id) (y.attempt == s.terminal.attempt) (welcome_count s.terminal y.received) fault
             (same s.terminal.id y.id (x.id_t ∙ sym said.id_is))
             (λ e. let numbered : y.attempt ≡ s.terminal.attempt = grind (arith, e) in
-                now_counts y here.0 from.0 (subst (λ n. StartsWith (h.went n) (spelled y)) numbered from.1) numbered)
+            now_counts y here.0 from.0 (subst (λ n. StartsWith (h.went n) (spelled y)) numbered from.1) numbered)
             here.1)
       ])
   welcome_met role y (Ok done) r d from = tt

@@ -1,20 +1,19 @@
 -- Each call of an end is one move.
-use Rattle.std.proofs.Common.{◌≡◌, ℕ, ◌+◌, ◌-◌, ◌<◌, ◌≤◌, ◌^◌, List, [], ◌∷◌, ◌++◌, length, take, drop, map, Bool, true, false, None, Some, Option, Ok, Err, Result, refl, sym, ap, ◌∙◌, subst, append_assoc, append-nil, arith, length-append, length-drop, length-take, drop-drop, nat_le, nat_lt, ◌⊎◌, inl, inr, true≢false, ◌≢◌, ◌&&◌, ◌||◌}
-use Rattle.std.proofs.Math.Seq.{take-append_seam}
+use Rattle.std.proofs.Common.{◌≡◌, ℕ, ◌+◌, ◌<◌, ◌≤◌, List, [], ◌∷◌, ◌++◌, length, take, drop, map, Bool, true, false, None, Some, Option, Ok, Err, Result, refl, sym, ap, ◌∙◌, subst, append_assoc, arith, length-take, true≢false, ◌&&◌}
 use Rattle.std.proofs.lemmas.List.{map-append, take-append-drop}
 use Rattle.std.specs.List.{flat_map}
-use Rattle.std.specs.Prelude.{max, min, not, ◌==◌, if◌then◌else◌}
+use Rattle.std.specs.Prelude.{min, ◌==◌, if◌then◌else◌}
 use Rattle.sam_mesg.specs.Spelling.{eight, frame}
-use Rattle.sam_frame.specs.Stream.{FitInTurn, IsOpen, stream_of}
-use Rattle.sam_frame.proofs.Fronts.{stream_of-append, stream_of-one}
-use Rattle.sam_link.specs.Calls.{Acknowledges, Call, Does, Byte, Item, Note, fed, fed_by, handed, handed_by, items_in, left_of, out, out_by, put, put_by, waits}
+use Rattle.sam_frame.specs.Stream.{stream_of}
+use Rattle.sam_frame.proofs.Fronts.{stream_of-one}
+use Rattle.sam_link.specs.Calls.{Acknowledges, Call, Does, Byte, Item, Note, items_in, left_of, waits}
 use Rattle.sam_link.specs.Calls.Call.{Acknowledge, Answer, Ask, Break, Dial, Feed, NextNote, Put, PutNote, TakeIn, TakeOut, Welcome}
-use Rattle.sam_link.specs.End.{AnswersBy, CallsBy, End, TakesOut, WelcomesBy, answered, broken, called, ended, fault_by_word, is_asking, refusal_of, welcome_count, welcome_fault, welcome_refusal, welcomed}
+use Rattle.sam_link.specs.End.{AnswersBy, CallsBy, End, TakesOut, WelcomesBy, ended, fault_by_word, is_asking, refusal_of, welcome_count, welcome_fault, welcome_refusal, welcomed}
 use Rattle.sam_link.specs.Feeding.{Feeds, PutsNote}
-use Rattle.sam_link.specs.Inbox.{GivesNote, Waiting, items_of, note_of, ready, ready_of}
-use Rattle.sam_link.specs.Keeping.{HasRoom, Keeps, Puts, begun, may_have}
+use Rattle.sam_link.specs.Inbox.{GivesNote, Waiting, note_of, ready, ready_of}
+use Rattle.sam_link.specs.Keeping.{HasRoom, Keeps, Puts}
 use Rattle.sam_link.specs.Keeping.{put as put_bytes}
-use Rattle.sam_link.specs.Packets.{IsPacket, packets}
+use Rattle.sam_link.specs.Packets.{packets}
 use Rattle.sam_link.specs.Putting.{data_stream}
 use Rattle.sam_link.specs.declared.fault.AnswerFault.{AnswerFault}
 use Rattle.sam_link.specs.declared.fault.AnswerFault.TheVariants as answers
@@ -34,7 +33,6 @@ use Rattle.sam_link.specs.declared.keeping.PutFault.{PutFault}
 use Rattle.sam_link.specs.declared.keeping.PutFault.TheVariants as puts
 use Rattle.sam_link.specs.declared.packet.Packet.{Packet}
 use Rattle.sam_link.specs.declared.packet.Packet.TheVariants as packet
-use Rattle.sam_link.specs.declared.phase.Phase.TheVariants.{Down, Asking, Open}
 use Rattle.sam_link.specs.declared.phase.Role.{Role}
 use Rattle.sam_link.specs.declared.phase.Role.TheVariants.{Terminal, Host}
 use Rattle.sam_link.proofs.OwnMoves.{Stepped, adds, answers as own_answers, dials, over, refused, stays, takes, takes_out, took_front, welcomed_first, welcomed_later}

@@ -1,36 +1,30 @@
 -- What each call does to an end, in the words of what two ends are told by.
-use Rattle.std.proofs.Common.{◌≡◌, ℕ, ◌+◌, ◌-◌, ◌<◌, ◌≤◌, ◌^◌, List, [], ◌∷◌, ◌++◌, length, take, drop, map, Bool, true, false, None, Some, Option, Ok, Err, refl, sym, ap, ◌∙◌, subst, append_assoc, append-nil, arith, length-append, length-drop, length-take, drop-drop, nat_le, nat_lt, ◌⊎◌, inl, inr, true≢false, ◌≢◌, ◌&&◌, ◌||◌}
+use Rattle.std.proofs.Common.{◌≡◌, ℕ, ◌+◌, ◌-◌, ◌<◌, ◌≤◌, ◌^◌, List, [], ◌∷◌, ◌++◌, length, take, drop, map, Bool, true, false, Ok, refl, sym, ap, ◌∙◌, subst, append_assoc, append-nil, arith, length-append, length-drop, length-take, drop-drop, nat_le, ◌⊎◌, inl, inr, true≢false, ◌&&◌, ◌||◌}
 use Rattle.std.proofs.lemmas.Grind.{flat_map-append}
-use Rattle.std.proofs.lemmas.List.{take-append-drop}
 use Rattle.std.proofs.Math.ListN.{drop_of_length-le}
 use Rattle.std.proofs.Math.Seq.{take-append_seam}
 use Rattle.std.specs.List.{flat_map}
-use Rattle.std.specs.Prelude.{max, min, not, ◌==◌, if◌then◌else◌}
-use Rattle.sam_mesg.specs.Spelling.{eight, frame}
+use Rattle.std.specs.Prelude.{max, min, ◌==◌, if◌then◌else◌}
 use Rattle.sam_frame.specs.Splitting.{Front}
 use Rattle.sam_frame.specs.Stream.{FitInTurn, IsOpen, stream_of}
-use Rattle.sam_frame.proofs.Fronts.{stream_of-append, stream_of-one}
-use Rattle.sam_link.specs.Calls.{Call, Does, Item, Byte, Note, fed, fed_by, handed, handed_by, items_in, left_of, out, out_by, put, put_by, waits}
-use Rattle.sam_link.specs.Calls.Call.{Acknowledge, Answer, Ask, Break, Dial, Feed, NextNote, Put, PutNote, TakeIn, TakeOut, Welcome}
-use Rattle.sam_link.specs.End.{CallsBy, End, called, ended, first_word, from_hello, from_kept, going, gone, is_asking, is_call, is_resume, is_up, may_send, says}
+use Rattle.sam_frame.proofs.Fronts.{stream_of-append}
+use Rattle.sam_link.specs.Calls.{Call, Item, Byte, fed, fed_by, handed, handed_by, items_in, out, out_by, put_by, waits}
+use Rattle.sam_link.specs.Calls.Call.{Feed, TakeOut}
+use Rattle.sam_link.specs.End.{End, called, ended, first_word, from_hello, from_kept, going, gone, is_asking, is_call, is_resume, is_up, may_send, says}
 use Rattle.sam_link.specs.Feeding.{asks, fed_to, owes, has_room, is_open, tells, top_of}
-use Rattle.sam_link.specs.Hellos.{IsHello, spelled}
-use Rattle.sam_link.specs.Inbox.{Waiting, items_of, ready}
-use Rattle.sam_link.specs.Keeping.{Keeps, acknowledged, begun, HasRoom} 
+use Rattle.sam_link.specs.Inbox.{Waiting, items_of}
+use Rattle.sam_link.specs.Keeping.{Keeps, acknowledged, begun, HasRoom}
 use Rattle.sam_link.specs.Keeping.{put as put_bytes}
-use Rattle.sam_link.specs.Packets.{IsPacket, packets}
-use Rattle.sam_link.specs.Sessions.{IsFrom, IsId, StartsWith, WasCarried, is_taken}
+use Rattle.sam_link.specs.Packets.{packets}
+use Rattle.sam_link.specs.Sessions.{IsFrom, StartsWith, WasCarried, is_taken}
 use Rattle.sam_link.specs.declared.hello.Hello.{Hello}
 use Rattle.sam_link.specs.declared.packet.Packet.{Packet}
-use Rattle.sam_link.specs.declared.packet.Packet.TheVariants as packet
-use Rattle.sam_link.specs.declared.phase.Phase.{Phase}
-use Rattle.sam_link.specs.declared.phase.Phase.TheVariants.{Down, Asking, Open}
-use Rattle.sam_link.specs.declared.phase.Role.{Role}
+use Rattle.sam_link.specs.declared.phase.Phase.TheVariants.{Open}
 use Rattle.sam_link.specs.declared.phase.Role.TheVariants.{Terminal, Host}
 use Rattle.sam_link.specs.declared.hello.What.TheVariants as word
 use Rattle.sam_link.proofs.Joint.{Sound}
 use Rattle.sam_link.proofs.Lines.{at_most, drop_more}
-use Rattle.sam_link.proofs.Packing.{ack_fit, ack_if, ack_items, ack_long, ack_top, fit_more, items_are, items_more, take_all, told_keeps, top_more}
+use Rattle.sam_link.proofs.Packing.{ack_fit, ack_if, ack_items, ack_long, ack_top, fit_more, items_are, items_more, told_keeps, top_more}
 use Rattle.sam_link.proofs.Views.{Adds, Answers, Breaks, Dials, Goes, IsWelcomed, Move, Own, Stays, Takes, View, at, goes_on, moved, view}
 
 pub sound_of : (e : End) (cs : List Call) (ps qs : List Packet) → Own e cs ps qs → Sound (view e cs ps qs)
@@ -182,48 +176,53 @@ pub adds : (e n : End) (cs : List Call) (c : Call) (ps qs more : List Packet) (t
     → n ≡ record e { keeps = put_bytes e.keeps (stream_of packets more); told = told } → Stepped e n cs c ps qs
 adds e n cs c ps qs more told o no_out no_feed puts no_hand fit top before told_in says room is =
     subst (λ k. Stepped e k cs c ps qs) (sym is) (record {
-  put_now = ps ++ more;
-  taken_now = qs;
-  move = Adds (stream_of packets more) told (top_of (ps ++ more));
-  own = record {
-    fit = fit_more ps more o.fit fit;
-    kept = ap (λ l. l ++ stream_of packets more) o.kept ∙ sym (drop_more e.keeps.base (stream_of packets ps) (stream_of packets more) (omega (arith, o.long)))
-        ∙ ap (λ l. drop e.keeps.base l) (sym (stream_of-append packets ps more));
-    long = omega (arith, o.long, (length-append e.keeps.kept (stream_of packets more)), (ap length (stream_of-append packets ps more)),
-        (length-append (stream_of packets ps) (stream_of packets more)));
-    inside = omega (arith, o.inside, (length-append e.keeps.kept (stream_of packets more)));
-    counted = omega (arith, room, o.long, (ap length (stream_of-append packets ps more)), (length-append (stream_of packets ps) (stream_of packets more)));
-    puts = with_last put_by cs c ∙ ap (λ l. l ++ put_by c) o.puts ∙ ap (λ l. flat_map items_in ps ++ l) puts ∙ sym (items_more ps more);
-    top = omega (arith, o.top, top, (top_more ps more));
-    told = told_in;
-    taken_fit = o.taken_fit;
-    came = o.came;
-    unread = o.unread;
-    handed = ap (λ l. l ++ waits e.waiting) (without handed_by cs c no_hand) ∙ o.handed;
-    acked = o.acked;
-    short = λ r. omega (arith, before, (o.short (room_less e.keeps (stream_of packets more) r)));
-    fits = o.fits;
-  };
-  is = same_view _ _ (record {
-    attempt = refl;
-    phase = refl;
-    known = refl;
-    hello = refl;
-    base = refl;
-    given = refl;
-    received = refl;
-    told = refl;
-    top = refl;
-    stream = stream_of-append packets ps more;
-    came = refl;
-    went = λ m. without (out_by m) cs c (no_out m);
-    fed = λ m. without (fed_by m) cs c (no_feed m);
-  });
-  may = tt;
-  told = (omega (arith, says, (top_more ps more)), omega (arith, (top_more ps more)));
-  role = refl;
-  id = refl;
-})
+      put_now = ps ++ more;
+      taken_now = qs;
+      move = Adds (stream_of packets more) told (top_of (ps ++ more));
+      own = record {
+        fit = fit_more ps more o.fit fit;
+        kept = ap (λ l. l ++ stream_of packets more) o.kept ∙ sym (drop_more e.keeps.base (stream_of packets ps) (stream_of packets more) (omega (arith, o.long)))
+            ∙ ap (λ l. drop e.keeps.base l) (sym (stream_of-append packets ps more));
+        long = omega (
+          arith,
+          o.long,
+          (length-append e.keeps.kept (stream_of packets more)),
+          (ap length (stream_of-append packets ps more)),
+          (length-append (stream_of packets ps) (stream_of packets more)),
+        );
+        inside = omega (arith, o.inside, (length-append e.keeps.kept (stream_of packets more)));
+        counted = omega (arith, room, o.long, (ap length (stream_of-append packets ps more)), (length-append (stream_of packets ps) (stream_of packets more)));
+        puts = with_last put_by cs c ∙ ap (λ l. l ++ put_by c) o.puts ∙ ap (λ l. flat_map items_in ps ++ l) puts ∙ sym (items_more ps more);
+        top = omega (arith, o.top, top, (top_more ps more));
+        told = told_in;
+        taken_fit = o.taken_fit;
+        came = o.came;
+        unread = o.unread;
+        handed = ap (λ l. l ++ waits e.waiting) (without handed_by cs c no_hand) ∙ o.handed;
+        acked = o.acked;
+        short = λ r. omega (arith, before, (o.short (room_less e.keeps (stream_of packets more) r)));
+        fits = o.fits;
+      };
+      is = same_view _ _ (record {
+        attempt = refl;
+        phase = refl;
+        known = refl;
+        hello = refl;
+        base = refl;
+        given = refl;
+        received = refl;
+        told = refl;
+        top = refl;
+        stream = stream_of-append packets ps more;
+        came = refl;
+        went = λ m. without (out_by m) cs c (no_out m);
+        fed = λ m. without (fed_by m) cs c (no_feed m);
+      });
+      may = tt;
+      told = (omega (arith, says, (top_more ps more)), omega (arith, (top_more ps more)));
+      role = refl;
+      id = refl;
+    })
 
 -- ## The connection is over
 
@@ -478,7 +477,7 @@ welcomed_later e n cs c ps qs x o no_out no_feed no_put no_hand terminal asking 
 
 some_hello : (hello : List ℕ) (room : ℕ) → (room - min (length hello) room ≡ 0) ⊎ (drop (min (length hello) room) hello ≡ [])
 some_hello hello room = elim (at_most (length hello) room (nat_le (length hello) room) refl) [
-  inl fits ↦ inr (drop_of_length-le hello {i = min (length hello) room} (omega (arith, fits)))
+  | inl fits ↦ inr (drop_of_length-le hello {i = min (length hello) room} (omega (arith, fits)))
   | inr more ↦ inl (omega (arith, more))
 ]
 
@@ -504,7 +503,7 @@ takes_out e n cs ps qs attempt count old new o up same long are is =
     let b : ℕ = from_kept e (length old) in
     let inside : b ≤ length e.keeps.kept - e.keeps.sent = kept_in (may_send e.phase e.attempt) (length e.keeps.kept - e.keeps.sent) (length old - a) in
     let ahead : drop (e.keeps.base + e.keeps.sent) (stream_of packets ps) ≡ drop e.keeps.sent e.keeps.kept =
-        sym (ap (λ l. drop e.keeps.sent l) o.kept ∙ drop-drop e.keeps.sent e.keeps.base (stream_of packets ps)) in
+    sym (ap (λ l. drop e.keeps.sent l) o.kept ∙ drop-drop e.keeps.sent e.keeps.base (stream_of packets ps)) in
     let went : take count new ≡ going e (length old) = took_front (going e (length old)) (drop count old) new count are (omega (
       arith,
       long,
@@ -627,8 +626,8 @@ takes e n cs ps qs new attempt len piece o open_now same fits front unread top i
     }) (told_keeps e.keeps owed count) in
     let grows : stream_of packets (ps ++ more) ≡ stream ++ bytes = stream_of-append packets ps more in
     let came : stream_of packets (qs ++ new) ++ held ≡ (stream_of packets qs ++ e.held) ++ piece =
-        ap (λ l. l ++ held) (stream_of-append packets qs new) ∙ append_assoc (stream_of packets qs) (stream_of packets new) held
-        ∙ ap (λ l. stream_of packets qs ++ l) (sym front.splits.whole) ∙ sym (append_assoc (stream_of packets qs) e.held piece) in
+    ap (λ l. l ++ held) (stream_of-append packets qs new) ∙ append_assoc (stream_of packets qs) (stream_of packets new) held
+    ∙ ap (λ l. stream_of packets qs ++ l) (sym front.splits.whole) ∙ sym (append_assoc (stream_of packets qs) e.held piece) in
     let long : length bytes ≡ (if b then 11 else 0) = ack_long b count in
     let acked : top_of more ≤ count = subst (λ k. k ≤ count) (sym (ack_top b count)) (ack_in b count) in
     subst (λ k. Stepped e k cs c ps qs) (sym became) (record {
@@ -638,11 +637,26 @@ takes e n cs ps qs new attempt len piece o open_now same fits front unread top i
       own = record {
         fit = fit_more ps more o.fit (ack_fit b count fits);
         kept = kept_acked e.keeps stream bytes (top_of new) o.kept (omega (arith, o.long)) ∙ ap (λ l. drop (max e.keeps.base (top_of new)) l) (sym grows);
-        long = omega (arith, o.long, o.inside, top, (ap length grows), (length-append stream bytes), (length-append e.keeps.kept bytes),
-            (length-drop (top_of new - e.keeps.base) (e.keeps.kept ++ bytes)));
+        long = omega (
+          arith,
+          o.long,
+          o.inside,
+          top,
+          (ap length grows),
+          (length-append stream bytes),
+          (length-append e.keeps.kept bytes),
+          (length-drop (top_of new - e.keeps.base) (e.keeps.kept ++ bytes)),
+        );
         inside = omega (arith, o.inside, top, (length-append e.keeps.kept bytes), (length-drop (top_of new - e.keeps.base) (e.keeps.kept ++ bytes)));
-        counted = omega (arith, (ap length grows), (length-append stream bytes), long, o.long, o.counted,
-            (ack_room e.keeps owed (omega (arith, o.long, o.counted))));
+        counted = omega (
+          arith,
+          (ap length grows),
+          (length-append stream bytes),
+          long,
+          o.long,
+          o.counted,
+          (ack_room e.keeps owed (omega (arith, o.long, o.counted))),
+        );
         puts = without put_by cs c refl ∙ o.puts ∙ sym (items_more ps more ∙ ap (λ l. flat_map items_in ps ++ l) (ack_items b count) ∙ append-nil (flat_map items_in ps));
         top = omega (arith, o.top, acked, (top_more ps more));
         told = told_in b count e.told (omega (arith, o.told));
@@ -675,4 +689,3 @@ takes e n cs ps qs new attempt len piece o open_now same fits front unread top i
       role = refl;
       id = refl;
     })
-

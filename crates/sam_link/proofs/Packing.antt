@@ -1,19 +1,18 @@
 -- Lists of packets: what they put, and what they acknowledge.
-use Rattle.std.proofs.Common.{◌≡◌, ℕ, zero, suc, ◌+◌, ◌-◌, ◌*◌, ◌<◌, ◌≤◌, ◌^◌, List, [], ◌∷◌, ◌++◌, length, take, drop, map, Bool, true, false, refl, sym, ap, ◌∙◌, subst, append_assoc, append-nil, arith, length-append, length-drop, length-take}
+use Rattle.std.proofs.Common.{◌≡◌, ℕ, zero, suc, ◌+◌, ◌*◌, ◌<◌, ◌≤◌, ◌^◌, List, [], ◌∷◌, ◌++◌, length, take, drop, map, Bool, true, false, refl, sym, ap, ◌∙◌, subst, append-nil, arith, length-drop, length-take}
 use Rattle.std.proofs.lemmas.Grind.{flat_map-append}
 use Rattle.std.proofs.lemmas.List.{map-append, take_min}
-use Rattle.std.proofs.Math.Numerals.{add-one}
 use Rattle.std.proofs.Math.Seq.{take-add, take-length}
 use Rattle.std.specs.List.{flat_map}
 use Rattle.std.specs.Prelude.{max, min, if◌then◌else◌}
 use Rattle.sam_mesg.specs.Spelling.{eight, frame}
 use Rattle.sam_frame.specs.Stream.{FitInTurn, stream_of, version_after}
-use Rattle.sam_frame.proofs.Fronts.{FitInTurn-append, stream_of-append, stream_of-one}
-use Rattle.sam_link.specs.Calls.{Byte, Item, Note, items_in}
-use Rattle.sam_link.specs.Feeding.{count_of, told, tells, top_of}
-use Rattle.sam_link.specs.Inbox.{is_item, item_of, items_of}
+use Rattle.sam_frame.proofs.Fronts.{FitInTurn-append, stream_of-one}
+use Rattle.sam_link.specs.Calls.{Byte, Note, items_in}
+use Rattle.sam_link.specs.Feeding.{told, tells, top_of}
+use Rattle.sam_link.specs.Inbox.{items_of}
 use Rattle.sam_link.specs.Keeping.{Keeps, put}
-use Rattle.sam_link.specs.Packets.{IsPacket, packets}
+use Rattle.sam_link.specs.Packets.{packets}
 use Rattle.sam_link.specs.Putting.{data_packets, data_stream, packets_needed}
 use Rattle.sam_link.specs.declared.packet.Packet.{Packet}
 use Rattle.sam_link.specs.declared.packet.Packet.TheVariants as packet

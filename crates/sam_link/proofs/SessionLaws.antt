@@ -1,14 +1,13 @@
 -- What holds of a session after any calls.
-use Rattle.std.proofs.Common.{◌≡◌, ℕ, ◌+◌, ◌-◌, ◌<◌, ◌≤◌, ◌^◌, List, [], ◌∷◌, ◌++◌, length, take, drop, Bool, true, false, refl, sym, ap, ◌∙◌, subst, append_assoc, append-nil, arith, true≢false}
+use Rattle.std.proofs.Common.{◌≡◌, ℕ, ◌≤◌, List, [], ◌∷◌, ◌++◌, drop, true, refl, sym, ap, ◌∙◌, subst, append_assoc, arith, true≢false}
 use Rattle.std.specs.List.{flat_map}
-use Rattle.std.specs.Prelude.{max}
-use Rattle.sam_frame.specs.Stream.{Splits, stream_of}
-use Rattle.sam_link.specs.Calls.{Call, Does, handed, items_in, out, put, waits}
+use Rattle.sam_frame.specs.Stream.{stream_of}
+use Rattle.sam_link.specs.Calls.{Call, handed, items_in, put, waits}
 use Rattle.sam_link.specs.End.{End, fresh}
 use Rattle.sam_link.specs.Feeding.{top_of}
 use Rattle.sam_link.specs.Hellos.{IsHello, spelled}
 use Rattle.sam_link.specs.Packets.{packets}
-use Rattle.sam_link.specs.Sessions.{ByHost, ByTerminal, Carries, IsFrom, IsId, Leads, LinksCarry, Session, StartsWith, Step, WasCarried, host_did, is_taken, new_session, terminal_did}
+use Rattle.sam_link.specs.Sessions.{ByHost, ByTerminal, IsId, Leads, LinksCarry, Session, StartsWith, Step, WasCarried, host_did, is_taken, new_session, terminal_did}
 use Rattle.sam_link.specs.declared.hello.Hello.{Hello}
 use Rattle.sam_link.specs.declared.hello.Id.{Id}
 use Rattle.sam_link.specs.declared.hello.What.TheVariants as word
@@ -16,7 +15,7 @@ use Rattle.sam_link.specs.declared.packet.Packet.{Packet}
 use Rattle.sam_link.specs.declared.phase.Role.{Role}
 use Rattle.sam_link.specs.declared.phase.Role.TheVariants.{Terminal, Host}
 use Rattle.sam_link.proofs.HostMoves as host
-use Rattle.sam_link.proofs.Joint.{IsAnswer, IsCall, Joint, Sound}
+use Rattle.sam_link.proofs.Joint.{Joint, Sound}
 use Rattle.sam_link.proofs.Lines.{Line, none, no_hello}
 use Rattle.sam_link.proofs.OwnCalls.{step}
 use Rattle.sam_link.proofs.OwnMoves.{May, Stepped, ToldBy, sound_of}
@@ -82,12 +81,16 @@ module _ (id : Id) (fine : IsId id) (s : Session) (x : Holds id s) (c : Call) (n
       let front : StartsWith h.stream (t.came ++ piece) = terminal.came_front id t h piece sound_t j may.0 piece_carried in
       let came : stream_of packets st.taken_now ++ n.held ≡ t.came ++ piece = ap (λ (v : View). v.came) st.is ∙ ap (λ (k : Move). (moved t k).came) (sym is) in
       let known : acked ≤ h.received = acks_known s.host n s.host_calls (s.terminal_calls ++ c ∷ []) x.down_put x.up_taken st.taken_now st.put_now acked x.own_h st.own
-          (subst (λ l. StartsWith h.stream l) (sym came) front) may.1 in
+      (subst (λ l. StartsWith h.stream l) (sym came) front) may.1 in
       terminal.takes id t h piece more acked told top sound_t sound_h j may.0 piece_carried known says.0 says.1
   up_moves (Dials g) is may says j =
       let named : g.id ≡ id = may.2 ∙ x.id_t in
-      let hello : IsHello g = (omega (arith, fine.0, (ap (λ (i : Id). i.first) named)), omega (arith, fine.1, (ap (λ (i : Id). i.last) named)),
-        omega (arith, may.1, may.3), omega (arith, may.6, x.own_t.fits)) in
+      let hello : IsHello g = (
+        omega (arith, fine.0, (ap (λ (i : Id). i.first) named)),
+        omega (arith, fine.1, (ap (λ (i : Id). i.last) named)),
+        omega (arith, may.1, may.3),
+        omega (arith, may.6, x.own_t.fits),
+      ) in
       terminal.dials id t h g sound_t may.1 hello (terminal.dialled_call id t h g named may.3 may.4 may.5 may.6 j.known) j
   up_moves (Answers g w) is may says j = absurd (two_roles (sym x.role_t ∙ may.0))
   up_moves (IsWelcomed w) is may says j =
@@ -135,7 +138,7 @@ module _ (id : Id) (fine : IsId id) (s : Session) (x : Holds id s) (c : Call) (n
       let front : StartsWith up_view.stream (down_view.came ++ piece) = host.came_front id up_view down_view piece sound_down j piece_carried in
       let came : stream_of packets st.taken_now ++ n.held ≡ down_view.came ++ piece = ap (λ (v : View). v.came) st.is ∙ ap (λ (k : Move). (moved down_view k).came) (sym is) in
       let known : acked ≤ up_view.received = acks_known s.terminal n s.terminal_calls (s.host_calls ++ c ∷ []) x.up_put x.down_taken st.taken_now st.put_now acked x.own_t st.own
-          (subst (λ l. StartsWith up_view.stream l) (sym came) front) may.1 in
+      (subst (λ l. StartsWith up_view.stream l) (sym came) front) may.1 in
       host.takes id up_view down_view piece more acked told top sound_down sound_up j may.0 piece_carried known says.0 says.1
   down_moves (Dials g) is may says j = absurd (two_roles (sym may.0 ∙ x.role_h))
   down_moves (Answers g w) is may says j =
@@ -143,8 +146,12 @@ module _ (id : Id) (fine : IsId id) (s : Session) (x : Holds id s) (c : Call) (n
       let named : w.id ≡ id = ap (λ (k : Hello). k.id) may.2 ∙ x.id_h in
       let numbered : w.attempt ≡ g.attempt = ap (λ (k : Hello). k.attempt) may.2 in
       let counted : w.received ≡ down_view.received = ap (λ (k : Hello). k.received) may.2 in
-      let answer : IsHello w = (omega (arith, fine.0, (ap (λ (i : Id). i.first) named)), omega (arith, fine.1, (ap (λ (i : Id). i.last) named)),
-        omega (arith, numbered, hello.0.2), omega (arith, counted, x.own_h.fits)) in
+      let answer : IsHello w = (
+        omega (arith, fine.0, (ap (λ (i : Id). i.first) named)),
+        omega (arith, fine.1, (ap (λ (i : Id). i.last) named)),
+        omega (arith, numbered, hello.0.2),
+        omega (arith, counted, x.own_h.fits),
+      ) in
       host.answers id up_view down_view g w sound_down sound_up j hello.0 may.1 hello.1 answer
       (record { id_is = named; attempt_is = numbered; word = ap (λ (k : Hello). k.what) may.2; recent = λ same. counted })
   down_moves (IsWelcomed w) is may says j = absurd (two_roles (sym may.0 ∙ x.role_h))

@@ -1,9 +1,9 @@
 -- What the terminal does keeps what holds of both ends.
-use Rattle.std.proofs.Common.{◌≡◌, ℕ, ◌+◌, ◌-◌, ◌<◌, ◌≤◌, ◌^◌, List, [], ◌∷◌, ◌++◌, length, take, drop, Bool, true, false, None, Some, Option, refl, sym, ap, ◌∙◌, subst, append_assoc, append-nil, arith, length-append, length-drop, drop-drop, nat_le, ◌⊎◌, inl, inr, true≢false, ◌≢◌}
+use Rattle.std.proofs.Common.{◌≡◌, ℕ, ◌+◌, ◌<◌, ◌≤◌, ◌^◌, List, [], ◌++◌, length, drop, Bool, true, false, refl, sym, ap, ◌∙◌, subst, append_assoc, append-nil, arith, length-append, drop-drop, nat_le, ◌⊎◌, inl, inr, true≢false, ◌≢◌}
 use Rattle.std.proofs.lemmas.List.{take-append-drop}
 use Rattle.std.proofs.lemmas.Bool.Decides.{eqb_tells}
 use Rattle.std.specs.Prelude.{max, ◌==◌, if◌then◌else◌}
-use Rattle.sam_link.specs.End.{End, is_asking, is_call, is_resume, is_up, may_send}
+use Rattle.sam_link.specs.End.{is_asking, is_call, is_resume, is_up, may_send}
 use Rattle.sam_link.specs.Feeding.{is_open}
 use Rattle.sam_link.specs.Hellos.{IsHello, spelled}
 use Rattle.sam_link.specs.Sessions.{StartsWith}
@@ -11,8 +11,8 @@ use Rattle.sam_link.specs.declared.hello.Hello.{Hello}
 use Rattle.sam_link.specs.declared.hello.Id.{Id}
 use Rattle.sam_link.specs.declared.phase.Phase.{Phase}
 use Rattle.sam_link.specs.declared.phase.Phase.TheVariants.{Down, Asking, Open}
-use Rattle.sam_link.proofs.Joint.{IsAnswer, IsCall, Joint, Sound, first_tail}
-use Rattle.sam_link.proofs.Lines.{Line, at_most, drop_grows, starts_on, gone_on, read_in, went_on, behind_hello, comes_next, drop_more, hello_alone, line_given, line_longer, line_read, longer, no_hello, none, same_hello}
+use Rattle.sam_link.proofs.Joint.{IsCall, Joint, Sound, first_tail}
+use Rattle.sam_link.proofs.Lines.{Line, at_most, drop_grows, starts_on, gone_on, read_in, went_on, behind_hello, comes_next, drop_more, hello_alone, line_longer, line_read, longer, no_hello, none, same_hello}
 use Rattle.sam_link.proofs.Views.{Adds, Breaks, Dials, Goes, IsWelcomed, Takes, View, at, goes_on, moved}
 
 -- ## Lists
@@ -232,7 +232,7 @@ module _ (id : Id) (t h : View) (a b : ℕ) (j : Joint id t h) (up : is_up t.pha
   -- the hello that stands in front, and what may stand behind it
   in_front : (ahead : List ℕ) × (tail : List ℕ) × (now ++ ahead ≡ spelled j.call ++ tail)
   in_front = elim (which t.phase t.attempt up) [
-    inl s ↦ (drop a t.hello ++ drop (t.given + b) t.stream, drop j.start t.stream, now_sends s)
+    | inl s ↦ (drop a t.hello ++ drop (t.given + b) t.stream, drop j.start t.stream, now_sends s)
     | inr w ↦ (drop a t.hello, [], now_asks w.0 w.1 w.2 ∙ sym (append-nil (spelled j.call)))
   ]
 
@@ -244,17 +244,17 @@ module _ (id : Id) (t h : View) (a b : ℕ) (j : Joint id t h) (up : is_up t.pha
 
   now_behind : StartsWith (drop j.start t.stream) (drop 42 now)
   now_behind = elim (which t.phase t.attempt up) [
-    inl s ↦ behind_hello j.call now (drop a t.hello ++ drop (t.given + b) t.stream) (drop j.start t.stream) (now_sends s)
+    | inl s ↦ behind_hello j.call now (drop a t.hello ++ drop (t.given + b) t.stream) (drop j.start t.stream) (now_sends s)
     | inr w ↦ rw (hello_alone j.call now (drop a t.hello) (now_asks w.0 w.1 w.2)) (none (drop j.start t.stream))
   ]
 
   -- the host has not taken this connection yet
   now_unread : h.attempt < t.attempt → StartsWith (first_tail t.attempt t.stream) (drop 42 now)
   now_unread later = elim (eqb_tells t.attempt 1) [
-    inl one ↦ let zero : j.start ≡ 0 = omega (arith, j.up.count, (j.first (omega (arith, one.1, later)))) in
+    | inl one ↦ let zero : j.start ≡ 0 = omega (arith, j.up.count, (j.first (omega (arith, one.1, later)))) in
         rw (one.0) (subst (λ n. StartsWith (drop n t.stream) (drop 42 now)) zero now_behind)
     | inr other ↦ rw (other.0) (elim (which t.phase t.attempt up) [
-      inl s ↦ absurd (sends_later t.phase t.attempt s other.1 (λ e. omega (arith, later, (j.open_t e))))
+      | inl s ↦ absurd (sends_later t.phase t.attempt s other.1 (λ e. omega (arith, later, (j.open_t e))))
       | inr w ↦ rw (hello_alone j.call now (drop a t.hello) (now_asks w.0 w.1 w.2)) (none [])
     ])
   ]
@@ -267,20 +267,20 @@ module _ (id : Id) (t h : View) (a b : ℕ) (j : Joint id t h) (up : is_up t.pha
 
   pub goes_hello : (m : ℕ) (x : Hello) → IsHello x → StartsWith (next m) (spelled x) → IsCall id h.known h.attempt t.received m x
   goes_hello m x is starts = elim (went_now m) [
-    inl same ↦ subst (λ n. IsCall id h.known h.attempt t.received n x) (sym same)
+    | inl same ↦ subst (λ n. IsCall id h.known h.attempt t.received n x) (sym same)
         (now_hello x is (subst (λ w. StartsWith w (spelled x)) (ap next same ∙ same_at t.attempt t.went bytes) starts))
     | inr other ↦ j.hellos_t m x is (subst (λ w. StartsWith w (spelled x)) (other_at t.attempt m t.went bytes other) starts)
   ]
 
   pub goes_unread : (m : ℕ) → h.attempt < m → StartsWith (first_tail m t.stream) (drop 42 (next m))
   goes_unread m later = elim (went_now m) [
-    inl same ↦ rw (same, same_at t.attempt t.went bytes) (now_unread (omega (arith, same, later)))
+    | inl same ↦ rw (same, same_at t.attempt t.went bytes) (now_unread (omega (arith, same, later)))
     | inr other ↦ rw (other_at t.attempt m t.went bytes other) (j.unread m later)
   ]
 
   pub goes_up : Line t.stream (drop 42 (next h.attempt)) (h.fed h.attempt) j.start h.received
   goes_up = elim (went_now h.attempt) [
-    inl same ↦ record {
+    | inl same ↦ record {
       goes = rw (same, same_at t.attempt t.went bytes) now_behind;
       reads = starts_on (drop 42 (next h.attempt)) (drop 42 (t.went h.attempt)) (h.fed h.attempt) (drop_grows 42 (t.went h.attempt) (at t.attempt bytes h.attempt)) j.up.reads;
       count = j.up.count;
@@ -416,7 +416,7 @@ asking_up Open e = refl
 -- a hello of the host on the terminal's newest connection
 pub answered_here : (id : Id) (t h : View) (x : Hello) (j : Joint id t h) → StartsWith (h.went t.attempt) (spelled x) → h.attempt ≡ t.attempt
 answered_here id t h x j carried = elim (at_most t.attempt h.attempt (nat_le t.attempt h.attempt) refl) [
-  inl most ↦ omega (arith, most, j.order)
+  | inl most ↦ omega (arith, most, j.order)
   | inr less ↦ absurd (no_hello x (subst (λ w. StartsWith w (spelled x)) (j.unsaid_h t.attempt less) carried))
 ]
 
@@ -433,7 +433,7 @@ module _ (id : Id) (t h : View) (x : Hello) (sound : Sound t) (j : Joint id t h)
 
   went_so : t.went t.attempt ++ (t.hello ++ drop (if t.attempt == 1 then t.given else x.received) t.stream) ≡ spelled j.call ++ drop j.start t.stream
   went_so = elim (eqb_tells t.attempt 1) [
-    inl one ↦ rw (one.0) (j.sends_t (asking_sends t.phase t.attempt asking one.0))
+    | inl one ↦ rw (one.0) (j.sends_t (asking_sends t.phase t.attempt asking one.0))
     | inr other ↦ rw (other.0, from_start) (sym (append_assoc (t.went t.attempt) t.hello (drop j.start t.stream)) ∙ ap (λ w. w ++ drop j.start t.stream) (j.asks asking other.1))
   ]
 
@@ -444,19 +444,19 @@ module _ (id : Id) (t h : View) (x : Hello) (sound : Sound t) (j : Joint id t h)
 
   base_so : (if t.attempt == 1 then t.base else x.received) ≤ h.received
   base_so = elim (eqb_tells t.attempt 1) [
-    inl one ↦ rw (one.0) j.base_t
+    | inl one ↦ rw (one.0) j.base_t
     | inr other ↦ rw (other.0) (omega (arith, from_start, (nothing_read other.1)))
   ]
 
   ahead_so : h.received ≤ (if t.attempt == 1 then t.given else x.received)
   ahead_so = elim (eqb_tells t.attempt 1) [
-    inl one ↦ rw (one.0) (j.ahead_t (asking_sends t.phase t.attempt asking one.0))
+    | inl one ↦ rw (one.0) (j.ahead_t (asking_sends t.phase t.attempt asking one.0))
     | inr other ↦ rw (other.0) (omega (arith, from_start, (nothing_read other.1)))
   ]
 
   start_so : j.start ≤ (if t.attempt == 1 then t.base else x.received)
   start_so = elim (eqb_tells t.attempt 1) [
-    inl one ↦ rw (one.0) (omega (arith, from_start, (zero one.1)))
+    | inl one ↦ rw (one.0) (omega (arith, from_start, (zero one.1)))
     | inr other ↦ rw (other.0) (omega (arith, from_start))
   ]
 

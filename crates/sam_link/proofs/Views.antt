@@ -1,11 +1,11 @@
 -- What of an end the laws of two ends speak of, and how calls change it.
-use Rattle.std.proofs.Common.{◌≡◌, ℕ, ◌+◌, ◌-◌, ◌<◌, ◌≤◌, ◌^◌, List, [], ◌∷◌, ◌++◌, length, take, drop, Bool, true, false}
+use Rattle.std.proofs.Common.{◌≡◌, ℕ, ◌+◌, ◌<◌, ◌≤◌, ◌^◌, List, [], ◌++◌, length, take, drop, Bool, true}
 use Rattle.std.specs.Prelude.{max, ◌==◌, if◌then◌else◌}
 use Rattle.sam_frame.specs.Stream.{FitInTurn, IsOpen, stream_of}
 use Rattle.sam_link.specs.Calls.{Call, fed, handed, items_in, out, put, waits}
-use Rattle.sam_link.specs.End.{End, is_up, may_send}
-use Rattle.sam_link.specs.Feeding.{has_room, is_open, top_of}
-use Rattle.sam_link.specs.Hellos.{IsHello, spelled}
+use Rattle.sam_link.specs.End.{End}
+use Rattle.sam_link.specs.Feeding.{has_room, top_of}
+use Rattle.sam_link.specs.Hellos.{spelled}
 use Rattle.sam_link.specs.Packets.{packets}
 use Rattle.sam_link.specs.declared.hello.Hello.{Hello}
 use Rattle.sam_link.specs.declared.packet.Packet.{Packet}

@@ -1,5 +1,5 @@
 -- A call of an end with its answer, and what it brought.
-use Rattle.std.specs.Prelude.{◌≡◌, ℕ, List, [], ◌∷◌, ◌++◌, length, take, drop, map, min, flat_map, Bool, true, false, ◌==◌, if◌then◌else◌, Option, None, Some, Result, Ok, Err}
+use Rattle.std.specs.Prelude.{◌≡◌, ℕ, List, [], ◌∷◌, ◌++◌, length, take, drop, map, min, flat_map, Bool, ◌==◌, if◌then◌else◌, Option, Some, Result, Ok, Err}
 use Rattle.sam_mesg.specs.Spelling.{eight, frame}
 use Rattle.sam_link.specs.End.{Answers, Calls, End, TakesOut, Welcomes, broken}
 use Rattle.sam_link.specs.Feeding.{Feeds, PutsNote}
@@ -91,6 +91,14 @@ put calls = flat_map put_by calls
 
 abbrev pub handed : List Call → List Item
 handed calls = flat_map handed_by calls
+
+-- the bytes among these items
+abbrev pub byte_of : Item → List ℕ
+byte_of (Byte byte) = byte ∷ []
+byte_of (Note bytes) = []
+
+abbrev pub bytes_of : List Item → List ℕ
+bytes_of items = flat_map byte_of items
 
 -- ## What crosses a connection
 

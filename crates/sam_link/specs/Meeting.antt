@@ -1,5 +1,5 @@
 -- What two ends of one session may answer each other, and what is there once all was carried.
-use Rattle.std.specs.Prelude.{◌≡◌, ℕ, ◌<◌, List, [], ◌++◌, length, drop, true, Ok, Err}
+use Rattle.std.specs.Prelude.{◌≡◌, ◌<◌, List, [], ◌++◌, length, drop, true, Err}
 use Rattle.sam_link.specs.Calls.{Call, Does, fed, handed, out, put, waits}
 use Rattle.sam_link.specs.Calls.Call.{Answer, Feed, Welcome}
 use Rattle.sam_link.specs.End.{End}

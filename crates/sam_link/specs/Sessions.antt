@@ -1,5 +1,5 @@
 -- A terminal end and a host end of one session, in any calls of both, over connections that break.
-use Rattle.std.specs.Prelude.{◌≡◌, ℕ, ◌<◌, ◌^◌, List, [], ◌∷◌, ◌++◌, drop, Bool, true, false, Ok}
+use Rattle.std.specs.Prelude.{◌≡◌, ◌<◌, ◌^◌, List, [], ◌∷◌, ◌++◌, drop, Bool, true, false, Ok}
 use Rattle.sam_link.specs.Calls.{Call, Does, fed, handed, out, put}
 use Rattle.sam_link.specs.Calls.Call.{Answer, Feed, Welcome}
 use Rattle.sam_link.specs.End.{End, fresh}
