@@ -678,9 +678,6 @@ SAM_MUST_USE sam_status sam_link_put_count(sam_link *link, uint64_t *count);
  * at least what sam_link_put_count was then. */
 SAM_MUST_USE sam_status sam_link_acknowledged(sam_link *link, uint64_t *count);
 
-/* How many of the kept bytes the newest connection was not given yet. */
-SAM_MUST_USE sam_status sam_link_unsent(sam_link *link, uint64_t *count);
-
 /* How many bytes of the other side's stream have come. */
 SAM_MUST_USE sam_status sam_link_received(sam_link *link, uint64_t *count);
 
