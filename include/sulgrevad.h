@@ -91,7 +91,7 @@ enum sam_status {
     SAM_OK = 0,
     SAM_NO_MEMORY = 1,  /* what the call brought was not taken: make it again */
     SAM_UNFINISHED = 2, /* what the call brought was taken, and some of it waits: feed no bytes to go on */
-    SAM_COUNT_FULL = 3, /* a stream of 2^64 bytes, or 2^64 events; what the call brought was not taken */
+    SAM_COUNT_FULL = 3, /* a stream of 2^64 bytes, or 2^64 events or connections; what the call brought was not taken */
     SAM_NO_HANDLE = 4,  /* the handle is NULL, or empty: not made yet, or freed */
     SAM_MADE = 5,       /* the handle is made already */
     SAM_NOT_TEXT = 6,   /* the bytes are not UTF-8 */

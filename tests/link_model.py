@@ -353,14 +353,12 @@ class Link:
 
     def take_in(self, most: int = 65_536) -> bytes:
         self._open()
-        out = b""
-        while len(out) < most and self._items and self._items[0][0] == DATA:
-            body = self._items.popleft()[1]
-            part, rest = body[: most - len(out)], body[most - len(out) :]
-            out += part
-            if rest:
-                self._items.appendleft((DATA, rest))
-        return out
+        if most == 0 or not self._items or self._items[0][0] != DATA:
+            return b""
+        body = self._items.popleft()[1]
+        if rest := body[most:]:
+            self._items.appendleft((DATA, rest))
+        return body[:most]
 
     def next_note(self) -> Optional[bytes]:
         self._open()
@@ -389,11 +387,6 @@ class Link:
     def acknowledged(self) -> int:
         self._open()
         return self._acknowledged
-
-    @property
-    def unsent(self) -> int:
-        self._open()
-        return self.put_count - self._given
 
     @property
     def received(self) -> int:
