@@ -35,13 +35,13 @@ nothing_answered (Joined file ∷ steps) none = nothing_answered steps none
 
 -- files that join a host which answered nothing are files that it is made with
 pub record BeganWith (given : List (List ℕ × List ℕ)) (frames : List HFrame) (writes : List ℕ) (k : PlainHost) : Type 0 where
-  pub frames : frames ≡ []
-  pub writes : writes ≡ []
-  pub host : k ≡ new_host given
+  pub no_frames : frames ≡ []
+  pub no_writes : writes ≡ []
+  pub host_is : k ≡ new_host given
 
 began_with : AddsGiven → (began files : List (List ℕ × List ℕ)) (k : PlainHost) (frames : List HFrame) (writes : List ℕ)
     → Serves (new_host began) (map Joined files) frames writes k → BeganWith (began ++ files) frames writes k
-began_with adds began [] k frames writes s = record { frames = s.0; writes = s.1; host = s.2 ∙ ap new_host (sym (append-nil began)) }
+began_with adds began [] k frames writes s = record { no_frames = s.0; no_writes = s.1; host_is = s.2 ∙ ap new_host (sym (append-nil began)) }
 began_with adds began (file ∷ files) k frames writes s =
     subst (λ (given : List (List ℕ × List ℕ)). BeganWith given frames writes k) (append_assoc began (file ∷ []) files)
     (began_with adds (began ++ file ∷ []) files k frames writes (subst (λ (h : PlainHost). Serves h (map Joined files) frames writes k) (adds began file) s))
@@ -54,7 +54,11 @@ module _ (adds : AddsGiven) (given : List (List ℕ × List ℕ)) (calls : List 
   first_kept = kept_run (new_host r.began) [] [] [] [] r.first (begun_with (new_host r.began)) r.middle r.runs_first (kept_begun (new_host r.began))
 
   none : length (messages_in first_kept.served.steps) ≡ 0
-  none = let s = first_kept.served in sym (counted s.steps (new_host r.began) r.middle.host s.frames s.writes s.serves) ∙ r.unanswered
+  none =
+      let s = first_kept.served in
+      let all = counted s.steps (new_host r.began) r.middle.host s.frames s.writes s.serves in
+      let zero = r.unanswered in
+      omega (arith, all, zero)
 
   none_are : messages_in first_kept.served.steps ≡ []
   none_are = nothing_answered first_kept.served.steps none
@@ -78,11 +82,11 @@ module _ (adds : AddsGiven) (given : List (List ℕ × List ℕ)) (calls : List 
           steps = [];
           frames = [];
           writes = [];
-          serves = (refl, refl, began.host);
+          serves = (refl, refl, began.host_is);
           files = refl;
           reads = grind (arith, none);
-          bytes = s.bytes ∙ ap (λ (frames : List HFrame). stream_of host frames) began.frames;
-          written = s.written ∙ began.writes;
+          bytes = s.bytes ∙ ap (λ (frames : List HFrame). stream_of host frames) began.no_frames;
+          written = s.written ∙ began.no_writes;
         };
         version = grind (arith, none, first_kept.version);
         place = first_kept.place;
@@ -92,12 +96,16 @@ module _ (adds : AddsGiven) (given : List (List ℕ × List ℕ)) (calls : List 
       (flat_map handed_out r.first ++ flat_map handed_out r.rest) (flat_map joined_by r.rest) e
   rest_kept = kept_run (new_host given) (flat_map came_in r.first) (flat_map went_out r.first) (flat_map handed_out r.first) [] r.rest r.middle e r.runs_rest middle_kept
 
+  parts : (f : Call → List ℕ) → flat_map f r.first ++ flat_map f r.rest ≡ flat_map f calls
+  parts f = sym (ap (λ (l : List Call). flat_map f l) r.calls_are ∙ flat_map-append f r.first r.rest)
+
   pub kept_with : Kept (new_host given) (flat_map came_in calls) (flat_map went_out calls) (flat_map handed_out calls) [] e
   kept_with =
-      let kept = rest_kept in
-      let joined = r.all_joined in
-      let whole = r.calls_are in
-      grind (arith, flat_map-append)
+      subst (λ (x : List ℕ). Kept (new_host given) x (flat_map went_out calls) (flat_map handed_out calls) [] e) (parts came_in)
+      (subst (λ (x : List ℕ). Kept (new_host given) (flat_map came_in r.first ++ flat_map came_in r.rest) x (flat_map handed_out calls) [] e) (parts went_out)
+      (subst (λ (x : List ℕ). Kept (new_host given) (flat_map came_in r.first ++ flat_map came_in r.rest) (flat_map went_out r.first ++ flat_map went_out r.rest) x [] e) (parts handed_out)
+      (subst (λ (x : List (List ℕ × List ℕ)). Kept (new_host given) (flat_map came_in r.first ++ flat_map came_in r.rest) (flat_map went_out r.first ++ flat_map went_out r.rest)
+      (flat_map handed_out r.first ++ flat_map handed_out r.rest) x e) r.all_joined rest_kept)))
 
   pub goes_with : e.stop ≡ None
   goes_with = run_goes r.middle e r.rest (run_goes (begun_with (new_host r.began)) r.middle r.first refl r.runs_first) r.runs_rest
