@@ -5,16 +5,17 @@ use Rattle.sam_frame.specs.Framing.{HasRoom}
 use Rattle.sam_frame.specs.Reading.{IsStream}
 use Rattle.sam_frame.proofs.Cuttings.{Splits-longer}
 use Rattle.sam_host.specs.declared.fault.HostFault.{HostFault}
+use Rattle.sam_host.proofs.SoundLaws.{answers_are_counted}
 use Rattle.sam_endpoint.specs.declared.fault.AddFault.{AddFault}
 use Rattle.sam_endpoint.specs.declared.fault.EndpointFault.TheVariants as fault
 use Rattle.sam_endpoint.specs.declared.fault.HostStop.TheVariants as stop
 use Rattle.sam_endpoint.specs.HostEndpoints.{FeedsIdle, IsDone, Adds, Step, Answered, Joined}
 use Rattle.std.specs.Prelude.{drop, option_to_list, slice_get}
-use Rattle.sam_endpoint.specs.HostRuns.{Call, Feed, AddFile, TakeOut, NextWritten, GoesOnAfter, HasServed, HasStopped, Runs, begun_with, came_in, went_out, handed_out, joined_by, messages_in, files_in, places_after}
+use Rattle.sam_endpoint.specs.HostRuns.{Call, Feed, AddFile, TakeOut, NextWritten, GoesOnAfter, HasServed, HasStopped, Runs, begun_with, came_in, went_out, handed_out, joined_by, messages_in, joined_after}
 use Rattle.sam_endpoint.proofs.HostEndpointGoing.{serves_more}
 
 abbrev pub Files : Type 0
-Files = List (List ℕ × List ℕ)
+Files = List (ℕ × (List ℕ × List ℕ))
 
 -- what the run keeps: what it comes to, and the version and the place at this point of the stream
 pub record Kept (h : PlainHost) (stream out handed : List ℕ) (joined : Files) (e : PlainHostEndpoint) : Type 0 where
@@ -31,11 +32,11 @@ messages_more [] (m ∷ ms) = ap (λ (l : List Tmesg). m ∷ l) (messages_more [
 messages_more (Answered m ∷ steps) ms = ap (λ (l : List Tmesg). m ∷ l) (messages_more steps ms)
 messages_more (Joined file ∷ steps) ms = messages_more steps ms
 
-files_more : (steps : List Step) (ms : List Tmesg) → files_in (steps ++ map Answered ms) ≡ files_in steps
-files_more [] [] = refl
-files_more [] (m ∷ ms) = files_more [] ms
-files_more (Answered m ∷ steps) ms = files_more steps ms
-files_more (Joined file ∷ steps) ms = ap (λ (l : Files). file ∷ l) (files_more steps ms)
+joined_more : (count : ℕ) (steps : List Step) (ms : List Tmesg) → joined_after count (steps ++ map Answered ms) ≡ joined_after count steps
+joined_more count [] [] = refl
+joined_more count [] (m ∷ ms) = joined_more (count + 1) [] ms
+joined_more count (Answered m ∷ steps) ms = joined_more (count + 1) steps ms
+joined_more count (Joined file ∷ steps) ms = ap (λ (l : Files). (count, file) ∷ l) (joined_more count steps ms)
 
 -- a file that joined after these steps
 message_none : (steps : List Step) (file : List ℕ × List ℕ) → messages_in (steps ++ Joined file ∷ []) ≡ messages_in steps
@@ -43,16 +44,41 @@ message_none [] file = refl
 message_none (Answered m ∷ steps) file = ap (λ (l : List Tmesg). m ∷ l) (message_none steps file)
 message_none (Joined first ∷ steps) file = message_none steps file
 
-file_last : (steps : List Step) (file : List ℕ × List ℕ) → files_in (steps ++ Joined file ∷ []) ≡ files_in steps ++ file ∷ []
-file_last [] file = refl
-file_last (Answered m ∷ steps) file = file_last steps file
-file_last (Joined first ∷ steps) file = ap (λ (l : Files). first ∷ l) (file_last steps file)
+joined_last : (count last : ℕ) (steps : List Step) (file : List ℕ × List ℕ) → last ≡ count + length (messages_in steps)
+    → joined_after count (steps ++ Joined file ∷ []) ≡ joined_after count steps ++ (last, file) ∷ []
+joined_last count last [] file is = grind arith
+joined_last count last (Answered m ∷ steps) file is = joined_last (count + 1) last steps file (omega (arith, is))
+joined_last count last (Joined first ∷ steps) file is = ap (λ (l : Files). (count, first) ∷ l) (joined_last count last steps file is)
+
+-- each answer is counted
+counted : (steps : List Step) (h k : PlainHost) (frames : List HFrame) (writes : List ℕ) → Serves h steps frames writes k → k.taken ≡ h.taken + length (messages_in steps)
+counted [] h k frames writes s = grind arith
+counted (Answered m ∷ steps) h k frames writes (j, first, rest, more, answered, is, noted, serves) =
+    let one = (answers_are_counted h j m first answered).0 in
+    let others = counted steps j k rest more serves in
+    omega (arith, one, others)
+counted (Joined file ∷ steps) h k frames writes s = counted steps (with_given h file) k frames writes s
+
+-- no file joined before counting began
+not_before : (count n : ℕ) (file : List ℕ × List ℕ) (rest : Files) (steps : List Step) → joined_after count steps ≡ (n, file) ∷ rest → count ≤ n
+not_before count n file rest [] is = absurd (cc)
+not_before count n file rest (Answered m ∷ steps) is = let later = not_before (count + 1) n file rest steps is in omega (arith, later)
+not_before count n file rest (Joined first ∷ steps) is = grind arith
 
 -- where no file joined, all steps are answers
-pub all_answered : (steps : List Step) → files_in steps ≡ [] → steps ≡ map Answered (messages_in steps)
-all_answered [] none = refl
-all_answered (Answered m ∷ steps) none = ap (λ (l : List Step). Answered m ∷ l) (all_answered steps none)
-all_answered (Joined file ∷ steps) none = absurd (cc)
+pub all_answered : (count : ℕ) (steps : List Step) → joined_after count steps ≡ [] → steps ≡ map Answered (messages_in steps)
+all_answered count [] none = refl
+all_answered count (Answered m ∷ steps) none = ap (λ (l : List Step). Answered m ∷ l) (all_answered (count + 1) steps none)
+all_answered count (Joined file ∷ steps) none = absurd (cc)
+
+-- where all files joined before the first answer, they come first
+pub joined_first : (count : ℕ) (files : List (List ℕ × List ℕ)) (steps : List Step) → joined_after count steps ≡ map (λ (file : List ℕ × List ℕ). (count, file)) files
+    → steps ≡ map Joined files ++ map Answered (messages_in steps)
+joined_first count [] steps are = all_answered count steps are
+joined_first count (file ∷ files) [] are = absurd (cc)
+joined_first count (file ∷ files) (Answered m ∷ steps) are =
+    let late = not_before (count + 1) count file (map (λ (file : List ℕ × List ℕ). (count, file)) files) steps are in absurd (omega (arith, late))
+joined_first count (file ∷ files) (Joined first ∷ steps) are = grind (arith, (joined_first count files steps))
 
 -- ## Steps
 
@@ -65,7 +91,7 @@ kept_answers h stream out handed joined e g ms a kept =
         frames = s.frames ++ a.frames;
         writes = s.writes ++ a.more;
         serves = serves_more h s.steps s.frames s.writes e.host (map Answered ms) a.frames a.more g.host s.serves a.serves;
-        files = files_more s.steps ms ∙ s.files;
+        files = joined_more h.taken s.steps ms ∙ s.files;
         reads = grind (arith, whole);
         bytes = bytes_on out e g s.frames a.frames s.bytes a.bytes;
         written = grind (arith, append_assoc);
@@ -197,19 +223,20 @@ kept_handed h stream out handed joined tag e is kept =
     })
 
 -- a file joined, or was refused
-pub kept_added : (h : PlainHost) (stream out handed : List ℕ) (joined : Files) (name text : List ℕ) (result : Result ℕ AddFault) (e g : PlainHostEndpoint) → Adds e name text result g
-    → Kept h stream out handed joined e → Kept h stream out handed (joined ++ joined_by (AddFile name text result)) g
-kept_added h stream out handed joined name text (Ok tag) e g (allowed, is, after) kept =
+pub kept_added : (h : PlainHost) (stream out handed : List ℕ) (joined : Files) (count : ℕ) (name text : List ℕ) (result : Result ℕ AddFault) (e g : PlainHostEndpoint) → count ≡ e.host.taken
+    → Adds e name text result g → Kept h stream out handed joined e → Kept h stream out handed (joined ++ joined_by (AddFile count name text result)) g
+kept_added h stream out handed joined count name text (Ok tag) e g then (is, allowed, after) kept =
     let s = kept.served in
     let file : List ℕ × List ℕ = (chars name, chars text) in
     let same : messages_in (s.steps ++ Joined file ∷ []) ≡ messages_in s.steps = message_none s.steps file in
-    subst (λ (x : PlainHostEndpoint). Kept h stream out handed (joined ++ file ∷ []) x) (sym after) (record {
+    let place : count ≡ h.taken + length (messages_in s.steps) = then ∙ counted s.steps h e.host s.frames s.writes s.serves in
+    subst (λ (x : PlainHostEndpoint). Kept h stream out handed (joined ++ (count, file) ∷ []) x) (sym after) (record {
       served = record {
         steps = s.steps ++ Joined file ∷ [];
         frames = s.frames ++ [];
         writes = s.writes ++ [];
         serves = serves_more h s.steps s.frames s.writes e.host (Joined file ∷ []) [] [] (with_given e.host file) s.serves (refl, refl, refl);
-        files = file_last s.steps file ∙ ap (λ (l : Files). l ++ file ∷ []) s.files;
+        files = joined_last h.taken count s.steps file place ∙ ap (λ (l : Files). l ++ (count, file) ∷ []) s.files;
         reads = grind (arith, same);
         bytes = s.bytes ∙ ap (stream_of host) (sym (append-nil s.frames));
         written = s.written ∙ sym (append-nil s.writes);
@@ -217,7 +244,7 @@ kept_added h stream out handed joined name text (Ok tag) e g (allowed, is, after
       version = grind (arith, same);
       place = kept.place;
     })
-kept_added h stream out handed joined name text (Err why) e g (is, after) kept = grind (arith, append-nil)
+kept_added h stream out handed joined count name text (Err why) e g then (is, after) kept = grind (arith, append-nil)
 
 -- ## Stops
 
@@ -242,8 +269,8 @@ feed_goes e g piece result goes feeds = grind arith
 pub run_goes : (e g : PlainHostEndpoint) (calls : List Call) → e.stop ≡ None → Runs e calls g → g.stop ≡ None
 run_goes e g [] goes is = grind arith
 run_goes e g (Feed piece answer ∷ calls) goes (k, feeds, goes_on, runs) = run_goes k g calls (feed_goes e k piece answer goes_on feeds) runs
-run_goes e g (AddFile name text (Ok tag) ∷ calls) goes (k, adds, runs) = run_goes k g calls (ap (λ (x : PlainHostEndpoint). x.stop) adds.2 ∙ goes) runs
-run_goes e g (AddFile name text (Err why) ∷ calls) goes (k, adds, runs) = run_goes k g calls (ap (λ (x : PlainHostEndpoint). x.stop) adds.1 ∙ goes) runs
+run_goes e g (AddFile count name text (Ok tag) ∷ calls) goes (k, then, adds, runs) = run_goes k g calls (ap (λ (x : PlainHostEndpoint). x.stop) adds.2 ∙ goes) runs
+run_goes e g (AddFile count name text (Err why) ∷ calls) goes (k, then, adds, runs) = run_goes k g calls (ap (λ (x : PlainHostEndpoint). x.stop) adds.1 ∙ goes) runs
 run_goes e g (TakeOut bytes ∷ calls) goes (rest, is, runs) = run_goes (record e { pending_bytes = rest }) g calls goes runs
 run_goes e g (NextWritten tag ∷ calls) goes (is, runs) = run_goes (record e { writes = drop 1 e.writes }) g calls goes runs
 
@@ -306,10 +333,10 @@ kept_run h stream out handed joined (Feed piece answer ∷ calls) e g (k, feeds,
     subst (λ (x : List ℕ). Kept h x (out ++ flat_map went_out calls) (handed ++ flat_map handed_out calls) (joined ++ flat_map joined_by calls) g)
     (append_assoc stream (came_in (Feed piece answer)) (flat_map came_in calls))
     (kept_run h (stream ++ came_in (Feed piece answer)) out handed joined calls k g runs (kept_feed h stream out handed joined piece e k answer goes feeds kept))
-kept_run h stream out handed joined (AddFile name text result ∷ calls) e g (k, adds, runs) kept =
+kept_run h stream out handed joined (AddFile count name text result ∷ calls) e g (k, then, adds, runs) kept =
     subst (λ (x : Files). Kept h (stream ++ flat_map came_in calls) (out ++ flat_map went_out calls) (handed ++ flat_map handed_out calls) x g)
-    (append_assoc joined (joined_by (AddFile name text result)) (flat_map joined_by calls))
-    (kept_run h stream out handed (joined ++ joined_by (AddFile name text result)) calls k g runs (kept_added h stream out handed joined name text result e k adds kept))
+    (append_assoc joined (joined_by (AddFile count name text result)) (flat_map joined_by calls))
+    (kept_run h stream out handed (joined ++ joined_by (AddFile count name text result)) calls k g runs (kept_added h stream out handed joined count name text result e k then adds kept))
 kept_run h stream out handed joined (TakeOut bytes ∷ calls) e g (rest, is, runs) kept =
     subst (λ (x : List ℕ). Kept h x (out ++ (bytes ++ flat_map went_out calls)) (handed ++ flat_map handed_out calls) (joined ++ flat_map joined_by calls) g)
     (append_assoc stream [] (flat_map came_in calls))
@@ -353,14 +380,8 @@ one_service h [] a b v w g k p q = (p.2 ∙ sym q.2, p.0 ∙ sym q.0, p.1 ∙ sy
 one_service h (Answered m ∷ steps) a b v w g k (h1, a1, a2, v2, ans1, af, vf, p) (k1, b1, b2, w2, ans2, bf, wf, q) = grind (arith, (one_service k1 steps a2 b2 v2 w2 g k))
 one_service h (Joined file ∷ steps) a b v w g k p q = one_service (with_given h file) steps a b v w g k p q
 
--- no place is before where counting begins
-not_before : (count n : ℕ) (file : List ℕ × List ℕ) (rest : List (ℕ × (List ℕ × List ℕ))) (steps : List Step) → places_after count steps ≡ (n, file) ∷ rest → count ≤ n
-not_before count n file rest [] is = absurd (cc)
-not_before count n file rest (Answered m ∷ steps) is = let later = not_before (count + 1) n file rest steps is in omega (arith, later)
-not_before count n file rest (Joined first ∷ steps) is = grind arith
-
--- messages and the places of files decide the steps
-same_steps : (count : ℕ) (xs ys : List Step) → messages_in xs ≡ messages_in ys → places_after count xs ≡ places_after count ys → xs ≡ ys
+-- the messages, and where files joined, decide the steps
+same_steps : (count : ℕ) (xs ys : List Step) → messages_in xs ≡ messages_in ys → joined_after count xs ≡ joined_after count ys → xs ≡ ys
 same_steps count [] [] p q = refl
 same_steps count [] (Answered m ∷ ys) p q = absurd (cc)
 same_steps count [] (Joined file ∷ ys) p q = absurd (cc)
@@ -368,8 +389,8 @@ same_steps count (Answered m ∷ xs) [] p q = absurd (cc)
 same_steps count (Joined file ∷ xs) [] p q = absurd (cc)
 same_steps count (Answered m ∷ xs) (Answered n ∷ ys) p q = grind (arith, (same_steps (count + 1) xs ys))
 same_steps count (Joined file ∷ xs) (Joined other ∷ ys) p q = grind (arith, (same_steps count xs ys))
-same_steps count (Answered m ∷ xs) (Joined file ∷ ys) p q = let late = not_before (count + 1) count file (places_after count ys) xs q in absurd (omega (arith, late))
-same_steps count (Joined file ∷ xs) (Answered m ∷ ys) p q = let late = not_before (count + 1) count file (places_after count xs) ys (sym q) in absurd (omega (arith, late))
+same_steps count (Answered m ∷ xs) (Joined file ∷ ys) p q = let late = not_before (count + 1) count file (joined_after count ys) xs q in absurd (omega (arith, late))
+same_steps count (Joined file ∷ xs) (Answered m ∷ ys) p q = let late = not_before (count + 1) count file (joined_after count xs) ys (sym q) in absurd (omega (arith, late))
 
 same_behind : (o p : Option StreamFault) → option_map mesg_fault o ≡ option_map mesg_fault p → o ≡ p
 same_behind o p e = grind arith
@@ -378,12 +399,12 @@ idle_reads : (h : PlainHost) (stream out handed : List ℕ) (joined : Files) (e 
     → IsStream terminal 1 stream (messages_in s.steps) e.framer.bytes (option_map mesg_fault e.broken_by)
 idle_reads h stream out handed joined e s none = grind (arith, append-nil)
 
-pub one_outcome : Reads → (h : PlainHost) (stream a b v w : List ℕ) (x y : Files) (e g : PlainHostEndpoint) (s : HasServed h stream a v x e) (t : HasServed h stream b w y g)
-    → places_after 0 s.steps ≡ places_after 0 t.steps → IsIdle e → IsIdle g
+pub one_outcome : Reads → (h : PlainHost) (stream a b v w : List ℕ) (joined : Files) (e g : PlainHostEndpoint) → HasServed h stream a v joined e → HasServed h stream b w joined g
+    → IsIdle e → IsIdle g
     → (e.host ≡ g.host) × (a ++ e.pending_bytes ≡ b ++ g.pending_bytes) × (v ++ e.writes ≡ w ++ g.writes) × (e.broken_by ≡ g.broken_by)
-one_outcome reads h stream a b v w x y e g s t places i j =
+one_outcome reads h stream a b v w joined e g s t i j =
     let one = reads 1 stream (messages_in s.steps) (messages_in t.steps) e.framer.bytes g.framer.bytes (option_map mesg_fault e.broken_by) (option_map mesg_fault g.broken_by)
-    (idle_reads h stream a v x e s i.waiting) (idle_reads h stream b w y g t j.waiting) in
-    let steps = same_steps 0 s.steps t.steps one.0 places in
+    (idle_reads h stream a v joined e s i.waiting) (idle_reads h stream b w joined g t j.waiting) in
+    let steps = same_steps h.taken s.steps t.steps one.0 (s.files ∙ sym t.files) in
     let same = one_service h t.steps s.frames t.frames s.writes t.writes e.host g.host (subst (λ (l : List Step). Serves h l s.frames s.writes e.host) steps s.serves) t.serves in
     (same.0, grind (arith, append-nil), s.written ∙ same.2 ∙ sym t.written, same_behind e.broken_by g.broken_by one.2)

@@ -89,7 +89,7 @@ module _ (given : List (List ℕ × List ℕ)) (said : List UserEvent) (up down 
   apart = record {
     given_fit = c.given_fit;
     host_runs = serves_runs handled (new_host given) e.host c.served.frames c.served.writes
-        (subst (λ (steps : List Step). Serves (new_host given) steps c.served.frames c.served.writes e.host) (all_answered c.served.steps c.served.files) c.served.serves);
+        (subst (λ (steps : List Step). Serves (new_host given) steps c.served.frames c.served.writes e.host) (all_answered 0 c.served.steps c.served.files) c.served.serves);
     term_runs = leads_runs c.did.steps new_terminal g.term c.did.composed c.did.leads;
     composed_fit = x.messages;
     answers_fit = x.frames;

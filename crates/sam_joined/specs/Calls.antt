@@ -1,5 +1,5 @@
 -- Two runs of calls, one of each endpoint, and the bytes that were carried between them.
-use Rattle.std.specs.Prelude.{◌≡◌, ℕ, List, [], ◌∷◌, ◌++◌, flat_map, Err}
+use Rattle.std.specs.Prelude.{◌≡◌, ℕ, List, [], ◌∷◌, ◌++◌, flat_map, map, Err}
 use Rattle.sam_host.specs.Host.{new_host}
 use Rattle.sam_host.specs.Laws.{AreGiven}
 use Rattle.sam_host.specs.declared.fault.HostFault.TheVariants as host_fault
@@ -16,19 +16,14 @@ use Rattle.sam_endpoint.specs.declared.fault.TermStop.{TermStop}
 use Rattle.sam_endpoint.specs.declared.fault.TermStop.TheVariants as term_stop
 use Rattle.sam_joined.specs.Joined.{AreCarried, CanCross}
 
--- A run of calls of a host endpoint that began with some files. Up to a moment it answers no message, and after that no file joins: so
--- `given` are the files that it has when it answers the first
+-- A run of calls of a host endpoint that began with some files, in which each other file joined before any message was answered: so these
+-- are its files when it answers the first
 pub record RunsWith (given : List (List ℕ × List ℕ)) (calls : List HostCall) (e : PlainHostEndpoint) : Type 0 where
   pub began : List (List ℕ × List ℕ)
-  pub first : List HostCall
-  pub rest : List HostCall
-  pub middle : PlainHostEndpoint
-  pub calls_are : calls ≡ first ++ rest
-  pub runs_first : HostRuns (begun_with (new_host began)) first middle
-  pub unanswered : middle.host.taken ≡ 0
-  pub runs_rest : HostRuns middle rest e
-  pub all_joined : flat_map joined_by rest ≡ []
-  pub given_are : given ≡ began ++ flat_map joined_by first
+  pub joined : List (List ℕ × List ℕ)
+  pub given_are : given ≡ began ++ joined
+  pub runs : HostRuns (begun_with (new_host began)) calls e
+  pub all_first : flat_map joined_by calls ≡ map (λ (file : List ℕ × List ℕ). (0, file)) joined
 
 -- All bytes that the one handed out in its calls, or has pending, are those that came in with the calls of the other, and then those that
 -- are on their way
