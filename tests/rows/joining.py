@@ -7,6 +7,24 @@ from .trying import answers, code_of, command_host, refusals, runs
 
 MOST_TAG = 65_535
 
+# Messages that each tell which files are there: their names, or the next tag.
+LONG_SESSION = (
+    ("Tversion", 2),
+    ("Tstartcmdfile",),
+    ("Tstartfile", 1),
+    ("Tstartnewfile",),
+    ("Ttype", 1, 0, "x"),
+    ("Tversion", 2),
+    ("Tclose", 1),
+    ("Tstartnewfile",),
+    ("Tversion", 1),
+    ("Tstartfile", 2),
+    ("Ttype", 2, 0, "y"),
+    ("Tversion", 2),
+    ("Texit",),
+)
+JOINED_AFTER = {("Tversion", 2), ("Tstartcmdfile",), ("Ttype", 1, 0, "x"), ("Tclose", 1), ("Texit",)}
+
 
 def answered_host():
     """A host with the file `file`, of the text `one`, that has answered a Tversion."""
@@ -159,6 +177,33 @@ def test_files_that_join_are_refused_in_order():
     expect_equal(code_of(host.add_file, "x", "é" * 1_000_001), "ADD_TOO_LONG")
     expect_equal(state_of(host), before)
     expect_equal((host.add_file("é" * 64, "é" * 1_000_000), host.len(2)), (2, 1_000_000))
+
+
+def test_a_host_is_made_again_from_its_stream_and_its_files():
+    first, again, files = Host(), Host(), []
+    told = b""
+
+    def join(name, text):
+        files.append((first.taken, name, text))
+        first.add_file(name, text)
+
+    def join_again():
+        while files and files[0][0] == again.taken:
+            again.add_file(*files.pop(0)[1:])
+
+    join("file", "one\n")
+    for message in LONG_SESSION:
+        first.feed(frame(*message))
+        told += first.take_out()
+        if message in JOINED_AFTER:
+            join(f"late {first.taken}", "two\n")
+            join("", "")
+    for byte in b"".join(frame(*message) for message in LONG_SESSION):
+        join_again()
+        again.feed(bytes([byte]))
+    join_again()
+    expect_equal((files, again.take_out() == told), ([], True))
+    expect_equal(state_of(again), state_of(first))
 
 
 def test_tags_run_out_in_a_session():
