@@ -22,5 +22,5 @@ pub use Rattle.sam_modes.specs.Replaying.{IsUnread}
 pub use Rattle.sam_modes.specs.Words.{HoldsMode, attached, attached_from, program}
 pub use Rattle.sam_modes.specs.declared.fault.PlayFault.{PlayFault}
 pub use Rattle.sam_modes.specs.declared.fault.PlayFault.TheVariants.{OutOfMemory, Read, Write}
-pub use Rattle.sam_workers.specs.declared.stop.Stop.{Stop}
-pub use Rattle.sam_workers.specs.declared.stop.Stop.TheVariants.{Frame}
+pub use Rattle.sam_ends.specs.declared.stop.Stop.{Stop}
+pub use Rattle.sam_ends.specs.declared.stop.Stop.TheVariants.{Frame}

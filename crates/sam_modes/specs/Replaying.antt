@@ -4,7 +4,7 @@ use Rattle.sam_script.specs.Replay as replay
 use Rattle.sam_script.specs.Spelling.{IsWrongLine}
 use Rattle.sam_script.specs.declared.fault.ScriptFault.{ScriptFault}
 use Rattle.sam_script.specs.declared.fault.ScriptFault.TheVariants as fault
-use Rattle.sam_workers.specs.declared.stop.Stop.TheVariants.{Host}
+use Rattle.sam_ends.specs.declared.stop.Stop.TheVariants.{Host}
 use Rattle.sam_modes.specs.declared.fault.PlayFault.{PlayFault}
 use Rattle.sam_modes.specs.declared.fault.PlayFault.TheVariants.{Script, Read, Write, Side, Threads, OutOfMemory}
 use Rattle.sam_modes.specs.Limits.{most_input}

@@ -16,7 +16,7 @@ use crate::reading::{MOST_INPUT, PIECE, read_piece};
 use crate::start::host_of_text;
 use sam_endpoint::{EndpointFault, HostEndpoint, HostStop};
 use sam_frame::FeedFault;
-use sam_workers::Stop;
+use sam_ends::Stop;
 use std::alloc::Global;
 use std::io::{Read, Write};
 

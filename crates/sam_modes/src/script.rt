@@ -9,7 +9,7 @@ use crate::fault::PlayFault;
 use crate::input::read_all;
 use sam_host::HostFault;
 use sam_script::{Script, ScriptFault};
-use sam_workers::Stop;
+use sam_ends::Stop;
 use std::alloc::Global;
 use std::io::Read;
 

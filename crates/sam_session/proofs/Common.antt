@@ -8,5 +8,5 @@ pub use Rattle.sam_modes.specs.Causes.{first_cause, of_cause, of_stops}
 pub use Rattle.sam_modes.specs.Replaying.{IsUnread}
 pub use Rattle.sam_modes.specs.declared.fault.PlayFault.{PlayFault}
 pub use Rattle.sam_modes.specs.declared.fault.PlayFault.TheVariants.{OutOfMemory, Side, Threads}
-pub use Rattle.sam_workers.specs.declared.input.Input.TheVariants.{Host, User}
-pub use Rattle.sam_workers.specs.declared.stop.Stop.{Stop}
+pub use Rattle.sam_ends.specs.declared.input.Input.TheVariants.{Host, User}
+pub use Rattle.sam_ends.specs.declared.stop.Stop.{Stop}

@@ -5,6 +5,10 @@ mod run;
 mod threading;
 
 pub use run::play;
+pub use sam_ends::{
+    Ends, FlagGate, Gate, HostEnd, Input, Lines, OpenGate, ReaderEnd, Starts, Stop, TermEnd,
+    UserEnd,
+};
 pub use sam_host::host::Host;
 pub use sam_mesg::{HFrame, Tmesg};
 pub use sam_modes::{
@@ -18,8 +22,5 @@ pub use sam_settle::{SettleFault, Settled, settle};
 pub use sam_spawn::{Plan, RunFault, run_ends, run_threads, run_threads_once};
 pub use sam_term::event::UserEvent;
 pub use sam_term::term::Terminal;
-pub use sam_workers::{
-    Ends, Fed, FlagGate, Gate, HostEnd, Input, Lines, OpenGate, ReaderEnd, Starts, Stop, TermEnd,
-    UserEnd, feed_terminal,
-};
+pub use sam_workers::{Fed, feed_terminal};
 pub use sam_world::{Event, TermLog, World};

@@ -12,7 +12,7 @@ use sam_modes::{PlayFault, fault_of, script_in, write_or_tell};
 use sam_script::{Script, run_lines, show};
 use sam_settle::Settled;
 use sam_spawn::{RunFault, run_threads_once};
-use sam_workers::OpenGate;
+use sam_ends::OpenGate;
 use std::alloc::Global;
 use std::io::{Read, Write};
 use std::sync::Wait;

@@ -4,18 +4,18 @@ use Rattle.sam_script.specs.Script.{PlainScript, keys_of, mouse_of, without_line
 use Rattle.sam_world.specs.Prefixes.{Begins}
 use Rattle.sam_crossing.specs.World.{new_world, run_of}
 use Rattle.sam_world.specs.Merging.{merged}
-use Rattle.sam_workers.specs.Lines.{LinesView}
-use Rattle.sam_workers.specs.Gates.{GatesLetIn, GatesLetOn}
-use Rattle.sam_workers.specs.WorkerEnds.{Told, AllPassed, GatesTold}
+use Rattle.sam_ends.specs.Lines.{LinesView}
+use Rattle.sam_ends.specs.Gates.{GatesLetIn, GatesLetOn}
+use Rattle.sam_ends.specs.WorkerEnds.{Told, AllPassed, GatesTold}
 use Rattle.sam_settle.specs.Headline.{Headline}
 use Rattle.sam_settle.specs.Settled.{counts_left, stops_of, AreFull, HasStreams, HasUsers, IsDrained, IsWhole, MissesHost}
-use Rattle.sam_workers.specs.declared.input.Input.TheVariants.{User}
-use Rattle.sam_workers.specs.declared.ends.Ends.{Ends}
-use Rattle.sam_workers.specs.declared.stop.Stop.TheVariants as stop
+use Rattle.sam_ends.specs.declared.input.Input.TheVariants.{User}
+use Rattle.sam_ends.specs.declared.ends.Ends.{Ends}
+use Rattle.sam_ends.specs.declared.stop.Stop.TheVariants as stop
 use Rattle.sam_settle.specs.declared.settled.Settled.{Settled}
 use Rattle.sam_spawn.specs.declared.run.RunFault.{RunFault}
 use Rattle.sam_spawn.specs.declared.run.RunFault.TheVariants.{GateTimedOut, NoThread, OutOfMemory}
-use Rattle.sam_spawn.specs.declared.tasks.Tasks.{Tasks}
+use Rattle.sam_tasks.specs.declared.tasks.Tasks.{Tasks}
 
 -- what `settle` says of what these ends came to
 pub record IsSettled (e : Ends) (s : Settled) : Type 0 where

@@ -4,8 +4,6 @@
 mod run;
 mod session;
 mod spawning;
-mod tasks;
-mod users;
 mod work;
 
 pub use run::{Plan, RunFault, run_ends};

@@ -2,16 +2,16 @@
 ghost use Rattle.std.specs.Prelude.{◌≡◌, ◌<◌, true, false, IfOk, IfErr, IfSome, IsSomeAnd, IsTrue, IsFalse, Some, Err};
 ghost use Rattle.sam_script.specs.Script.{keys_of, mouse_of};
 ghost use Rattle.sam_spawn.specs.Promised.{AreOfKinds, KeepPromises, TasksKept, SomeRefused, fault_of};
-ghost use Rattle.sam_spawn.specs.Tasks.{AreReady};
-ghost use Rattle.sam_workers.specs.Gates.{GatesLetIn, GatesLetOn};
-ghost use Rattle.sam_workers.specs.WorkerEnds.{Told, AllPassed, GatesTold, RefusesSome};
+ghost use Rattle.sam_tasks.specs.Tasks.{AreReady};
+ghost use Rattle.sam_ends.specs.Gates.{GatesLetIn, GatesLetOn};
+ghost use Rattle.sam_ends.specs.WorkerEnds.{Told, AllPassed, GatesTold, RefusesSome};
 ghost use Rattle.sam_spawn.specs.declared.run.RunFault.TheVariants.{GateTimedOut};
 
 use crate::spawning::{Handles, join_all, spawn_all};
-use crate::tasks::{Tasks, ready_tasks};
 use crate::work::Shared;
 use sam_script::Script;
-use sam_workers::{Ends, Gate, Lines, Starts};
+use sam_ends::{Ends, Gate, Lines, Starts};
+use sam_tasks::{Tasks, ready_tasks};
 use std::alloc::Global;
 use std::sync::{OnceLock, Wait};
 use std::thread;

@@ -2,15 +2,15 @@
 ghost use Rattle.std.specs.Prelude.{◌≡◌, ◌<◌, IfOk, IfErr, OnOk, Ok, Err};
 ghost use Rattle.sam_script.specs.Script.{without_lines};
 ghost use Rattle.sam_spawn.specs.Session.{IsLeft, IsSession, IsSettled, SessionOf};
-ghost use Rattle.sam_spawn.specs.Tasks.{AreReady};
-ghost use Rattle.sam_workers.specs.WorkerEnds.{AreEnds, RefusesSome};
+ghost use Rattle.sam_tasks.specs.Tasks.{AreReady};
+ghost use Rattle.sam_ends.specs.WorkerEnds.{AreEnds, RefusesSome};
 ghost use Rattle.sam_spawn.specs.declared.run.RunFault.TheVariants.{GateTimedOut, OutOfMemory};
 
 use crate::run::{RunFault, run_tasks};
-use crate::tasks::{Tasks, moved_tasks, ready_tasks};
 use sam_script::Script;
 use sam_settle::{Settled, settle};
-use sam_workers::{Ends, Gate, Lines};
+use sam_ends::{Ends, Gate, Lines};
+use sam_tasks::{Tasks, moved_tasks, ready_tasks};
 use std::alloc::Global;
 use std::sync::Wait;
 use std::thread::Threads;

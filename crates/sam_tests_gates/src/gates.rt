@@ -5,7 +5,7 @@ use sam_script::{Script, ScriptFault, show};
 use sam_settle::Settled;
 use sam_spawn::{RunFault, run_threads, run_threads_once};
 use sam_test_support::{lent, told_of};
-use sam_workers::{FlagGate, Gate, OpenGate, Stop};
+use sam_ends::{FlagGate, Gate, OpenGate, Stop};
 use sam_world::{Event, World, first_world};
 use std::alloc::{AllocError, Global};
 use std::sync::Wait;
