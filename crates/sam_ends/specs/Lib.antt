@@ -4,3 +4,4 @@ pub mod Inputs
 pub mod WorkerEnds
 pub mod Gates
 pub mod Cutting
+pub mod Tasks

@@ -7,9 +7,9 @@ ghost use Rattle.sam_modes.specs.Replaying.{IsUnread, of_script};
 
 use crate::fault::PlayFault;
 use crate::input::read_all;
+use sam_ends::Stop;
 use sam_host::HostFault;
 use sam_script::{Script, ScriptFault};
-use sam_ends::Stop;
 use std::alloc::Global;
 use std::io::Read;
 

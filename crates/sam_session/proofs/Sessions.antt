@@ -14,7 +14,7 @@ use Rattle.sam_queue.specs.declared.rule.Entry.{Entry}
 use Rattle.sam_queue.specs.History.{items_of}
 use Rattle.sam_queue.specs.Views.{LineView, PostView}
 use Rattle.sam_ends.specs.Inputs.{users_in, user_of_load}
-use Rattle.sam_spawn.specs.Session.{IsSession}
+use Rattle.sam_session.specs.Session.{IsSession}
 use Rattle.sam_settle.specs.Settled.{stops_of}
 use Rattle.sam_ends.specs.WorkerEnds.{IsOwnExit}
 use Rattle.sam_ends.specs.declared.ends.Ends.{Ends}

@@ -5,3 +5,4 @@ pub use Rattle.sam_modes.specs.Status
 pub use Rattle.sam_modes.specs.Words
 pub use Rattle.sam_modes.specs.Replaying
 pub mod Threading
+pub mod Session

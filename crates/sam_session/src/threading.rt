@@ -8,11 +8,12 @@ ghost use Rattle.sam_modes.specs.Outcome.{Written};
 ghost use Rattle.sam_modes.specs.Status.{IsTold};
 ghost use Rattle.sam_session.specs.Threading.{of_run, IsThreaded, IsThreadsFault, IsSessionFault, PrintsSession};
 
+use crate::session::run_threads_once;
+use sam_ends::OpenGate;
 use sam_modes::{PlayFault, fault_of, script_in, write_or_tell};
 use sam_script::{Script, run_lines, show};
 use sam_settle::Settled;
-use sam_spawn::{RunFault, run_threads_once};
-use sam_ends::OpenGate;
+use sam_spawn::RunFault;
 use std::alloc::Global;
 use std::io::{Read, Write};
 use std::sync::Wait;

@@ -2,9 +2,9 @@
 
 ghost use Rattle.std.specs.Prelude.{◌≡◌};
 
+use sam_ends::{Ends, Stop};
 use sam_host::host::Host;
 use sam_term::term::Terminal;
-use sam_ends::{Ends, Stop};
 use sam_world::event::Event;
 use sam_world::world::World;
 

@@ -10,11 +10,11 @@ ghost use Rattle.sam_settle.specs.Settled.{left_in, counts_left, as_list, stops_
 ghost use Rattle.sam_settle.specs.Settling.{IsRoomFor, IsScheduled, IsPrepared, IsReady, ComesTo, schedule_from, world_from};
 
 use crate::settled::{SettleFault, Settled};
+use sam_ends::{Ends, Input, Stop};
 use sam_host::host::Host;
 use sam_queue::{AuditRoom, Post, Take, audit_within};
 use sam_runes::Runes;
 use sam_term::term::Terminal;
-use sam_ends::{Ends, Input, Stop};
 use sam_world::event::{Event, StepFault, TermLog};
 use sam_world::world::World;
 use sam_world::{MergeFault, MergeRoom, first_world, merge, merge_within};

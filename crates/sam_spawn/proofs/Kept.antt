@@ -6,11 +6,11 @@ use Rattle.sam_ends.specs.Gates.{GatesLetIn}
 use Rattle.sam_ends.specs.WorkerEnds.{AllPassed, RefusesSome}
 use Rattle.sam_ends.specs.declared.ends.Ends.{Ends}
 use Rattle.sam_spawn.specs.Promised.{AllKept, AreOfKinds, KeepPromises, Keeps, Promises, SomeRefused, TasksKept, TasksPromised}
-use Rattle.sam_tasks.specs.Tasks.{AreReady}
+use Rattle.sam_ends.specs.Tasks.{AreReady}
 use Rattle.sam_spawn.specs.declared.run.RunFault.{RunFault}
 use Rattle.sam_spawn.specs.declared.spawning.Handles.{Handles}
 use Rattle.sam_spawn.specs.declared.spawning.TaskPromise.{TaskPromise}
-use Rattle.sam_tasks.specs.declared.tasks.Tasks.{Tasks}
+use Rattle.sam_ends.specs.declared.tasks.Tasks.{Tasks}
 use Rattle.sam_spawn.specs.declared.work.Task.{Task}
 use Rattle.sam_spawn.specs.declared.work.Task.TheVariants as task
 use Rattle.sam_spawn.specs.declared.work.End.{End}

@@ -13,12 +13,12 @@ use Rattle.sam_ends.specs.declared.ends.ReaderEnd.{ReaderEnd}
 use Rattle.sam_ends.specs.declared.ends.TermEnd.{TermEnd}
 use Rattle.sam_ends.specs.declared.ends.Ends.{Ends}
 use Rattle.sam_ends.specs.declared.stop.Stop.TheVariants as stop
-use Rattle.sam_tasks.specs.declared.tasks.UserTask.{UserTask}
-use Rattle.sam_ends.specs.declared.host_task.HostTask.{HostTask}
-use Rattle.sam_tasks.specs.declared.tasks.ReaderTask.{ReaderTask}
-use Rattle.sam_tasks.specs.declared.tasks.TermTask.{TermTask}
-use Rattle.sam_tasks.specs.declared.tasks.Tasks.{Tasks}
-use Rattle.sam_tasks.specs.Tasks.{IsUserTask, IsHostTask, IsReaderTask, IsTermTask}
+use Rattle.sam_ends.specs.declared.tasks.UserTask.{UserTask}
+use Rattle.sam_ends.specs.declared.tasks.HostTask.{HostTask}
+use Rattle.sam_ends.specs.declared.tasks.ReaderTask.{ReaderTask}
+use Rattle.sam_ends.specs.declared.tasks.TermTask.{TermTask}
+use Rattle.sam_ends.specs.declared.tasks.Tasks.{Tasks}
+use Rattle.sam_ends.specs.Tasks.{IsUserTask, IsHostTask, IsReaderTask, IsTermTask}
 use Rattle.sam_spawn.specs.declared.run.RunFault.{RunFault}
 use Rattle.sam_spawn.specs.declared.run.RunFault.TheVariants as fault
 use Rattle.sam_spawn.specs.declared.work.Task.{Task}

@@ -1,8 +1,7 @@
-//! What the five workers of a session begin with: the ends of its lines, and what the script says that each does. All of it is made before
-//! a thread is started.
+//! Makes what the five workers of a session begin with: the ends of its lines, and what a script says that each does.
 #![tactic(auto)]
 
 mod tasks;
 mod users;
 
-pub use tasks::{ReaderTask, Tasks, TermTask, UserTask, moved_tasks, ready_tasks};
+pub use tasks::{moved_tasks, ready_tasks};

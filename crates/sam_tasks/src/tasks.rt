@@ -1,67 +1,21 @@
-//! What the five workers begin with. All their memory is had before a thread is started.
+//! Tasks are made: the ends of the lines, and what a script says that each worker does. All their memory is had before a thread is started.
 ghost use Rattle.std.specs.Prelude.{◌≡◌, IfOk, Ok, OnErr, OnOk};
 ghost use Rattle.sam_queue.specs.Views.{new_post, new_take};
 ghost use Rattle.sam_script.specs.Script.{keys_of, mouse_of, without_lines};
-ghost use Rattle.sam_tasks.specs.Tasks.{AreNewSides, AreReady, IsHostRole};
+ghost use Rattle.sam_ends.specs.Tasks.{AreReady};
+ghost use Rattle.sam_tasks.specs.Making.{AreNewSides, IsHostRole};
 
 use crate::users::{Users, copied_users, room_for, users_of};
-use sam_ends::{HostTask, Input, KEYBOARD, Lines, MOUSE, Starts};
+use sam_ends::{
+    HostTask, Input, KEYBOARD, Lines, MOUSE, ReaderTask, Starts, Tasks, TermTask, UserTask,
+};
 use sam_host::host::Host;
 use sam_queue::{Line, Post, Start, Take};
 use sam_runes::Runes;
 use sam_script::Script;
-use sam_term::event::UserEvent;
 use sam_world::given_files;
 use std::alloc::{AllocError, Global};
 use std::marker::PhantomData;
-
-// Each task has a field `held`, which holds nothing: with it a thread's closure that captures the task keeps its contract.
-
-/// What the worker of the keyboard or of the mouse begins with. Nothing is put yet.
-#[derive(Drop)]
-pub struct UserTask<'q> {
-    /// The worker's number: 0 for the keyboard, 1 for the mouse.
-    pub worker: usize,
-    /// The post to the line of events: number 0 for the keyboard, 1 for the mouse.
-    pub post: Post<'q, Input>,
-    /// What the user does there, in order.
-    pub events: Vec<UserEvent>,
-    /// Ties the task to its lines.
-    pub held: PhantomData<&'q Lines>,
-}
-
-/// What the host reader begins with. Nothing is put or taken yet.
-#[derive(Drop)]
-pub struct ReaderTask<'q> {
-    /// The take of the line down.
-    pub take: Take<'q, Vec<u8>>,
-    /// The post to the line of events: number 2.
-    pub post: Post<'q, Input>,
-    /// Ties the task to its lines.
-    pub held: PhantomData<&'q Lines>,
-}
-
-/// What the terminal's worker begins with. Nothing is put, taken or handled yet.
-#[derive(Drop)]
-pub struct TermTask<'q> {
-    /// The take of the line of events.
-    pub take: Take<'q, Input>,
-    /// The post to the line up.
-    pub post: Post<'q, Vec<u8>>,
-    /// Ties the task to its lines.
-    pub held: PhantomData<&'q Lines>,
-}
-
-/// What the five workers begin with, and their lines. The posts and takes are all of these lines.
-#[derive(Drop)]
-pub struct Tasks<'q> {
-    pub lines: &'q Lines,
-    pub keyboard: UserTask<'q>,
-    pub mouse: UserTask<'q>,
-    pub host: HostTask<'q>,
-    pub reader: ReaderTask<'q>,
-    pub term: TermTask<'q>,
-}
 
 /// The ends of the three lines, with nothing put and nothing taken.
 #[derive(Drop)]

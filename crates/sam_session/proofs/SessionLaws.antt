@@ -8,14 +8,14 @@ use Rattle.sam_world.specs.Prefixes.{Begins}
 use Rattle.sam_crossing.specs.World.{new_world, run_of}
 use Rattle.sam_ends.specs.Gates.{GatesLetIn, GatesLetOn}
 use Rattle.sam_ends.specs.WorkerEnds.{Told, UserTold, AllPassed, GatesTold}
-use Rattle.sam_spawn.specs.Session.{IsLeft, IsSession, IsSettled, SessionOf}
+use Rattle.sam_session.specs.Session.{IsLeft, IsSession, IsSettled, SessionOf}
 use Rattle.sam_ends.specs.declared.input.Input.TheVariants.{User}
 use Rattle.sam_ends.specs.declared.ends.Ends.{Ends}
 use Rattle.sam_ends.specs.declared.ends.UserEnd.{UserEnd}
 use Rattle.sam_settle.specs.declared.settled.Settled.{Settled}
 use Rattle.sam_spawn.specs.declared.run.RunFault.{RunFault}
 use Rattle.sam_spawn.specs.declared.run.RunFault.TheVariants.{GateTimedOut, NoThread, OutOfMemory}
-use Rattle.sam_tasks.specs.declared.tasks.Tasks.{Tasks}
+use Rattle.sam_ends.specs.declared.tasks.Tasks.{Tasks}
 
 take_all : {A : Type 0} (xs : List A) → take (length xs) xs ≡ xs
 take_all [] = refl

@@ -1,5 +1,5 @@
-use Rattle.sam_spawn.proofs.SessionLaws.{settled_of}
-use Rattle.sam_spawn.proofs.session.play_tasks.Goals as goal
+use Rattle.sam_session.proofs.SessionLaws.{settled_of}
+use Rattle.sam_session.proofs.session.play_tasks.Goals as goal
 
 pub returns-clause-session : goal.returns-clause-session
 returns-clause-session g c =

@@ -15,7 +15,7 @@ use Rattle.sam_ends.specs.declared.stop.Stop.TheVariants as stop
 use Rattle.sam_settle.specs.declared.settled.Settled.{Settled}
 use Rattle.sam_spawn.specs.declared.run.RunFault.{RunFault}
 use Rattle.sam_spawn.specs.declared.run.RunFault.TheVariants.{GateTimedOut, NoThread, OutOfMemory}
-use Rattle.sam_tasks.specs.declared.tasks.Tasks.{Tasks}
+use Rattle.sam_ends.specs.declared.tasks.Tasks.{Tasks}
 
 -- what `settle` says of what these ends came to
 pub record IsSettled (e : Ends) (s : Settled) : Type 0 where

@@ -1,16 +1,16 @@
 //! A whole session of five threads.
 ghost use Rattle.std.specs.Prelude.{◌≡◌, ◌<◌, IfOk, IfErr, OnOk, Ok, Err};
 ghost use Rattle.sam_script.specs.Script.{without_lines};
-ghost use Rattle.sam_spawn.specs.Session.{IsLeft, IsSession, IsSettled, SessionOf};
-ghost use Rattle.sam_tasks.specs.Tasks.{AreReady};
+ghost use Rattle.sam_session.specs.Session.{IsLeft, IsSession, IsSettled, SessionOf};
+ghost use Rattle.sam_ends.specs.Tasks.{AreReady};
 ghost use Rattle.sam_ends.specs.WorkerEnds.{AreEnds, RefusesSome};
 ghost use Rattle.sam_spawn.specs.declared.run.RunFault.TheVariants.{GateTimedOut, OutOfMemory};
 
-use crate::run::{RunFault, run_tasks};
+use sam_ends::{Ends, Gate, Lines, Tasks};
 use sam_script::Script;
 use sam_settle::{Settled, settle};
-use sam_ends::{Ends, Gate, Lines};
-use sam_tasks::{Tasks, moved_tasks, ready_tasks};
+use sam_spawn::{RunFault, run_tasks};
+use sam_tasks::{moved_tasks, ready_tasks};
 use std::alloc::Global;
 use std::sync::Wait;
 use std::thread::Threads;
