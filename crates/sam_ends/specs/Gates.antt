@@ -1,6 +1,6 @@
 -- What a gate let a worker do. `must None`: it never lets the worker begin. `must (Some n)`: it never lets it go on once it has done n
 -- steps.
-use Rattle.std.specs.Prelude.{◌≡◌, ℕ, ◌+◌, ◌-◌, ◌^◌, ◌<◌, ◌≤◌, true, List, ◌++◌, length, min, Option, Some, None}
+use Rattle.std.specs.Prelude.{◌≡◌, ℕ, ◌+◌, ◌-◌, ◌^◌, ◌<◌, ◌≤◌, List, ◌++◌, length, min, Option, Some, None}
 use Rattle.sam_mesg.specs.declared.tmesg.Tmesg.{Tmesg}
 use Rattle.sam_term.specs.Term.{new_terminal}
 use Rattle.sam_term.specs.declared.event.UserEvent.{UserEvent}

@@ -25,7 +25,7 @@ use Rattle.sam_spawn.specs.declared.run.RunFault.{RunFault}
 use Rattle.sam_session.specs.Threading.{of_run}
 use Rattle.sam_settle.proofs.SettlingLists.{loaded, items_mine, items_other, nothing_joined, split_map, parts_of, senders_within}
 use Rattle.sam_settle.proofs.SettlingClauses.{stop_none}
-use Rattle.sam_modes.proofs.Scripts.{weaker}
+use Rattle.sam_session.proofs.Scripts.{weaker}
 use Rattle.sam_modes.specs.Limits.{most_input}
 
 -- ---- the events of keyboard and mouse are woven

@@ -15,7 +15,7 @@ use Rattle.sam_settle.specs.declared.settled.Settled.{Settled}
 use Rattle.sam_spawn.specs.declared.run.RunFault.{RunFault}
 use Rattle.sam_spawn.specs.declared.run.RunFault.TheVariants as run
 use Rattle.sam_modes.specs.Causes.{of_stops}
-use Rattle.sam_modes.specs.Replaying.{IsShort}
+use Rattle.sam_session.specs.Replaying.{IsShort}
 use Rattle.sam_modes.specs.declared.fault.PlayFault.{PlayFault}
 use Rattle.sam_modes.specs.declared.fault.PlayFault.TheVariants.{Script, Read, Write, Side, Threads, OutOfMemory}
 

@@ -3,11 +3,16 @@
 #![tactic(auto)]
 
 mod plan;
+mod replaying;
 mod run;
+mod script;
 mod session;
+mod tasks;
 mod threading;
+mod users;
 
 pub use plan::{Plan, run_ends};
+pub use replaying::play_replay;
 pub use run::play;
 pub use sam_ends::{
     Ends, FlagGate, Gate, HostEnd, Input, Lines, OpenGate, ReaderEnd, Starts, Stop, TermEnd,
@@ -28,4 +33,5 @@ pub use sam_term::event::UserEvent;
 pub use sam_term::term::Terminal;
 pub use sam_workers::{Fed, feed_terminal};
 pub use sam_world::{Event, TermLog, World};
+pub use script::script_in;
 pub use session::{run_threads, run_threads_once};

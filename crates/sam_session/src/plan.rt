@@ -6,10 +6,10 @@ ghost use Rattle.sam_ends.specs.Gates.{GatesLetIn, GatesLetOn};
 ghost use Rattle.sam_ends.specs.WorkerEnds.{Told, AllPassed, GatesTold, RefusesSome};
 ghost use Rattle.sam_spawn.specs.declared.run.RunFault.TheVariants.{GateTimedOut};
 
+use crate::tasks::ready_tasks;
 use sam_ends::{Ends, Gate, Lines, Starts};
 use sam_script::Script;
 use sam_spawn::{RunFault, run_tasks};
-use sam_tasks::ready_tasks;
 use std::alloc::Global;
 use std::sync::Wait;
 use std::thread::Threads;

@@ -6,11 +6,11 @@ ghost use Rattle.sam_ends.specs.Tasks.{AreReady};
 ghost use Rattle.sam_ends.specs.WorkerEnds.{AreEnds, RefusesSome};
 ghost use Rattle.sam_spawn.specs.declared.run.RunFault.TheVariants.{GateTimedOut, OutOfMemory};
 
+use crate::tasks::{moved_tasks, ready_tasks};
 use sam_ends::{Ends, Gate, Lines, Tasks};
 use sam_script::Script;
 use sam_settle::{Settled, settle};
 use sam_spawn::{RunFault, run_tasks};
-use sam_tasks::{moved_tasks, ready_tasks};
 use std::alloc::Global;
 use std::sync::Wait;
 use std::thread::Threads;

@@ -1,15 +1,12 @@
 -- What the private functions say that make tasks.
-use Rattle.std.specs.Prelude.{◌≡◌, ◌≤◌, List, [], length, All, vec_capacity}
+use Rattle.std.specs.Prelude.{◌≡◌, ◌≤◌, length, All}
 use Rattle.sam_runes.specs.Texts.{most_files}
 use Rattle.sam_host.specs.Host.{new_host}
 use Rattle.sam_world.specs.Given.{IsFile}
-use Rattle.sam_script.specs.Script.{keys_of, mouse_of}
-use Rattle.sam_script.specs.declared.line.Numbered.{Numbered}
 use Rattle.sam_queue.specs.Views.{new_post, new_take}
 use Rattle.sam_ends.specs.Lines.{LinesView}
 use Rattle.sam_tasks.specs.declared.tasks.LineSides.{LineSides}
 use Rattle.sam_tasks.specs.declared.tasks.HostRole.{HostRole}
-use Rattle.sam_tasks.specs.declared.users.Users.{Users}
 
 -- the sides of these lines, nothing put and nothing taken
 pub record AreNewSides (lines : LinesView) (s : LineSides) : Type 0 where
@@ -22,11 +19,6 @@ pub record AreNewSides (lines : LinesView) (s : LineSides) : Type 0 where
   pub mouse : s.mouse ≡ new_post lines.events 1
   pub reader : s.reader ≡ new_post lines.events 2
   pub events_take : s.events_take ≡ new_take lines.events
-
--- empty, with room for what the user does by the lines
-pub record HasRoomFor (lines : List Numbered) (room : Users) : Type 0 where
-  pub keys : (room.keys.items ≡ []) × (length (keys_of lines) ≤ vec_capacity room.keys)
-  pub clicks : (room.clicks.items ≡ []) × (length (mouse_of lines) ≤ vec_capacity room.clicks)
 
 -- a new host of the files
 pub record IsHostRole (r : HostRole) : Type 0 where

@@ -1,7 +1,6 @@
-//! Makes what the five workers of a session begin with: the ends of its lines, and what a script says that each does.
+//! Makes what the five workers of a session begin with, but for the user's events: the ends of its lines, and a host of its files.
 #![tactic(auto)]
 
 mod tasks;
-mod users;
 
-pub use tasks::{moved_tasks, ready_tasks};
+pub use tasks::idle_tasks;

@@ -1,18 +1,17 @@
-//! Tasks are made: the ends of the lines, and what a script says that each worker does. All their memory is had before a thread is started.
-ghost use Rattle.std.specs.Prelude.{◌≡◌, IfOk, Ok, OnErr, OnOk};
-ghost use Rattle.sam_queue.specs.Views.{new_post, new_take};
-ghost use Rattle.sam_script.specs.Script.{keys_of, mouse_of, without_lines};
+//! Makes what the five workers begin with, but for the user's events. All their memory is had before a thread is started.
+ghost use Rattle.std.specs.Prelude.{◌≡◌, ◌≤◌, All, IfOk, Ok, [], length};
+ghost use Rattle.sam_runes.specs.Texts.{most_files};
 ghost use Rattle.sam_ends.specs.Tasks.{AreReady};
+ghost use Rattle.sam_queue.specs.Views.{new_post, new_take};
 ghost use Rattle.sam_tasks.specs.Making.{AreNewSides, IsHostRole};
+ghost use Rattle.sam_world.specs.Given.{IsFile};
 
-use crate::users::{Users, copied_users, room_for, users_of};
 use sam_ends::{
     HostTask, Input, KEYBOARD, Lines, MOUSE, ReaderTask, Starts, Tasks, TermTask, UserTask,
 };
 use sam_host::host::Host;
 use sam_queue::{Line, Post, Start, Take};
 use sam_runes::Runes;
-use sam_script::Script;
 use sam_world::given_files;
 use std::alloc::{AllocError, Global};
 use std::marker::PhantomData;
@@ -47,46 +46,26 @@ struct HostRole {
     host: Host,
 }
 
-/// Makes the tasks of a session: the ends of the lines, and copies of what the script says that each worker does. `starts` came with
-/// `lines`, and is spent. Its only error is out of memory.
-pub fn ready_tasks<'q>(
+/// Makes the tasks of a session in which the user does nothing: the ends of the lines, and a new host of copies of these files, by tags
+/// from 1. `starts` came with `lines`, and is spent. Its only error is out of memory.
+pub fn idle_tasks<'q>(
     alloc: Global,
     lines: &'q Lines,
     starts: Starts,
-    script: &Script,
+    files: &[(Runes, Runes)],
 ) -> Result<Tasks<'q>, AllocError>
     requires together { starts ≡ lines.now }
+    requires many { length files.now ≤ most_files }
+    requires each { All IsFile files.now }
     ensures lines { IfOk result (λ s. s.lines.now ≡ lines.now) }
     ensures ready { IfOk result (AreReady lines.now) }
-    ensures keys { IfOk result (λ s. s.keyboard.events.items ≡ keys_of script.now.lines) }
-    ensures clicks { IfOk result (λ s. s.mouse.events.items ≡ mouse_of script.now.lines) }
-    ensures files { IfOk result (λ s. s.host.files.items ≡ script.now.files) }
+    ensures keys { IfOk result (λ s. s.keyboard.events.items ≡ []) }
+    ensures clicks { IfOk result (λ s. s.mouse.events.items ≡ []) }
+    ensures files { IfOk result (λ s. s.host.files.items ≡ files.now) }
 {
-    let users = copied_users(alloc, script);
-    let (users, (sides, role)) = both(users, places_of(alloc, lines, starts, script))?;
-    Ok(tasks_of(lines, sides, role, users))
-}
-
-/// Makes what [`ready_tasks`] makes, but moves the events out of the script, which is left without lines. Its files are copied, and stay.
-/// At an error the script is unchanged.
-pub fn moved_tasks<'q>(
-    alloc: Global,
-    lines: &'q Lines,
-    starts: Starts,
-    script: &mut Script,
-) -> Result<Tasks<'q>, AllocError>
-    requires together { starts ≡ lines.now }
-    ensures lines { IfOk result (λ s. s.lines.now ≡ lines.now) }
-    ensures ready { IfOk result (AreReady lines.now) }
-    ensures keys { IfOk result (λ s. s.keyboard.events.items ≡ keys_of script.old.lines) }
-    ensures clicks { IfOk result (λ s. s.mouse.events.items ≡ mouse_of script.old.lines) }
-    ensures files { IfOk result (λ s. s.host.files.items ≡ script.old.files) }
-    ensures moved { OnOk result (script.new ≡ without_lines script.old) }
-    ensures kept { OnErr result (script.new ≡ script.old) }
-{
-    let room = room_for(alloc, script.lines());
-    let (room, (sides, role)) = both(room, places_of(alloc, lines, starts, script))?;
-    Ok(tasks_of(lines, sides, role, users_of(script.take_lines(), room)))
+    let sides = split_lines(alloc, lines, starts);
+    let (sides, role) = both(sides, host_role(alloc, files))?;
+    Ok(tasks_of(alloc, lines, sides, role))
 }
 
 /// Pairs two results. With it a caller has one exit, at which it holds nothing.
@@ -99,14 +78,14 @@ fn both<A: Drop, B: Drop>(
     Ok((first?, second?))
 }
 
-/// Gives each worker its ends of the lines, and what it is to do.
-fn tasks_of<'q>(lines: &'q Lines, sides: LineSides<'q>, role: HostRole, users: Users) -> Tasks<'q>
+/// Gives each worker its ends of the lines, and the host what it begins with.
+fn tasks_of<'q>(alloc: Global, lines: &'q Lines, sides: LineSides<'q>, role: HostRole) -> Tasks<'q>
     requires sides { AreNewSides lines.now sides }
     requires host { IsHostRole role }
     ensures lines { result.lines.now ≡ lines.now }
     ensures ready { AreReady lines.now result }
-    ensures keys { result.keyboard.events.items ≡ users.keys.items }
-    ensures clicks { result.mouse.events.items ≡ users.clicks.items }
+    ensures keys { result.keyboard.events.items ≡ [] }
+    ensures clicks { result.mouse.events.items ≡ [] }
     ensures files { result.host.files.items ≡ role.files.items }
 {
     Tasks {
@@ -114,13 +93,13 @@ fn tasks_of<'q>(lines: &'q Lines, sides: LineSides<'q>, role: HostRole, users: U
         keyboard: UserTask {
             worker: KEYBOARD,
             post: sides.keyboard,
-            events: users.keys,
+            events: Vec::new(alloc),
             held: PhantomData,
         },
         mouse: UserTask {
             worker: MOUSE,
             post: sides.mouse,
-            events: users.clicks,
+            events: Vec::new(alloc),
             held: PhantomData,
         },
         host: HostTask {
@@ -141,21 +120,6 @@ fn tasks_of<'q>(lines: &'q Lines, sides: LineSides<'q>, role: HostRole, users: U
             held: PhantomData,
         },
     }
-}
-
-/// Makes the ends of the lines, and what the host begins with.
-fn places_of<'q>(
-    alloc: Global,
-    lines: &'q Lines,
-    starts: Starts,
-    script: &Script,
-) -> Result<(LineSides<'q>, HostRole), AllocError>
-    requires together { starts ≡ lines.now }
-    ensures sides { IfOk result (λ r. AreNewSides lines.now r.0) }
-    ensures host { IfOk result (λ r. IsHostRole r.1) }
-    ensures files { IfOk result (λ r. r.1.files.items ≡ script.now.files) }
-{
-    both(split_lines(alloc, lines, starts), host_role(alloc, script))
 }
 
 /// Makes the ends of the three lines, with nothing put and nothing taken.
@@ -238,13 +202,14 @@ fn split_in_three<'q, T>(
     Ok((first, second, third, take))
 }
 
-/// Copies the names and texts of a script's files, and makes the host that begins with them.
+/// Copies the names and texts of the files, and makes the host that begins with them.
 #[tactic(auto, using(sam_world::proofs::GivenLaws::given_many))]
-fn host_role(alloc: Global, script: &Script) -> Result<HostRole, AllocError>
-    ensures files { IfOk result (λ r. r.files.items ≡ script.now.files) }
+fn host_role(alloc: Global, names_and_texts: &[(Runes, Runes)]) -> Result<HostRole, AllocError>
+    requires many { length names_and_texts.now ≤ most_files }
+    requires each { All IsFile names_and_texts.now }
+    ensures files { IfOk result (λ r. r.files.items ≡ names_and_texts.now) }
     ensures host { IfOk result IsHostRole }
 {
-    let names_and_texts = script.files();
     let files = copied_files(alloc, names_and_texts)?;
     let given = given_files(alloc, names_and_texts)?;
     let Ok(host) = Host::new(alloc, given) else {

@@ -22,7 +22,7 @@ ghost use Rattle.sam_ends.specs.declared.stop.Stop.TheVariants.{Gate as GateStop
 
 use crate::drain::drop_rest;
 use crate::pieces::send_pieces;
-use sam_ends::{Gate, HOST, HostEnd, Lines, Stop};
+use sam_ends::{Gate, HOST, HostEnd, HostTask, Stop};
 use sam_frame::{FramerT, encode_all};
 use sam_host::host::Host;
 use sam_mesg::{HFrame, Tmesg};

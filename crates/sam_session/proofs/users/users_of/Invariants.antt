@@ -1,7 +1,7 @@
 use Rattle.std.proofs.Common.{◌≡◌, ◌≤◌, ◌++◌, length, vec_capacity}
 use Rattle.std.specs.Vec.Iter.{into_iter_items}
 use Rattle.sam_script.specs.Script.{keys_of, mouse_of}
-use Rattle.sam_tasks.proofs.users.users_of.Given as goal
+use Rattle.sam_session.proofs.users.users_of.Given as goal
 
 -- what was moved, and then what the lines that are left say, in room for all of it
 abbrev pub invariant-loop-numbered : goal.invariant-loop-numbered

@@ -3,12 +3,11 @@
 ghost use Rattle.std.specs.Prelude.{◌≡◌, ◌≤◌, IfOk, IfErr, IfSome, length};
 ghost use Rattle.sam_script.specs.Spelling.{Spells};
 ghost use Rattle.sam_modes.specs.Limits.{most_input};
-ghost use Rattle.sam_modes.specs.Replaying.{IsUnread, of_script};
+ghost use Rattle.sam_session.specs.Replaying.{IsUnread, of_script};
 
-use crate::fault::PlayFault;
-use crate::input::read_all;
 use sam_ends::Stop;
 use sam_host::HostFault;
+use sam_modes::{PlayFault, read_all};
 use sam_script::{Script, ScriptFault};
 use std::alloc::Global;
 use std::io::Read;

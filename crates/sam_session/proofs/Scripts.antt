@@ -1,11 +1,10 @@
 -- What comes of an input that is read as a script.
-use Rattle.sam_modes.proofs.Common.{◌≡◌, ◌⊎◌, ℕ, ◌≤◌, List, length, Option, IfSome, Result, Err, OnOk, IfOk, IfErr, arith, IsOkAnd, Appends, PlainScript, Spells, IsReadFault, Written, IsUnread, PlayFault, Read, Write, OutOfMemory}
+use Rattle.sam_session.proofs.Common.{◌≡◌, ◌⊎◌, ℕ, ◌≤◌, List, length, Option, IfSome, Result, Err, OnOk, IfOk, IfErr, arith, IsOkAnd, Appends, PlainScript, Spells, IsReadFault, Written, IsUnread, PlayFault, Read, Write, OutOfMemory}
 use Rattle.std.specs.Global.{Vec}
 use Rattle.sam_script.specs.Replay as replay
 use Rattle.sam_script.specs.declared.fault.ScriptFault.{ScriptFault}
 use Rattle.sam_script.specs.declared.fault.ScriptFault.TheVariants as fault
-use Rattle.sam_modes.specs.Replaying.{of_script, IsReplay, IsReplayFault}
-use Rattle.sam_modes.specs.Status.{fault_line, IsTold}
+use Rattle.sam_session.specs.Replaying.{of_script, IsReplay, IsReplayFault}
 use Rattle.sam_modes.specs.Limits.{most_input}
 
 -- ---- the input
@@ -46,9 +45,6 @@ pub replay_unread : (input : Option (List ℕ)) (e : PlayFault) → (e ≡ Read)
 replay_unread input e u = grind arith
 
 -- ---- what is written
-
-pub told : (before after : Option (List ℕ)) (e : PlayFault) → Appends before after (fault_line e) → IsTold before after e
-told before after e u = grind arith
 
 -- the lines that came of an input were written
 pub written : {A : Type 0} (input before after : Option (List ℕ)) (P : List ℕ → List ℕ → Type 0) (lines : Result (Vec ℕ) PlayFault) (result : Result A PlayFault)

@@ -1,6 +1,6 @@
 use Rattle.std.proofs.Common.{◌≡◌, ◌++◌}
 use Rattle.sam_script.specs.Script.{keys_of, mouse_of}
-use Rattle.sam_tasks.proofs.users.copied_users.Given as goal
+use Rattle.sam_session.proofs.users.copied_users.Given as goal
 
 -- what was copied, and then what the script still gives
 abbrev pub invariant-loop-key : goal.invariant-loop-key

@@ -2,18 +2,17 @@
 
 ghost use Rattle.std.specs.Prelude.{OnOk, IfOk, IfErr, IfSome};
 ghost use Rattle.sam_modes.specs.Outcome.{Written};
-ghost use Rattle.sam_modes.specs.Replaying.{IsReplay, IsReplayFault};
+ghost use Rattle.sam_session.specs.Replaying.{IsReplay, IsReplayFault};
 ghost use Rattle.sam_modes.specs.Status.{IsTold};
 
-use crate::fault::PlayFault;
-use crate::input::{read_all, write_or_tell};
 use crate::script::of_script;
+use sam_modes::{PlayFault, read_all, write_or_tell};
 use sam_script::replay_bytes;
 use std::alloc::Global;
 use std::io::{Read, Write};
 
 /// Replays the script that the reader gives, and writes what it prints, or in place of all that the line of the fault. The faults and
-/// their order stand at `play` of sam_session.
+/// their order stand at [`play`](crate::play).
 #[tactic(auto, using(crate::proofs::Scripts::written, crate::proofs::Scripts::faulted))]
 pub fn play_replay<R: Read, W: Write>(
     alloc: Global,

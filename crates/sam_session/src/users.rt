@@ -1,7 +1,7 @@
 //! What the user is to do, copied or moved out of a script.
 ghost use Rattle.std.specs.Prelude.{◌≡◌, length, IfOk};
 ghost use Rattle.sam_script.specs.Script.{keys_of, mouse_of};
-ghost use Rattle.sam_tasks.specs.Making.{HasRoomFor};
+ghost use Rattle.sam_session.specs.Moving.{HasRoomFor};
 
 use sam_script::{Line, Numbered, Script};
 use sam_term::event::UserEvent;
