@@ -72,7 +72,7 @@ pub struct TermEnd<'q> {
     pub stop: Option<Stop>,
 }
 
-/// The five ends of a session, all of one set of lines. `run_ends` of sam_spawn makes them, and `settle` of sam_settle puts
+/// The five ends of a session, all of one set of lines. `run_tasks` of sam_spawn makes them, and `settle` of sam_settle puts
 /// them together.
 #[derive(Drop)]
 pub struct Ends<'q> {

@@ -61,7 +61,7 @@ struct Prepared<'q> {
 ///
 /// The messages that the host handled are the first of those that the terminal composed, and the frames that the terminal handled are the
 /// first of those that the host answered. Of the keyboard and of the mouse the terminal handled the first events that each put. The ends
-/// are those of one set of lines, as `run_ends` of sam_spawn returns them.
+/// are those of one set of lines, as `run_ends` of sam_session returns them.
 ///
 /// It costs by the length of the schedule where no worker stopped; else the whole run is made once more.
 ///
