@@ -7,6 +7,7 @@ mod handle;
 mod host_calls;
 mod host_readers;
 mod measures;
+mod members;
 mod parts;
 mod scripts;
 mod status;
