@@ -5,6 +5,8 @@
  *
  * With --times it says when the files were written last, by the seconds since 1970.
  *
+ * samhost --version prints the version.
+ *
  * It reads the files, answers the terminal's messages, and writes a file when the terminal says so. It ends when the terminal leaves, at
  * the end of its input, and at a signal that asks it to end (SIGTERM and others), which does as the end of the input. Texts that were not
  * written are then in FILE.sam-saved; so they are while it runs, a few seconds after they were changed.
@@ -23,6 +25,10 @@
 #include <unistd.h>
 
 #include "samhost.h"
+
+#ifndef VERSION
+#define VERSION "of no release"
+#endif
 
 size_t count_tags(struct session *session)
 {
@@ -126,6 +132,11 @@ int main(int count, char **words)
 {
     struct options options = {false, false};
     int first = take_options(count, words, &options), status = STATUS_MEMORY;
+
+    if (count == 2 && strcmp(words[1], "--version") == 0) {
+        puts("samhost " VERSION);
+        return STATUS_OK;
+    }
 
     if (first < 0) {
         fputs("usage: samhost [--undo] [--times] [--] [FILE ..]\n", stderr);
