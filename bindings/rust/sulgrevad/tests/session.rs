@@ -224,7 +224,10 @@ fn refusals_and_faults_have_names() -> Result<(), Error> {
     assert_eq!(host.feed(&[23]), Err(Error::Stream(StreamFault::BadKind)));
     assert_eq!(host.add_file(&"n".repeat(65), "b"), Err(Error::TooLong));
     assert_eq!(Error::TooLong.status(), 19);
-    assert_eq!(Error::TooLong.to_string(), "the name has more than 64 runes, or the text more than 1,000,000");
+    assert_eq!(
+        Error::TooLong.to_string(),
+        "the name has more than 64 runes, or the text more than 1,000,000"
+    );
     assert_eq!(
         sulgrevad::status_text(19),
         "SAM_ADD_TOO_LONG: the name has more than 64 runes, or the text more than 1,000,000"
