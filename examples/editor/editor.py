@@ -181,6 +181,7 @@ class Editor(Desk, Waiting, Actions):
         self.is_lost = self.texts.is_final = True
         self.vault.stop()
         self.kept_here = self.keeping.keep_here(self.way.has_all)
+        self.go_to(self.shown_focus)
         self.deferred.clear()
         self.message = ""
         for line in self.kept_here or ["what is loaded can still be read. ^Q leaves"]:

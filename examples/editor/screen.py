@@ -150,9 +150,9 @@ class Screen:
 def frame_of(editor: Editor, rows: int, columns: int) -> Dict[int, List[Run]]:
     """What stands in each row of the screen, but for the status line."""
     frame: Dict[int, List[Run]] = {}
-    for window in editor.shown:
+    for window in [editor.shown_focus] if editor.is_tiny else editor.windows:
         frame.update(window_rows(editor, window))
-    menu = editor.help or editor.menu
+    menu = editor.shown_menu
     if menu is not None and menu.is_box:
         frame.update(menu_rows(menu, max(1, rows - FOOT), columns))
     lines = lines_of(editor.message, columns, rows)
@@ -172,7 +172,7 @@ def lines_of(message: str, columns: int, rows: int) -> List[str]:
 
 def window_rows(editor: Editor, window: Window) -> Dict[int, List[Run]]:
     """The title of a window and its rows, by the row of the screen."""
-    is_focus = window is editor.focus
+    is_focus = window is editor.shown_focus
     mark = "*" if editor.is_changed(window.tag) else " "
     title = f"{'>' if is_focus else ' '}{mark} {editor.name(window.tag)}"
     attributes = curses.A_REVERSE | (curses.A_BOLD if is_focus else curses.A_NORMAL)
@@ -254,7 +254,7 @@ def locks_of(editor: Editor) -> str:
 
 def cursor_of(editor: Editor) -> Optional[Tuple[int, int]]:
     """Where the cursor stands; None where it is not to be seen."""
-    window, menu = editor.focus, editor.help or editor.menu
+    window, menu = editor.shown_focus, editor.shown_menu
     if (menu is not None and menu.is_box) or not window.is_open:
         return None
     layout, caret = window.layout(), window.caret

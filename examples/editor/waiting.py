@@ -29,7 +29,6 @@ class Pressed(NamedTuple):
     answers: str = ""
     has_read: bool = False
     is_again: bool = False  # it acted already, and goes on
-    window: Optional[Window] = None  # to which it goes, where Esc has passed it
 
 
 # What text, pastes and the mouse do, and keys that do nothing. A mouse goes by what is shown; Enter by the line above.
@@ -68,6 +67,7 @@ class Waiting:
         self._pressed_at = 0.0  # when the last key of any kind came
         self._last = Pressed(Key(""), 0.0)
         self._leaves_at: Optional[float] = None  # when the user leaves without waiting for the host
+        self._foreseen: Optional[bool] = None  # after an Esc that waits: whether keys go to the command window once it has acted
 
     @property
     def _is_lock_held(self) -> bool:
@@ -104,6 +104,8 @@ class Waiting:
             self._edited_at = when
         self.deferred.append(pressed)
         self._act_in_order()
+        if binding.leads:
+            self._foresee()
         if self.deferred and binding.waits == ANSWERS and not self.deferred[-1].answers:
             if is_leave:
                 self._ask(LEAVING if self.is_leaving else WAITING, key)
@@ -111,22 +113,54 @@ class Waiting:
                 self.message = "keys wait for the host"
 
     def _acts_ahead(self, pressed: Pressed) -> bool:
-        """Whether a key acts before those that wait: the help, and Esc where these keys lead nowhere else. They go to the window then to
-        which they went."""
-        if bound(pressed.key).waits == NOTHING:
-            self.notes.take(pressed.has_read)
-            self.do_help()
-            return True
-        if action_of(pressed.key) != "switch" or not self.deferred or self._is_led_elsewhere:
+        """Whether a key acts before those that wait: the help does."""
+        if bound(pressed.key).waits != NOTHING:
             return False
-        self.deferred = deque(kept if kept.window else kept._replace(window=self.focus) for kept in self.deferred)
-        self._act(pressed)
+        self.notes.take(pressed.has_read)
+        self.do_help()
         return True
 
+    def _foresee(self) -> None:
+        """Has the screen show at once where an Esc that waits leads. The keys act in their order all the same, so none goes elsewhere by
+        that; and where one before the Esc leads otherwise than is thought here, the screen shows so then."""
+        windows, is_in_menu, has_switched = len(self.windows), self.menu is not None, False
+        at, last = self.windows.index(self.focus), self.windows.index(self.active)
+        for pressed in self.deferred:
+            key, action = pressed.key, action_of(pressed.key)
+            is_switch = action == "switch"
+            has_switched = has_switched or is_switch
+            if is_in_menu:
+                is_in_menu = not is_switch and not (isinstance(key, Text) and "\n" in key.runes)
+            elif is_switch:
+                at = last if at == 0 else 0
+            elif action == "next_window":
+                at = (at + 1) % windows
+            elif action == "new":
+                windows, at = max(2, windows), last or 1
+            elif isinstance(key, Mouse) and key.what == "press":
+                window = self.window_at(key.row)
+                at = at if window is None else self.windows.index(window)
+            is_in_menu = is_in_menu or action in ("menu", "find", "old")
+            last = at or last
+        self._foreseen = at == 0 if has_switched else None
+        if has_switched and self.menu is not None and not self.menu.is_box:
+            self.message = ""
+
     @property
-    def _is_led_elsewhere(self) -> bool:
-        """Whether it is not known where keys go that come after those which wait."""
-        return self.menu is not None or self._are_windows_due or any(bound(kept.key).leads for kept in self.deferred)
+    def _is_foreseen(self) -> bool:
+        return self._foreseen is not None and bool(self.deferred)
+
+    @property
+    def shown_focus(self) -> Window:
+        """The window that the screen shows as that to which keys go."""
+        if not self._is_foreseen:
+            return self.focus
+        return self.command if self._foreseen else self.active
+
+    @property
+    def shown_menu(self):
+        """The menu that the screen shows; the help lies over it."""
+        return self.help or (None if self._is_foreseen else self.menu)
 
     def _leaves_silence(self, key: Input) -> bool:
         """Whether the user leaves a host that doesn't answer. Where something may be lost by that, one question is asked, and no more."""
@@ -162,22 +196,11 @@ class Waiting:
     def _act_in_order(self) -> None:
         """Does what the keys say, up to the first that has to wait."""
         self._wants_text = False
-        while self.deferred:
-            focus = self.focus
-            self._go_back_to(self.deferred[0].window)
-            there, must_wait = self.focus, self._must_wait(self.deferred[0])
-            if not must_wait:
-                self._reach = FIRST_REACH
-                self._act(self.deferred.popleft())
-            if self.focus is there:
-                self.focus = focus
-            if must_wait:
-                return
-
-    def _go_back_to(self, window: Optional[Window]) -> None:
-        """A key goes to the window to which it went when Esc passed it, where that still is one."""
-        if window is not None and window in self.windows:
-            self.focus = window
+        while self.deferred and not self._must_wait(self.deferred[0]):
+            self._reach = FIRST_REACH
+            self._act(self.deferred.popleft())
+        if not self.deferred:
+            self._foreseen = None
 
     def _must_wait(self, pressed: Pressed) -> bool:
         """Whether what a key acts on is not settled: the windows, what was changed, or the places in a window."""
