@@ -8,6 +8,7 @@ from keys import ACTIONS, ANSWERS, NOTHING, PLACE, ROWS, WINDOWS, WRITTEN, Bindi
 from notes import REPEAT
 from sulgrevad import SamError
 from targets import Missing
+from texts import COMMAND
 from windows import Window, end_of_load
 
 BUSY = 0.25  # seconds after an edit or a move in which nothing more is asked for, so that the keys after it need not wait
@@ -16,6 +17,7 @@ MOST_TURNS = 32  # keys that wait, of which the page keys are counted
 LEAVING = "leaving; ^Q again doesn't wait for the host"
 WAITING = "keys wait for the host; ^Q again leaves without them"
 SILENT = "the host doesn't answer. ^Q again leaves, and writes here what is loaded of"
+STAYS = "the line is lost. ^Q again leaves; the session stays there, and what it may lack is written here. Not written: "
 
 # Runes that are loaded in one round trip for a key that goes by text which is not shown, twice as many each time.
 FIRST_REACH, LONGEST_REACH = 4_096, 32_768
@@ -34,7 +36,9 @@ class Pressed(NamedTuple):
 # What text, pastes and the mouse do, and keys that do nothing. A mouse goes by what is shown; Enter by the line above.
 TYPING, ENTER = Binding((), "", "", needs="selection"), Binding((), "", "", needs="new_line")
 POINTING, SCROLLING, NO_ACTION = Binding((), "", "", needs=ROWS, leads=True), Binding((), "", "", WINDOWS), Binding((), "", "", WINDOWS)
-RUNNING = Binding((), "", "", ANSWERS, ROWS)  # Enter in the command window
+RUNNING = Binding((), "", "", ANSWERS, ROWS, asks=True)  # Enter in the command window
+FINDING = ("look", "search")  # actions that go on in what is loaded where the line is lost
+TURNING = ("page_up", "page_down")  # those that turn pages: the caret stays
 
 
 def bound(key: Input) -> Binding:
@@ -70,18 +74,18 @@ class Waiting:
         self._foreseen: Optional[bool] = None  # after an Esc that waits: whether keys go to the command window once it has acted
 
     @property
-    def _is_lock_held(self) -> bool:
+    def is_lock_held(self) -> bool:
         """Whether a lock is held, so that the host will answer, or an event waits for one."""
         return self.vault.is_busy or self.terminal.held > 0 or any(map(self.terminal.locked, (*self.all_windows, *self.left.tags)))
 
     @property
     def _is_answer_due(self) -> bool:
-        return self._is_lock_held or not self.way.is_confirmed
+        return self.is_lock_held or not self.way.is_confirmed
 
     @property
     def _are_windows_due(self) -> bool:
         """Whether the host's answer will change the windows, and so where keys go: at the start, and after `^N` and `^K`."""
-        return not self.has_begun or (self._awaits_file and self._is_lock_held)
+        return not self.has_begun or (self._awaits_file and self.is_lock_held)
 
     def take(self, key: Input, when: Optional[float] = None) -> None:
         """Does what a key says, now or when what it acts on is settled."""
@@ -113,11 +117,15 @@ class Waiting:
                 self.message = "keys wait for the host"
 
     def _acts_ahead(self, pressed: Pressed) -> bool:
-        """Whether a key acts before those that wait: the help does."""
-        if bound(pressed.key).waits != NOTHING:
+        """Whether a key acts before those that wait: the help does, and the one that tries a lost line."""
+        is_retry = action_of(pressed.key) == "redraw" and self.way.is_known_late
+        if bound(pressed.key).waits != NOTHING and not is_retry:
             return False
         self.notes.take(pressed.has_read)
-        self.do_help()
+        if is_retry:
+            self.wishes.append("connect")
+        else:
+            self.do_help()
         return True
 
     def _foresee(self) -> None:
@@ -167,7 +175,9 @@ class Waiting:
         if self.is_lost or not self.way.is_silent:
             return False
         unwritten = ", ".join(self.name(tag) for tag in self.tags if self.is_changed(tag))
-        if unwritten or self.deferred:
+        if self.way.line is not None and (unwritten or self.deferred or not self.way.has_all):
+            self._ask(f"{STAYS}{unwritten or 'nothing is unwritten'}", key)
+        elif unwritten or self.deferred:
             self._ask(f"{SILENT}: {unwritten or 'keys that wait'}", key)
         else:
             self._leaves_at = self.clock()
@@ -196,9 +206,13 @@ class Waiting:
     def _act_in_order(self) -> None:
         """Does what the keys say, up to the first that has to wait."""
         self._wants_text = False
-        while self.deferred and not self._must_wait(self.deferred[0]):
-            self._reach = FIRST_REACH
-            self._act(self.deferred.popleft())
+        self._look_at_the_line()
+        while self.deferred:
+            if not self._must_wait(self.deferred[0]):
+                self._reach = FIRST_REACH
+                self._act(self.deferred.popleft())
+            elif not self._is_refused(self.deferred[0]):
+                break
         if not self.deferred:
             self._foreseen = None
 
@@ -209,7 +223,7 @@ class Waiting:
             return True
         if self.is_lost:
             return False
-        if self.vault.is_busy or (pressed.is_again and self._is_lock_held):
+        if self.vault.is_busy or (pressed.is_again and self.is_lock_held):
             return True
         if self._is_for_menu(key):
             return self.menu.goes_by_place and not self.focus.is_settled
@@ -217,6 +231,8 @@ class Waiting:
             return True
         if binding is ENTER and self.focus is self.command:
             binding = RUNNING
+        if self.way.is_late and (binding.action == "write" or self._needs_line(key, binding)):
+            return binding.action != "write"  # that is put off
         if binding.waits == WINDOWS:
             return False
         if binding.waits == ANSWERS:
@@ -225,6 +241,47 @@ class Waiting:
         if binding.waits == WRITTEN and (self.keeping.is_writing(window.tag) or not self.way.is_confirmed):
             return True  # the write before it may ask
         return not self._has_shown(window, binding) or not window.is_settled or self._lacks_text(window, binding, key)
+
+    # ---- Where the line is lost, or answers are late
+
+    def _look_at_the_line(self) -> None:
+        """What would lock a file until the line is back is held back while answers are late."""
+        self.way.note_late()
+        self.texts.holds_back = self.vault.is_out_of_reach = self.way.is_late
+
+    def _needs_line(self, key: Input, binding: Binding) -> bool:
+        """Whether a key can't act while answers are late. It waits until the user can know of that; then it says so."""
+        if binding.action in FINDING:
+            return not self.way.is_known_late
+        return binding.asks or (binding.action == "paste" and not self.knows_snarfed)
+
+    def _is_refused(self, first: Pressed) -> bool:
+        """Whether the first key that waits goes with a word, since the line is lost and the user knows. One that typed text waits behind
+        stays: that text would go elsewhere."""
+        if not self.way.is_known_late or first.answers or any(isinstance(kept.key, (Text, Paste)) for kept in islice(self.deferred, 1, None)):
+            return False
+        key = first.key
+        if isinstance(key, (Text, Paste)):
+            return self._is_line_refused(key)
+        self.deferred.popleft()
+        self.notes.take(first.has_read)
+        name = key.name if isinstance(key, Key) else "the mouse"
+        if action_of(key) == "write":
+            self.write_later(self.active.tag)
+        else:
+            self.message = f"{name} can't act until the line is back" + ("; ^Q again leaves" if action_of(key) == "leave" else "")
+        return True
+
+    def _is_line_refused(self, key: Input) -> bool:
+        """The same of Enter in the command window: the line that it would run stays there."""
+        front, newline, rest = key.runes.partition("\n")
+        if self.focus is not self.command or not self.command.is_settled or isinstance(key, Paste) or not newline or rest:
+            return False
+        self.deferred.popleft()
+        if front:
+            self.texts.replace(COMMAND, front)
+        self.message = "Enter can't act until the line is back; the command line stays"
+        return True
 
     def _window_of(self, key: Input, binding: Binding) -> Window:
         """The window by whose places a key goes."""
@@ -256,12 +313,14 @@ class Waiting:
         """Whether a key has to wait for text that is not loaded. That is asked for, also while keys come."""
         if not binding.needs or not window.is_open or self.texts.is_final:
             return False
+        if self.texts.holds_back and binding.action in TURNING:
+            return False
         find = getattr(window.targets, binding.needs)
         try:
             find(*([isinstance(key, Key) and "Shift-" in key.name] if binding.extends else []))
         except Missing as missing:
             self._wants_text = True
-            if not window.layout().shows(missing.place):  # else the window asks for it
+            if not window.layout().shows(missing.place) and not self.texts.holds_back:  # else the window asks for it
                 self._tried(lambda: self._load_towards(window, missing))
             return True
         return False
@@ -309,6 +368,11 @@ class Waiting:
     def rests(self) -> bool:
         """Whether no key came for a while, and none waits."""
         return self.rest_left <= 0 and not self.deferred and self.terminal.held == 0
+
+    @property
+    def quiet_for(self) -> float:
+        """For how many seconds no key has come."""
+        return self.clock() - self._pressed_at
 
     @property
     def rest_left(self) -> float:
