@@ -193,6 +193,10 @@ static void write_file(struct session *session, uint16_t tag)
     int error;
     char *path = path_of(session, tag, &error);
 
+    if (is_done_already(session, DOING_WRITE, tag)) {
+        free(path);
+        return;
+    }
     if (path != NULL && is_dropped(session, tag)) {
         drop_left(session, tag, path);
     } else {
@@ -203,6 +207,7 @@ static void write_file(struct session *session, uint16_t tag)
             report_unwritten(session, tag, path, error);
     }
     free(path);
+    note_done(session, DOING_WRITE, tag, false);
 }
 
 void write_files(struct session *session)
