@@ -65,38 +65,43 @@ int64_t drop_callers(struct stay *stay)
 
 /* ---- Hellos ---- */
 
-/* Whether the name of the session is the first half of an id. */
-static bool is_named(const struct stay *stay, const uint8_t *id)
+void name_of_id(const uint8_t id[SAM_LINK_ID_BYTES], char name[NAME_DIGITS + 1])
 {
-    char name[NAME_DIGITS + 1];
-
     for (int at = 0; at < NAME_DIGITS / 2; at++)
         snprintf(name + 2 * at, 3, "%02x", id[at]);
-    return strcmp(name, stay->home.name) == 0;
 }
 
-/* Makes the link at the first hello, which says how the session is named in full, and the first note, which says where the terminal has come
- * to. */
-static uint32_t make_link(struct session *session, const uint8_t *id)
+bool say_first(struct session *session)
 {
     struct stay *stay = session->stay;
     struct note *others = stay->notes;
-    char machine[MACHINE_ROOM];
+    char machine[MACHINE_ROOM], name[NAME_DIGITS + 1];
 
-    if (!is_named(stay, id))
+    name_machine(machine);
+    name_of_id(stay->id, name);
+    stay->notes = NULL;
+    bool is_said = say_note(session, "session %s %s", name, machine);
+    if (is_said)
+        stay->notes->next = others;
+    else
+        stay->notes = others;
+    return is_said;
+}
+
+/* Makes the link and the first note, at the first hello, which says how the session is named in full. */
+static uint32_t make_link(struct session *session, const uint8_t *id)
+{
+    struct stay *stay = session->stay;
+    char name[NAME_DIGITS + 1];
+
+    name_of_id(id, name);
+    if (strcmp(name, stay->home.name) != 0)
         return SAM_LINK_OTHER_SESSION;
     uint32_t code = sam_link_new(&stay->link, SAM_LINK_HOST, id);
     if (code != SAM_OK)
         return code;
-    stay->notes = NULL;
-    name_machine(machine);
-    if (!say_note(session, "session %s %s", stay->home.name, machine))
-        code = SAM_NO_MEMORY;
-    else
-        stay->notes->next = others;
-    if (code != SAM_OK)
-        stay->notes = others;
-    return code;
+    memcpy(stay->id, id, SAM_LINK_ID_BYTES);
+    return say_first(session) ? SAM_OK : SAM_NO_MEMORY;
 }
 
 /* Takes the link and its first note back. */
@@ -124,7 +129,6 @@ static uint32_t answer(struct session *session, const struct caller *caller, con
     code = sam_link_answer(&stay->link, caller->bytes, caller->len);
     if (code == SAM_OK) {
         stay->attempt = attempt;
-        memcpy(stay->id, id, SAM_LINK_ID_BYTES);
         add_record(session, STEP_HELLO, caller->bytes, caller->len);
         stay->journal.is_awaited = true; /* the answer says what has come */
     } else if (is_first) {
@@ -143,8 +147,13 @@ static void take_hello(struct session *session, struct caller *caller)
 
     if (code == SAM_NONE)
         return; /* more is to come */
-    if (code == SAM_OK)
+    bool takes_over = code == SAM_OK && what == SAM_LINK_TAKE_OVER && (stay->attempt == 0 || memcmp(id, stay->id, sizeof id) != 0);
+    if (takes_over)
+        code = take_over(session, caller, id, attempt);
+    else if (code == SAM_OK)
         code = answer(session, caller, id, attempt);
+    if (takes_over && code == SAM_OK)
+        return; /* the connection is the heir's */
     if (code == SAM_OK) {
         int line = caller->socket;
         caller->socket = -1;

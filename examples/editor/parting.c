@@ -35,7 +35,7 @@ static int say_home(const char *name, int error)
 
 /* ---- A process of its own ---- */
 
-static struct session *make_staying(const struct home *home, int64_t longest_alone)
+struct session *make_staying(const struct home *home, int64_t longest_alone)
 {
     struct session *session = calloc(1, sizeof *session);
     struct stay *stay = session == NULL ? NULL : calloc(1, sizeof *stay);
@@ -53,8 +53,7 @@ static struct session *make_staying(const struct home *home, int64_t longest_alo
     return session;
 }
 
-/* Frees a session, and closes what it has open. Its folder stays. */
-static void free_staying(struct session *session)
+void free_staying(struct session *session)
 {
     struct stay *stay = session->stay;
 
@@ -90,15 +89,19 @@ static void go_alone(void)
 static int serve_alone(struct session *session, int begun)
 {
     struct stay *stay = session->stay;
-    struct home *home = &stay->home;
     int status = STATUS_BROKEN;
 
     go_alone();
-    note_owner(home);
+    note_owner(&stay->home);
     if (listen_at(stay->listener) == 0 && write(begun, "", 1) == 1) {
         close(begun);
         status = stay_and_serve(session);
-        remove_home(home);
+        for (struct session *heir; (heir = session->stay->heir) != NULL; session = heir) {
+            free_staying(session);
+            listen_for_notes(heir);
+            status = stay_and_serve(heir);
+        }
+        remove_home(&session->stay->home);
     }
     free_staying(session);
     return status;
@@ -308,4 +311,33 @@ int attach(const char *name)
     if (error == 0)
         return relay(line);
     return error == ENOENT ? refuse_hello() : say_home(name, error);
+}
+
+/* Notes the name of a session, if it is the first. */
+static int note_only(struct home *home, void *at)
+{
+    char *name = at;
+
+    if (*name != '\0')
+        return EEXIST;
+    memcpy(name, home->name, NAME_DIGITS + 1);
+    return 0;
+}
+
+int take(const char *name)
+{
+    char only[NAME_DIGITS + 1] = "";
+    int error = name != NULL ? 0 : each_home(note_only, only);
+
+    if (error == EEXIST) {
+        say("there are several sessions, so one has to be named; --list lists them");
+        return STATUS_WORDS;
+    }
+    if (error != 0) {
+        say("sessions can't be listed: %s", cause(error));
+        return STATUS_UNREADABLE;
+    }
+    if (name == NULL && *only == '\0')
+        return refuse_hello();
+    return attach(name != NULL ? name : only);
 }

@@ -32,7 +32,7 @@ enum {
 #define USAGE \
     "usage: samhost [--undo] [--times] [--] [FILE ..]\n" \
     "       samhost --serve NAME [--undo] [--times] [--stay HOURS] [--] [FILE ..]\n" \
-    "       samhost --attach NAME | --end NAME | --list\n"
+    "       samhost --attach NAME | --take [NAME] | --end NAME | --list\n"
 
 size_t count_tags(struct session *session)
 {
@@ -131,7 +131,7 @@ static int serve_files(char **paths, int count, const struct options *options)
 
 /* ---- Words ---- */
 
-enum verb { PLAIN, SERVE, ATTACH, LIST, END };
+enum verb { PLAIN, SERVE, ATTACH, LIST, END, TAKE };
 
 /* The milliseconds of hours in words; -1 where that is no number of hours. */
 static int64_t hours_of(const char *word)
@@ -166,6 +166,11 @@ static int take_option(char **words, int left, enum verb *verb, struct options *
         return (options->longest_alone = hours_of(next)) < 0 ? 0 : 2;
     else if (strcmp(word, "--list") == 0 && *verb == PLAIN)
         *verb = LIST;
+    else if (strcmp(word, "--take") == 0 && *verb == PLAIN) {
+        *verb = TAKE;
+        options->name = has_name ? next : NULL;
+        return has_name ? 2 : 1;
+    }
     else if (has_name && (*verb = verb_of(word)) != PLAIN) {
         options->name = next;
         return 2;
@@ -202,6 +207,8 @@ int main(int count, char **words)
     switch (verb) {
     case ATTACH:
         return attach(options.name);
+    case TAKE:
+        return take(options.name);
     case LIST:
         return list_sessions();
     case END:

@@ -17,6 +17,7 @@
  *
  *     homes.c     its folder, with the lock and the socket
  *     relay.c     carries bytes between standard input and output and the socket
+ *     taking.c    hands it to another terminal
  *     joining.c   adds files, and finds their names
  *     asking.c    lists such sessions, and ends one
  *     parting.c   begins it in a process of its own, or finds it again
@@ -311,6 +312,7 @@ struct stay {
     struct journal journal;
     struct replay *replay; /* NULL but while it is made again */
     enum ending ending;
+    struct session *heir; /* what another terminal has made of the session; else NULL */
     uint8_t note[SAM_LINK_MOST_NOTE + 1]; /* of the terminal, that is to be done, and a zero after it */
     size_t note_len;
     bool has_note;
@@ -454,6 +456,9 @@ void send_the_rest(struct session *session, const sigset_t *mask);
 
 /* Writes the files that the terminal has said to write since it was asked last. */
 void write_files(struct session *session);
+
+/* Saves the texts aside that an earlier terminal has not written, and reports them. */
+void report_taken(struct session *session);
 
 /* Notes what a document has read from a path or written to it. */
 int note_known(struct document *document, const char *path, struct content content);
@@ -635,7 +640,22 @@ int end_session(const char *name);
 /* Writes into the folder of a session what the list says of it. */
 void note_about(const struct session *session);
 
+/* taking.c */
+
+/* Has the terminal of a hello, which is whole, take the session over. A session that goes on in its place is the old one's heir then. Else
+ * nothing has changed. */
+uint32_t take_over(struct session *session, struct caller *caller, const uint8_t *id, uint64_t attempt);
+
 /* parting.c */
+
+/* Makes a session that stays, without files, in a folder that is its own from now on. NULL where memory is out. */
+struct session *make_staying(const struct home *home, int64_t longest_alone);
+
+/* Frees a session, and closes what it has open. Its folder stays. */
+void free_staying(struct session *session);
+
+/* Relays to a session for a terminal that takes it over: to the only one where no name is given. Returns the exit status. */
+int take(const char *name);
 
 /* Begins a session that stays, in a process of its own, and relays. Returns the exit status, also in that process. */
 int begin_to_stay(char **paths, int count, const struct options *options);
@@ -663,6 +683,12 @@ int64_t drop_callers(struct stay *stay);
 /* The newest connection is over. */
 void drop_line(struct stay *stay);
 
+/* The name of the session whose link has an id. */
+void name_of_id(const uint8_t id[SAM_LINK_ID_BYTES], char name[NAME_DIGITS + 1]);
+
+/* Has the first note stand before all that wait; it says where the terminal has come to. Returns whether there is memory for it. */
+bool say_first(struct session *session);
+
 /* staying.c */
 
 /* Has lines for standard error become notes, from now on. */
@@ -670,6 +696,9 @@ void listen_for_notes(struct session *session);
 
 /* Puts a note behind those that wait. Returns whether there is memory for it. */
 bool say_note(struct session *session, const char *format, ...);
+
+/* Tells the terminal that another one, on this machine, has the session now, as far as its line takes that without waiting. */
+void say_the_last(struct session *session, const char *machine);
 
 /* Puts the notes that wait, as soon as there is a link. */
 void put_notes(struct session *session);

@@ -223,6 +223,13 @@ static void write_line(struct session *session)
     }
 }
 
+void say_the_last(struct session *session, const char *machine)
+{
+    if (session->stay->line < 0 || !say_note(session, "gone %s", machine))
+        return;
+    write_line(session);
+}
+
 void drop_line(struct stay *stay)
 {
     if (stay->line < 0)
@@ -274,14 +281,17 @@ static void carry(struct session *session, const sigset_t *mask, int64_t longest
     ends[1] = (struct pollfd){stay->line, awaited, 0};
     if (ppoll(ends, 2 + MOST_CALLERS, wait < 0 ? NULL : &pause, mask) < 0)
         return;
-    if (ends[1].revents != 0 || stay->in.len > 0)
-        read_line(session);
-    for (int at = 0; at < MOST_CALLERS; at++) {
+    int line = stay->line;
+    for (int at = 0; at < MOST_CALLERS && stay->heir == NULL; at++) { /* first, as the host has taken by now all that the link has */
         if (ends[2 + at].revents != 0)
             hear_caller(session, &stay->callers[at]);
     }
+    if (stay->heir != NULL)
+        return;
     if (ends[0].revents != 0)
         accept_callers(stay);
+    if (stay->line >= 0 && stay->line == line && (ends[1].revents != 0 || stay->in.len > 0))
+        read_line(session);
     put_notes(session);
     write_line(session);
 }
@@ -318,6 +328,8 @@ static enum ending serve_line(struct session *session, const sigset_t *mask)
 
     while (ending == GOES_ON && !is_signalled() && !is_alone_too_long(stay)) {
         carry(session, mask, -1);
+        if (stay->heir != NULL)
+            return GOES_ON;
         ending = take_packets(session);
         send_pending(session);
         write_line(session);
@@ -366,10 +378,13 @@ int stay_and_serve(struct session *session)
 
     set_signals(&mask);
     session->wire.carrier = &by_link;
-    stay->begun = stay->alone_since = now();
+    stay->alone_since = now();
+    stay->begun = stay->begun == 0 ? stay->alone_since : stay->begun;
     put_notes(session);
     if (!stay->has_ended) { /* else another samhost has done all but to wait */
         stay->ending = serve_line(session, &mask);
+        if (stay->heir != NULL)
+            return STATUS_OK;
         status = close_session(session, stay->ending);
     }
     note_copies(session);

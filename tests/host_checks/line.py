@@ -37,7 +37,8 @@ def is_running(pid):
 class Staying:
     """A terminal, and the line to its session: the relay that it runs now. A line that breaks is made anew."""
 
-    def __init__(self, folder, *files, options=(), begin=True, environment=None):
+    def __init__(self, folder, *files, options=(), begin=True, environment=None, takes=None):
+        """With `takes` it takes over the session of that name, or the only one where it is empty."""
         import sulgrevad
 
         self.folder, self.id = folder, os.urandom(16)
@@ -45,8 +46,8 @@ class Staying:
         self.environment = {**os.environ, "TMPDIR": str(folder / "temporary"), "XDG_STATE_HOME": str(folder / "temporary"), **(environment or {})}
         self.link, self.terminal = Link(Link.TERMINAL, self.id), sulgrevad.Terminal()
         self.notes, self.errors, self.breaks, self.left = [], b"", 0, None
-        self.process, self.others = None, []
-        self.start("--serve", self.name, *options, "--", *files)
+        self.process, self.others, self.takes_over = None, [], takes is not None
+        self.start(*(["--serve", self.name, *options, "--", *files] if takes is None else ["--take", *([takes] if takes else [])]))
         if begin:
             self.begin()
 
@@ -86,7 +87,7 @@ class Staying:
         self.process = subprocess.Popen(
             [SAMHOST, *words], cwd=self.folder, env=self.environment, stdin=pipe, stdout=pipe, stderr=pipe, bufsize=0
         )
-        self.attempt, self.came, self.is_welcomed = self.link.call(), b"", False
+        self.attempt, self.came, self.is_welcomed = self.link.call(self.takes_over), b"", False
         self.asked_at = -1
 
     def attach(self):

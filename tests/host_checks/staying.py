@@ -83,7 +83,7 @@ def check_stays_through_breaks(folder):
     with Staying(folder, "a.txt") as session:
         first = pid_of(folder, session.name)
         for number in range(60):
-            session.left = chance.randrange(1, 400)
+            session.left = chance.randrange(1, 200)
             session.terminal.select(1, *2 * [chance.randrange(session.terminal.len(1) + 1)])
             session.terminal.type(1, f"<{number}>" + "x" * chance.randrange(200))
             if chance.random() < 0.3:
@@ -93,7 +93,7 @@ def check_stays_through_breaks(folder):
         session.write()
         wanted = session.text()
         expect_equal(pid_of(folder, session.name), first, "the process")
-        expect(session.breaks > 30, f"only {session.breaks} lines broke")
+        expect(session.breaks > 20, f"only {session.breaks} lines broke")
         expect_equal(text_of(path), wanted, "the file")
         expect_equal([note for note in session.notes if note.startswith("told")], [], "what it says")
         session.leave()
@@ -267,7 +267,7 @@ def check_stays_for_nobody_else(folder):
 def connected(folder, name):
     it = socket.socket(socket.AF_UNIX)
     it.settimeout(SECONDS)
-    it.connect(str(home_of(folder, name) / "socket"))
+    wait_until(lambda: it.connect_ex(str(home_of(folder, name) / "socket")) == 0, "nobody listens")
     return it
 
 
@@ -306,7 +306,6 @@ def check_stays_begins_by_begin(folder):
     """A session that no terminal has come to refuses one that resumes, and one of another id; then it takes the right one."""
     made(folder, a="one\n")
     with Staying(folder, "a.txt", begin=False) as session:
-        wait_until(lambda: (home_of(folder, session.name) / "socket").exists(), "it doesn't begin")
         cases = {
             What.NO_SESSION: hello(session, What.RESUME),
             What.OTHER_SESSION: hello(session, What.BEGIN, id=bytes(16)),
