@@ -47,6 +47,20 @@ export declare const Status: {
   readonly REFUSAL_BAD_VERSION: 136;
   readonly SCRIPT_LINE: 161;
   readonly SCRIPT_COUNT_FULL: 162;
+  readonly LINK_NOT_A_LINK: 193;
+  readonly LINK_OTHER_VERSION: 194;
+  readonly LINK_BAD_HELLO: 195;
+  readonly LINK_NO_SESSION: 196;
+  readonly LINK_OTHER_SESSION: 197;
+  readonly LINK_OLD_ATTEMPT: 198;
+  readonly LINK_WRONG_COUNT: 199;
+  readonly LINK_WRONG_ROLE: 200;
+  readonly LINK_NOT_OPEN: 201;
+  readonly LINK_TOO_LONG: 202;
+  readonly LINK_BAD_KIND: 203;
+  readonly LINK_BAD_LENGTH: 204;
+  readonly LINK_ACK_AHEAD: 205;
+  readonly LINK_NO_ROOM: 206;
 };
 
 /** The name of a status and a sentence about it. */
