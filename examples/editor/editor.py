@@ -46,12 +46,15 @@ class Editor(Desk, Waiting, Actions):
     """The terminal with its windows. Keys come in by `take`, bytes of the host by `feed`, lines of its standard error by `hear`."""
 
     def __init__(
-        self, terminal: Terminal, clock: Callable[[], float] = time.monotonic, indents: bool = True, asked_for: Sequence[str] = ()
+        self, terminal: Terminal, clock: Callable[[], float] = time.monotonic, indents: bool = True,
+        asked_for: Optional[Sequence[str]] = (),
     ):
         super().__init__(Texts(terminal))
         self._begin_waiting()
         self.terminal, self.clock, self.indents = terminal, clock, indents
-        self.asked_for = {shown_name(path) for path in asked_for}  # the names that the files have whose paths the user gave
+        # The names that the files have whose paths the user gave; None where he goes on with a session.
+        self.asked_for = None if asked_for is None else {shown_name(path) for path in asked_for}
+        self._early_lines: List[str] = []  # of texts that were not written, told before their names
         self.way, self.notes = Way(terminal, clock), Notes(clock)
         self.vault = Vault(terminal, self.texts)
         self.log, self.numbers, self.keeping = Undo(terminal, self.texts, self.vault), Numbers(self.texts), Keeping(self)
@@ -137,6 +140,8 @@ class Editor(Desk, Waiting, Actions):
         """A line of the host's standard error. What it says of a text stays on the screen until it is read. Where `^W` was the last key,
         and it may replace another program's text, this asks; else the next `^W` does."""
         told = said(line)
+        if not self.has_begun and "failed" in told.what:
+            self._early_lines.append(line)  # the files that it is about have no names yet
         tags = self.keeping.hear_host(told, line)
         if told.what == "written":
             self.left.hear_written(told.names[0], told.when)
@@ -244,7 +249,11 @@ class Editor(Desk, Waiting, Actions):
             self.message = "no file: ^N makes one, F1 shows the keys"
         self.terminal.open_cmd()
         self.has_begun = True
-        if len(known) != len(self.asked_for) and any(self.name(tag) not in self.asked_for for tag in known):
+        for line in self._early_lines:
+            self.keeping.hear_host(said(line), line)
+        asked_for = self.asked_for
+        is_other = len(known) > 1 if asked_for is None else len(known) != len(asked_for) and any(self.name(tag) not in asked_for for tag in known)
+        if is_other:
             self.do_menu()  # of a folder the host has the files below it
 
     def update(self) -> None:

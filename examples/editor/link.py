@@ -24,7 +24,7 @@ def wait_for(wanted: Dict[int, int], seconds: Optional[float]) -> Dict[int, int]
 class Link:
     """A host's process. Nothing here waits, but for `wait_for_stream` and `close`."""
 
-    is_lasting, why = False, "the host is gone"
+    why = "the host is gone"  # where it is lost
 
     def __init__(self, command: List[str], own_session: bool = False):
         """In a session of its own a process has no screen, so that it can't ask there."""

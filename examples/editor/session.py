@@ -76,7 +76,7 @@ class Session:
         return True
 
     def _hear_early(self, line: str) -> None:
-        if said(line).what != "written" and not (self.link.is_lasting and line.startswith(USAGE)):
+        if said(line).what != "written" and not (isinstance(self.link, Staying) and line.startswith(USAGE)):
             say(line)
         self.editor.hear(line)
 
@@ -117,7 +117,7 @@ class Session:
             if self.editor.typed_ahead:
                 say(f"samterm: typed while the host was left, and put in nowhere: {self.editor.typed_ahead!r}")
             self.editor.deferred.clear()
-        elif not self.editor.is_lost and not self.ended_by and not self.link.is_lasting:
+        elif not self.editor.is_lost and not self.ended_by and not isinstance(self.link, Staying):
             say(f"samterm: the host has {self._seconds_to_end} seconds to save what it got; ^C doesn't wait for it")
 
     @property
@@ -172,7 +172,8 @@ class Session:
         with contextlib.suppress(KeyboardInterrupt):  # the user doesn't wait for the host any longer
             try:
                 signal.signal(signal.SIGINT, signal.default_int_handler)
-                self.link.ends = self.terminal.exited or self.editor.is_leaving
+                if isinstance(self.link, Staying):
+                    self.link.ends = self.terminal.exited or self.editor.is_leaving
                 return self.link.close(self._hear, self._take_last, self._seconds_to_end)
             finally:
                 signal.signal(signal.SIGINT, signal.SIG_IGN)  # one more is not to stop what is written here
@@ -228,7 +229,7 @@ def edit(wish: Wish) -> int:
 
 def _edit(wish: Wish, stays: bool) -> Optional[int]:
     """The same; None where the host knows of no session that stays."""
-    files = [] if wish.takes_over else wish.files
+    files = None if wish.takes_over else wish.files
     with Terminal() as terminal:
         editor = Editor(terminal, indents=wish.indents, asked_for=files)
         try:

@@ -49,8 +49,6 @@ Item = Union[bytes, str, Note]  # bytes of the stream, a line that the host tell
 class Staying:
     """The terminal's end. Nothing here waits, but for `wait_for_stream`, `connect_in_front` and `close`."""
 
-    is_lasting = True
-
     def __init__(self, command: List[str], begin: Callable[[str], List[str]], takes_over: bool = False, clock=time.monotonic):
         """The command runs samhost with words after it: those of `begin`, which is told the session's name, at first, and then those that
         join the session again."""

@@ -298,9 +298,10 @@ def check_leave_and_take(folder):
     expect((folder / "a.txt.sam-here").read_text() == "xyone\ntwo\n", "the text is not written here")
     (folder / "status").unlink()
     with Session(folder, take=name[1]) as session:
-        session.wait_for("one")
-        session.keys("Escape") if not session.goes_to("a.txt") else None
+        session.wait_for("it was not written before")
         wait_until(lambda: session.rows("a.txt")[:2] in (["xone", "two"], ["xyone", "two"]), lambda: f"it has {session.rows('a.txt')}")
+        expect(session.shows(">* a.txt"), "it is not marked as changed")
         session.keys("C-w")
         wait_until(lambda: path.read_text() in ("xone\ntwo\n", "xyone\ntwo\n"), "it is not written")
+        wait_until(lambda: session.shows(">  a.txt"), "it stays marked as changed")
         session.leave()
