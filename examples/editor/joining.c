@@ -69,13 +69,6 @@ const char *join_file(struct session *session, const char *path, uint16_t *tag, 
     return *tag != 0 ? NULL : add_joined(session, path, tag, is_short);
 }
 
-static bool is_folder(const char *path)
-{
-    struct stat status;
-
-    return stat(path, &status) == 0 && S_ISDIR(status.st_mode);
-}
-
 static bool open_file(struct session *session, const char *id, const char *path)
 {
     uint16_t tag;

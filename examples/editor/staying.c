@@ -385,6 +385,8 @@ int stay_and_serve(struct session *session)
         stay->ending = serve_line(session, &mask);
         if (stay->heir != NULL)
             return STATUS_OK;
+        for (size_t tag = 1, tags = count_tags(session); tag < tags; tag++)
+            note_closing(session, (uint16_t)tag);
         status = close_session(session, stay->ending);
     }
     note_copies(session);

@@ -6,7 +6,7 @@ import subprocess
 import time
 from pathlib import Path
 
-from checks import SECONDS, expect, times_longer
+from checks import SECONDS, expect, times_longer, wait_until
 from link_model import HELLO_BYTES, MARK, Link, LinkFault, read_whole
 
 from .support import SAMHOST, expect_equal
@@ -258,3 +258,4 @@ class Staying:
         self.terminal.exit()
         self.wait_for("ended 0")
         expect_equal(self.notes[-1], "ended 0", "the last note")
+        wait_until(lambda: not home_of(self.folder, self.name).exists(), "the session's folder stays")
