@@ -101,8 +101,8 @@ static int list_one(struct home *home, void *at)
     if (ask(home, "list", sizeof "list", answer, &socket) == 0 && sscanf(answer, "%lld %lld %d", &seconds, &alone_for, &unsaved) == 3) {
         spell_span(seconds, age);
         spell_span(alone_for, alone);
-        printf("%s  %s old, %s%s, %d not written  %s\n", home->name, age, alone_for < 0 ? "in use" : "alone for ", alone_for < 0 ? "" : alone,
-               unsaved, about);
+        printf("%s  %s old, %s%s, %d not written  %s\n", home->name, age, alone_for < 0 ? "in use" : "alone for ",
+               alone_for < 0 ? "" : alone, unsaved, about);
     } else if (has_journal(home)) {
         printf("%s  its samhost is gone, and another can begin from its journal  %s\n", home->name, about);
     }
@@ -180,7 +180,8 @@ static int find_newest(struct home *home, void *at)
         return 0;
     close(line);
     const struct timespec *begun = &status.st_mtim;
-    bool is_newer = begun->tv_sec > newest->begun.tv_sec || (begun->tv_sec == newest->begun.tv_sec && begun->tv_nsec > newest->begun.tv_nsec);
+    bool is_newer =
+        begun->tv_sec > newest->begun.tv_sec || (begun->tv_sec == newest->begun.tv_sec && begun->tv_nsec > newest->begun.tv_nsec);
     if (*newest->name == '\0' || is_newer) {
         memcpy(newest->name, home->name, sizeof newest->name);
         newest->begun = *begun;
@@ -192,7 +193,9 @@ static int find_newest(struct home *home, void *at)
 static char *spell_question(const char *path, const char *line, bool waits, size_t *len)
 {
     char *folder = *path == '/' ? formatted("") : getcwd(NULL, 0);
-    char *words = folder == NULL ? NULL : formatted("open%c%s%s%s%c%s%c%s", 0, folder, *path == '/' ? "" : "/", path, 0, line, 0, waits ? "wait" : "");
+    char *words = folder == NULL
+                      ? NULL
+                      : formatted("open%c%s%s%s%c%s%c%s", 0, folder, *path == '/' ? "" : "/", path, 0, line, 0, waits ? "wait" : "");
 
     *len = words == NULL ? 0 : strlen("open") + strlen(folder) + (*path != '/') + strlen(path) + strlen(line) + (waits ? 4 : 0) + 4;
     free(folder);

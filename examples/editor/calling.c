@@ -176,7 +176,7 @@ static bool is_question(const struct caller *caller)
     return caller->len >= QUESTION_MARK_LEN && memcmp(caller->bytes, QUESTION_MARK, QUESTION_MARK_LEN) == 0;
 }
 
-/* How many bytes of a question, or of a hello, are wanted in all: as far as what has come says. What stands behind a hello is the link's. */
+/* How many bytes of a question, or of a hello, are wanted in all, as far as what has come says. Behind a hello all is the link's. */
 static size_t wanted_len(const struct caller *caller)
 {
     const uint8_t *bytes = caller->bytes;

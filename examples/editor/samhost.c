@@ -29,10 +29,10 @@ enum {
     MOST_HOURS = 100000
 };
 
-#define USAGE \
-    "usage: samhost [--undo] [--times] [--] [FILE ..]\n" \
-    "       samhost --serve NAME [--undo] [--times] [--stay HOURS] [--] [FILE ..]\n" \
-    "       samhost --attach NAME | --take [NAME] | --end NAME | --list\n" \
+#define USAGE                                                                                                                              \
+    "usage: samhost [--undo] [--times] [--] [FILE ..]\n"                                                                                   \
+    "       samhost --serve NAME [--undo] [--times] [--stay HOURS] [--] [FILE ..]\n"                                                       \
+    "       samhost --attach NAME | --take [NAME] | --end NAME | --list\n"                                                                 \
     "       samhost --open [--wait] [--] FILE [+LINE]\n"
 
 size_t count_tags(struct session *session)
@@ -175,8 +175,7 @@ static int take_option(char **words, int left, enum verb *verb, struct options *
         *verb = TAKE;
         options->name = has_name ? next : NULL;
         return has_name ? 2 : 1;
-    }
-    else if (has_name && (*verb = verb_of(word)) != PLAIN) {
+    } else if (has_name && (*verb = verb_of(word)) != PLAIN) {
         options->name = next;
         return 2;
     } else

@@ -132,9 +132,9 @@ struct document {
     struct known *known;
     struct copy aside;
     struct copy_mark noted; /* the copy that the journal has */
-    bool is_unsaved;  /* the terminal believes it written, and it is not */
-    bool is_reported; /* it was said that its text can't be saved */
-    bool is_left;     /* it is what an earlier session saved aside, which goes where it is written empty */
+    bool is_unsaved;        /* the terminal believes it written, and it is not */
+    bool is_reported;       /* it was said that its text can't be saved */
+    bool is_left;           /* it is what an earlier session saved aside, which goes where it is written empty */
 };
 
 /* A text that could not be saved when its file was closed. */
@@ -195,9 +195,9 @@ struct marks {
 };
 
 enum {
-    NAME_DIGITS = 16,  /* digits of the name of a session that stays: the first half of its link's id */
-    MOST_CALLERS = 8,  /* connections without a hello */
-    MOST_WAITERS = 64, /* connections that wait until a file is closed */
+    NAME_DIGITS = 16,   /* digits of the name of a session that stays: the first half of its link's id */
+    MOST_CALLERS = 8,   /* connections without a hello */
+    MOST_WAITERS = 64,  /* connections that wait until a file is closed */
     CALLER_ROOM = 8192, /* bytes of what a connection asks for */
     MACHINE_ROOM = 256  /* bytes of the name of a machine, and the zero after it */
 };
@@ -279,7 +279,7 @@ struct record {
 };
 
 struct journal {
-    int file; /* -1 where there is none */
+    int file;         /* -1 where there is none */
     bool is_unsynced; /* something may not be on the disk */
     bool is_awaited;  /* that has to be there before anything more is sent */
 };
@@ -289,11 +289,11 @@ enum journal_kind { JOURNAL_UNKNOWN, JOURNAL_OTHER_LIBRARY, JOURNAL_SAME };
 /* Why a session can't be made again of its journal. */
 enum replay_fault {
     REPLAY_OK,
-    REPLAY_NOTHING,    /* it had not begun */
+    REPLAY_NOTHING, /* it had not begun */
     REPLAY_UNREADABLE,
-    REPLAY_OTHER,      /* the journal is of another version */
-    REPLAY_SHORT,      /* memory is out */
-    REPLAY_NO_FOLDER,  /* the folder in which it began is gone */
+    REPLAY_OTHER,     /* the journal is of another version */
+    REPLAY_SHORT,     /* memory is out */
+    REPLAY_NO_FOLDER, /* the folder in which it began is gone */
     REPLAY_DIFFERS
 };
 
@@ -320,7 +320,7 @@ struct stay {
     struct journal journal;
     struct replay *replay; /* NULL but while it is made again */
     enum ending ending;
-    struct session *heir; /* what another terminal has made of the session; else NULL */
+    struct session *heir;                 /* what another terminal has made of the session; else NULL */
     uint8_t note[SAM_LINK_MOST_NOTE + 1]; /* of the terminal, that is to be done, and a zero after it */
     size_t note_len;
     bool has_note;
@@ -694,7 +694,7 @@ void hear_caller(struct session *session, struct caller *caller);
 /* Before a file is closed: says to those who wait for it whether it was written. */
 void note_closing(struct session *session, uint16_t tag);
 
-/* Ends connections that have said too little for too long. Hands out in how many milliseconds the next one is due; -1 where there is none. */
+/* Ends connections that have said too little for too long. Returns in how many milliseconds the next one is due; -1 where there is none. */
 int64_t drop_callers(struct stay *stay);
 
 /* The newest connection is over. */

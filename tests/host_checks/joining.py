@@ -2,7 +2,7 @@
 import os
 import subprocess
 
-from checks import SECONDS, Skipped, expect, wait_until
+from checks import SECONDS, Skipped, expect
 
 from .journals import kill
 from .line import Staying
@@ -47,7 +47,8 @@ def check_join_of_a_known_file(folder):
     os.link(path, folder / "hard.txt")
     (folder / "soft.txt").symlink_to("a.txt")
     with Staying(folder, "a.txt", "new.txt", options=("--undo",)) as session:
-        for number, (name, tag) in enumerate((("a.txt", 1), ("./a.txt", 1), (str(path), 1), ("hard.txt", 1), ("soft.txt", 1), ("new.txt", 2))):
+        tags = {"a.txt": 1, "./a.txt": 1, str(path): 1, "hard.txt": 1, "soft.txt": 1, "new.txt": 2}
+        for number, (name, tag) in enumerate(tags.items()):
             expect_equal(asked(session, f"open {number} {name}"), f"opened {number} {tag}", f"the answer to {name}")
         session.rename("other.txt", 2)
         expect_equal(asked(session, "open 10 other.txt"), "opened 10 2", "the answer to its new name")
@@ -140,6 +141,11 @@ def check_join_in_the_journal(folder):
         session.leave()
 
 
+def waiting(session, *words):
+    """A process that has the newest session show a file, and waits until that is closed."""
+    return subprocess.Popen([SAMHOST, "--open", "--wait", *words], cwd=session.folder, env=session.environment, stderr=subprocess.DEVNULL)
+
+
 def check_join_wished(folder):
     """--open has the newest session show a file; with --wait it ends once that is closed, and its status says whether it was written."""
     made(folder, a="one\n")
@@ -148,24 +154,23 @@ def check_join_wished(folder):
         expect_equal((ended.returncode, ended.stderr), (0, ""), "what comes of --open")
         session.carry(lambda: "wish 1 12" in session.notes, "no wish comes")
         ended = session.run("--open", "nowhere/a.txt")
-        expect_equal((ended.returncode, ended.stderr), (1, "samhost: nowhere/a.txt: there is no such folder\n"), "what comes of a wrong one")
-        waiting = subprocess.Popen([SAMHOST, "--open", "--wait", "a.txt"], cwd=session.folder, env=session.environment, stderr=subprocess.PIPE)
+        wanted = (1, "samhost: nowhere/a.txt: there is no such folder\n")
+        expect_equal((ended.returncode, ended.stderr), wanted, "what comes of a wrong one")
+        process = waiting(session, "a.txt")
         session.carry(lambda: "wish 1 0" in session.notes, "no wish comes")
         session.type("two\n")
         session.write()
-        expect(waiting.poll() is None, "it doesn't wait")
+        expect(process.poll() is None, "it doesn't wait")
         session.terminal.close(1)
         session.settle()
-        expect_equal(waiting.wait(SECONDS), 0, "the status where it was written")
-        waiting.stderr.close()
+        expect_equal(process.wait(SECONDS), 0, "the status where it was written")
         session.leave()
     with Staying(folder, "a.txt") as session:
-        waiting = subprocess.Popen([SAMHOST, "--open", "--wait", "a.txt"], cwd=session.folder, env=session.environment, stderr=subprocess.PIPE)
+        process = waiting(session, "a.txt")
         session.carry(lambda: "wish 1 0" in session.notes, "no wish comes")
         session.type("three\n")
         session.leave()
-        expect_equal(waiting.wait(SECONDS), 5, "the status where it was not written")
-        waiting.stderr.close()
-        wait_until(lambda: session.run("--list").stdout == "", "it doesn't end")
+        expect_equal(process.wait(SECONDS), 5, "the status where it was not written")
         ended = session.run("--open", "a.txt")
-        expect_equal((ended.returncode, ended.stderr), (7, "samhost: there is no session in which a.txt can be shown\n"), "what comes where there is none")
+        wanted = (7, "samhost: there is no session in which a.txt can be shown\n")
+        expect_equal((ended.returncode, ended.stderr), wanted, "what comes where there is none")

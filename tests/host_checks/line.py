@@ -37,13 +37,14 @@ def is_running(pid):
 class Staying:
     """A terminal, and the line to its session: the relay that it runs now. A line that breaks is made anew."""
 
-    def __init__(self, folder, *files, options=(), begin=True, environment=None, takes=None):
+    def __init__(self, folder, *files, options=(), begin=True, takes=None):
         """With `takes` it takes over the session of that name, or the only one where it is empty."""
         import sulgrevad
 
         self.folder, self.id = folder, os.urandom(16)
         self.name = self.id[:8].hex()
-        self.environment = {**os.environ, "TMPDIR": str(folder / "temporary"), "XDG_STATE_HOME": str(folder / "temporary"), **(environment or {})}
+        place = str(folder / "temporary")
+        self.environment = {**os.environ, "TMPDIR": place, "XDG_STATE_HOME": place}
         self.link, self.terminal = Link(Link.TERMINAL, self.id), sulgrevad.Terminal()
         self.notes, self.errors, self.breaks, self.left = [], b"", 0, None
         self.process, self.others, self.takes_over = None, [], takes is not None
