@@ -275,6 +275,7 @@ void save_closing(struct session *session, uint16_t tag)
 {
     if (is_done_already(session, DOING_CLOSE, tag))
         return;
+    note_closing(session, tag);
     char *name = name_of(session, tag);
     const char *known = name == NULL ? "a file" : name;
     int error = save_for_good(session, tag, known);

@@ -1,4 +1,4 @@
-/* asking.c: lists the sessions that stay, and ends one. */
+/* asking.c: lists the sessions that stay, ends one, and has one show a file. */
 #define _GNU_SOURCE
 #include <errno.h>
 #include <fcntl.h>
@@ -49,8 +49,8 @@ void note_about(const struct session *session)
 
 /* ---- Asking ---- */
 
-/* Asks the samhost of a session, and hands out its answer, which ends in NUL. */
-static int ask(const struct home *home, const char *words, size_t len, char answer[ANSWER_ROOM])
+/* Asks the samhost of a session, and hands out the first line of its answer, which ends in NUL, and the connection, the caller's. */
+static int ask(const struct home *home, const char *words, size_t len, char answer[ANSWER_ROOM], int *socket)
 {
     uint8_t head[QUESTION_HEAD];
     size_t has = 0;
@@ -64,13 +64,13 @@ static int ask(const struct home *home, const char *words, size_t len, char answ
     head[QUESTION_HEAD - 1] = (uint8_t)len;
     if (send(line, head, sizeof head, MSG_NOSIGNAL) < 0 || send(line, words, len, MSG_NOSIGNAL) < 0)
         error = errno;
-    while (error == 0 && count > 0 && has < ANSWER_ROOM - 1) {
+    while (error == 0 && count > 0 && has < ANSWER_ROOM - 1 && (has == 0 || answer[has - 1] != '\n')) {
         struct pollfd end = {line, POLLIN, 0};
-        count = poll(&end, 1, LONGEST_ANSWER) > 0 ? read(line, answer + has, ANSWER_ROOM - 1 - has) : 0;
+        count = poll(&end, 1, LONGEST_ANSWER) > 0 ? read(line, answer + has, 1) : 0; /* what comes after the line is for later */
         has += count > 0 ? (size_t)count : 0;
     }
     answer[has] = '\0';
-    close(line);
+    *socket = line;
     return error == 0 && has == 0 ? ETIMEDOUT : error;
 }
 
@@ -91,21 +91,23 @@ static int list_one(struct home *home, void *at)
 {
     char answer[ANSWER_ROOM], about[ANSWER_ROOM] = "", age[SPAN_ROOM], alone[SPAN_ROOM];
     long long seconds, alone_for;
-    int unsaved, file = openat(home->folder, ABOUT, O_RDONLY | O_NOFOLLOW | O_CLOEXEC);
+    int unsaved, socket = -1, file = openat(home->folder, ABOUT, O_RDONLY | O_NOFOLLOW | O_CLOEXEC);
 
     (void)at;
     if (file >= 0) {
         (void)!read(file, about, sizeof about - 1);
         close(file);
     }
-    if (ask(home, "list", sizeof "list", answer) == 0 && sscanf(answer, "%lld %lld %d", &seconds, &alone_for, &unsaved) == 3) {
+    if (ask(home, "list", sizeof "list", answer, &socket) == 0 && sscanf(answer, "%lld %lld %d", &seconds, &alone_for, &unsaved) == 3) {
         spell_span(seconds, age);
         spell_span(alone_for, alone);
-        printf("%s  %s old, %s%s, %d not written  %s\n", home->name, age, alone_for < 0 ? "in use" : "alone for ", alone_for < 0 ? "" : alone,
-               unsaved, about);
+        printf("%s  %s old, %s%s, %d not written  %s\n", home->name, age, alone_for < 0 ? "in use" : "alone for ",
+               alone_for < 0 ? "" : alone, unsaved, about);
     } else if (has_journal(home)) {
         printf("%s  its samhost is gone, and another can begin from its journal  %s\n", home->name, about);
     }
+    if (socket >= 0)
+        close(socket);
     return 0;
 }
 
@@ -158,4 +160,89 @@ int end_session(const char *name)
         return STATUS_OK;
     say("session %s has not ended: %s", name, error == EWOULDBLOCK ? "its samhost still works" : cause(error));
     return STATUS_BROKEN;
+}
+
+/* ---- A file to be shown ---- */
+
+/* The session that began last, of those whose samhost answers. */
+struct newest {
+    char name[NAME_DIGITS + 1];
+    struct timespec begun;
+};
+
+static int find_newest(struct home *home, void *at)
+{
+    struct newest *newest = at;
+    struct stat status;
+    int line;
+
+    if (fstatat(home->folder, ABOUT, &status, AT_SYMLINK_NOFOLLOW) != 0 || connect_home(home, &line) != 0)
+        return 0;
+    close(line);
+    const struct timespec *begun = &status.st_mtim;
+    bool is_newer =
+        begun->tv_sec > newest->begun.tv_sec || (begun->tv_sec == newest->begun.tv_sec && begun->tv_nsec > newest->begun.tv_nsec);
+    if (*newest->name == '\0' || is_newer) {
+        memcpy(newest->name, home->name, sizeof newest->name);
+        newest->begun = *begun;
+    }
+    return 0;
+}
+
+/* The words of the question, in memory of the caller's: the path is a whole one, since samhost runs elsewhere. */
+static char *spell_question(const char *path, const char *line, bool waits, size_t *len)
+{
+    char *folder = *path == '/' ? formatted("") : getcwd(NULL, 0);
+    char *words = folder == NULL
+                      ? NULL
+                      : formatted("open%c%s%s%s%c%s%c%s", 0, folder, *path == '/' ? "" : "/", path, 0, line, 0, waits ? "wait" : "");
+
+    *len = words == NULL ? 0 : strlen("open") + strlen(folder) + (*path != '/') + strlen(path) + strlen(line) + (waits ? 4 : 0) + 4;
+    free(folder);
+    return words;
+}
+
+/* Waits for the last line of an answer. */
+static int await_close(int line)
+{
+    char answer[ANSWER_ROOM];
+    size_t has = 0;
+    ssize_t count;
+
+    do {
+        count = read(line, answer + has, sizeof answer - 1 - has);
+        has += count > 0 ? (size_t)count : 0;
+    } while (count > 0 || (count < 0 && errno == EINTR));
+    answer[has] = '\0';
+    return strstr(answer, "written\n") != NULL ? STATUS_OK : STATUS_LOST;
+}
+
+int open_in_session(const char *path, const char *line, bool waits)
+{
+    struct newest newest = {0};
+    struct home home;
+    char answer[ANSWER_ROOM];
+    size_t len;
+    int socket = -1, error = each_home(find_newest, &newest);
+
+    if (error == 0 && *newest.name == '\0') {
+        say("there is no session in which %s can be shown", path);
+        return STATUS_NO_SESSION;
+    }
+    char *words = spell_question(path, line, waits, &len);
+    if (error == 0)
+        error = words == NULL ? ENOMEM : open_home(newest.name, false, &home);
+    if (error == 0) {
+        error = ask(&home, words, len, answer, &socket);
+        close_home(&home);
+    }
+    free(words);
+    if (error == 0 && strncmp(answer, "refused ", 8) == 0)
+        say("%s: %.*s", path, (int)strcspn(answer + 8, "\n"), answer + 8);
+    else if (error != 0)
+        say("%s: %s", path, cause(error));
+    int status = error != 0 || strncmp(answer, "opened", 6) != 0 ? STATUS_UNREADABLE : !waits ? STATUS_OK : await_close(socket);
+    if (socket >= 0)
+        close(socket);
+    return status;
 }

@@ -176,7 +176,7 @@ static bool is_question(const struct caller *caller)
     return caller->len >= QUESTION_MARK_LEN && memcmp(caller->bytes, QUESTION_MARK, QUESTION_MARK_LEN) == 0;
 }
 
-/* How many bytes of a question, or of a hello, are wanted in all: as far as what has come says. What stands behind a hello is the link's. */
+/* How many bytes of a question, or of a hello, are wanted in all, as far as what has come says. Behind a hello all is the link's. */
 static size_t wanted_len(const struct caller *caller)
 {
     const uint8_t *bytes = caller->bytes;
@@ -184,6 +184,12 @@ static size_t wanted_len(const struct caller *caller)
     if (!is_question(caller))
         return caller->len < QUESTION_MARK_LEN ? QUESTION_MARK_LEN : SAM_LINK_HELLO_BYTES;
     return caller->len < QUESTION_HEAD ? QUESTION_HEAD : QUESTION_HEAD + ((size_t)bytes[QUESTION_HEAD - 2] << 8 | bytes[QUESTION_HEAD - 1]);
+}
+
+/* Says one line to who has asked. */
+static void answer_line(int socket, const char *line)
+{
+    (void)send(socket, line, strlen(line), MSG_NOSIGNAL | MSG_DONTWAIT); /* where it doesn't go, nobody is there */
 }
 
 static int count_unsaved(struct session *session)
@@ -205,17 +211,64 @@ static void answer_list(struct session *session, const struct caller *caller)
     struct stay *stay = session->stay;
     int64_t time = now(), alone = stay->line >= 0 ? -1 : (time - stay->alone_since) / 1000;
     char line[ANSWER_ROOM];
-    int len = snprintf(line, sizeof line, "%lld %lld %d\n", (long long)(time - stay->begun) / 1000, (long long)alone, count_unsaved(session));
 
-    (void)send(caller->socket, line, (size_t)len, MSG_NOSIGNAL | MSG_DONTWAIT); /* where it doesn't go, nobody is there */
+    snprintf(line, sizeof line, "%lld %lld %d\n", (long long)(time - stay->begun) / 1000, (long long)alone, count_unsaved(session));
+    answer_line(caller->socket, line);
 }
 
+/* Has the terminal show a file: a path, a line, and whether who asks waits until it is closed. Where memory is out nothing has changed. */
+static void answer_open(struct session *session, struct caller *caller, const char *path, const char *line, bool waits)
+{
+    struct stay *stay = session->stay;
+    uint16_t tag = 0;
+    bool is_short = session->wire.is_short || stay->has_note;
+    char answer[ANSWER_ROOM];
+    const char *why = is_short ? cause(ENOMEM) : is_folder(path) ? cause(EISDIR) : join_file(session, path, &tag, &is_short);
+
+    if (why == NULL && !say_note(session, "wish %u %s", (unsigned)tag, *line == '\0' ? "0" : line))
+        why = cause(ENOMEM);
+    snprintf(answer, sizeof answer, why == NULL ? "opened\n" : "refused %s\n", why);
+    answer_line(caller->socket, answer);
+    for (int at = 0; why == NULL && waits && at < MOST_WAITERS; at++) {
+        if (stay->waiters[at].socket < 0) {
+            stay->waiters[at] = (struct waiter){.socket = caller->socket, .tag = tag};
+            caller->socket = -1;
+            return;
+        }
+    }
+}
+
+void note_closing(struct session *session, uint16_t tag)
+{
+    bool is_dirty = true;
+
+    if (session->stay == NULL)
+        return;
+    bool is_written = sam_host_is_dirty(&session->host, tag, &is_dirty) == SAM_OK && !is_dirty && !session->documents[tag].is_unsaved;
+    for (int at = 0; at < MOST_WAITERS; at++) {
+        struct waiter *waiter = &session->stay->waiters[at];
+        if (waiter->socket < 0 || waiter->tag != tag)
+            continue;
+        answer_line(waiter->socket, is_written ? "written\n" : "closed\n");
+        close(waiter->socket);
+        waiter->socket = -1;
+    }
+}
+
+/* Takes a question that is whole: up to four words. */
 static void take_question(struct session *session, struct caller *caller)
 {
-    const char *words = (const char *)caller->bytes + QUESTION_HEAD;
+    const char *words[4] = {"", "", "", ""};
+    const char *at = (const char *)caller->bytes + QUESTION_HEAD, *end = (const char *)caller->bytes + caller->len;
 
-    if (caller->bytes[caller->len - 1] == '\0' && strcmp(words, "list") == 0)
+    if (end[-1] == '\0') {
+        for (int word = 0; word < 4 && at < end; word++, at += strlen(at) + 1)
+            words[word] = at;
+    }
+    if (strcmp(words[0], "list") == 0)
         answer_list(session, caller);
+    else if (strcmp(words[0], "open") == 0)
+        answer_open(session, caller, words[1], words[2], *words[3] != '\0');
     drop_caller(caller);
 }
 

@@ -28,7 +28,8 @@ static uint16_t find_file(struct session *session, const struct identity *wanted
         struct identity identity = {0};
         bool has = false;
         int error;
-        if (tag == session->vault || session->documents[tag].is_left || sam_host_has_file(&session->host, (uint16_t)tag, &has) != SAM_OK || !has)
+        if (tag == session->vault || session->documents[tag].is_left || sam_host_has_file(&session->host, (uint16_t)tag, &has) != SAM_OK ||
+            !has)
             continue;
         char *path = path_of(session, (uint16_t)tag, &error);
         if (path != NULL && identify(path, &identity) == 0 && is_one_file(&identity, wanted))
@@ -67,13 +68,6 @@ const char *join_file(struct session *session, const char *path, uint16_t *tag, 
     *tag = find_file(session, &identity);
     free(identity.name);
     return *tag != 0 ? NULL : add_joined(session, path, tag, is_short);
-}
-
-static bool is_folder(const char *path)
-{
-    struct stat status;
-
-    return stat(path, &status) == 0 && S_ISDIR(status.st_mode);
 }
 
 static bool open_file(struct session *session, const char *id, const char *path)

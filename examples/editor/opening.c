@@ -149,7 +149,7 @@ static int refuse_twice(char **paths, struct identity *identities, int count)
     return STATUS_OK;
 }
 
-static bool is_folder(const char *path)
+bool is_folder(const char *path)
 {
     struct stat status;
 

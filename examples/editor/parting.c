@@ -49,6 +49,8 @@ struct session *make_staying(const struct home *home, int64_t longest_alone)
     stay->longest_alone = longest_alone;
     for (int at = 0; at < MOST_CALLERS; at++)
         stay->callers[at].socket = -1;
+    for (int at = 0; at < MOST_WAITERS; at++)
+        stay->waiters[at].socket = -1;
     session->stay = stay;
     return session;
 }
@@ -65,6 +67,14 @@ void free_staying(struct session *session)
     }
     if (stay->journal.file >= 0)
         close(stay->journal.file);
+    for (int at = 0; at < MOST_CALLERS; at++) {
+        if (stay->callers[at].socket >= 0)
+            close(stay->callers[at].socket);
+    }
+    for (int at = 0; at < MOST_WAITERS; at++) {
+        if (stay->waiters[at].socket >= 0)
+            close(stay->waiters[at].socket);
+    }
     if (stay->listener >= 0)
         close(stay->listener);
     close_home(&stay->home);

@@ -29,10 +29,11 @@ enum {
     MOST_HOURS = 100000
 };
 
-#define USAGE \
-    "usage: samhost [--undo] [--times] [--] [FILE ..]\n" \
-    "       samhost --serve NAME [--undo] [--times] [--stay HOURS] [--] [FILE ..]\n" \
-    "       samhost --attach NAME | --take [NAME] | --end NAME | --list\n"
+#define USAGE                                                                                                                              \
+    "usage: samhost [--undo] [--times] [--] [FILE ..]\n"                                                                                   \
+    "       samhost --serve NAME [--undo] [--times] [--stay HOURS] [--] [FILE ..]\n"                                                       \
+    "       samhost --attach NAME | --take [NAME] | --end NAME | --list\n"                                                                 \
+    "       samhost --open [--wait] [--] FILE [+LINE]\n"
 
 size_t count_tags(struct session *session)
 {
@@ -131,7 +132,7 @@ static int serve_files(char **paths, int count, const struct options *options)
 
 /* ---- Words ---- */
 
-enum verb { PLAIN, SERVE, ATTACH, LIST, END, TAKE };
+enum verb { PLAIN, SERVE, ATTACH, LIST, END, TAKE, OPEN };
 
 /* The milliseconds of hours in words; -1 where that is no number of hours. */
 static int64_t hours_of(const char *word)
@@ -166,12 +167,15 @@ static int take_option(char **words, int left, enum verb *verb, struct options *
         return (options->longest_alone = hours_of(next)) < 0 ? 0 : 2;
     else if (strcmp(word, "--list") == 0 && *verb == PLAIN)
         *verb = LIST;
+    else if (strcmp(word, "--open") == 0 && *verb == PLAIN)
+        *verb = OPEN;
+    else if (strcmp(word, "--wait") == 0 && *verb == OPEN)
+        options->waits = true;
     else if (strcmp(word, "--take") == 0 && *verb == PLAIN) {
         *verb = TAKE;
         options->name = has_name ? next : NULL;
         return has_name ? 2 : 1;
-    }
-    else if (has_name && (*verb = verb_of(word)) != PLAIN) {
+    } else if (has_name && (*verb = verb_of(word)) != PLAIN) {
         options->name = next;
         return 2;
     } else
@@ -200,13 +204,17 @@ int main(int count, char **words)
     enum verb verb = PLAIN;
     int first = take_options(count, words, &verb, &options);
 
-    if (first < 0 || (verb > SERVE && first < count)) {
+    int last = count - 1;
+    bool has_line = verb == OPEN && last > first && words[last][0] == '+';
+    if (first < 0 || (verb == OPEN ? first + has_line != last : verb > SERVE && first < count)) {
         fputs(USAGE, stderr);
         return STATUS_WORDS;
     }
     switch (verb) {
     case ATTACH:
         return attach(options.name);
+    case OPEN:
+        return open_in_session(words[first], has_line ? words[last] + 1 : "", options.waits);
     case TAKE:
         return take(options.name);
     case LIST:

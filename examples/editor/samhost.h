@@ -132,9 +132,9 @@ struct document {
     struct known *known;
     struct copy aside;
     struct copy_mark noted; /* the copy that the journal has */
-    bool is_unsaved;  /* the terminal believes it written, and it is not */
-    bool is_reported; /* it was said that its text can't be saved */
-    bool is_left;     /* it is what an earlier session saved aside, which goes where it is written empty */
+    bool is_unsaved;        /* the terminal believes it written, and it is not */
+    bool is_reported;       /* it was said that its text can't be saved */
+    bool is_left;           /* it is what an earlier session saved aside, which goes where it is written empty */
 };
 
 /* A text that could not be saved when its file was closed. */
@@ -195,8 +195,9 @@ struct marks {
 };
 
 enum {
-    NAME_DIGITS = 16,  /* digits of the name of a session that stays: the first half of its link's id */
-    MOST_CALLERS = 8,  /* connections without a hello */
+    NAME_DIGITS = 16,   /* digits of the name of a session that stays: the first half of its link's id */
+    MOST_CALLERS = 8,   /* connections without a hello */
+    MOST_WAITERS = 64,  /* connections that wait until a file is closed */
     CALLER_ROOM = 8192, /* bytes of what a connection asks for */
     MACHINE_ROOM = 256  /* bytes of the name of a machine, and the zero after it */
 };
@@ -224,6 +225,12 @@ struct caller {
     int64_t since;
     size_t len;
     uint8_t bytes[CALLER_ROOM];
+};
+
+/* Who waits until a file is closed. */
+struct waiter {
+    int socket; /* -1 where nobody does */
+    uint16_t tag;
 };
 
 /* Bytes between a connection and the link. */
@@ -272,7 +279,7 @@ struct record {
 };
 
 struct journal {
-    int file; /* -1 where there is none */
+    int file;         /* -1 where there is none */
     bool is_unsynced; /* something may not be on the disk */
     bool is_awaited;  /* that has to be there before anything more is sent */
 };
@@ -282,11 +289,11 @@ enum journal_kind { JOURNAL_UNKNOWN, JOURNAL_OTHER_LIBRARY, JOURNAL_SAME };
 /* Why a session can't be made again of its journal. */
 enum replay_fault {
     REPLAY_OK,
-    REPLAY_NOTHING,    /* it had not begun */
+    REPLAY_NOTHING, /* it had not begun */
     REPLAY_UNREADABLE,
-    REPLAY_OTHER,      /* the journal is of another version */
-    REPLAY_SHORT,      /* memory is out */
-    REPLAY_NO_FOLDER,  /* the folder in which it began is gone */
+    REPLAY_OTHER,     /* the journal is of another version */
+    REPLAY_SHORT,     /* memory is out */
+    REPLAY_NO_FOLDER, /* the folder in which it began is gone */
     REPLAY_DIFFERS
 };
 
@@ -304,6 +311,7 @@ struct stay {
     uint8_t id[SAM_LINK_ID_BYTES];
     int listener;
     struct caller callers[MOST_CALLERS];
+    struct waiter waiters[MOST_WAITERS];
     int line; /* the newest connection; -1 where it is over */
     uint64_t attempt;
     struct piece in, out;
@@ -312,7 +320,7 @@ struct stay {
     struct journal journal;
     struct replay *replay; /* NULL but while it is made again */
     enum ending ending;
-    struct session *heir; /* what another terminal has made of the session; else NULL */
+    struct session *heir;                 /* what another terminal has made of the session; else NULL */
     uint8_t note[SAM_LINK_MOST_NOTE + 1]; /* of the terminal, that is to be done, and a zero after it */
     size_t note_len;
     bool has_note;
@@ -340,6 +348,7 @@ struct options {
     bool has_vault, tells_times;
     int64_t longest_alone; /* milliseconds that a session stays alone */
     const char *name;      /* of a session that stays */
+    bool waits;            /* until a file is closed */
 };
 
 /* A text that is to stand in a file. */
@@ -396,6 +405,7 @@ struct identity {
     char *name; /* the caller's */
 };
 
+bool is_folder(const char *path);
 int identify(const char *path, struct identity *identity);
 bool is_one_file(const struct identity *one, const struct identity *other);
 
@@ -637,6 +647,10 @@ int refuse_hello(void);
 int list_sessions(void);
 int end_session(const char *name);
 
+/* Has the terminal of the newest session show a file, at a line where one is named. Waits until the file is closed where `waits` says so:
+ * then the exit status is 0 only if it was written. */
+int open_in_session(const char *path, const char *line, bool waits);
+
 /* Writes into the folder of a session what the list says of it. */
 void note_about(const struct session *session);
 
@@ -677,7 +691,10 @@ void accept_callers(struct stay *stay);
 /* Reads what a connection without a hello says, and does it. */
 void hear_caller(struct session *session, struct caller *caller);
 
-/* Ends connections that have said too little for too long. Hands out in how many milliseconds the next one is due; -1 where there is none. */
+/* Before a file is closed: says to those who wait for it whether it was written. */
+void note_closing(struct session *session, uint16_t tag);
+
+/* Ends connections that have said too little for too long. Returns in how many milliseconds the next one is due; -1 where there is none. */
 int64_t drop_callers(struct stay *stay);
 
 /* The newest connection is over. */

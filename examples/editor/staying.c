@@ -17,9 +17,9 @@
 #include "samhost.h"
 
 enum {
-    LONGEST_END = 60000, /* milliseconds that the last note is kept for a terminal that has left */
-    SIGNAL_END = 5000,   /* milliseconds that it is where a signal ends the session, and a terminal is there */
-    PAUSE = 100,         /* milliseconds until memory is asked for again */
+    LONGEST_END = 60000,   /* milliseconds that the last note is kept for a terminal that has left */
+    SIGNAL_END = 5000,     /* milliseconds that it is where a signal ends the session, and a terminal is there */
+    PAUSE = 100,           /* milliseconds until memory is asked for again */
     MOST_PIECES_LEFT = 64, /* pieces of input that are still taken after a signal */
 };
 
@@ -344,8 +344,8 @@ static enum ending serve_line(struct session *session, const sigset_t *mask)
     return ending == GOES_ON ? INPUT_ENDED : ending;
 }
 
-/* Puts the last note, and keeps it until the terminal has acknowledged it; for a while where that has left, and for a moment where it may not
- * know. */
+/* Puts the last note, and keeps it until the terminal has acknowledged it: for a while where that has left, and for a moment where it may
+ * not know. */
 static void say_the_end(struct session *session, const sigset_t *mask, int status, bool has_left)
 {
     struct stay *stay = session->stay;
@@ -385,6 +385,8 @@ int stay_and_serve(struct session *session)
         stay->ending = serve_line(session, &mask);
         if (stay->heir != NULL)
             return STATUS_OK;
+        for (size_t tag = 1, tags = count_tags(session); tag < tags; tag++)
+            note_closing(session, (uint16_t)tag);
         status = close_session(session, stay->ending);
     }
     note_copies(session);

@@ -1,8 +1,8 @@
 /* taking.c: another terminal takes a session over.
  *
- * It gets a new host with the names and texts of the old one, and a link of its own; so the session is named anew, too. What was not written
- * stays so. Undo, dots, the command window and what the host has cut are the old terminal's: what was cut last is saved aside. All memory
- * is taken before anything changes.
+ * It gets a new host with the names and texts of the old one, and a link of its own, so the session is named anew, too. What was not
+ * written stays so. Undo, dots, the command window and what the host has cut are the old terminal's: what was cut last is saved aside. All
+ * memory is taken before anything changes.
  */
 #define _GNU_SOURCE
 #include <errno.h>
@@ -21,7 +21,8 @@ static bool is_handed_on(struct session *session, size_t tag)
 {
     bool has = false;
 
-    return tag != session->vault && !session->documents[tag].is_left && sam_host_has_file(&session->host, (uint16_t)tag, &has) == SAM_OK && has;
+    return tag != session->vault && !session->documents[tag].is_left && sam_host_has_file(&session->host, (uint16_t)tag, &has) == SAM_OK &&
+           has;
 }
 
 /* Gives the new host the names and texts of the old one, in their order. Returns whether there is memory for them. */
@@ -35,7 +36,8 @@ static bool copy_files(struct session *session, struct session *heir)
     for (size_t old = 1; old < tags; old++) {
         if (!is_handed_on(session, old))
             continue;
-        if (take_text(session, (uint16_t)old) != 0 || sam_host_name(&session->host, (uint16_t)old, (uint8_t *)name, NAME_ROOM, &len) != SAM_OK)
+        if (take_text(session, (uint16_t)old) != 0 ||
+            sam_host_name(&session->host, (uint16_t)old, (uint8_t *)name, NAME_ROOM, &len) != SAM_OK)
             return false;
         if (sam_host_add_file(&heir->host, (const uint8_t *)name, len, session->text.bytes, session->text.len, &tag) != SAM_OK)
             return false;

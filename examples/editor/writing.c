@@ -12,9 +12,9 @@
 
 #include "samhost.h"
 
-#define NO_NAME EDOM      /* the error number of a file that has no name yet, or one that no file can have */
+#define NO_NAME EDOM           /* the error number of a file that has no name yet, or one that no file can have */
 #define NOT_WRITTEN EOWNERDEAD /* the error number of a file that an earlier terminal has changed */
-#define IS_THERE EALREADY /* the error number of a file that is there, and that nobody has asked for */
+#define IS_THERE EALREADY      /* the error number of a file that is there, and that nobody has asked for */
 
 const char *cause(int error)
 {

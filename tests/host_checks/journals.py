@@ -247,7 +247,6 @@ def check_journal_where_a_write_was_not_noted(folder):
                 session.settle()
                 if is_running(pid):
                     tracer.kill()
-            expect(not session.terminal.is_dirty(1) or True, "")
             expect_equal(text_of(path), "one\ntwo\n", f"{call}: the file")
             session.write()
             expect_equal(text_of(path), "one\ntwo\nthree\n", f"{call}: the file at the end")

@@ -6,7 +6,7 @@ import subprocess
 import time
 from pathlib import Path
 
-from checks import SECONDS, expect, times_longer
+from checks import SECONDS, expect, times_longer, wait_until
 from link_model import HELLO_BYTES, MARK, Link, LinkFault, read_whole
 
 from .support import SAMHOST, expect_equal
@@ -37,13 +37,14 @@ def is_running(pid):
 class Staying:
     """A terminal, and the line to its session: the relay that it runs now. A line that breaks is made anew."""
 
-    def __init__(self, folder, *files, options=(), begin=True, environment=None, takes=None):
+    def __init__(self, folder, *files, options=(), begin=True, takes=None):
         """With `takes` it takes over the session of that name, or the only one where it is empty."""
         import sulgrevad
 
         self.folder, self.id = folder, os.urandom(16)
         self.name = self.id[:8].hex()
-        self.environment = {**os.environ, "TMPDIR": str(folder / "temporary"), "XDG_STATE_HOME": str(folder / "temporary"), **(environment or {})}
+        place = str(folder / "temporary")
+        self.environment = {**os.environ, "TMPDIR": place, "XDG_STATE_HOME": place}
         self.link, self.terminal = Link(Link.TERMINAL, self.id), sulgrevad.Terminal()
         self.notes, self.errors, self.breaks, self.left = [], b"", 0, None
         self.process, self.others, self.takes_over = None, [], takes is not None
@@ -258,3 +259,4 @@ class Staying:
         self.terminal.exit()
         self.wait_for("ended 0")
         expect_equal(self.notes[-1], "ended 0", "the last note")
+        wait_until(lambda: not home_of(self.folder, self.name).exists(), "the session's folder stays")

@@ -1,7 +1,6 @@
 """A session that stays when its line breaks: what its terminal meets, and what is left of it where. The journal has checks of its own."""
 import os
 import random
-import shutil
 import signal
 import socket
 import subprocess
@@ -10,11 +9,11 @@ import time
 from contextlib import closing
 from pathlib import Path
 
-from checks import SECONDS, Failed, Skipped, expect, wait_until
-from link_model import HELLO_BYTES, Link, Read, Status, What, read_whole, spelled
+from checks import SECONDS, Skipped, expect, wait_until
+from link_model import HELLO_BYTES, Read, What, read_whole, spelled
 
 from .line import Staying, home_of, is_running, pid_of, state_of
-from .support import IS_ROOT, LATE, NOBODY, SAMHOST, expect_equal, expect_line, made, names_in, text_of
+from .support import IS_ROOT, LATE, NOBODY, SAMHOST, expect_equal, made, names_in, text_of
 
 OWN = "0123456789abcdef"
 
@@ -55,14 +54,21 @@ def check_stays_says_what_was_left(folder):
         session.leave()
 
 
+def ran(folder, *words, environment=None):
+    """What comes of a samhost whose standard input is empty."""
+    env = {**os.environ, **(environment or {})}
+    ended = subprocess.run([SAMHOST, *words], cwd=folder, capture_output=True, timeout=SECONDS, stdin=subprocess.DEVNULL, env=env)
+    return ended.returncode, ended.stdout, ended.stderr.decode()
+
+
 def check_stays_not_at_errors(folder):
     """What is wrong with the files is said where samhost was called, with the same words and status, and nothing is begun."""
     made(folder, a="one\n")
     (folder / "b.txt").write_bytes(b"\xff")
     for words in (["b.txt"], ["a.txt", "a.txt"], ["a.txt", "b.txt"]):
-        plain = subprocess.run([SAMHOST, *words], cwd=folder, capture_output=True, timeout=SECONDS, stdin=subprocess.DEVNULL)
-        ended = subprocess.run([SAMHOST, "--serve", OWN, *words], cwd=folder, capture_output=True, timeout=SECONDS, stdin=subprocess.DEVNULL)
-        expect_equal((ended.returncode, ended.stderr, ended.stdout), (plain.returncode, plain.stderr, b""), f"what comes of {words}")
+        wanted = ran(folder, *words)
+        expect_equal(wanted[0], 1, f"the status of the plain one with {words}")
+        expect_equal(ran(folder, "--serve", OWN, *words), wanted, f"what comes of {words}")
     home = Path(os.environ["HOME"]) / ".local" / "state" / "sulgrevad"
     expect_equal(names_in(home) if home.exists() else [], [], "what is left in the folder of sessions")
 
@@ -71,9 +77,9 @@ def check_stays_words(folder):
     """Wrong words are answered by the usage, before any byte."""
     for words in (["--serve"], ["--serve", "xyz"], ["--serve", OWN.upper()], ["--attach", OWN, "a"], ["--list", "a"], ["--stay", "x"],
                   ["--stay", "-1"], ["--end"], ["--attach", OWN, "--serve", OWN]):  # fmt: skip
-        ended = subprocess.run([SAMHOST, *words], cwd=folder, capture_output=True, timeout=SECONDS, stdin=subprocess.DEVNULL)
-        expect_equal((ended.returncode, ended.stdout), (2, b""), f"what comes of {words}")
-        expect(ended.stderr.startswith(b"usage: samhost"), f"no usage of {words}: {ended.stderr}")
+        status, output, errors = ran(folder, *words)
+        expect_equal((status, output), (2, b""), f"what comes of {words}")
+        expect(errors.startswith("usage: samhost"), f"no usage of {words}: {errors}")
 
 
 def check_stays_through_breaks(folder):
@@ -214,13 +220,12 @@ def check_stays_in_a_true_folder(folder):
     elsewhere = folder / "temporary" / "elsewhere"
     elsewhere.mkdir(mode=0o700)
     home = home_of(folder, OWN)
-    environment = {**os.environ, "XDG_STATE_HOME": str(folder / "temporary")}
+    environment = {"XDG_STATE_HOME": str(folder / "temporary")}
+    wanted = (1, b"", f"samhost: the folder of session {OWN} is not yours alone\n")
 
     def expect_refused(what):
         for words in (["--serve", OWN, "a.txt"], ["--attach", OWN]):
-            ended = subprocess.run([SAMHOST, *words], cwd=folder, capture_output=True, timeout=SECONDS, stdin=subprocess.DEVNULL, env=environment)
-            expect_equal((ended.returncode, ended.stdout), (1, b""), f"{what}: what comes of {words}")
-            expect_equal(ended.stderr, f"samhost: the folder of session {OWN} is not yours alone\n".encode(), f"{what}: what it says of {words}")
+            expect_equal(ran(folder, *words, environment=environment), wanted, f"{what}: what comes of {words}")
 
     home.symlink_to(elsewhere)
     expect_refused("a symbolic link")
@@ -254,8 +259,8 @@ def check_stays_for_nobody_else(folder):
             place.chmod(0o777)
         (home / "socket").chmod(0o666)
         code = (
-            f"import os, socket; os.setgid({NOBODY}); os.setuid({NOBODY}); it = socket.socket(socket.AF_UNIX); it.connect({str(home / 'socket')!r});"
-            "it.settimeout(8); print(it.recv(1))"
+            f"import os, socket; os.setgid({NOBODY}); os.setuid({NOBODY}); it = socket.socket(socket.AF_UNIX); it.settimeout(8);"
+            f"it.connect({str(home / 'socket')!r}); print(it.recv(1))"
         )
         ended = subprocess.run([sys.executable, "-c", code], capture_output=True, text=True, timeout=SECONDS)
         expect(ended.stdout == "b''\n" or "ConnectionResetError" in ended.stderr, f"another user is heard: {ended}")

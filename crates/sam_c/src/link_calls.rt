@@ -276,7 +276,12 @@ pub extern "C" fn sam_link_take_out(
 /// Takes the next piece of the other side's stream on a connection, all of it or nothing. Errors: `SAM_NO_HANDLE`; then those of
 /// [`Link::feed`], in its order.
 #[unsafe(no_mangle)]
-pub extern "C" fn sam_link_feed(link: &mut SamLink, attempt: u64, bytes: &[u8], alloc: Global) -> u32
+pub extern "C" fn sam_link_feed(
+    link: &mut SamLink,
+    attempt: u64,
+    bytes: &[u8],
+    alloc: Global,
+) -> u32
     ensures { LinkFed link.old.held.end attempt bytes.now result link.new.held.end }
 {
     with_end!(link alloc mut end { feed_status(end.feed(attempt, bytes)) })
