@@ -305,3 +305,83 @@ def check_leave_and_take(folder):
         wait_until(lambda: path.read_text() in ("xone\ntwo\n", "xyone\ntwo\n"), "it is not written")
         wait_until(lambda: session.shows(">  a.txt"), "it stays marked as changed")
         session.leave()
+
+
+# ---- Files that join
+
+
+def open_path(session, path, shown=None):
+    """Opens a path by the menu of files, once an entry shows."""
+    session.keys("F2")
+    session.wait_for("Files; a path opens another")
+    session.type(path)
+    session.wait_for(f"+ {shown or path}")
+    session.keys("Enter")
+
+
+def check_open_by_path(folder):
+    """The menu of files opens what is beside the host: by its path, by a part of it, in a folder, one that isn't there as new, and one that
+    is open already by its window. What was typed for a path that can't be opened goes into no other file."""
+    path, other = made(folder, a="one\n", bee="bee\n")
+    (folder / "sub").mkdir()
+    (folder / "sub" / "deep.txt").write_text("deep\n")
+    with Session(folder, "a.txt", stays=True, slow=20, width=120) as session:
+        session.wait_for("one")
+        session.wait_for_quiet()
+        open_path(session, "be", "bee.txt")
+        session.wait_to_go_to("bee.txt")
+        wait_until(lambda: session.rows("bee.txt")[:1] == ["bee"], "it is not shown")
+        session.type("x")
+        session.keys("C-w")
+        wait_for_text(other, "xbee\n")
+        open_path(session, "su", "sub/")
+        session.wait_for("+ sub/deep.txt")
+        session.keys("Enter")
+        session.wait_to_go_to("sub/deep.txt")
+        open_path(session, "new.txt", "new.txt  (a new file)")
+        session.type("hi")
+        session.wait_to_go_to("new.txt")
+        session.wait_for("hi")
+        session.keys("C-w")
+        wait_for_text(folder / "new.txt", "hi")
+        open_path(session, "./bee.txt")
+        session.wait_to_go_to("bee.txt")
+        session.wait_for_quiet()
+        session.keys("F2")
+        session.wait_for("Files; a path")
+        names = [line.strip() for line in session.screen() if line.startswith("    ") and ".txt" in line]
+        expect(sorted(names) == ["a.txt", "bee.txt", "new.txt", "sub/deep.txt"], f"the menu has {names}")
+        session.keys("Escape")
+        session.keys("F2")
+        session.type("nowhere/x.txt")
+        session.keys("Enter")
+        session.type("stray")
+        session.wait_for("is not opened")
+        session.wait_for("^V has what you typed")
+        session.wait_for_quiet()
+        expect(session.rows("bee.txt")[:1] == ["xbee"], f"it goes into {session.rows('bee.txt')[:1]}")
+        session.keys("End", "C-v")
+        session.wait_for("xbeestray")
+        session.keys("C-w")
+        wait_for_text(other, "xbeestray\n")
+        session.leave()
+
+
+def check_open_while_the_line_breaks(folder):
+    """A path that was opened as the line broke comes once it is back, and what was typed for it goes into it."""
+    made(folder, a="one\n", bee="bee\n")
+    with Session(folder, "a.txt", stays=True, width=120) as session:
+        session.wait_for("one")
+        session.wait_for_quiet()
+        with session.stopped_line():
+            session.keys("F2")
+            session.type("bee.txt")
+            session.keys("Enter")
+            session.type("x")
+            session.wait_for("held 1")
+            session.break_line()
+        session.wait_for("LINE LOST")
+        session.wait_for("xbee")
+        session.wait_for_quiet()
+        expect(session.rows("bee.txt")[:1] == ["xbee"], f"the windows are {session.screen()}")
+        session.leave_unwritten()
