@@ -11,7 +11,7 @@ from .fuzz import Run
 from .model import Model
 from .pairs import LONG as MANY_LINES
 from .pairs import in_a_small_window, loads_of, opened
-from .support import COMMAND_WINDOW, SAMHOST, Session, expect, made, wait_for_text, wait_until
+from .support import COMMAND_WINDOW, READ_AFTER, SAMHOST, STATE, Session, expect, made, wait_for_text, wait_until
 
 LINES = [f"line {number} {'x' * (number * 7 % 60)}\n" for number in range(1, 1501)]
 LONG = "".join(LINES)
@@ -385,3 +385,133 @@ def check_open_while_the_line_breaks(folder):
         session.wait_for_quiet()
         expect(session.rows("bee.txt")[:1] == ["xbee"], f"the windows are {session.screen()}")
         session.leave_unwritten()
+
+
+# ---- Ends
+
+
+def host_of(folder):
+    """The process of the samhost that stays, which its lock names."""
+    (lock,) = (folder / STATE / "sulgrevad").glob("*/lock")
+    return int(lock.read_text())
+
+
+def check_end_by_a_signal(folder):
+    """A signal to samterm leaves the session at the host, with all that was typed; nothing is written here. Another takes it up."""
+    (path,) = made(folder, a="one\n")
+    with Session(folder, "a.txt", stays=True, width=120) as session:
+        session.wait_for("one")
+        session.type("x")
+        session.wait_for("xone")
+        os.kill(session.terminal(), signal.SIGTERM)
+        session.wait_for_end(128 + signal.SIGTERM)
+    told = (folder / "stderr").read_text()
+    expect("the session stays at the host. This goes on with it" in told, f"it tells {told!r}")
+    expect(not list(folder.glob("*.sam-here")), f"there are {list(folder.glob('*.sam-here'))}")
+    (folder / "status").unlink()
+    with Session(folder, take="", width=120) as session:
+        wait_until(lambda: session.shows(">* a.txt") and session.rows("a.txt")[:1] == ["xone"], "its text doesn't come back as changed")
+        session.keys("C-w")
+        wait_for_text(path, "xone\n")
+        session.leave()
+
+
+def check_taken_over(folder):
+    """Who takes a session over that is shown elsewhere has its texts; the other is told so, and keeps here what the host may lack."""
+    made(folder, a="one\n")
+    beside = folder / "beside"
+    beside.mkdir()
+    with Session(folder, "a.txt", stays=True, width=120) as session:
+        session.wait_for("one")
+        session.type("x")
+        session.wait_for("xone")
+        session.wait_for_quiet()
+        settings = f"XDG_STATE_HOME={folder / STATE}"
+        with Session(beside, take="", settings=settings, width=120) as other:
+            other.wait_for("xone")
+            session.wait_for("HOST LOST")
+            session.wait_for("taken the session over")
+            session.keys("C-q")
+            session.wait_for_end(3)
+            other.keys("C-w")
+            wait_for_text(folder / "a.txt", "xone\n")
+            other.leave()
+
+
+def check_host_is_killed(folder):
+    """Another samhost begins where a killed one was, and the session goes on: text, undo and what was copied."""
+    (path,) = made(folder, a="one\ntwo\n")
+    with Session(folder, "a.txt", stays=True, width=120) as session:
+        session.wait_for("two")
+        session.keys("S-Right", "C-c")
+        session.type("x")
+        session.wait_for("xne")
+        session.wait_for_quiet()
+        os.kill(host_of(folder), signal.SIGKILL)
+        session.wait_for("LINE LOST")
+        session.type("y")
+        session.wait_for("xyne")
+        wait_until(lambda: not session.shows("LINE LOST"), "the session doesn't go on")
+        session.keys("C-v")
+        session.wait_for("xyone")
+        session.keys("C-w")
+        wait_for_text(path, "xyone\ntwo\n")
+        session.keys("C-z", "C-z", "C-z")
+        session.wait_for_quiet()
+        session.keys("C-w")
+        wait_for_text(path, "one\ntwo\n")
+        session.leave()
+
+
+def check_old_host(folder):
+    """Where samhost is too old for a session that stays, it is run without, which is told."""
+    (path,) = made(folder, a="one\n")
+    host = folder / "host"
+    host.write_text(f'#!/bin/sh\n[ "$1" = --serve ] && echo "usage: samhost [--undo] [--times] [--] [FILE ..]" >&2 && exit 2\nexec {SAMHOST} "$@"\n')
+    host.chmod(0o755)
+    with Session(folder, "a.txt", host=str(host), stays=True) as session:
+        session.wait_for("one")
+        session.type("x")
+        session.keys("C-w")
+        wait_for_text(path, "xone\n")
+        session.leave()
+    told = (folder / "stderr").read_text()
+    expect("too old for a session that stays" in told and "usage" not in told, f"it tells {told!r}")
+
+
+def check_break_while_leaving(folder):
+    """A break amid leaving ends nothing too early: once the line is back the session ends, and its text is saved."""
+    (path,) = made(folder, a="one\n")
+    with Session(folder, "a.txt", stays=True, width=120) as session:
+        session.wait_for("one")
+        session.type("x")
+        session.wait_for("xone")
+        session.wait_for_quiet()
+        session.keys("C-q")
+        session.wait_for("not written")
+        time.sleep(READ_AFTER)
+        with session.stopped_line():
+            session.keys("C-q")
+            session.wait_for("leaving")
+            session.break_line()
+        session.wait_for_end(0)
+    wait_for_text(folder / "a.txt.sam-saved", "xone\n")
+    expect(path.read_text() == "one\n", "it is written")
+    wait_until(lambda: not list((folder / STATE / "sulgrevad").glob("*/socket")), "the session is still there")
+
+
+def check_keys_that_wait_are_kept(folder):
+    """Who leaves on a dead line while typed text waits finds it here."""
+    made(folder, a="x" * 5_000 + "\nend\n")
+    with Session(folder, "a.txt", stays=True, width=120) as session:
+        session.wait_for("xxx")
+        session.wait_for_quiet()
+        with session.stopped_line():
+            session.keys("C-n")
+            session.type("typed for the new file")
+            session.wait_for("no answer for")
+            session.keys("C-q")
+            session.answer("^Q again leaves", "C-q")
+            session.wait_for_end(3)
+    kept = "".join(path.read_text() for path in folder.glob("*.sam-here"))
+    expect("typed for the new file" in kept, f"it keeps {kept[-200:]!r}")
