@@ -278,10 +278,51 @@ def check_lost_line(folder):
         session.wait_for_end(0)
 
 
+def check_password_for_a_lost_line(folder):
+    """A connection that is tried again can't ask on the screen of the text; F5 gives it the screen, and `^C` takes that back."""
+    made(folder, a="one\n")
+    asks, host = folder / "asks", folder / "host"
+    host.write_text(f"""#!/bin/sh
+if [ -e {asks} ]; then
+    exec 3<> /dev/tty || exit 1
+    printf 'password: ' >&3
+    read -r word <&3
+    [ "$word" = secret ] || exit 1
+fi 2> /dev/null
+exec {SAMHOST} "$@"
+""")
+    host.chmod(0o755)
+    with Session(folder, "a.txt", host=str(host), stays=True, width=120, settings="trap : INT;") as session:
+        session.wait_for("one")
+        session.wait_for_quiet()
+        asks.touch()
+        session.break_line()
+        session.wait_for("LINE LOST 4 s")
+        expect(not session.shows("password"), "it asks on the screen of the text")
+        session.type("x")
+        session.wait_for("xone")
+        session.keys("F5")
+        session.wait_for("password:")
+        session.keys("C-c")
+        session.wait_for("xone")
+        session.wait_for("LINE LOST")
+        session.keys("F5")
+        session.wait_for("password:")
+        session.type("secret")
+        session.keys("Enter")
+        session.wait_for("xone")
+        wait_until(lambda: not session.shows("LINE LOST"), "the line doesn't come back")
+        session.wait_for_quiet()
+        session.keys("C-w")
+        wait_for_text(folder / "a.txt", "xone\n")
+        session.leave()
+
+
 def check_leave_and_take(folder):
     """Who leaves on a dead line is asked once, and told how he comes back; then all is there."""
     (path,) = made(folder, a="one\ntwo\n")
     with Session(folder, "a.txt", stays=True, width=160) as session:
+        session.ends_staying = False
         session.wait_for("two")
         session.type("x")
         session.wait_for("xone")
@@ -400,6 +441,7 @@ def check_end_by_a_signal(folder):
     """A signal to samterm leaves the session at the host, with all that was typed; nothing is written here. Another takes it up."""
     (path,) = made(folder, a="one\n")
     with Session(folder, "a.txt", stays=True, width=120) as session:
+        session.ends_staying = False
         session.wait_for("one")
         session.type("x")
         session.wait_for("xone")

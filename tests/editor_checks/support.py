@@ -69,6 +69,7 @@ class Session:
     def __init__(self, folder, *files, slow=None, width=80, height=24, settings="", program=SAMTERM, host=None, stays=bool(os.environ.get("SAM_STAYS")), take=None):
         """Where the session stays, it goes on through a line that breaks; with a name it is one that another has left."""
         self.folder, self.status_file = folder, folder / "status"
+        self.ends_staying = True  # else the session is left at the host, for another
         self.tmux_words = ["tmux", "-S", str(folder / ".tmux"), "-f", "/dev/null", "-u"]
         words = host or (f"{SLOW} {slow} {SAMHOST}" if slow is not None else str(SAMHOST))
         host = f"--host '{words}'"
@@ -89,9 +90,19 @@ class Session:
         """Ends all of it, and waits for that: what still ends may save a text."""
         processes = list(self.processes().values()) if self.is_there() else []
         subprocess.run([*self.tmux_words, "kill-server"], capture_output=True)
+        processes += self.end_staying() if self.ends_staying else []
         until = time.monotonic() + SECONDS
         while time.monotonic() < until and any((stat_of(process) or "Z")[0] != "Z" for process in processes):
             time.sleep(0.01)
+
+    def end_staying(self):
+        """Ends the sessions that stay. Answers the processes of their hosts, which their locks name."""
+        hosts = []
+        for lock in (self.folder / STATE / "sulgrevad").glob("*/lock"):
+            with contextlib.suppress(OSError, ValueError):
+                hosts.append(int(lock.read_text()))
+                os.kill(hosts[-1], signal.SIGTERM)
+        return hosts
 
     def is_there(self):
         return subprocess.run([*self.tmux_words, "has-session"], capture_output=True).returncode == 0
