@@ -216,6 +216,23 @@ static void answer_list(struct session *session, const struct caller *caller)
     answer_line(caller->socket, line);
 }
 
+/* A place for one more who waits; NULL where there is none. Who has gone meanwhile no longer waits. */
+static struct waiter *free_waiter(struct stay *stay)
+{
+    uint8_t byte;
+
+    for (int at = 0; at < MOST_WAITERS; at++) {
+        struct waiter *waiter = &stay->waiters[at];
+        if (waiter->socket >= 0 && recv(waiter->socket, &byte, 1, MSG_PEEK | MSG_DONTWAIT) == 0) {
+            close(waiter->socket);
+            waiter->socket = -1;
+        }
+        if (waiter->socket < 0)
+            return waiter;
+    }
+    return NULL;
+}
+
 /* Has the terminal show a file: a path, a line, and whether who asks waits until it is closed. Where memory is out nothing has changed. */
 static void answer_open(struct session *session, struct caller *caller, const char *path, const char *line, bool waits)
 {
@@ -229,12 +246,10 @@ static void answer_open(struct session *session, struct caller *caller, const ch
         why = cause(ENOMEM);
     snprintf(answer, sizeof answer, why == NULL ? "opened\n" : "refused %s\n", why);
     answer_line(caller->socket, answer);
-    for (int at = 0; why == NULL && waits && at < MOST_WAITERS; at++) {
-        if (stay->waiters[at].socket < 0) {
-            stay->waiters[at] = (struct waiter){.socket = caller->socket, .tag = tag};
-            caller->socket = -1;
-            return;
-        }
+    struct waiter *waiter = why == NULL && waits ? free_waiter(stay) : NULL;
+    if (waiter != NULL) {
+        *waiter = (struct waiter){.socket = caller->socket, .tag = tag};
+        caller->socket = -1;
     }
 }
 

@@ -119,6 +119,9 @@ int identify(const char *path, struct identity *identity)
     if (error == 0) {
         identity->device = status.st_dev;
         identity->inode = status.st_ino;
+    } else {
+        free(identity->name);
+        identity->name = NULL;
     }
     free(folder);
     free(end);

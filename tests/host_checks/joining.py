@@ -125,6 +125,21 @@ def check_join_of_files(folder):
         session.leave()
 
 
+def check_join_asked_before_a_kill(folder):
+    """What the terminal has asked for and was answered isn't answered again where samhost is killed."""
+    made(folder, a="one\n")
+    with Staying(folder, "a.txt") as session:
+        session.type("two\n")
+        expect_equal(asked(session, "open 1 a.txt"), "opened 1 1", "the answer")
+        expect_equal(asked(session, "names 2 a.t"), "names 2 0 a.txt", "the answer")
+        kill(folder, session)
+        session.type("three\n")
+        expect_equal(asked(session, "open 3 a.txt"), "opened 3 1", "the answer of another samhost")
+        expect_equal([note.split(" ")[1] for note in session.notes[1:]], ["1", "2", "3"], "what was answered")
+        expect_equal(session.text(), "one\ntwo\nthree\n", "the text")
+        session.leave()
+
+
 def check_join_in_the_journal(folder):
     """Files that have joined are there again where samhost is killed."""
     made(folder, a="one\n")

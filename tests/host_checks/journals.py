@@ -1,14 +1,16 @@
 """The journal of a session that stays: where its samhost is killed, another goes on from it."""
 import os
 import random
+import re
+import resource
 import shutil
 import signal
 import struct
 import subprocess
 import time
 
-from checks import SECONDS, Skipped, expect, wait_until
-from link_model import Link, What
+from checks import Skipped, expect, wait_until
+from link_model import What
 
 from .line import Staying, home_of, is_running, pid_of
 from .support import SAMHOST, expect_equal, made, names_in, text_of
@@ -125,8 +127,29 @@ def check_journal_torn(folder):
             expect(left > FRONT, "this test is wrong: it cuts the front")
 
 
-def check_journal_sums(folder):
-    """A byte that is wrong in the last records, or garbage behind them, ends the journal before it."""
+def check_journal_with_a_wrong_byte(folder):
+    """A byte that is wrong in the last record, wherever, ends the journal before that."""
+    for place in ("kind", "body", "sum"):
+        room = folder / place
+        room.mkdir()
+        made(room, a="one\n")
+        with Staying(room, "a.txt") as session:
+            session.type("two\n")
+            kill(room, session)
+            journal = home_of(room, session.name) / "journal"
+            data = bytearray(journal.read_bytes())
+            last = records_of(data)[0][-1][0]
+            data[{"kind": last + 4, "body": last + 5, "sum": len(data) - 1}[place]] ^= 1
+            journal.write_bytes(data)
+            session.drop()
+            session.attach()
+            expect(session.refusal() in (What.WELCOME, What.WRONG_COUNT), "the answer is another")
+            expect_equal(journal.read_bytes()[:last], bytes(data[:last]), f"{place}: the records before")
+            expect(journal.read_bytes()[last : len(data)] != data[last:], f"{place}: the wrong record is there")
+
+
+def check_journal_behind_garbage(folder):
+    """Garbage behind the last record goes."""
     made(folder, a="one\n")
     with Staying(folder, "a.txt") as session:
         session.type("two\n")
@@ -252,6 +275,83 @@ def check_journal_where_a_write_was_not_noted(folder):
             expect_equal(text_of(path), "one\ntwo\nthree\n", f"{call}: the file at the end")
             expect_equal([note for note in session.notes if note.startswith("told ?")], [], f"{call}: what it says of writes")
             session.leave()
+
+
+def check_journal_before_acknowledgements(folder):
+    """What is acknowledged is in the journal, and that is on the disk, before the acknowledgement goes out."""
+    if shutil.which("strace") is None:
+        raise Skipped("no strace")
+    made(folder, a="one\n")
+    with Staying(folder, "a.txt") as session:
+        session.type("two\n")
+        pid, log = pid_of(folder, session.name), folder / "temporary" / "calls"
+        words = ("strace", "-qq", "-xx", "-s", "64", "-o", log, "-p", str(pid), "-e", "trace=writev,fdatasync,sendto")
+        with subprocess.Popen(words, stderr=subprocess.DEVNULL) as tracer:
+            wait_until(lambda: "TracerPid:\t0\n" not in open(f"/proc/{pid}/status").read(), "it is not traced")
+            session.type("three\n")
+            tracer.terminate()
+        forms = {
+            r"writev\(\d+, \[\{iov_base=\"(\\x..){4}\\x05": "up",
+            r"fdatasync\(": "on disk",
+            r"sendto\(.*\\x03\\x00\\x08": "acknowledged",
+        }
+        calls = [name for line in log.read_text().splitlines() for form, name in forms.items() if re.match(form, line)]
+        expect("up" in calls and "acknowledged" in calls, f"it takes nothing, or acknowledges nothing: {calls}")
+        for at, call in enumerate(calls):
+            is_there = call != "acknowledged" or calls[:at] == [] or calls[at - 1] != "up"
+            expect(is_there, f"it acknowledges what is not on the disk: {calls[: at + 1]}")
+        session.leave()
+
+
+def check_journal_without_room_for_it(folder):
+    """Where the journal can't be written the terminal is told once, and the session goes on without it."""
+    made(folder, a="one\n")
+    with Staying(folder, "a.txt") as session:
+        session.type("two\n")
+        journal = home_of(folder, session.name) / "journal"
+        limit = journal.stat().st_size + 20
+        resource.prlimit(pid_of(folder, session.name), resource.RLIMIT_FSIZE, (limit, resource.RLIM_INFINITY))
+        session.type("three\n")
+        session.type("four\n")
+        told = [note for note in session.notes if note.startswith("told the journal can't be written: File too large")]
+        expect_equal(len(told), 1, f"how often it says so, in {session.notes}: it")
+        expect(not journal.exists(), "a journal that lacks steps is there")
+        session.drop()
+        session.type("five\n")
+        session.write()
+        expect_equal(text_of(folder / "a.txt"), "one\ntwo\nthree\nfour\nfive\n", "the file")
+        session.leave()
+
+
+def check_journal_for_one_alone(folder):
+    """Of several that find the same journal one goes on from it, and the others find that one."""
+    made(folder, a="one\n")
+    with Staying(folder, "a.txt") as session:
+        session.type("two\n")
+        session.drop()
+        kill(folder, session)
+        pipe = subprocess.PIPE
+        words = [SAMHOST, "--attach", session.name]
+        relays = [subprocess.Popen(words, cwd=folder, env=session.environment, stdin=pipe, stdout=pipe, stderr=pipe) for _ in range(6)]
+        try:
+            session.type("three\n")
+            pid = pid_of(folder, session.name)
+            named = [it for it in map(int, filter(str.isdigit, os.listdir("/proc"))) if is_session(it, session.name)]
+            expect_equal(named, [pid], "the processes that have a session")
+        finally:
+            for relay in relays:
+                relay.kill()
+                relay.communicate()
+        session.leave()
+
+
+def is_session(pid, name):
+    """Whether a process serves this session: it has no terminal's pipes, but those words."""
+    try:
+        words = open(f"/proc/{pid}/cmdline", "rb").read().split(b"\0")
+        return name.encode() in words and os.readlink(f"/proc/{pid}/fd/0") == "/dev/null"
+    except OSError:
+        return False
 
 
 def check_journal_is_read_quickly(folder):
