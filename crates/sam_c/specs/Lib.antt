@@ -6,3 +6,6 @@ pub mod Hosts
 pub mod Terms
 pub mod Scripts
 pub mod Measures
+pub mod LinkStatus
+pub mod Links
+pub mod Walking
