@@ -21,7 +21,7 @@ bytes_more : (e k g : PlainHostEndpoint) (first rest : List HFrame) → k.pendin
     → g.pending_bytes ++ stream_of host g.unwritten ≡ e.pending_bytes ++ stream_of host (e.unwritten ++ (first ++ rest))
 bytes_more e k g first rest p q = grind (arith, stream_of-append, append_assoc)
 
-answers_more : (e k g : PlainHostEndpoint) (ms ns : List Tmesg) → Answers e ms k → Answers k ns g → Answers e (ms ++ ns) g
+pub answers_more : (e k g : PlainHostEndpoint) (ms ns : List Tmesg) → Answers e ms k → Answers k ns g → Answers e (ms ++ ns) g
 answers_more e k g ms ns p q = grind (arith, serves_more, append_assoc, bytes_more)
 
 -- the oldest message was answered and dropped
@@ -59,7 +59,7 @@ no_write h k (Twrite f) e = ap (λ b. if b then [] else f ∷ []) (silent_write 
 no_write h k m e = refl
 
 -- to take messages in silence is to answer them
-silent : (h : PlainHost) (ms : List Tmesg) (g : PlainHost) → TakesInSilence h ms g → Serves h ms [] [] g
+pub silent : (h : PlainHost) (ms : List Tmesg) (g : PlainHost) → TakesInSilence h ms g → Serves h ms [] [] g
 silent h [] g is = (refl, refl, is)
 silent h (m ∷ ms) g (k, answered, rest) = (k, [], [], [], answered, refl, grind (arith, (no_write h k m answered)), silent k ms g rest)
 

@@ -1,0 +1,106 @@
+-- Single steps of a host end: what each answers, and where they lead.
+use Rattle.sam_endpoint.proofs.Common.{◌≡◌, ◌⊎◌, ◌<◌, ◌+◌, length, length-append, refl, sym, ap, subst, ◌∙◌, ℕ, List, [], ◌∷◌, ◌++◌, Option, None, Some, Result, Ok, Err, inl, inr, append_assoc, append-nil, arith, Tmesg, HFrame, host, stream_of, HostStop, EndpointFault, PlainHostEndpoint, Answers, Feeds, GoesOn, TakesIn, Answer, AnswersFirst}
+use Rattle.std.specs.Prelude.{zero, suc, ◌≢◌}
+use Rattle.sam_endpoint.specs.declared.fault.HostStop.TheVariants as stop
+use Rattle.sam_endpoint.specs.declared.fault.EndpointFault.TheVariants as fault
+use Rattle.sam_endpoint.specs.declared.step.BringFault.{BringFault}
+use Rattle.sam_endpoint.specs.declared.step.BringFault.TheVariants as bring
+use Rattle.sam_endpoint.specs.declared.step.HostStep.{HostStep}
+use Rattle.sam_endpoint.specs.declared.step.HostStep.TheVariants.{Idle, Wrote, Edited, Answered}
+use Rattle.sam_endpoint.specs.HostEndpoints.{IsDone, IsIdle}
+use Rattle.sam_endpoint.specs.HostSteps.{Brings, Handles, TakesEdits, written}
+use Rattle.sam_endpoint.specs.HostStepping.{AnsweredFirst, BringsIn, GoesBySteps, HostStepsFeed, IsReady, IsWritten, Steps, StepsWaiting, StopsBy, TookEdits}
+use Rattle.sam_endpoint.specs.Streams.{bring_fault}
+use Rattle.sam_endpoint.proofs.HostEndpointGoing.{answers_more, silent}
+
+-- ## Answers
+
+-- the framer did not take the piece
+pub not_brought : (e g : PlainHostEndpoint) (piece : List ℕ) (why : EndpointFault HostStop) → IsReady e → Brings e piece (Err why) g → BringsIn e piece (Err (bring_fault why)) g
+not_brought e g piece fault.OutOfMemory ready (room, same) = (ready, room, same)
+not_brought e g piece fault.CountFull ready (full, same) = (ready, full, same)
+not_brought e g piece fault.Unfinished ready u = absurd u
+not_brought e g piece (fault.Stopped why) ready u = absurd u
+
+-- a message waited and was taken, or was not
+pub waiting_stepped : (e g : PlainHostEndpoint) (result : Result HostStep (EndpointFault HostStop)) → IsWritten e → StepsWaiting e result g → Steps e result g
+waiting_stepped e g (Ok Idle) is u = absurd u
+waiting_stepped e g (Ok Wrote) is u = absurd u
+waiting_stepped e g (Ok (Edited tag count)) is took = (is, took)
+waiting_stepped e g (Ok (Answered kind tag)) is first = (is, first)
+waiting_stepped e g (Err fault.Unfinished) is (waits, same) = (is.0, omega (arith, waits), same)
+waiting_stepped e g (Err (fault.Stopped (stop.Refused why))) is refused = inr (is, refused)
+waiting_stepped e g (Err (fault.Stopped (stop.Stream why))) is u = absurd u
+waiting_stepped e g (Err fault.OutOfMemory) is u = absurd u
+waiting_stepped e g (Err fault.CountFull) is u = absurd u
+
+-- ## One step of many
+
+-- some messages were answered, and it goes on
+pub record Went (e l : PlainHostEndpoint) : Type 0 where
+  pub messages : List Tmesg
+  pub answers : Answers e messages l
+  pub goes : l.stop ≡ None
+
+pub went_nowhere : (e : PlainHostEndpoint) → e.stop ≡ None → Went e e
+went_nowhere e goes = record { messages = []; answers = grind (arith, append-nil); goes = goes }
+
+went_to : (e l k : PlainHostEndpoint) (ms : List Tmesg) → Went e l → Answers l ms k → k.stop ≡ None → Went e k
+went_to e l k ms w a goes = record { messages = w.messages ++ ms; answers = answers_more e l k w.messages ms w.answers a; goes = goes }
+
+wrote : (l : PlainHostEndpoint) → Answers l [] (written l)
+wrote l = grind (arith, append-nil)
+
+answered : (l k : PlainHostEndpoint) → l.unwritten ≡ [] → (first : AnswersFirst l k) → Answers l (first.message ∷ []) k
+answered l k none first = grind (arith, append-nil)
+
+edited : (l k : PlainHostEndpoint) (took : TakesEdits l k) → Answers l took.messages k
+edited l k took = subst (λ (x : PlainHostEndpoint). Answers l took.messages x) (sym took.after) (record {
+  frames = [];
+  more = [];
+  serves = silent l.host took.messages took.host took.taken;
+  waiting = took.waited;
+  bytes = grind (arith, append-nil);
+  writes = sym (append-nil l.writes);
+  framer = refl;
+  begun = refl;
+  broken_by = refl;
+})
+
+-- a step leads on
+pub steps_on : (e l k : PlainHostEndpoint) (step : HostStep) → Went e l → Steps l (Ok step) k → Went e k
+steps_on e l k Idle w (ready, same) = subst (λ (x : PlainHostEndpoint). Went e x) (sym same) w
+steps_on e l k Wrote w (goes, some, is) = subst (λ (x : PlainHostEndpoint). Went e x) (sym is) (went_to e l (written l) [] w (wrote l) goes)
+steps_on e l k (Edited tag count) w (is, took) = went_to e l k took.edits.messages w (edited l k took.edits) (ap (λ (x : PlainHostEndpoint). x.stop) took.edits.after ∙ is.0)
+steps_on e l k (Answered kind tag) w (is, first) =
+    went_to e l k (first.first.message ∷ []) w (answered l k is.1 first.first) (ap (λ (x : PlainHostEndpoint). x.stop) first.first.after ∙ is.0)
+
+-- and so does one that could not be made
+pub steps_not : (e l g : PlainHostEndpoint) (why : EndpointFault HostStop) → Went e l → Steps l (Err why) g → GoesOn e (Err why) g
+steps_not e l g fault.Unfinished w (goes, some, same) =
+    subst (λ (x : PlainHostEndpoint). GoesOn e (Err fault.Unfinished) x) (sym same) (w.messages, w.answers, goes, some)
+steps_not e l g (fault.Stopped why) w (inl (stops, same)) = absurd (stopped_went why (sym w.goes ∙ stops))
+  where
+    stopped_went : (why : HostStop) → None ≡ Some why → ⊥
+    stopped_went why is = grind arith
+steps_not e l g (fault.Stopped (stop.Stream why)) w (inr (is, none, broken_by, stops)) = grind (arith, append-nil)
+steps_not e l g (fault.Stopped (stop.Refused why)) w (inr (is, message, rest, waits, refused, stops)) = grind arith
+steps_not e l g fault.OutOfMemory w u = absurd u
+steps_not e l g fault.CountFull w u = absurd u
+
+-- nothing is left to do
+rests : (e l g : PlainHostEndpoint) → Went e l → Steps l (Ok Idle) g → GoesOn e (Ok tt) g
+rests e l g w (ready, same) = grind (arith, append-nil)
+
+goes_by : (n : ℕ) (answer : Answer) (e l g : PlainHostEndpoint) → Went e l → GoesBySteps n l answer g → GoesOn e answer g
+goes_by zero (Ok done) e l g w is = rests e l g w is
+goes_by zero (Err why) e l g w is = steps_not e l g why w is
+goes_by (suc n) answer e l g w (step, k, work, steps, more) = goes_by n answer e k g (steps_on e l k step w steps) more
+
+-- ## Feeding
+
+pub steps_feed : HostStepsFeed
+steps_feed n piece answer e k g ((goes, whole), (messages, broken_by, rest, gives, is)) steps =
+    let on : GoesOn e (Ok tt) e = rests e e e (went_nowhere e goes) ((goes, whole), refl) in
+    let begun : k.stop ≡ None = ap (λ (x : PlainHostEndpoint). x.stop) is ∙ goes in
+    inr (goes, e, Ok tt, on, inl (k, (messages, broken_by, rest, gives, is), goes_by n answer k k g (went_nowhere k begun) steps))
