@@ -6,3 +6,4 @@ pub mod Hosts
 pub mod Terms
 pub mod Scripts
 pub mod Measures
+pub mod Steps

@@ -10,6 +10,7 @@ mod measures;
 mod parts;
 mod scripts;
 mod status;
+mod steps;
 mod term_calls;
 mod term_events;
 mod term_readers;
@@ -17,3 +18,4 @@ mod term_texts;
 mod utf8;
 
 pub use handle::{SamHost, SamTerm};
+pub use steps::SamDid;

@@ -21,7 +21,7 @@ bytes_more : (e k g : PlainHostEndpoint) (first rest : List HFrame) → k.pendin
     → g.pending_bytes ++ stream_of host g.unwritten ≡ e.pending_bytes ++ stream_of host (e.unwritten ++ (first ++ rest))
 bytes_more e k g first rest p q = grind (arith, stream_of-append, append_assoc)
 
-pub answers_more : (e k g : PlainHostEndpoint) (ms ns : List Tmesg) → Answers e ms k → Answers k ns g → Answers e (ms ++ ns) g
+answers_more : (e k g : PlainHostEndpoint) (ms ns : List Tmesg) → Answers e ms k → Answers k ns g → Answers e (ms ++ ns) g
 answers_more e k g ms ns p q = grind (arith, serves_more, append_assoc, bytes_more)
 
 -- the oldest message was answered and dropped
@@ -59,7 +59,7 @@ no_write h k (Twrite f) e = ap (λ b. if b then [] else f ∷ []) (silent_write 
 no_write h k m e = refl
 
 -- to take messages in silence is to answer them
-pub silent : (h : PlainHost) (ms : List Tmesg) (g : PlainHost) → TakesInSilence h ms g → Serves h ms [] [] g
+silent : (h : PlainHost) (ms : List Tmesg) (g : PlainHost) → TakesInSilence h ms g → Serves h ms [] [] g
 silent h [] g is = (refl, refl, is)
 silent h (m ∷ ms) g (k, answered, rest) = (k, [], [], [], answered, refl, grind (arith, (no_write h k m answered)), silent k ms g rest)
 
@@ -144,3 +144,12 @@ nothing_behind e k on = on.0.broken_by ∙ on.2
 
 pub fed : (e k m g : PlainHostEndpoint) (piece : List ℕ) (result : Answer) → e.stop ≡ None → GoesOn e (Ok tt) k → TakesIn k piece m → GoesOn m result g → Feeds e piece result g
 fed e k m g piece result goes on takes further = inr (goes, k, Ok tt, on, inl (m, takes, further))
+
+-- ## Single steps
+
+pub answers_then : (e k g : PlainHostEndpoint) (ms ns : List Tmesg) → Answers e ms k → Answers k ns g → Answers e (ms ++ ns) g
+answers_then e k g ms ns p q = answers_more e k g ms ns p q
+
+-- what waited first was answered, where all frames are written
+pub next_done : (e g : PlainHostEndpoint) → e.stop ≡ None → e.unwritten ≡ [] → AnswersFirst e g ⊎ TakesEdits e g → (ms : List Tmesg) × Answers e ms g × (g.stop ≡ None)
+next_done e g goes none next = next_gone e e g (starts e e goes (none_written e none)) next

@@ -11,7 +11,7 @@ use Rattle.sam_endpoint.specs.HostEndpoints.{IsDone, IsIdle}
 use Rattle.sam_endpoint.specs.HostSteps.{Brings, Handles, TakesEdits, written}
 use Rattle.sam_endpoint.specs.HostStepping.{AnsweredFirst, BringsIn, GoesBySteps, HostStepsFeed, IsReady, IsWritten, Steps, StepsWaiting, StopsBy, TookEdits}
 use Rattle.sam_endpoint.specs.Streams.{bring_fault}
-use Rattle.sam_endpoint.proofs.HostEndpointGoing.{answers_more, silent}
+use Rattle.sam_endpoint.proofs.HostEndpointGoing.{answers_then, next_done}
 
 -- ## Answers
 
@@ -46,34 +46,17 @@ pub went_nowhere : (e : PlainHostEndpoint) → e.stop ≡ None → Went e e
 went_nowhere e goes = record { messages = []; answers = grind (arith, append-nil); goes = goes }
 
 went_to : (e l k : PlainHostEndpoint) (ms : List Tmesg) → Went e l → Answers l ms k → k.stop ≡ None → Went e k
-went_to e l k ms w a goes = record { messages = w.messages ++ ms; answers = answers_more e l k w.messages ms w.answers a; goes = goes }
+went_to e l k ms w a goes = record { messages = w.messages ++ ms; answers = answers_then e l k w.messages ms w.answers a; goes = goes }
 
 wrote : (l : PlainHostEndpoint) → Answers l [] (written l)
 wrote l = grind (arith, append-nil)
-
-answered : (l k : PlainHostEndpoint) → l.unwritten ≡ [] → (first : AnswersFirst l k) → Answers l (first.message ∷ []) k
-answered l k none first = grind (arith, append-nil)
-
-edited : (l k : PlainHostEndpoint) (took : TakesEdits l k) → Answers l took.messages k
-edited l k took = subst (λ (x : PlainHostEndpoint). Answers l took.messages x) (sym took.after) (record {
-  frames = [];
-  more = [];
-  serves = silent l.host took.messages took.host took.taken;
-  waiting = took.waited;
-  bytes = grind (arith, append-nil);
-  writes = sym (append-nil l.writes);
-  framer = refl;
-  begun = refl;
-  broken_by = refl;
-})
 
 -- a step leads on
 pub steps_on : (e l k : PlainHostEndpoint) (step : HostStep) → Went e l → Steps l (Ok step) k → Went e k
 steps_on e l k Idle w (ready, same) = subst (λ (x : PlainHostEndpoint). Went e x) (sym same) w
 steps_on e l k Wrote w (goes, some, is) = subst (λ (x : PlainHostEndpoint). Went e x) (sym is) (went_to e l (written l) [] w (wrote l) goes)
-steps_on e l k (Edited tag count) w (is, took) = went_to e l k took.edits.messages w (edited l k took.edits) (ap (λ (x : PlainHostEndpoint). x.stop) took.edits.after ∙ is.0)
-steps_on e l k (Answered kind tag) w (is, first) =
-    went_to e l k (first.first.message ∷ []) w (answered l k is.1 first.first) (ap (λ (x : PlainHostEndpoint). x.stop) first.first.after ∙ is.0)
+steps_on e l k (Edited tag count) w (is, took) = let n = next_done l k is.0 is.1 (inr took.edits) in went_to e l k n.0 w n.1 n.2
+steps_on e l k (Answered kind tag) w (is, first) = let n = next_done l k is.0 is.1 (inl first.first) in went_to e l k n.0 w n.1 n.2
 
 -- and so does one that could not be made
 pub steps_not : (e l g : PlainHostEndpoint) (why : EndpointFault HostStop) → Went e l → Steps l (Err why) g → GoesOn e (Err why) g

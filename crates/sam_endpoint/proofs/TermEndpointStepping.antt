@@ -1,16 +1,20 @@
 -- Single steps of a terminal end: what each answers, and where they lead.
 use Rattle.sam_endpoint.proofs.Common.{◌≡◌, ◌⊎◌, ◌<◌, ◌+◌, length, length-append, refl, sym, ap, subst, ◌∙◌, ℕ, List, [], ◌∷◌, ◌++◌, Option, None, Some, Result, Ok, Err, inl, inr, append-nil, arith, HFrame, StreamFault, TermStop, EndpointFault, Acted, PlainTermEndpoint, IsQuiet, Moves, oldest, ActsFirst, Gains, ReceivesFirst, written}
-use Rattle.std.specs.Prelude.{zero, suc}
+use Rattle.std.specs.Prelude.{zero, suc, option_and_then, slice_get}
 use Rattle.sam_endpoint.specs.declared.fault.TermStop.TheVariants as stop
 use Rattle.sam_endpoint.specs.declared.fault.EndpointFault.TheVariants as fault
 use Rattle.sam_endpoint.specs.declared.step.BringFault.{BringFault}
 use Rattle.sam_endpoint.specs.declared.step.BringFault.TheVariants as bring
 use Rattle.sam_endpoint.specs.declared.step.TermStep.{TermStep}
 use Rattle.sam_endpoint.specs.declared.step.TermStep.TheVariants as step
-use Rattle.sam_endpoint.specs.TermEndpoints.{Feeds, GoesOn, InOrder, IsDone, IsIdle, undone}
-use Rattle.sam_endpoint.specs.TermSteps.{Answer, Ends, Receives}
-use Rattle.sam_endpoint.specs.TermSteps.{Acts as ActsOrNot}
-use Rattle.sam_endpoint.specs.TermStepping.{BringsIn, DecidesStep, GoesBySteps, IsAtRest, IsReady, IsWritten, ReceivesStep, Steps, StopsBy, TermStepsFeed}
+use Rattle.sam_endpoint.specs.TermEndpoints.{Feeds, GoesOn, InOrder, decided}
+use Rattle.sam_endpoint.specs.TermSteps.{Answer, Decides, Ends}
+use Rattle.sam_endpoint.specs.Changes.{change_between, oldest_touch}
+use Rattle.sam_endpoint.specs.declared.changes.Change.{Change}
+use Rattle.sam_endpoint.specs.declared.step.Decision.TheVariants as decision
+use Rattle.sam_term.specs.Events.{file_of}
+use Rattle.sam_term.specs.declared.fault.Refusal.{Refusal}
+use Rattle.sam_endpoint.specs.TermStepping.{ActedFirst, BringsIn, DecidesStep, GoesBySteps, IsAtRest, IsReady, IsWritten, ReceivesStep, RefusedFirst, Steps, TermStepsFeed}
 use Rattle.sam_endpoint.specs.Streams.{bring_fault}
 use Rattle.sam_endpoint.proofs.TermEndpointHeld.{take_held}
 use Rattle.sam_endpoint.proofs.TermEndpointMoves.{moves_acted, moves_none, moves_received, moves_written}
@@ -23,6 +27,18 @@ not_brought e g piece fault.OutOfMemory ready (room, same) = (ready, room, same)
 not_brought e g piece fault.CountFull ready (full, same) = (ready, full, same)
 not_brought e g piece fault.Unfinished ready u = absurd u
 not_brought e g piece (fault.Stopped why) ready u = absurd u
+
+-- the number of the oldest event, once that became something
+number_after : (e g : PlainTermEndpoint) → ActsFirst e g → decided g ≡ oldest e
+number_after e g first = omega (arith, ap (λ (x : PlainTermEndpoint). x.events) first.after, first.fewer)
+
+pub acted_told : (e g : PlainTermEndpoint) (number : ℕ) (tag : Option ℕ) (change : Change) → Decides e (Ok decision.Acted) g → number ≡ decided g
+    → tag ≡ option_and_then file_of (slice_get e.term.held 0) → change ≡ change_between e.term (oldest_touch e.term) g.term → ActedFirst e number tag change g
+acted_told e g number tag change (first, composed, acted) is named changed =
+    record { first = first; composed = composed; acted = acted; number_is = is ∙ number_after e g first; named = named; changed = changed }
+
+pub refused_told : (e g : PlainTermEndpoint) (number : ℕ) (why : Refusal) → Decides e (Ok (decision.Refused why)) g → number ≡ decided g → RefusedFirst e number why g
+refused_told e g number why (first, refused) is = record { first = first; refused = refused; number_is = is ∙ number_after e g first }
 
 -- a frame waited
 pub frame_stepped : (e g : PlainTermEndpoint) (result : Result TermStep (EndpointFault TermStop)) → IsWritten e → ReceivesStep e result g → Steps e result g
@@ -202,3 +218,7 @@ steps_feed n piece answer e k g quiet ((goes, whole), (frames, broken_by, rest, 
     let on : GoesOn e (Ok tt) e = ([], moves_as e e e [] [] (moves_none e) whole.0.waiting refl, whole.0, quiet, whole.1, goes) in
     let begun : k.stop ≡ None = ap (λ (x : PlainTermEndpoint). x.stop) is ∙ goes in
     inr (goes, e, Ok tt, on, inl (k, (frames, broken_by, rest, gives, is), goes_by n answer k k g (went_nowhere k begun) steps))
+
+pub ruleset decided_facts = (acted_told, refused_told)
+
+pub ruleset stepped_facts = (frame_stepped, event_stepped, stream_stepped)

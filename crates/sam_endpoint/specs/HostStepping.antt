@@ -1,5 +1,5 @@
 -- A host end that takes in bytes and goes on by single steps.
-use Rattle.std.specs.Prelude.{◌≡◌, ◌≢◌, ◌⊎◌, ℕ, zero, suc, ◌+◌, ◌^◌, ◌<◌, ◌≤◌, List, [], ◌∷◌, length, slice_get, option_and_then, Some, None, Result, Ok, Err}
+use Rattle.std.specs.Prelude.{◌≡◌, ◌≢◌, ◌⊎◌, ℕ, zero, suc, ◌+◌, ◌^◌, ◌<◌, ◌≤◌, List, [], ◌∷◌, length, slice_get, Option, option_and_then, Some, None, Result, Ok, Err}
 use Rattle.sam_mesg.specs.declared.tmesg.Tmesg.{Tmesg}
 use Rattle.sam_mesg.specs.TerminalKinds.{kind_t}
 use Rattle.sam_frame.specs.Framing.{HasRoom}
@@ -31,7 +31,7 @@ BringsIn e piece (Err bring.OutOfMemory) g = IsReady e × HasRoom e.framer piece
 -- the host took so many messages that waited first, answered none of them with a frame, and the oldest of them named this file
 pub record TookEdits (e : PlainHostEndpoint) (tag count : ℕ) (g : PlainHostEndpoint) : Type 0 where
   pub edits : TakesEdits e g
-  pub count : length edits.messages ≡ count
+  pub count_is : length edits.messages ≡ count
   pub named : option_and_then file_of_t (slice_get e.waiting 0) ≡ Some tag
 
 -- the host answered the oldest message, which has this kind and names this file

@@ -16,6 +16,7 @@ impl HostEndpoint {
     /// Errors, in this order: `Stopped` if the endpoint has stopped before; `Waiting` if something of before waits, which is so until `step`
     /// has returned `Idle`; `CountFull` if the stream would be longer than 2^64-1 bytes; `OutOfMemory`. After an error the piece is not
     /// taken, and the endpoint is as it was.
+    #[tactic(auto, using(crate::proofs::HostEndpointStepping::not_brought))]
     pub fn bring(&mut self, piece: &[u8]) -> Result<(), BringFault<HostStop>>
         ensures { BringsIn self.old piece.now result self.new }
     {
@@ -48,6 +49,7 @@ impl HostEndpoint {
     /// - `Unfinished` if memory was refused. Nothing has changed: make the step again.
     /// - `Stopped` if the host refuses the oldest message, which waits on; or if no message waits, and the stream has a fault after those
     ///   that came.
+    #[tactic(auto, using(crate::proofs::HostEndpointStepping::waiting_stepped))]
     pub fn step(&mut self) -> Result<HostStep, EndpointFault<HostStop>>
         ensures { Steps self.old result self.new }
     {

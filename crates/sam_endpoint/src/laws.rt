@@ -49,14 +49,12 @@ pub fn term_stops_lead()
 
 /// States that to bring a piece to a host endpoint, and then to go on by steps to their end, is to feed it: the answer is one of `feed`,
 /// and so is the endpoint.
-#[tactic(auto, using(crate::proofs::HostEndpointStepping::steps_feed))]
 pub fn host_steps_feed()
     ensures { HostStepsFeed }
 {}
 
 /// States that to bring a piece to a terminal endpoint none of whose events can act, and then to go on by steps to their end, is to feed
 /// it: the answer is one of `feed`, and so is the endpoint.
-#[tactic(auto, using(crate::proofs::TermEndpointStepping::steps_feed))]
 pub fn term_steps_feed()
     ensures { TermStepsFeed }
 {}

@@ -18,6 +18,7 @@ impl TermEndpoint {
     /// Errors, in this order: `Stopped` if the endpoint has stopped before; `Waiting` if something of before waits, which is so until `step`
     /// has returned `Idle` or `Locked`; `CountFull` if the stream would be longer than 2^64-1 bytes; `OutOfMemory`. After an error the piece
     /// is not taken, and the endpoint is as it was.
+    #[tactic(auto, using(crate::proofs::TermEndpointStepping::not_brought))]
     pub fn bring(&mut self, piece: &[u8]) -> Result<(), BringFault<TermStop>>
         ensures { BringsIn self.old piece.now result self.new }
     {
@@ -43,6 +44,7 @@ impl TermEndpoint {
     /// - `Unfinished` if memory was refused. Nothing has changed: make the step again.
     /// - `Stopped` if the terminal refuses the oldest frame, which waits on; or if no frame waits, and the stream has a fault after those
     ///   that came, or more than 2^64-1 messages would be composed.
+    #[tactic(auto, using(crate::proofs::TermEndpointStepping::stepped_facts))]
     pub fn step(&mut self) -> Result<TermStep, EndpointFault<TermStop>>
         ensures { Steps self.old result self.new }
     {
@@ -101,6 +103,7 @@ impl TermEndpoint {
     }
 
     /// Has the oldest held event act, and says what became of it.
+    #[tactic(auto, using(crate::proofs::TermEndpointStepping::decided_facts))]
     fn decide_step(&mut self) -> Result<TermStep, EndpointFault<TermStop>>
         requires { self.old.unwritten ≡ [] }
         ensures { DecidesStep self.old result self.new }
