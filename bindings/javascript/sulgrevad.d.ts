@@ -15,6 +15,7 @@ export declare const Status: {
   readonly MADE: 5;
   readonly NOT_TEXT: 6;
   readonly NONE: 7;
+  readonly WAITING: 8;
   readonly ADD_BEGUN: 17;
   readonly ADD_TOO_LONG: 19;
   readonly ADD_NO_TAG: 20;

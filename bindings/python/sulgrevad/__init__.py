@@ -42,7 +42,7 @@ piece or an event was taken, and what `next_written`, `next_refusal` or `changed
 a signal has a handler that only notes it. A `MemoryError` of Python's own may lose what these three and `add_file` hand out, too.
 """
 from sulgrevad.scripts import replay
-from sulgrevad.sides import Change, Host, Refusal, Terminal
+from sulgrevad.sides import Change, Host, HostDid, Refusal, Terminal, TerminalDid
 from sulgrevad.status import (
     AddRefused,
     CountFull,
@@ -54,9 +54,11 @@ from sulgrevad.status import (
     SamError,
     ScriptFault,
     Status,
+    Step,
     StreamFault,
     TerminalRefused,
     Unfinished,
+    Waiting,
     error_of,
     library_version,
     status_text,
@@ -65,7 +67,7 @@ from sulgrevad.status import (
 __version__ = "0.1.0"
 
 __all__ = [
-    "AddRefused", "Change", "CountFull", "HandleFault", "Host", "HostRefused", "Missing", "NoMemory", "NotText", "Refusal", "SamError",
-    "ScriptFault", "Status", "StreamFault", "Terminal", "TerminalRefused", "Unfinished", "error_of", "library_version", "replay",
-    "status_text",
+    "AddRefused", "Change", "CountFull", "HandleFault", "Host", "HostDid", "HostRefused", "Missing", "NoMemory", "NotText", "Refusal",
+    "SamError", "ScriptFault", "Status", "Step", "StreamFault", "Terminal", "TerminalDid", "TerminalRefused", "Unfinished", "Waiting",
+    "error_of", "library_version", "replay", "status_text",
 ]  # fmt: skip

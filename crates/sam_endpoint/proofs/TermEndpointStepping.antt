@@ -1,5 +1,5 @@
 -- Single steps of a terminal end: what each answers, and where they lead.
-use Rattle.sam_endpoint.proofs.Common.{◌≡◌, ◌⊎◌, ◌<◌, ◌+◌, length, length-append, refl, sym, ap, subst, ◌∙◌, ℕ, List, [], ◌∷◌, ◌++◌, Option, None, Some, Result, Ok, Err, inl, inr, append-nil, arith, HFrame, StreamFault, TermStop, EndpointFault, Acted, PlainTermEndpoint, IsQuiet, Moves, oldest, ActsFirst, Gains, ReceivesFirst, written}
+use Rattle.sam_endpoint.proofs.Common.{◌≡◌, ◌⊎◌, ◌<◌, ◌+◌, length, length-append, refl, sym, ap, subst, ◌∙◌, ℕ, List, [], ◌∷◌, ◌++◌, Bool, true, false, drop, Option, None, Some, Result, Ok, Err, inl, inr, append-nil, arith, HFrame, StreamFault, TermStop, EndpointFault, PlainTerminal, Acted, PlainTermEndpoint, IsQuiet, Moves, oldest, ActsFirst, Gains, ReceivesFirst, written}
 use Rattle.std.specs.Prelude.{zero, suc, option_and_then, slice_get}
 use Rattle.sam_endpoint.specs.declared.fault.TermStop.TheVariants as stop
 use Rattle.sam_endpoint.specs.declared.fault.EndpointFault.TheVariants as fault
@@ -8,15 +8,19 @@ use Rattle.sam_endpoint.specs.declared.step.BringFault.TheVariants as bring
 use Rattle.sam_endpoint.specs.declared.step.TermStep.{TermStep}
 use Rattle.sam_endpoint.specs.declared.step.TermStep.TheVariants as step
 use Rattle.sam_endpoint.specs.TermEndpoints.{Feeds, GoesOn, InOrder, decided}
-use Rattle.sam_endpoint.specs.TermSteps.{Answer, Decides, Ends}
-use Rattle.sam_endpoint.specs.Changes.{change_between, oldest_touch}
+use Rattle.sam_endpoint.specs.TermSteps.{Answer, Decides, Ends, Receives}
+use Rattle.sam_endpoint.specs.Changes.{change_between, change_by, frame_touch, oldest_touch, touched_len}
+use Rattle.sam_endpoint.specs.Naming.{file_of_h}
+use Rattle.sam_mesg.specs.HostKinds.{kind_h}
 use Rattle.sam_endpoint.specs.declared.changes.Change.{Change}
+use Rattle.sam_endpoint.specs.declared.changes.Touch.{Touch}
 use Rattle.sam_endpoint.specs.declared.step.Decision.TheVariants as decision
 use Rattle.sam_term.specs.Events.{file_of}
 use Rattle.sam_term.specs.declared.fault.Refusal.{Refusal}
-use Rattle.sam_endpoint.specs.TermStepping.{ActedFirst, BringsIn, DecidesStep, GoesBySteps, IsAtRest, IsReady, IsWritten, ReceivesStep, RefusedFirst, Steps, TermStepsFeed}
+use Rattle.sam_endpoint.specs.TermStepping.{ActedFirst, BringsIn, DecidesStep, GoesBySteps, IsAtRest, IsReady, IsWritten, ReceivedFirst, ReceivesStep, RefusedFirst, Steps, TermStepsFeed}
 use Rattle.sam_endpoint.specs.Streams.{bring_fault}
 use Rattle.sam_endpoint.proofs.TermEndpointHeld.{take_held}
+use Rattle.sam_endpoint.proofs.TermEndpointSteps.{first_read}
 use Rattle.sam_endpoint.proofs.TermEndpointMoves.{moves_acted, moves_none, moves_received, moves_written}
 
 -- ## Answers
@@ -39,6 +43,33 @@ acted_told e g number tag change (first, composed, acted) is named changed =
 
 pub refused_told : (e g : PlainTermEndpoint) (number : ℕ) (why : Refusal) → Decides e (Ok (decision.Refused why)) g → number ≡ decided g → RefusedFirst e number why g
 refused_told e g number why (first, refused) is = record { first = first; refused = refused; number_is = is ∙ number_after e g first }
+
+same_frame : (a b : HFrame) (x y : List HFrame) → a ∷ x ≡ b ∷ y → a ≡ b
+same_frame a b x y is = grind arith
+
+-- the change as it is counted
+pub change_told : (e g : PlainTermEndpoint) (frame : HFrame) (t u : PlainTerminal) (touch : Option Touch) (before after : ℕ) (change : Change) → t ≡ e.term → u ≡ g.term
+    → touch ≡ frame_touch t frame.msg → before ≡ touched_len t touch → after ≡ touched_len u touch → change ≡ change_by touch before after
+    → change ≡ change_between e.term (frame_touch e.term frame.msg) g.term
+change_told e g frame t u touch before after change old new touched was now is = grind arith
+
+-- the oldest frame was received
+pub received_told : (was : Bool) (e g : PlainTermEndpoint) (frame : HFrame) (kind : ℕ) (tag : Option ℕ) (change : Change) → slice_get e.waiting 0 ≡ Some frame
+    → Receives e (Ok was) g → kind ≡ kind_h frame.msg → tag ≡ file_of_h frame.msg → change ≡ change_between e.term (frame_touch e.term frame.msg) g.term
+    → ReceivedFirst e kind tag change g
+received_told true e g frame kind tag change first is named says changed =
+    let same : frame ≡ is.frame = same_frame frame is.frame (drop 1 e.waiting) is.rest (sym (first_read e.waiting frame first) ∙ is.waited) in
+    record {
+      first = is;
+      kind_is = named ∙ ap (λ (x : HFrame). kind_h x.msg) same;
+      named = says ∙ ap (λ (x : HFrame). file_of_h x.msg) same;
+      changed = changed ∙ ap (λ (x : HFrame). change_between e.term (frame_touch e.term x.msg) g.term) same;
+    }
+received_told false e g frame kind tag change first (none, same) named says changed =
+    absurd (some_none frame (sym first ∙ ap (λ (x : List HFrame). slice_get x 0) none))
+  where
+    some_none : (frame : HFrame) → Some frame ≡ None → ⊥
+    some_none frame is = grind arith
 
 -- a frame waited
 pub frame_stepped : (e g : PlainTermEndpoint) (result : Result TermStep (EndpointFault TermStop)) → IsWritten e → ReceivesStep e result g → Steps e result g
@@ -70,7 +101,7 @@ event_stepped e g (Err fault.CountFull) is u = absurd u
 
 -- none did, and the stream shows a fault
 pub stream_stepped : (e g : PlainTermEndpoint) (why : EndpointFault TermStop) → IsWritten e → e.waiting ≡ [] → Ends e (Err why) g → Steps e (Err why) g
-stream_stepped e g (fault.Stopped (stop.Stream why)) is none (broken_by, same) = inr (is, none, broken_by, same)
+stream_stepped e g (fault.Stopped (stop.Stream why)) is none (broken_by, same) = inr (is, (none, broken_by, same))
 stream_stepped e g (fault.Stopped (stop.Refused why)) is none u = absurd u
 stream_stepped e g fault.Unfinished is none u = absurd u
 stream_stepped e g fault.OutOfMemory is none u = absurd u
@@ -180,16 +211,29 @@ pub steps_not : (e l g : PlainTermEndpoint) (why : EndpointFault TermStop) → W
 steps_not e l g fault.Unfinished w (goes, some, same) =
     subst (λ (x : PlainTermEndpoint). GoesOn e (Err fault.Unfinished) x) (sym same) (w.frames, w.acts, w.moves, in_order w.acts l w.order, goes, some)
 steps_not e l g (fault.Stopped why) w (inl (stops, same)) = absurd (not_stopped l why w.goes stops)
-steps_not e l g (fault.Stopped (stop.Stream why)) w (inr (is, none, broken_by, stops)) =
+steps_not e l g (fault.Stopped (stop.Stream why)) w (inr (is, (none, broken_by, stops))) =
     let no_acts = none_acted_broken w.acts l (λ whole. none_some why (sym whole ∙ broken_by)) w.order in
     let moves : Moves e w.frames [] l = subst (λ acts. Moves e w.frames acts l) no_acts w.moves in
-    grind (arith, (moves_as e l l w.frames [] moves none refl), moves_stopped)
+    subst (λ (x : PlainTermEndpoint). GoesOn e (Err (fault.Stopped (stop.Stream why))) x) (sym stops) (
+      moves_stopped e l e.waiting [] (stop.Stream why) (moves_as e l l w.frames [] moves none refl),
+      record { waiting = none; unwritten = is.1 },
+      sym w.moves.broken_by ∙ broken_by,
+      refl,
+    )
 steps_not e l g (fault.Stopped (stop.Refused why)) w (inr (is, inl (frame, rest, waits, refused, stops))) =
     let no_acts = none_acted w.acts l frame rest waits w.order in
     let moves : Moves e w.frames [] l = subst (λ acts. Moves e w.frames acts l) no_acts w.moves in
-    grind (arith, moves_stopped)
+    subst (λ (x : PlainTermEndpoint). GoesOn e (Err (fault.Stopped (stop.Refused why))) x) (sym stops)
+    (inl (w.frames, frame, rest, moves_stopped e l w.frames [] (stop.Refused why) moves, waits, refused, is.1, refl))
 steps_not e l g (fault.Stopped (stop.Refused why)) w (inr (is, inr (whole, refused, stops))) =
-    grind (arith, (moves_as e l l w.frames w.acts w.moves whole.0.waiting refl), moves_stopped)
+    subst (λ (x : PlainTermEndpoint). GoesOn e (Err (fault.Stopped (stop.Refused why))) x) (sym stops) (inr (
+      w.acts,
+      moves_stopped e l e.waiting w.acts (stop.Refused why) (moves_as e l l w.frames w.acts w.moves whole.0.waiting refl),
+      record { waiting = whole.0.waiting; unwritten = is.1 },
+      sym w.moves.broken_by ∙ whole.1,
+      refused,
+      refl,
+    ))
 steps_not e l g fault.OutOfMemory w u = absurd u
 steps_not e l g fault.CountFull w u = absurd u
 
@@ -218,7 +262,5 @@ steps_feed n piece answer e k g quiet ((goes, whole), (frames, broken_by, rest, 
     let on : GoesOn e (Ok tt) e = ([], moves_as e e e [] [] (moves_none e) whole.0.waiting refl, whole.0, quiet, whole.1, goes) in
     let begun : k.stop ≡ None = ap (λ (x : PlainTermEndpoint). x.stop) is ∙ goes in
     inr (goes, e, Ok tt, on, inl (k, (frames, broken_by, rest, gives, is), goes_by n answer k k g (went_nowhere k begun) steps))
-
-pub ruleset decided_facts = (acted_told, refused_told)
 
 pub ruleset stepped_facts = (frame_stepped, event_stepped, stream_stepped)

@@ -7,7 +7,7 @@ ghost use Rattle.sam_runes.specs.Checks.{first_of_checks};
 ghost use Rattle.sam_term.specs.Fitting.{FitsLast};
 ghost use Rattle.sam_endpoint.specs.HostEndpoints.{Feeds, Finishes, GoesOn, IsIdle, IsAddFault, new_host_endpoint, add_checks, with_file, writes_of};
 ghost use Rattle.sam_endpoint.specs.HostRuns.{begun_with};
-ghost use Rattle.sam_endpoint.specs.HostSteps.{Brings, Ends, Handles, HandlesNext, TakesEdits, Writes};
+ghost use Rattle.sam_endpoint.specs.HostSteps.{Brings, Ends, Handles, HandlesNext, TakesSo, Writes};
 
 use crate::fault::{AddFault, EndpointFault, FinishFault, HostStop, StreamFault};
 use crate::incoming::{drop_first, feed_framer};
@@ -370,14 +370,14 @@ impl HostEndpoint {
         }
     }
 
-    /// Has the host take edits of one file that wait first, at once. Returns whether it took any; they need no answer, and wait no longer.
-    pub(crate) fn take_edits(&mut self) -> bool
-        ensures took { result ≡ true → TakesEdits self.old self.new }
-        ensures unchanged { result ≡ false → self.new ≡ self.old }
+    /// Has the host take edits of one file that wait first, at once. Returns how many; they need no answer, and wait no longer.
+    pub(crate) fn take_edits(&mut self) -> usize
+        ensures took { 0 < result → TakesSo self.old result self.new }
+        ensures unchanged { result ≡ 0 → self.new ≡ self.old }
     {
         let count = self.host.handle_edits(&self.waiting);
         drop_oldest(&mut self.waiting, count);
-        count > 0
+        count
     }
 
     /// Has the host take what waits first: edits of one file at once, else the oldest message.
@@ -385,7 +385,7 @@ impl HostEndpoint {
         requires { 0 < length self.old.waiting }
         ensures { HandlesNext self.old result self.new }
     {
-        if self.take_edits() {
+        if self.take_edits() > 0 {
             return Ok(());
         }
         self.answer_first()

@@ -81,12 +81,9 @@ impl HostEndpoint {
     {
         let (kind, tag) = name_message(oldest(&self.waiting));
         if let Some(tag) = tag {
-            let before = self.waiting.len();
-            if self.take_edits() {
-                return Ok(HostStep::Edited {
-                    tag,
-                    count: before - self.waiting.len(),
-                });
+            let count = self.take_edits();
+            if count > 0 {
+                return Ok(HostStep::Edited { tag, count });
             }
         }
         self.answer_first()?;

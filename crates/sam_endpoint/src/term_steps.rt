@@ -103,7 +103,7 @@ impl TermEndpoint {
     }
 
     /// Has the oldest held event act, and says what became of it.
-    #[tactic(auto, using(crate::proofs::TermEndpointStepping::decided_facts))]
+    #[tactic(auto, using(crate::proofs::TermEndpointStepping::acted_told))]
     fn decide_step(&mut self) -> Result<TermStep, EndpointFault<TermStop>>
         requires { self.old.unwritten ≡ [] }
         ensures { DecidesStep self.old result self.new }

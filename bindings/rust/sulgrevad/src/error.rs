@@ -124,6 +124,8 @@ pub enum Error {
     Unfinished,
     /// A stream of 2^64 bytes, or 2^64 events.
     CountFull,
+    /// Some of what came before waits, so make steps first; what was brought was not taken.
+    Waiting,
     /// Bytes that are not UTF-8.
     NotText,
     /// A host that was fed takes no more files.
@@ -153,6 +155,7 @@ impl Error {
             sys::SAM_NO_MEMORY => Error::NoMemory,
             sys::SAM_UNFINISHED => Error::Unfinished,
             sys::SAM_COUNT_FULL => Error::CountFull,
+            sys::SAM_WAITING => Error::Waiting,
             sys::SAM_NOT_TEXT => Error::NotText,
             sys::SAM_ADD_BEGUN => Error::Begun,
             sys::SAM_ADD_TOO_LONG => Error::TooLong,
@@ -172,6 +175,7 @@ impl Error {
             Error::NoMemory => sys::SAM_NO_MEMORY,
             Error::Unfinished => sys::SAM_UNFINISHED,
             Error::CountFull => sys::SAM_COUNT_FULL,
+            Error::Waiting => sys::SAM_WAITING,
             Error::NotText => sys::SAM_NOT_TEXT,
             Error::Begun => sys::SAM_ADD_BEGUN,
             Error::TooLong => sys::SAM_ADD_TOO_LONG,
@@ -209,11 +213,12 @@ mod tests {
     use super::*;
 
     /// The numbers of sulgrevad.h, with the errors that they are.
-    const ERRORS: [(u32, Error); 27] = [
+    const ERRORS: [(u32, Error); 28] = [
         (1, Error::NoMemory),
         (2, Error::Unfinished),
         (3, Error::CountFull),
         (6, Error::NotText),
+        (8, Error::Waiting),
         (17, Error::Begun),
         (19, Error::TooLong),
         (20, Error::NoTag),

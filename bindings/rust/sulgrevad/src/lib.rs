@@ -37,11 +37,13 @@
 mod error;
 mod host;
 mod script;
+mod step;
 mod terminal;
 
 pub use error::{Error, HostFault, Refusal, StreamFault, TermFault};
 pub use host::Host;
 pub use script::replay;
+pub use step::{HostStep, TermStep};
 pub use terminal::{Change, Terminal};
 
 use std::ffi::CStr;
