@@ -88,16 +88,18 @@ edits_gone e l k gone took =
 pub took_first : (e g : PlainHostEndpoint) (n : ℕ) (h : PlainHost) → 0 < n → n ≤ length e.waiting → TakesInSilence e.host (take n e.waiting) h
     → g ≡ record e { host = h; waiting = drop n e.waiting } → TakesSo e n g
 took_first e g n h some there taken is =
-    let count : length (take n e.waiting) ≡ n = length-take-le n e.waiting there in
-    (record {
-      messages = take n e.waiting;
-      rest = drop n e.waiting;
-      host = h;
-      some = omega (arith, some, count);
-      waited = sym (take-append-drop n e.waiting);
-      taken = taken;
-      after = is;
-    }, count)
+    let count : length (take n e.waiting) ≡ n = length-take-le n e.waiting there in (
+      record {
+        messages = take n e.waiting;
+        rest = drop n e.waiting;
+        host = h;
+        some = omega (arith, some, count);
+        waited = sym (take-append-drop n e.waiting);
+        taken = taken;
+        after = is;
+      },
+      count,
+    )
 
 -- what waited first was answered
 next_gone : (e l k : PlainHostEndpoint) → HasGone e l → AnswersFirst l k ⊎ TakesEdits l k → (ms : List Tmesg) × Answers e ms k × (k.stop ≡ None)

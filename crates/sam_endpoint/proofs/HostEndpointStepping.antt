@@ -123,4 +123,3 @@ steps_feed n piece answer e k g ((goes, whole), (messages, broken_by, rest, give
     let on : GoesOn e (Ok tt) e = rests e e e (went_nowhere e goes) ((goes, whole), refl) in
     let begun : k.stop ≡ None = ap (λ (x : PlainHostEndpoint). x.stop) is ∙ goes in
     inr (goes, e, Ok tt, on, inl (k, (messages, broken_by, rest, gives, is), goes_by n answer k k g (went_nowhere k begun) steps))
-
