@@ -4,7 +4,9 @@ ghost use Rattle.std.specs.Prelude.{◌≡◌};
 ghost use Rattle.sam_c.specs.Status.{add_status, bring_status, host_finish_status, host_refusal, host_status, host_stop_status, refusal_status, script_status};
 ghost use Rattle.sam_c.specs.Status.{stream_status, term_finish_status, term_refusal, term_status, term_stop_status, truncated};
 
-use sam_endpoint::{AddFault, BringFault, EndpointFault, FinishFault, HostStop, StreamFault, TermStop};
+use sam_endpoint::{
+    AddFault, BringFault, EndpointFault, FinishFault, HostStop, StreamFault, TermStop,
+};
 use sam_frame::FeedFault;
 use sam_host::HostFault;
 use sam_script::ScriptFault;

@@ -1,17 +1,14 @@
 -- Single steps of a host end: what each answers, and where they lead.
-use Rattle.sam_endpoint.proofs.Common.{◌≡◌, ◌⊎◌, ◌<◌, ◌+◌, length, length-append, refl, sym, ap, subst, ◌∙◌, ℕ, List, [], ◌∷◌, ◌++◌, Option, None, Some, Result, Ok, Err, inl, inr, append_assoc, append-nil, arith, Tmesg, HFrame, host, stream_of, HostStop, EndpointFault, PlainHostEndpoint, Answers, Feeds, GoesOn, TakesIn, Answer, AnswersFirst}
-use Rattle.std.specs.Prelude.{zero, suc, ◌≢◌, ◌-◌, drop, option_and_then, slice_get}
+use Rattle.sam_endpoint.proofs.Common.{◌≡◌, refl, sym, ap, subst, ◌∙◌, ℕ, List, [], ◌∷◌, ◌++◌, Option, None, Some, Result, Ok, Err, inl, inr, append-nil, arith, Tmesg, HostStop, EndpointFault, PlainHostEndpoint, Answers, GoesOn, Answer, AnswersFirst}
+use Rattle.std.specs.Prelude.{zero, suc, drop, option_and_then, slice_get}
 use Rattle.sam_mesg.specs.TerminalKinds.{kind_t}
 use Rattle.sam_endpoint.specs.Naming.{file_of_t}
 use Rattle.sam_endpoint.specs.declared.fault.HostStop.TheVariants as stop
 use Rattle.sam_endpoint.specs.declared.fault.EndpointFault.TheVariants as fault
-use Rattle.sam_endpoint.specs.declared.step.BringFault.{BringFault}
-use Rattle.sam_endpoint.specs.declared.step.BringFault.TheVariants as bring
 use Rattle.sam_endpoint.specs.declared.step.HostStep.{HostStep}
 use Rattle.sam_endpoint.specs.declared.step.HostStep.TheVariants.{Idle, Wrote, Edited, Answered}
-use Rattle.sam_endpoint.specs.HostEndpoints.{IsIdle}
 use Rattle.sam_endpoint.specs.HostSteps.{Brings, TakesSo, written}
-use Rattle.sam_endpoint.specs.HostStepping.{AnsweredFirst, BringsIn, GoesBySteps, HostStepsFeed, IsReady, IsWritten, Steps, StepsWaiting, StopsBy, TookEdits}
+use Rattle.sam_endpoint.specs.HostStepping.{AnsweredFirst, BringsIn, GoesBySteps, HostStepsFeed, IsReady, IsWritten, Steps, StepsWaiting, TookEdits}
 use Rattle.sam_endpoint.specs.Streams.{bring_fault}
 use Rattle.sam_endpoint.proofs.HostEndpointGoing.{answers_then, next_done}
 

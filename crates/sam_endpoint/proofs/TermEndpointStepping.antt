@@ -1,13 +1,11 @@
 -- Single steps of a terminal end: what each answers, and where they lead.
-use Rattle.sam_endpoint.proofs.Common.{◌≡◌, ◌⊎◌, ◌<◌, ◌+◌, length, length-append, refl, sym, ap, subst, ◌∙◌, ℕ, List, [], ◌∷◌, ◌++◌, Bool, true, false, drop, Option, None, Some, Result, Ok, Err, inl, inr, append-nil, arith, HFrame, StreamFault, TermStop, EndpointFault, PlainTerminal, Acted, PlainTermEndpoint, IsQuiet, Moves, oldest, ActsFirst, Gains, ReceivesFirst, written}
+use Rattle.sam_endpoint.proofs.Common.{◌≡◌, ◌+◌, length, length-append, refl, sym, ap, subst, ◌∙◌, ℕ, List, [], ◌∷◌, ◌++◌, Bool, true, false, drop, Option, None, Some, Result, Ok, Err, inl, inr, append-nil, arith, HFrame, StreamFault, TermStop, EndpointFault, PlainTerminal, Acted, PlainTermEndpoint, Moves, oldest, ActsFirst, Gains, ReceivesFirst, written}
 use Rattle.std.specs.Prelude.{zero, suc, option_and_then, slice_get}
 use Rattle.sam_endpoint.specs.declared.fault.TermStop.TheVariants as stop
 use Rattle.sam_endpoint.specs.declared.fault.EndpointFault.TheVariants as fault
-use Rattle.sam_endpoint.specs.declared.step.BringFault.{BringFault}
-use Rattle.sam_endpoint.specs.declared.step.BringFault.TheVariants as bring
 use Rattle.sam_endpoint.specs.declared.step.TermStep.{TermStep}
 use Rattle.sam_endpoint.specs.declared.step.TermStep.TheVariants as step
-use Rattle.sam_endpoint.specs.TermEndpoints.{Feeds, GoesOn, InOrder, decided}
+use Rattle.sam_endpoint.specs.TermEndpoints.{GoesOn, InOrder, decided}
 use Rattle.sam_endpoint.specs.TermSteps.{Answer, Decides, Ends, Receives}
 use Rattle.sam_endpoint.specs.Changes.{change_between, change_by, frame_touch, oldest_touch, touched_len}
 use Rattle.sam_endpoint.specs.Naming.{file_of_h}

@@ -10,7 +10,7 @@ use sam_mesg::{Hmesg, Tmesg};
 use sam_term::{Terminal, UserEvent};
 
 /// Returns the number of a message's kind, and the file that it names, if it names one.
-pub(crate) fn name_message(message: &Tmesg) -> (u8, Option<u16>)
+pub fn name_message(message: &Tmesg) -> (u8, Option<u16>)
     ensures { result ≡ (kind_t message.now, file_of_t message.now) }
 {
     match message {
