@@ -84,14 +84,25 @@ mouse_row : ReadsAs IsSaidBy (codes "m", λ bytes. event_at bytes >>= λ e. Some
 mouse_row bytes it u h = grind (arith, event_says)
 
 bare_rows : AllByRecursion (ReadsAs IsSaidBy) bare_readers
-bare_rows =
-    (bare_row Act (codes "act") (λ bytes e. ap (λ xs. codes "act" ++ xs) e),
-    (bare_row Flush (codes "flush") (λ bytes e. ap (λ xs. codes "flush" ++ xs) e),
-    (bare_row Host (codes "host") (λ bytes e. ap (λ xs. codes "host" ++ xs) e),
-    (bare_row Term (codes "term") (λ bytes e. ap (λ xs. codes "term" ++ xs) e),
-    (bare_row Drain (codes "drain") (λ bytes e. ap (λ xs. codes "drain" ++ xs) e),
-    (bare_row Show (codes "show") (λ bytes e. ap (λ xs. codes "show" ++ xs) e),
-    tt))))))
+bare_rows = (
+  bare_row Act (codes "act") (λ bytes e. ap (λ xs. codes "act" ++ xs) e),
+  (
+    bare_row Flush (codes "flush") (λ bytes e. ap (λ xs. codes "flush" ++ xs) e),
+    (
+      bare_row Host (codes "host") (λ bytes e. ap (λ xs. codes "host" ++ xs) e),
+      (
+        bare_row Term (codes "term") (λ bytes e. ap (λ xs. codes "term" ++ xs) e),
+        (
+          bare_row Drain (codes "drain") (λ bytes e. ap (λ xs. codes "drain" ++ xs) e),
+          (
+            bare_row Show (codes "show") (λ bytes e. ap (λ xs. codes "show" ++ xs) e),
+            tt,
+          ),
+        ),
+      ),
+    ),
+  ),
+)
 
 line_readers_say : AllByRecursion (ReadsAs IsSaidBy) line_readers
 line_readers_say = (file_row, (add_row, (key_row, (mouse_row, bare_rows))))

@@ -52,12 +52,7 @@ fn push_files(out: &mut String, files: &[(Runes, Runes)]) -> Result<(), AllocErr
 
 /// Appends the line of a file after this word and its space. Its name needs no escapes, since a script's names have no spaces and no
 /// newlines.
-fn push_file(
-    out: &mut String,
-    word: &str,
-    name: &[char],
-    text: &[char],
-) -> Result<(), AllocError>
+fn push_file(out: &mut String, word: &str, name: &[char], text: &[char]) -> Result<(), AllocError>
     ensures { OnOk result (string_bytes out.new ≡ string_bytes out.old ++ named_line word.now (name.now, text.now)) }
 {
     push(out, word)?;

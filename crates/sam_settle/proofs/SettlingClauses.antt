@@ -4,7 +4,8 @@ use Rattle.std.proofs.lemmas.Grind.{flat_map-append}
 use Rattle.std.proofs.lemmas.List.Elements.{All-nil}
 use Rattle.sam_host.specs.declared.fault.HostFault.TheVariants as refusal
 use Rattle.sam_world.specs.Given.{IsFile}
-use Rattle.sam_crossing.specs.World.{is_quiet, user_events}
+use Rattle.sam_crossing.specs.World.{is_quiet, user_events, joined_files}
+use Rattle.sam_world.proofs.Runs.{files_then}
 use Rattle.sam_local.specs.Worlds.{IsAsIfLocal}
 use Rattle.sam_local.proofs.Runs.{runs_are_as_if_local, rests}
 use Rattle.sam_queue.proofs.Sorts.{items_of-append}
@@ -21,6 +22,11 @@ use Rattle.std.proofs.lemmas.List.Sums.{sum_by-cons}
 given_of_files : (files : List (List ℕ × List ℕ)) → Each IsFile files → AreGiven files
 given_of_files [] a = tt
 given_of_files (f ∷ fs) a = (a.0.1, a.0.2, given_of_files fs a.1)
+
+-- where two lists one after the other are empty, the first is
+first_none : {X : Type 0} (xs ys : List X) → xs ++ ys ≡ [] → xs ≡ []
+first_none [] ys e = refl
+first_none (x ∷ xs) ys e = absurd (grind (arith, e))
 
 pub stop_none : (o : Option Stop) → as_list o ≡ [] → o ≡ None
 stop_none o e = grind arith
@@ -265,6 +271,13 @@ module _ (e : Ends) (ends : AreEnds e) (given : LinesGive e) where
 
     pub states : (s.world.host ≡ e.host.host) × (s.world.term ≡ e.term.term)
     states = grind (arith, joined, world_is)
+
+    -- no file joins in the schedule
+    none_joins : joined_files s.schedule.items ≡ []
+    none_joins = grind (arith, joined)
+
+    none_in : (done more : List Event) → s.schedule.items ≡ done ++ more → joined_files done ≡ []
+    none_in done more parts = first_none (joined_files done) (joined_files more) (sym (files_then done more) ∙ ap joined_files (sym parts) ∙ none_joins)
 
     pub headline : Headline e s
     headline = record {
