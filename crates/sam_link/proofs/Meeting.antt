@@ -280,12 +280,12 @@ module _ (id : Id) (s : Session) (x : Holds id s) (next : End) where
   feed_host : (attempt : ℕ) (piece : List ℕ) (answer : Result (Unit {0}) FeedFault) → Feeds s.host attempt piece answer next
       → StartsWith (drop 42 (out attempt s.terminal_calls)) (fed attempt s.host_calls ++ piece) → FindsNoFault (Feed attempt piece answer)
   feed_host attempt piece (Err (feeds.Wrong fault)) (new, len, may, front, shows, is) carried =
-      let opened = both _ (attempt == s.host.attempt) may.0 in
+      let opened : (is_open s.host.phase ≡ true) × ((attempt == s.host.attempt) ≡ true) = both (is_open s.host.phase) (attempt == s.host.attempt) may.0 in
       let here : attempt ≡ s.host.attempt = grind (arith, opened.1) in
       not_wrong s.host s.terminal s.host_calls s.terminal_calls x.down_put x.up_taken x.up_put x.down_taken new piece len (mesg_fault fault) x.own_h x.own_t
       (host.came_front id t h piece sound_h x.joint (subst (λ n. StartsWith (drop 42 (out n s.terminal_calls)) (fed n s.host_calls ++ piece)) here carried)) front shows
   feed_host attempt piece (Err feeds.AckAhead) (new, len, may, front, ahead, is) carried =
-      let opened = both _ (attempt == s.host.attempt) may.0 in
+      let opened : (is_open s.host.phase ≡ true) × ((attempt == s.host.attempt) ≡ true) = both (is_open s.host.phase) (attempt == s.host.attempt) may.0 in
       let here : attempt ≡ s.host.attempt = grind (arith, opened.1) in
       not_ahead s.host s.terminal s.host_calls s.terminal_calls x.down_put x.up_taken x.up_put x.down_taken new piece len x.own_h x.own_t
       (host.came_front id t h piece sound_h x.joint (subst (λ n. StartsWith (drop 42 (out n s.terminal_calls)) (fed n s.host_calls ++ piece)) here carried)) front
@@ -333,12 +333,12 @@ module _ (id : Id) (s : Session) (x : Holds id s) (next : End) where
   feed_term : (attempt : ℕ) (piece : List ℕ) (answer : Result (Unit {0}) FeedFault) → Feeds s.terminal attempt piece answer next
       → StartsWith (drop 42 (out attempt s.host_calls)) (fed attempt s.terminal_calls ++ piece) → FindsNoFault (Feed attempt piece answer)
   feed_term attempt piece (Err (feeds.Wrong fault)) (new, len, may, front, shows, is) carried =
-      let opened = both _ (attempt == s.terminal.attempt) may.0 in
+      let opened : (is_open s.terminal.phase ≡ true) × ((attempt == s.terminal.attempt) ≡ true) = both (is_open s.terminal.phase) (attempt == s.terminal.attempt) may.0 in
       let here : attempt ≡ s.terminal.attempt = grind (arith, opened.1) in
       not_wrong s.terminal s.host s.terminal_calls s.host_calls x.up_put x.down_taken x.down_put x.up_taken new piece len (mesg_fault fault) x.own_t x.own_h
       (terminal.came_front id t h piece sound_t x.joint opened.0 (subst (λ n. StartsWith (drop 42 (out n s.host_calls)) (fed n s.terminal_calls ++ piece)) here carried)) front shows
   feed_term attempt piece (Err feeds.AckAhead) (new, len, may, front, ahead, is) carried =
-      let opened = both _ (attempt == s.terminal.attempt) may.0 in
+      let opened : (is_open s.terminal.phase ≡ true) × ((attempt == s.terminal.attempt) ≡ true) = both (is_open s.terminal.phase) (attempt == s.terminal.attempt) may.0 in
       let here : attempt ≡ s.terminal.attempt = grind (arith, opened.1) in
       not_ahead s.terminal s.host s.terminal_calls s.host_calls x.up_put x.down_taken x.down_put x.up_taken new piece len x.own_t x.own_h
       (terminal.came_front id t h piece sound_t x.joint opened.0 (subst (λ n. StartsWith (drop 42 (out n s.host_calls)) (fed n s.terminal_calls ++ piece)) here carried)) front

@@ -17,17 +17,18 @@ use Rattle.sam_link.specs.declared.keeping.PutFault.{PutFault}
 use Rattle.sam_link.specs.declared.packet.Packet.{Packet}
 use Rattle.sam_link.specs.declared.packet.Packet.TheVariants as packet
 
+-- what was given, and what came of it
 pub data Call : Type 0 where
-  Dial : Bool → Result ℕ CallFault → Call  -- the terminal called
-  Answer : Hello → Result (Unit {0}) AnswerFault → Call
-  Welcome : Hello → Result (Unit {0}) WelcomeFault → Call
-  Break : ℕ → Call  -- this connection is over
+  Dial : Bool → Result ℕ CallFault → Call  -- `call`: the terminal makes another connection
+  Answer : Hello → Result (Unit {0}) AnswerFault → Call  -- `answer`: the host takes a connection by its hello
+  Welcome : Hello → Result (Unit {0}) WelcomeFault → Call  -- `welcomed`: the terminal takes the host's hello
+  Break : ℕ → Call  -- `broken`: this connection is over
   Put : List ℕ → Result (Unit {0}) PutFault → Call
   PutNote : List ℕ → Result (Unit {0}) NoteFault → Call
   Ask : Result (Unit {0}) PutFault → Call
   Acknowledge : Result (Unit {0}) PutFault → Call
-  TakeOut : ℕ → List ℕ → Result ℕ NotOpen → List ℕ → Call  -- of this connection, into these bytes, which then were those
-  Feed : ℕ → List ℕ → Result (Unit {0}) FeedFault → Call  -- of this connection, this piece
+  TakeOut : ℕ → List ℕ → Result ℕ NotOpen → List ℕ → Call  -- of this connection into these bytes, which then were those
+  Feed : ℕ → List ℕ → Result (Unit {0}) FeedFault → Call  -- this connection brought this piece
   TakeIn : List ℕ → ℕ → List ℕ → Call  -- into these bytes so many came, and then they were those
   NextNote : Option (List ℕ) → Call
 

@@ -15,6 +15,7 @@ mod link;
 mod packet;
 mod phase;
 mod reading;
+mod steps;
 mod writing;
 
 pub use fault::{AnswerFault, CallFault, FeedFault, NotOpen, NoteFault, WelcomeFault};

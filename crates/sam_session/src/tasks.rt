@@ -4,9 +4,10 @@ ghost use Rattle.sam_ends.specs.Tasks.{AreReady};
 ghost use Rattle.sam_script.specs.Script.{keys_of, mouse_of, without_lines};
 
 use crate::users::{Users, copied_users, room_for, users_of};
-use sam_ends::{Lines, Starts, Tasks};
+use sam_ends::{Lines, Starts, Tasks, UserTask};
 use sam_script::Script;
 use sam_tasks::idle_tasks;
+use sam_term::event::UserEvent;
 use std::alloc::{AllocError, Global};
 
 /// Makes the tasks of a session: the ends of the lines, and copies of what the script says that each worker does. `starts` came with
@@ -52,7 +53,7 @@ pub(crate) fn moved_tasks<'q>(
 }
 
 /// Gives keyboard and mouse what the user does.
-fn with_users<'q>(mut tasks: Tasks<'q>, users: Users) -> Tasks<'q>
+fn with_users<'q>(tasks: Tasks<'q>, users: Users) -> Tasks<'q>
     requires idle { AreReady tasks.lines.now tasks }
     ensures lines { result.lines.now ≡ tasks.entry.lines.now }
     ensures ready { AreReady tasks.entry.lines.now result }
@@ -60,7 +61,40 @@ fn with_users<'q>(mut tasks: Tasks<'q>, users: Users) -> Tasks<'q>
     ensures clicks { result.mouse.events.items ≡ users.clicks.items }
     ensures files { result.host.files.items ≡ tasks.entry.host.files.items }
 {
-    tasks.keyboard.events = users.keys;
-    tasks.mouse.events = users.clicks;
-    tasks
+    let Tasks {
+        lines,
+        keyboard,
+        mouse,
+        host,
+        reader,
+        term,
+    } = tasks;
+    Tasks {
+        lines,
+        keyboard: with_events(keyboard, users.keys),
+        mouse: with_events(mouse, users.clicks),
+        host,
+        reader,
+        term,
+    }
+}
+
+/// Gives a worker these events, in place of those that it had.
+fn with_events<'q>(task: UserTask<'q>, events: Vec<UserEvent>) -> UserTask<'q>
+    ensures worker { result.worker ≡ task.entry.worker }
+    ensures post { result.post ≡ task.entry.post }
+    ensures events { result.events.items ≡ events.items }
+{
+    let UserTask {
+        worker,
+        post,
+        events: _,
+        held,
+    } = task;
+    UserTask {
+        worker,
+        post,
+        events,
+        held,
+    }
 }
