@@ -75,13 +75,13 @@ static void step_host(void)
         bool is_edit = did.step == SAM_STEP_EDITED || (did.step == SAM_STEP_ANSWERED && (did.kind == 8 || did.kind == 9) && did.tag != 0);
         if (is_edit)
             edits += did.count;
-        else if (did.step == SAM_STEP_ANSWERED)
+        else if (did.step == SAM_STEP_ANSWERED) {
             printf("after %lu edits the host answered %d of %d\n", (unsigned long)edits, did.kind, did.tag);
-        else
+            edits = 0;
+        } else
             WANT(did.step, SAM_STEP_WROTE);
     }
-    if (edits > 0)
-        printf("%lu edits\n", (unsigned long)edits);
+    WANT(edits, 0); /* another message came after all of them */
 }
 
 static void step_term(void)
