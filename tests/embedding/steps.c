@@ -136,11 +136,9 @@ int main(void)
     PUT(sam_term_cut(&term, 7)); /* there is no such file */
     PUT(sam_term_write(&term, one));
     PUT(sam_term_close(&term, two));
+    PUT(sam_term_exit(&term));
     carry_steps();
     same_text(&host, one, "Oh, hello you\n");
-    PUT(sam_term_exit(&term));
-    step_term();
-    carry_steps();
     WANT(sam_host_is_done(&host, &is_done), SAM_OK);
     printf("%s\n", is_done ? "the session is over" : "the session goes on");
     WANT(sam_host_free(&host), SAM_OK);
