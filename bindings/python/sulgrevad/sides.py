@@ -40,12 +40,12 @@ class Change(NamedTuple):
 
 class HostDid(NamedTuple):
     """What a step of a host did: `kind` is that of the message of an ANSWERED step, by the numbers of docs/PROTOCOL.md, `tag` the file of
-    an EDITED or ANSWERED one, or 0, and `count` how many messages the host took."""
+    an EDITED or ANSWERED one, or 0, and `messages` how many the host took."""
 
     step: Step
     kind: int = 0
     tag: int = 0
-    count: int = 0
+    messages: int = 0
 
 
 class TerminalDid(NamedTuple):
