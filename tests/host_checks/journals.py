@@ -73,7 +73,8 @@ def check_journal_knows_copies(folder):
         session.settle()
         copies = ["a.txt.sam-saved", "cut.sam-saved"]
         wait_until(lambda: [name for name in names_in(folder) if "sam-" in name] == copies, "no copies are there")
-        time.sleep(0.5)  # they are noted after both are there
+        journal = home_of(folder, session.name) / "journal"
+        wait_until(lambda: {10, 11} <= {kind for _, kind in records_of(journal.read_bytes())[0]}, "they are not in the journal")
         kill(folder, session)
         session.type("three\n")
         wait_until(lambda: text_of(folder / "a.txt.sam-saved") == "two\nthree\n", "the copy isn't replaced")
