@@ -98,7 +98,7 @@ enum sam_status {
     SAM_NONE = 7,       /* there is no such file, or nothing more to hand out */
 
     SAM_ADD = 16, /* sam_host_add_file refused a file, and the host is as it was */
-    SAM_ADD_BEGUN = SAM_ADD + 1,
+    /* SAM_ADD + 1 was SAM_ADD_BEGUN, of a host that was fed already: it is not given again */
     SAM_ADD_TOO_LONG = SAM_ADD + 3,
     SAM_ADD_NO_TAG = SAM_ADD + 4,
 
@@ -203,9 +203,11 @@ SAM_MUST_USE sam_status sam_host_new(sam_host *host);
 /* Frees a host, with what was pending. SAM_NO_HANDLE if it is empty or NULL. */
 sam_status sam_host_free(sam_host *host);
 
-/* Adds a file, clean and closed, and hands out its tag: 1 for the first, and so on. Refused, in this order: SAM_NO_HANDLE;
- * SAM_ADD_BEGUN after the first feed, even of no bytes; SAM_NOT_TEXT; SAM_ADD_TOO_LONG for a name above 64 runes or a text above
- * 1,000,000; SAM_ADD_NO_TAG after 65,535 files; SAM_NO_MEMORY. The host is then as it was. */
+/* Adds a file, clean and closed, and hands out its tag: 1 for the first, and so on. It may be called at any time, also on a host that
+ * has stopped. No byte becomes pending: the answer to the terminal's next Tversion has the name. Messages that wait, as after
+ * SAM_UNFINISHED, are answered after the file has joined. Refused, in this order: SAM_NO_HANDLE; SAM_NOT_TEXT; SAM_ADD_TOO_LONG for
+ * a name above 64 runes or a text above 1,000,000; SAM_ADD_NO_TAG after 65,535 files, new ones of the terminal counted;
+ * SAM_NO_MEMORY. The host is then as it was. */
 SAM_MUST_USE sam_status sam_host_add_file(sam_host *host, const uint8_t *name, size_t name_len, const uint8_t *text, size_t text_len,
                                           uint16_t *tag);
 
@@ -415,7 +417,7 @@ SAM_MUST_USE sam_status sam_term_send(sam_term *term, uint16_t tag);
 /* ---- Events: the session ---- */
 
 /* Offers a version of the protocol, and asks for all names. Before it the terminal knows none of the host's files, and refuses each event
- * on one; events after it wait for the answer. */
+ * on one; events after it wait for the answer. Offer it again to learn of files that joined the host since. */
 SAM_MUST_USE sam_status sam_term_offer_version(sam_term *term, uint16_t version);
 
 /* Ends the session. */

@@ -15,7 +15,6 @@ export declare const Status: {
   readonly MADE: 5;
   readonly NOT_TEXT: 6;
   readonly NONE: 7;
-  readonly ADD_BEGUN: 17;
   readonly ADD_TOO_LONG: 19;
   readonly ADD_NO_TAG: 20;
   readonly BAD_KIND: 33;
@@ -145,8 +144,9 @@ declare class Side {
 
 /** The side that holds whole texts and runs commands. It begins with the command file alone, whose tag is 0. */
 export declare class Host extends Side {
-  /** Adds a file, clean and closed, and returns its tag. Throws, in this order: AddRefused after the first feed; NotText; AddRefused for a
-   * name above 64 runes or a text above 1,000,000, and if no tag is left; NoMemory. The host is then as it was. */
+  /** Adds a file, clean and closed, and returns its tag. It may be called at any time: the answer to the terminal's next Tversion has the
+   * name. Throws, in this order: NotText; AddRefused for a name above 64 runes or a text above 1,000,000, and if no tag is left; NoMemory.
+   * The host is then as it was. */
   addFile(name: Text, text?: Text): number;
   /** The tag of a file that the terminal asked the host to write: write `saved` of it now. Each Twrite gives its tag once, in order; null
    * if there is none left. */
@@ -217,7 +217,8 @@ export declare class Terminal extends Side {
   getSnarf(): void;
   /** Gives the host another snarf buffer: at most 4,096 bytes, 32,000 in version 2. Throws NotText, too. */
   setSnarf(text: Text): void;
-  /** Offers a version of the protocol, and asks for the names of all files. Before it the terminal knows none of them. */
+  /** Offers a version of the protocol, and asks for the names of all files. Before it the terminal knows none of them. Offer it again to
+   * learn of files that joined the host since. */
   offerVersion(version: number): void;
   /** Sends the typed runes, once the events before this one have acted. */
   flush(): void;

@@ -8,7 +8,7 @@ from typing import Any, Dict, Tuple, Union
 # What is taken as a text: its characters, or its UTF-8.
 Text = Union[str, bytes, bytearray, memoryview]
 
-SONAME = "libsulgrevad.so.0"
+SONAME = "libsulgrevad.so.0.1"
 VERSION = (0, 1)  # major and minor number of the library that this package is for
 
 # A text is read in pieces of so many bytes, and a replay is given so much room first.

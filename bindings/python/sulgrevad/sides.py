@@ -210,9 +210,9 @@ class Host(_Side):
     _prefix = "sam_host"
 
     def add_file(self, name: Text, text: Text = "") -> int:
-        """Adds a file, clean and closed, and returns its tag: 1 for the first, and so on. Raises, in this order: AddRefused after the
-        first feed, even of no bytes; NotText; AddRefused for a name above 64 runes or a text above 1,000,000, and if no tag is left;
-        NoMemory. The host is then as it was."""
+        """Adds a file, clean and closed, and returns its tag: 1 for the first, and so on. It may be called at any time: the answer to
+        the terminal's next Tversion has the name. Raises, in this order: NotText; AddRefused for a name above 64 runes or a text above
+        1,000,000, and if no tag is left; NoMemory. The host is then as it was."""
         name, text = bytes_of(name), bytes_of(text)
         return self._number("add_file", c_uint16, name, len(name), text, len(text))
 
@@ -397,7 +397,8 @@ class Terminal(_Side):
 
     def offer_version(self, version: int) -> None:
         """Offers a version of the protocol, and asks for the names of all files. Before it the terminal knows none of them, and refuses
-        each event on one; events after it wait for the answer. Version 2 allows longer snarfed texts."""
+        each event on one; events after it wait for the answer. Offer it again to learn of files that joined the host since. Version 2
+        allows longer snarfed texts."""
         self._call("offer_version", version)
 
     def flush(self) -> None:

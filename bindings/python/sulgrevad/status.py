@@ -17,7 +17,6 @@ class Status(enum.IntEnum):
     MADE = 5
     NOT_TEXT = 6
     NONE = 7
-    ADD_BEGUN = 17
     ADD_TOO_LONG = 19
     ADD_NO_TAG = 20
     BAD_KIND = 33

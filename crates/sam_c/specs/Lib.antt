@@ -8,3 +8,4 @@ pub mod Scripts
 pub mod Measures
 pub mod LinkStatus
 pub mod Links
+pub mod Walking

@@ -9,6 +9,7 @@ mod host_readers;
 mod link_calls;
 mod link_status;
 mod measures;
+mod members;
 mod parts;
 mod scripts;
 mod status;

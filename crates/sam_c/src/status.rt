@@ -61,7 +61,7 @@ pub(crate) fn add_status(why: AddFault) -> u32
     match why {
         AddFault::NotText => NOT_TEXT,
         AddFault::OutOfMemory => NO_MEMORY,
-        AddFault::Begun | AddFault::TooLong | AddFault::NoTag => ADD + why as u32,
+        AddFault::TooLong | AddFault::NoTag => ADD + why as u32,
     }
 }
 

@@ -28,10 +28,10 @@ use Rattle.sam_rest.specs.Rest.{HasRoom, IsDone}
 
 -- ## What is joined
 
--- A host endpoint that began with these files took in the bytes `came_up` and handed out `went_down`. A terminal endpoint, at which the
--- user did all of `said`, took in `came_down` and handed out `went_up`. All that the terminal endpoint handed out, or has pending, is what
--- the host endpoint took in, and then what is on its way up; and likewise down. What is pending is counted, since a program may show it to
--- the other endpoint before it takes it out
+-- A host endpoint that had these files when it answered its first message, and which no file joined later, took in the bytes `came_up`
+-- and handed out `went_down`. A terminal endpoint, at which the user did all of `said`, took in `came_down` and handed out `went_up`. All
+-- that the terminal endpoint handed out, or has pending, is what the host endpoint took in, and then what is on its way up; and likewise
+-- down. What is pending is counted, since a program may show it to the other endpoint before it takes it out
 pub record AreCarried (given : List (List ℕ × List ℕ)) (said : List UserEvent) (up down : List ℕ)
     (e : PlainHostEndpoint) (g : PlainTermEndpoint) : Type 0 where
   pub came_up : List ℕ
@@ -41,7 +41,7 @@ pub record AreCarried (given : List (List ℕ × List ℕ)) (said : List UserEve
   pub written : List ℕ
   pub refused : List (ℕ × Refusal)
   pub given_fit : AreGiven given
-  pub served : HasServed (new_host given) came_up went_down written e
+  pub served : HasServed (new_host given) came_up went_down written [] e
   pub did : HasDone came_down said went_up refused g
   pub upwards : went_up ++ g.pending_bytes ≡ came_up ++ up
   pub downwards : went_down ++ e.pending_bytes ≡ came_down ++ down

@@ -15,7 +15,6 @@ pub const SAM_NO_HANDLE: sam_status = 4;
 pub const SAM_MADE: sam_status = 5;
 pub const SAM_NOT_TEXT: sam_status = 6;
 pub const SAM_NONE: sam_status = 7;
-pub const SAM_ADD_BEGUN: sam_status = 17;
 pub const SAM_ADD_TOO_LONG: sam_status = 19;
 pub const SAM_ADD_NO_TAG: sam_status = 20;
 pub const SAM_BAD_KIND: sam_status = 33;

@@ -158,8 +158,6 @@ pub enum Error {
     CountFull,
     /// Bytes that are not UTF-8.
     NotText,
-    /// A host that was fed takes no more files.
-    Begun,
     /// A name above 64 runes, or a text above 1,000,000.
     TooLong,
     /// All 65,536 tags were given.
@@ -188,7 +186,6 @@ impl Error {
             sys::SAM_UNFINISHED => Error::Unfinished,
             sys::SAM_COUNT_FULL => Error::CountFull,
             sys::SAM_NOT_TEXT => Error::NotText,
-            sys::SAM_ADD_BEGUN => Error::Begun,
             sys::SAM_ADD_TOO_LONG => Error::TooLong,
             sys::SAM_ADD_NO_TAG => Error::NoTag,
             sys::SAM_SCRIPT_COUNT_FULL => Error::ScriptCountFull,
@@ -208,7 +205,6 @@ impl Error {
             Error::Unfinished => sys::SAM_UNFINISHED,
             Error::CountFull => sys::SAM_COUNT_FULL,
             Error::NotText => sys::SAM_NOT_TEXT,
-            Error::Begun => sys::SAM_ADD_BEGUN,
             Error::TooLong => sys::SAM_ADD_TOO_LONG,
             Error::NoTag => sys::SAM_ADD_NO_TAG,
             Error::Stream(why) => why.status(),
@@ -245,12 +241,11 @@ mod tests {
     use super::*;
 
     /// The numbers of sulgrevad.h, with the errors that they are.
-    const ERRORS: [(u32, Error); 40] = [
+    const ERRORS: [(u32, Error); 39] = [
         (1, Error::NoMemory),
         (2, Error::Unfinished),
         (3, Error::CountFull),
         (6, Error::NotText),
-        (17, Error::Begun),
         (19, Error::TooLong),
         (20, Error::NoTag),
         (33, Error::Stream(StreamFault::BadKind)),
