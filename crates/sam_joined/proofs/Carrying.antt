@@ -22,7 +22,7 @@ use Rattle.std.proofs.Common.{option_map}
 use Rattle.sam_crossing.proofs.OrderLaws.{reached_in_order, quiet_means_agreement}
 use Rattle.sam_crossing.specs.RunOrder.{IsInOrder}
 use Rattle.sam_crossing.specs.World.{PlainWorld, WasReached, is_locked, is_quiet, step_of}
-use Rattle.sam_crossing.specs.declared.event.Event.TheVariants.{User, Act, Flush, HostTake, TermTake}
+use Rattle.sam_crossing.specs.declared.event.Event.TheVariants.{User, Add, Act, Flush, HostTake, TermTake}
 use Rattle.sam_local.proofs.Runs.{runs_are_as_if_local}
 use Rattle.sam_local.specs.Local.{PlainEditor, at_rest, carried_all}
 use Rattle.sam_local.specs.Worlds.{IsAsIfLocal, ShowsFile}
@@ -74,6 +74,7 @@ flush_keeps w next none s = grind (arith, same_Some, (nothing-flushed w none))
 
 stuck_both : (e : PlainHostEndpoint) (g : PlainTermEndpoint) → g.term.unsent ≡ None → IsQuiet g.term → IsStuck (both e g)
 stuck_both e g none quiet (User event) next a = absurd (true≢false a.own)
+stuck_both e g none quiet (Add name text) next a = absurd (true≢false a.own)
 stuck_both e g none quiet Act next a = a.changes (act_keeps (both e g) next quiet a.stepped)
 stuck_both e g none quiet Flush next a = a.changes (flush_keeps (both e g) next none a.stepped)
 stuck_both e g none quiet HostTake next a = absurd (grind (arith, a.stepped))
@@ -94,7 +95,7 @@ module _ (given : List (List ℕ × List ℕ)) (said : List UserEvent) (up down 
   in_order = reached_in_order given run.world c.given_fit (run.events, run.run)
 
   local : IsAsIfLocal given said run.world
-  local = subst (λ (events : List UserEvent). IsAsIfLocal given events run.world) run.users (runs_are_as_if_local given run.events run.world c.given_fit run.run)
+  local = subst (λ (events : List UserEvent). IsAsIfLocal given events run.world) run.users (runs_are_as_if_local given run.events run.world c.given_fit run.run run.none_join)
 
   -- ## All is carried
 

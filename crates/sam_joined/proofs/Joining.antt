@@ -112,6 +112,7 @@ module _ (given : List (List ℕ × List ℕ)) (said : List UserEvent) (up down 
     world = joined.world;
     run = joined.run;
     users = joined.users_are ∙ (users_logged c.did.steps ∙ c.did.given);
+    none_join = joined.none_join;
     host_is = joined.host_is;
     term_is = joined.term_is;
     upwards = rest_of terminal c.did.composed handled joined.world.up rest_up joined.upwards up_is;

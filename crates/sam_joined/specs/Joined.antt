@@ -20,7 +20,7 @@ use Rattle.sam_endpoint.specs.declared.fault.HostStop.TheVariants as host_stop
 use Rattle.sam_endpoint.specs.declared.fault.TermStop.{TermStop}
 use Rattle.sam_endpoint.specs.declared.fault.TermStop.TheVariants as term_stop
 use Rattle.sam_sides.specs.Sides.{Each}
-use Rattle.sam_crossing.specs.World.{PlainWorld, SidesAgree, is_locked, new_world, run_of, user_events}
+use Rattle.sam_crossing.specs.World.{PlainWorld, SidesAgree, is_locked, new_world, run_of, user_events, joined_files}
 use Rattle.sam_crossing.specs.declared.event.Event.{Event}
 use Rattle.sam_local.specs.Local.{at_rest, carried_all}
 use Rattle.sam_local.specs.Worlds.{ShowsFile}
@@ -67,7 +67,7 @@ pub record IsAllCarried (up down : List ℕ) (e : PlainHostEndpoint) (g : PlainT
 
 -- ## What follows
 
--- A run of one world of these files, in which the user did all of `said`, leads to the very host and the very terminal. What is under way
+-- A run of one world of these files, in which the user did all of `said` and no file joined, leads to the very host and the very terminal. What is under way
 -- between them is, in bytes: what waits at the one, the front of a frame that its framer holds, what is on its way, and what the other has
 -- not written yet
 pub record AreOneRun (given : List (List ℕ × List ℕ)) (said : List UserEvent) (up down : List ℕ)
@@ -76,6 +76,7 @@ pub record AreOneRun (given : List (List ℕ × List ℕ)) (said : List UserEven
   pub world : PlainWorld
   pub run : run_of (new_world given) events ≡ Some world
   pub users : user_events events ≡ said
+  pub none_join : joined_files events ≡ []
   pub host_is : world.host ≡ e.host
   pub term_is : world.term ≡ g.term
   pub upwards : stream_of terminal world.up ≡ ((stream_of terminal e.waiting ++ e.framer.bytes) ++ up) ++ stream_of terminal g.unwritten

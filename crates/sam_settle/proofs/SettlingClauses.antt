@@ -275,7 +275,7 @@ module _ (e : Ends) (ends : AreEnds e) (given : LinesGive e) where
       host = states.0;
       term = states.1;
       quiet = λ done more w parts reached. quiet_means_agreement w (reached_in_order e.host.files.items w apart.given_fit (done, reached));
-      local = λ done more w parts reached. runs_are_as_if_local e.host.files.items done w apart.given_fit reached;
+      local = λ done more w parts reached. runs_are_as_if_local e.host.files.items done w apart.given_fit reached (none_in done more parts);
     }
 
     pub has_streams : HasStreams e s
@@ -305,7 +305,7 @@ module _ (e : Ends) (ends : AreEnds e) (given : LinesGive e) where
     is_whole none =
         let end = at_its_end none in
         let files = e.host.files.items in
-        let local : IsAsIfLocal files (user_events s.schedule.items) s.world = runs_are_as_if_local files s.schedule.items s.world apart.given_fit headline.run in
+        let local : IsAsIfLocal files (user_events s.schedule.items) s.world = runs_are_as_if_local files s.schedule.items s.world apart.given_fit headline.run none_joins in
         record {
           events = grind (arith, joined, handled_all);
           exited = end.exited;
