@@ -76,11 +76,13 @@ static void read_host_file(uint16_t tag)
 
 static void read_host(void)
 {
+    uint8_t kind = 0;
     uint16_t number = 0;
     uint64_t taken = 0;
     size_t count = 0;
     bool is = false;
     read_finish(READ(sam_host_finish(&host)));
+    READ(sam_host_next_message(&host, &kind, &number));
     READ(sam_host_pending(&host, &count));
     READ(sam_host_is_done(&host, &is));
     READ(sam_host_taken(&host, &taken));

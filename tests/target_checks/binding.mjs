@@ -176,6 +176,22 @@ function checkRefusals() {
   throws("StreamFault", "TRUNCATED", () => other.finish());
 }
 
+function checkSteps() {
+  const [host, terminal, tag] = opened(["one", "abc"]);
+  const none = { start: 0, gone: 0, came: 0 };
+  terminal.check(tag);
+  terminal.edit(tag, 1, 2, "xyz");
+  host.bring(terminal.takeOut());
+  throws("SamError", "WAITING", () => host.bring(new Uint8Array(0)));
+  same(host.nextMessage(), { kind: 3, tag });
+  same(host.step(), { step: "answered", kind: 3, tag, count: 1 });
+  same([host.step().step, host.step()], ["wrote", { step: "edited", kind: 0, tag, count: 2 }]);
+  same([host.step().step, host.nextMessage(), host.text(tag)], ["idle", null, "axyzc"]);
+  terminal.bring(host.takeOut());
+  same(terminal.step(), { step: "received", kind: 71, tag, change: none, event: 0, why: 0 });
+  same(terminal.step().step, "idle");
+}
+
 function checkNumbers() {
   const [host, terminal, tag] = opened(["one", "abc"]);
   for (const wrong of [-1, 65536, 0.5, NaN, Infinity]) throwsPlain(RangeError, () => host.text(wrong));
@@ -236,6 +252,6 @@ function keyTime() {
 
 /** Runs all checks. Throws where one fails; returns what was measured. */
 export function checkAll() {
-  for (const check of [checkTexts, checkFiles, checkEditing, checkRefusals, checkNumbers, checkEnds, checkMemory, checkScripts]) check();
+  for (const check of [checkTexts, checkFiles, checkEditing, checkRefusals, checkSteps, checkNumbers, checkEnds, checkMemory, checkScripts]) check();
   return keyTime();
 }

@@ -46,7 +46,7 @@ nothing that a link hands out.
 """
 from sulgrevad.link import HELLO_BYTES, MOST_NOTE, Hello, Link, What, read_hello, write_refusal
 from sulgrevad.scripts import replay
-from sulgrevad.sides import Change, Host, Refusal, Terminal
+from sulgrevad.sides import Change, Host, HostDid, Refusal, Terminal, TerminalDid
 from sulgrevad.status import (
     AddRefused,
     CountFull,
@@ -59,9 +59,11 @@ from sulgrevad.status import (
     SamError,
     ScriptFault,
     Status,
+    Step,
     StreamFault,
     TerminalRefused,
     Unfinished,
+    Waiting,
     error_of,
     library_version,
     status_text,
@@ -70,7 +72,8 @@ from sulgrevad.status import (
 __version__ = "0.1.0"
 
 __all__ = [
-    "HELLO_BYTES", "MOST_NOTE", "AddRefused", "Change", "CountFull", "HandleFault", "Hello", "Host", "HostRefused", "Link", "LinkFault",
-    "Missing", "NoMemory", "NotText", "Refusal", "SamError", "ScriptFault", "Status", "StreamFault", "Terminal", "TerminalRefused",
-    "Unfinished", "What", "error_of", "library_version", "read_hello", "replay", "status_text", "write_refusal",
+    "HELLO_BYTES", "MOST_NOTE", "AddRefused", "Change", "CountFull", "HandleFault", "Hello", "Host", "HostDid", "HostRefused", "Link",
+    "LinkFault", "Missing", "NoMemory", "NotText", "Refusal", "SamError", "ScriptFault", "Status", "Step", "StreamFault", "Terminal",
+    "TerminalDid", "TerminalRefused", "Unfinished", "Waiting", "What", "error_of", "library_version", "read_hello", "replay",
+    "status_text", "write_refusal",
 ]  # fmt: skip

@@ -9,3 +9,4 @@ pub mod Measures
 pub mod LinkStatus
 pub mod Links
 pub mod Walking
+pub mod Steps

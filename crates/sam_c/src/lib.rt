@@ -13,6 +13,7 @@ mod members;
 mod parts;
 mod scripts;
 mod status;
+mod steps;
 mod term_calls;
 mod term_events;
 mod term_readers;
@@ -21,3 +22,4 @@ mod utf8;
 
 pub use handle::{SamHost, SamLink, SamTerm};
 pub use link_calls::{SamLinkHello, SamLinkId};
+pub use steps::SamDid;

@@ -8,7 +8,7 @@ use Rattle.sam_endpoint.specs.declared.fault.EndpointFault.TheVariants as fault
 use Rattle.sam_host.specs.Edits.{TakesInSilence}
 use Rattle.sam_host.proofs.EditLaws.{silent_write}
 use Rattle.sam_mesg.specs.declared.tmesg.Tmesg.TheVariants.{Twrite}
-use Rattle.sam_endpoint.specs.HostSteps.{Handles, TakesEdits, written}
+use Rattle.sam_endpoint.specs.HostSteps.{Handles, TakesEdits, TakesSo, written}
 
 -- ## Answers one after another
 
@@ -98,16 +98,20 @@ edits_gone e l k gone took =
 
 -- the host took the first n messages that waited
 pub took_first : (e g : PlainHostEndpoint) (n : ℕ) (h : PlainHost) → 0 < n → n ≤ length e.waiting → TakesInSilence e.host (take n e.waiting) h
-    → g ≡ record e { host = h; waiting = drop n e.waiting } → TakesEdits e g
-took_first e g n h some there taken is = record {
-  messages = take n e.waiting;
-  rest = drop n e.waiting;
-  host = h;
-  some = grind (arith, length-take-le);
-  waited = sym (take-append-drop n e.waiting);
-  taken = taken;
-  after = is;
-}
+    → g ≡ record e { host = h; waiting = drop n e.waiting } → TakesSo e n g
+took_first e g n h some there taken is =
+    let count : length (take n e.waiting) ≡ n = length-take-le n e.waiting there in (
+      record {
+        messages = take n e.waiting;
+        rest = drop n e.waiting;
+        host = h;
+        some = omega (arith, some, count);
+        waited = sym (take-append-drop n e.waiting);
+        taken = taken;
+        after = is;
+      },
+      count,
+    )
 
 -- what waited first was answered
 next_gone : (e l k : PlainHostEndpoint) → HasGone e l → AnswersFirst l k ⊎ TakesEdits l k → (ms : List Tmesg) × Answers e ms k × (k.stop ≡ None)
@@ -156,3 +160,12 @@ nothing_behind e k on = on.0.broken_by ∙ on.2
 
 pub fed : (e k m g : PlainHostEndpoint) (piece : List ℕ) (result : Answer) → e.stop ≡ None → GoesOn e (Ok tt) k → TakesIn k piece m → GoesOn m result g → Feeds e piece result g
 fed e k m g piece result goes on takes further = inr (goes, k, Ok tt, on, inl (m, takes, further))
+
+-- ## Single steps
+
+pub answers_then : (e k g : PlainHostEndpoint) (ms ns : List Tmesg) → Answers e ms k → Answers k ns g → Answers e (ms ++ ns) g
+answers_then e k g ms ns p q = answers_more e k g ms ns p q
+
+-- what waited first was answered, where all frames are written
+pub next_done : (e g : PlainHostEndpoint) → e.stop ≡ None → e.unwritten ≡ [] → AnswersFirst e g ⊎ TakesEdits e g → (ms : List Tmesg) × Answers e ms g × (g.stop ≡ None)
+next_done e g goes none next = next_gone e e g (starts e e goes (none_written e none)) next

@@ -2,7 +2,9 @@
 
 ghost use Rattle.sam_endpoint.specs.Changes.{ActsKeep, AskingBegins, FlushesKeep, FramesKeep, KeptTellsChange, UnaskedIsKept};
 ghost use Rattle.sam_endpoint.specs.HostRuns.{OneOutcome, RunsServe, StopsServe};
+ghost use Rattle.sam_endpoint.specs.HostStepping.{HostStepsFeed};
 ghost use Rattle.sam_endpoint.specs.TermRuns.{RunsLead, StopsLead};
+ghost use Rattle.sam_endpoint.specs.TermStepping.{TermStepsFeed};
 
 use sam_frame::one_reading_t;
 
@@ -45,6 +47,18 @@ pub fn term_runs_lead()
 #[tactic(auto, using(crate::proofs::TermEndpointRuns::stops_lead))]
 pub fn term_stops_lead()
     ensures { StopsLead }
+{}
+
+/// States that to bring a piece to a host endpoint, and then to go on by steps to their end, is to feed it: the answer is one of `feed`,
+/// and so is the endpoint.
+pub fn host_steps_feed()
+    ensures { HostStepsFeed }
+{}
+
+/// States that to bring a piece to a terminal endpoint none of whose events can act, and then to go on by steps to their end, is to feed
+/// it: the answer is one of `feed`, and so is the endpoint.
+pub fn term_steps_feed()
+    ensures { TermStepsFeed }
 {}
 
 /// States what `TermEndpoint::changed` hands out. So much of a text as is kept stands in it as it stood when that was asked last: it is so

@@ -61,4 +61,6 @@ pub fn endpoints_are_linked()
     ensures line { LinksAreOneLine }
     ensures all { MovedIsCarried }
     ensures one_run { LinkedAreOneRun }
-{}
+{
+    files_can_be_added();
+}

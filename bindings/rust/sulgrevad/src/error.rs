@@ -156,6 +156,8 @@ pub enum Error {
     Unfinished,
     /// A stream of 2^64 bytes, or 2^64 events or connections.
     CountFull,
+    /// Some of what came before waits, so make steps first; what was brought was not taken.
+    Waiting,
     /// Bytes that are not UTF-8.
     NotText,
     /// A name above 64 runes, or a text above 1,000,000.
@@ -185,6 +187,7 @@ impl Error {
             sys::SAM_NO_MEMORY => Error::NoMemory,
             sys::SAM_UNFINISHED => Error::Unfinished,
             sys::SAM_COUNT_FULL => Error::CountFull,
+            sys::SAM_WAITING => Error::Waiting,
             sys::SAM_NOT_TEXT => Error::NotText,
             sys::SAM_ADD_TOO_LONG => Error::TooLong,
             sys::SAM_ADD_NO_TAG => Error::NoTag,
@@ -204,6 +207,7 @@ impl Error {
             Error::NoMemory => sys::SAM_NO_MEMORY,
             Error::Unfinished => sys::SAM_UNFINISHED,
             Error::CountFull => sys::SAM_COUNT_FULL,
+            Error::Waiting => sys::SAM_WAITING,
             Error::NotText => sys::SAM_NOT_TEXT,
             Error::TooLong => sys::SAM_ADD_TOO_LONG,
             Error::NoTag => sys::SAM_ADD_NO_TAG,
@@ -241,11 +245,12 @@ mod tests {
     use super::*;
 
     /// The numbers of sulgrevad.h, with the errors that they are.
-    const ERRORS: [(u32, Error); 39] = [
+    const ERRORS: [(u32, Error); 40] = [
         (1, Error::NoMemory),
         (2, Error::Unfinished),
         (3, Error::CountFull),
         (6, Error::NotText),
+        (8, Error::Waiting),
         (19, Error::TooLong),
         (20, Error::NoTag),
         (33, Error::Stream(StreamFault::BadKind)),
