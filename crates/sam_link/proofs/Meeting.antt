@@ -96,6 +96,8 @@ pub lacks_are_kept : LacksAreKept
 lacks_are_kept id steps s fine leads =
     let x = session_holds id steps s fine leads in
     record {
+      terminal_keeps = record { all = x.up_put; put_are = x.own_t.puts; kept_is = x.own_t.kept };
+      host_keeps = record { all = x.down_put; put_are = x.own_h.puts; kept_is = x.own_h.kept };
       up = lacks_one s.terminal s.host s.terminal_calls s.host_calls x.up_put x.down_taken x.down_put x.up_taken x.own_t x.own_h x.joint.came_h x.joint.base_t;
       down = lacks_one s.host s.terminal s.host_calls s.terminal_calls x.down_put x.up_taken x.up_put x.down_taken x.own_h x.own_t x.joint.came_t x.joint.base_h;
     }

@@ -1,16 +1,20 @@
 -- What two ends of one session may answer each other, and what is there once all was carried.
 use Rattle.std.specs.Prelude.{◌≡◌, ◌<◌, List, [], ◌++◌, length, drop, true, Err}
-use Rattle.sam_link.specs.Calls.{Call, Does, fed, handed, out, put, waits}
+use Rattle.std.specs.List.{flat_map}
+use Rattle.sam_frame.specs.Stream.{stream_of}
+use Rattle.sam_link.specs.Calls.{Call, Does, fed, handed, items_in, out, put, waits}
 use Rattle.sam_link.specs.Calls.Call.{Answer, Feed, Welcome}
 use Rattle.sam_link.specs.End.{End}
 use Rattle.sam_link.specs.Feeding.{has_room, is_open}
 use Rattle.sam_link.specs.Keeping.{MayHave}
+use Rattle.sam_link.specs.Packets.{packets}
 use Rattle.sam_link.specs.Sessions.{IsId, Leads, Session, Step, WasCarried, new_session}
 use Rattle.sam_link.specs.declared.fault.AnswerFault.TheVariants as answers
 use Rattle.sam_link.specs.declared.fault.FeedFault.TheVariants as feeds
 use Rattle.sam_link.specs.declared.fault.WelcomeFault.TheVariants as welcomes
 use Rattle.sam_link.specs.declared.hello.Id.{Id}
 use Rattle.sam_link.specs.declared.hello.Refusal.TheVariants.{OldAttempt}
+use Rattle.sam_link.specs.declared.packet.Packet.{Packet}
 
 -- ## What is refused
 
@@ -33,8 +37,16 @@ HonestMeet =
 
 -- ## What is kept
 
--- at any moment each end keeps all that the other has not received
+-- what an end keeps is the stream of packets whose data and notes are what was put, from the acknowledged count on
+pub record KeepsTheRest (e : End) (calls : List Call) : Type 0 where
+  pub all : List Packet
+  pub put_are : put calls ≡ flat_map items_in all
+  pub kept_is : e.keeps.kept ≡ drop e.keeps.base (stream_of packets all)
+
+-- at any moment that is all that the other has not received, or more
 pub record KeepsWhatLacks (s : Session) : Type 0 where
+  pub terminal_keeps : KeepsTheRest s.terminal s.terminal_calls
+  pub host_keeps : KeepsTheRest s.host s.host_calls
   pub up : MayHave s.terminal.keeps s.host.received
   pub down : MayHave s.host.keeps s.terminal.received
 

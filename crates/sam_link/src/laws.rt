@@ -24,8 +24,9 @@ pub fn honest_meet()
     ensures { HonestMeet }
 {}
 
-/// States that at any moment each of two such ends keeps all that the other has not received; and that once a connection has carried all,
-/// all that was put came out or waits there, and each keeps fewer than 16,384 bytes, unless the other can't count an acknowledgement more.
+/// States that at any moment what each of two such ends keeps is its stream from the acknowledged count on, and holds all that the other
+/// has not received; and that once a connection has carried all, all that was put came out or waits there, and each keeps fewer than 16,384
+/// bytes, unless the other can't count an acknowledgement more.
 pub fn carried_is_all()
     ensures kept { LacksAreKept }
     ensures carried { CarriedIsAll }
