@@ -285,9 +285,8 @@ static void host_steps(void)
     WANT(sam_host_add_file(&host, BYTES("a"), BYTES("one"), &tag), SAM_OK);
     stepped_host(&host, SAM_STEP_IDLE);
     WANT(sam_host_next_message(&host, &kind, &tag), SAM_NONE);
-    WANT(sam_host_bring(&host,
-                        BYTES("\x01\0\x02\0\x02\x06\0\x02\0\x01\x08\0\x07\0\x01\0\0\0\0x\x08\0\x07\0\x01\0\0\0\x01y"
-                              "\x09\0\x0a\0\x01\0\0\0\0\0\0\0\x01\x17")),
+    WANT(sam_host_bring(&host, BYTES("\x01\0\x02\0\x02\x06\0\x02\0\x01\x08\0\x07\0\x01\0\0\0\0x\x08\0\x07\0\x01\0\0\0\x01y"
+                                     "\x09\0\x0a\0\x01\0\0\0\0\0\0\0\x01\x17")),
          SAM_OK);
     WANT(sam_host_bring(&host, NULL, 0), SAM_WAITING);
     WANT(sam_host_next_message(&host, &kind, &tag), SAM_OK);
@@ -320,9 +319,8 @@ static void term_steps(void)
     WANT(sam_term_cut(&term, 1), SAM_OK);
     WANT(sam_term_cut(&term, 7), SAM_OK);
     stepped_term(&term, SAM_STEP_LOCKED);
-    WANT(sam_term_bring(&term,
-                        BYTES(HNEWNAME_1 HBINDNAME_1 "\x4d\0\x11" SEEN "\0\x01\0\0\0\0abc"
-                                                     "\x51\0\x12" SEEN "\0\x01\0\0\0\0\0\0\0\x01\x48\0\x08" SEEN)),
+    WANT(sam_term_bring(&term, BYTES(HNEWNAME_1 HBINDNAME_1 "\x4d\0\x11" SEEN "\0\x01\0\0\0\0abc"
+                                                            "\x51\0\x12" SEEN "\0\x01\0\0\0\0\0\0\0\x01\x48\0\x08" SEEN)),
          SAM_OK);
     WANT(sam_term_bring(&term, NULL, 0), SAM_WAITING);
     WANT(stepped_term(&term, SAM_STEP_RECEIVED).kind, 0x44);

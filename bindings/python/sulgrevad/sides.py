@@ -252,8 +252,8 @@ class Host(_Side):
         return self._number("add_file", c_uint16, name, len(name), text, len(text))
 
     def next_message(self) -> Optional[Tuple[int, int]]:
-        """The kind of the oldest message that waits, and the file that it names, or 0; None if none waits. The next step that takes a message
-        begins with it."""
+        """The kind of the oldest message that waits, and the file that it names, or 0; None if none waits. The next step that takes a
+        message begins with it."""
         kind, tag = c_uint8(), c_uint16()
         code = self._answer("next_message", byref(kind), byref(tag))
         if code == Status.NONE:

@@ -246,7 +246,10 @@ fn single_steps_say_what_they_did() -> Result<(), Error> {
     assert_eq!(host.bring(&[]), Err(Error::Waiting));
     assert_eq!(host.next_message(), Some((4, file))); // Trequest
     assert_eq!(host.step()?, HostStep::Answered { kind: 4, tag: file });
-    assert_eq!((host.step()?, host.step()?, host.next_message()), (HostStep::Wrote, HostStep::Idle, None));
+    assert_eq!(
+        (host.step()?, host.step()?, host.next_message()),
+        (HostStep::Wrote, HostStep::Idle, None)
+    );
     term.select(file, 5, 5)?;
     term.cut(file + 7)?;
     let down: Vec<u8> = host.take_out().flatten().collect();
