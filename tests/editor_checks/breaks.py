@@ -7,6 +7,8 @@ import signal
 import threading
 import time
 
+from checks import Skipped
+
 from .fuzz import Run
 from .model import Model
 from .pairs import LONG as MANY_LINES
@@ -351,6 +353,19 @@ def check_leave_and_take(folder):
 # ---- Files that join
 
 
+def expect_joining():
+    """Skips where the library takes no file once a session has begun."""
+    from sulgrevad import AddRefused, Host, Terminal
+
+    with Host() as host, Terminal() as terminal:
+        terminal.offer_version(2)
+        host.feed(terminal.take_out())
+        try:
+            host.add_file("late")
+        except AddRefused as why:
+            raise Skipped("the library takes no file once a session has begun") from why
+
+
 def open_path(session, path, shown=None):
     """Opens a path by the menu of files, once an entry shows."""
     session.keys("F2")
@@ -363,6 +378,7 @@ def open_path(session, path, shown=None):
 def check_open_by_path(folder):
     """The menu of files opens what is beside the host: by its path, by a part of it, in a folder, one that isn't there as new, and one that
     is open already by its window. What was typed for a path that can't be opened goes into no other file."""
+    expect_joining()
     path, other = made(folder, a="one\n", bee="bee\n")
     (folder / "sub").mkdir()
     (folder / "sub" / "deep.txt").write_text("deep\n")
@@ -410,6 +426,7 @@ def check_open_by_path(folder):
 
 def check_open_while_the_line_breaks(folder):
     """A path that was opened as the line broke comes once it is back, and what was typed for it goes into it."""
+    expect_joining()
     made(folder, a="one\n", bee="bee\n")
     with Session(folder, "a.txt", stays=True, width=120) as session:
         session.wait_for("one")
