@@ -79,7 +79,8 @@ class Loop:
         if not self.editor.is_lost:
             self._do(self.editor.pause)
         self._send()
-        waits = [self.editor.wakes_in(), self.link.delay(), self.decoder.delay(time.monotonic())]  # before it draws: what ends in between is drawn then
+        # Before it draws: what ends in between is drawn then.
+        waits = [self.editor.wakes_in(), self.link.delay(), self.decoder.delay(time.monotonic())]
         if self.editor.is_over:
             return 0
         waits.append(self.screen.draw(self.editor, self.link))

@@ -46,7 +46,8 @@ def check_keys_on_a_lost_line(folder):
     pair, editor, key, text, line = with_line("one two\nthree\n", has_vault=True)
     line.is_broken = True
     pair.wait(0.5)
-    for each in (text("x"), key("^Right"), key("^W"), key("Shift-Home"), key("^X"), key("^End"), key("^V"), text("!"), key("^Z"), key("^R")):
+    keys = (text("x"), key("^Right"), key("^W"), key("Shift-Home"), key("^X"), key("^End"), key("^V"), text("!"), key("^Z"), key("^R"))
+    for each in keys:
         editor.take(each)
         expect(not editor.deferred and not pair.terminal.locked(1), f"{each} waits, or locks the file")
     model = Model("one two\nthree\n", 200)
