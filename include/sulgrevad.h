@@ -96,9 +96,10 @@ enum sam_status {
     SAM_MADE = 5,       /* the handle is made already */
     SAM_NOT_TEXT = 6,   /* the bytes are not UTF-8 */
     SAM_NONE = 7,       /* there is no such file, or nothing more to hand out */
+    SAM_WAITING = 8,    /* sam_host_bring, sam_term_bring: some of what came before waits, and the bytes were not taken: step first */
 
     SAM_ADD = 16, /* sam_host_add_file refused a file, and the host is as it was */
-    SAM_ADD_BEGUN = SAM_ADD + 1,
+    /* SAM_ADD + 1 was SAM_ADD_BEGUN, of a host that was fed already: it is not given again */
     SAM_ADD_TOO_LONG = SAM_ADD + 3,
     SAM_ADD_NO_TAG = SAM_ADD + 4,
 
@@ -192,6 +193,37 @@ typedef struct sam_link sam_link;
 #define SAM_LINK_INIT {NULL, 0}
 /* clang-format on */
 
+/* ---- Single steps ---- */
+
+/* What a step did: sam_host_step, sam_term_step. */
+enum sam_step {
+    SAM_STEP_IDLE = 0,     /* nothing: nothing waits, and a terminal holds no event */
+    SAM_STEP_LOCKED = 1,   /* nothing: no frame waits, and a lock holds the terminal's oldest event back */
+    SAM_STEP_WROTE = 2,    /* what was answered or composed last is pending now */
+    SAM_STEP_EDITED = 3,   /* the host took messages that type or cut in one file, all at once: their file and how many */
+    SAM_STEP_ANSWERED = 4, /* the host answered one message: its kind and its file */
+    SAM_STEP_RECEIVED = 5, /* the terminal received one frame: its kind, its file, and the change of that file's text */
+    SAM_STEP_ACTED = 6,    /* one event acted: its number, its file, and the change of that file's text */
+    SAM_STEP_REFUSED = 7,  /* one event was refused: its number and why; sam_term_next_refusal hands that out, too */
+
+    SAM_STEP_WIDTH = 0x7FFFFFFF /* never handed out: it keeps the type at 32 bits under any compiler's options */
+};
+typedef enum sam_step sam_step;
+
+/* What a step did, in full. A field that its step doesn't say is 0, and so is the tag where the message, frame or event names no file. */
+struct sam_did {
+    uint64_t event; /* the event's number, counted from 1 over all event calls that were taken */
+    size_t count;   /* how many messages the host took: 1 for SAM_STEP_ANSWERED, 2 or more for SAM_STEP_EDITED */
+    sam_step step;
+    sam_status why; /* why the event was refused: SAM_REFUSAL.. */
+    uint32_t start; /* the change: in the old text `gone` runes or gaps from this place on gave way to `came` of the new one */
+    uint32_t gone;
+    uint32_t came;
+    uint16_t tag; /* the file */
+    uint8_t kind; /* the kind of the message or frame, by the numbers of docs/PROTOCOL.md */
+};
+typedef struct sam_did sam_did;
+
 /* ==== The host ==== */
 
 /* ---- The host: making and freeing ---- */
@@ -203,9 +235,11 @@ SAM_MUST_USE sam_status sam_host_new(sam_host *host);
 /* Frees a host, with what was pending. SAM_NO_HANDLE if it is empty or NULL. */
 sam_status sam_host_free(sam_host *host);
 
-/* Adds a file, clean and closed, and hands out its tag: 1 for the first, and so on. Refused, in this order: SAM_NO_HANDLE;
- * SAM_ADD_BEGUN after the first feed, even of no bytes; SAM_NOT_TEXT; SAM_ADD_TOO_LONG for a name above 64 runes or a text above
- * 1,000,000; SAM_ADD_NO_TAG after 65,535 files; SAM_NO_MEMORY. The host is then as it was. */
+/* Adds a file, clean and closed, and hands out its tag: 1 for the first, and so on. It may be called at any time, also on a host that
+ * has stopped. No byte becomes pending: the answer to the terminal's next Tversion has the name. Messages that wait, as after
+ * SAM_UNFINISHED, are answered after the file has joined. Refused, in this order: SAM_NO_HANDLE; SAM_NOT_TEXT; SAM_ADD_TOO_LONG for
+ * a name above 64 runes or a text above 1,000,000; SAM_ADD_NO_TAG after 65,535 files, new ones of the terminal counted;
+ * SAM_NO_MEMORY. The host is then as it was. */
 SAM_MUST_USE sam_status sam_host_add_file(sam_host *host, const uint8_t *name, size_t name_len, const uint8_t *text, size_t text_len,
                                           uint16_t *tag);
 
@@ -216,6 +250,21 @@ SAM_MUST_USE sam_status sam_host_add_file(sam_host *host, const uint8_t *name, s
  * SAM_NO_MEMORY, SAM_UNFINISHED, SAM_COUNT_FULL, SAM_NO_HANDLE, or why the host has stopped, at this call or before:
  * SAM_STREAM.., SAM_HOST_REFUSED... What stood before the fault is answered. */
 SAM_MUST_USE sam_status sam_host_feed(sam_host *host, const uint8_t *bytes, size_t len);
+
+/* Takes bytes of the terminal's messages as sam_host_feed does, but by framing alone: the messages that are whole wait for
+ * sam_host_step. Refused, in this order: SAM_NO_HANDLE; why the host has stopped before, SAM_STREAM.., SAM_HOST_REFUSED..; SAM_WAITING
+ * until a step has handed out SAM_STEP_IDLE; SAM_COUNT_FULL; SAM_NO_MEMORY. The bytes are then not taken, and the host is as it was. */
+SAM_MUST_USE sam_status sam_host_bring(sam_host *host, const uint8_t *bytes, size_t len);
+
+/* The kind of the oldest message that waits, by the numbers of docs/PROTOCOL.md, and the file that it names, or 0: the next step that
+ * takes a message begins with it. SAM_NONE if none waits. */
+SAM_MUST_USE sam_status sam_host_next_message(sam_host *host, uint8_t *kind, uint16_t *tag);
+
+/* Does one thing of what waits, and says what: it writes what was answered last, if that is left over; or the host takes edits of one
+ * file that follow each other, or else answers the oldest message. sam_host_feed makes such steps up to SAM_STEP_IDLE. SAM_OK,
+ * SAM_NO_HANDLE, SAM_UNFINISHED if memory was refused, where nothing has changed, so make the step again; or why the host has stopped, at
+ * this call or before: SAM_STREAM.., SAM_HOST_REFUSED... Unless it is SAM_OK, nothing is handed out. */
+SAM_MUST_USE sam_status sam_host_step(sam_host *host, sam_did *did);
 
 /* Whether the terminal's stream may end here: to be asked once the host's input has ended. It changes nothing. SAM_OK,
  * SAM_NO_HANDLE, why the host has stopped before (SAM_STREAM.., SAM_HOST_REFUSED..), SAM_UNFINISHED if some of what came still
@@ -293,6 +342,19 @@ sam_status sam_term_free(sam_term *term);
 /* Takes bytes of the host's frames, in whatever pieces they come, and then lets held events act. It returns what an event
  * returns. */
 SAM_MUST_USE sam_status sam_term_feed(sam_term *term, const uint8_t *bytes, size_t len);
+
+/* Takes bytes of the host's frames as sam_term_feed does, but by framing alone: the frames that are whole wait for sam_term_step. Refused,
+ * in this order: SAM_NO_HANDLE; why the terminal has stopped before, SAM_STREAM.., SAM_TERM_REFUSED..; SAM_WAITING until a step has
+ * handed out SAM_STEP_IDLE or SAM_STEP_LOCKED; SAM_COUNT_FULL; SAM_NO_MEMORY. The bytes are then not taken, and the terminal is as it
+ * was. */
+SAM_MUST_USE sam_status sam_term_bring(sam_term *term, const uint8_t *bytes, size_t len);
+
+/* Does one thing of what waits, and says what: it writes what was composed last, if that is left over; or the terminal receives the
+ * oldest frame; or, where none waits, the oldest event acts or is refused. sam_term_feed makes such steps up to SAM_STEP_IDLE or
+ * SAM_STEP_LOCKED; an event's call and sam_term_flush_now make all that are left. SAM_OK, SAM_NO_HANDLE, SAM_UNFINISHED if memory was
+ * refused, where nothing has changed, so make the step again; or why the terminal has stopped, at this call or before: SAM_STREAM..,
+ * SAM_TERM_REFUSED... Unless it is SAM_OK, nothing is handed out. */
+SAM_MUST_USE sam_status sam_term_step(sam_term *term, sam_did *did);
 
 /* Whether the host's stream may end here: to be asked once the terminal's input has ended. It changes nothing. SAM_OK,
  * SAM_NO_HANDLE, why the terminal has stopped before (SAM_STREAM.., SAM_TERM_REFUSED..), SAM_UNFINISHED if some of what came or was
@@ -415,7 +477,7 @@ SAM_MUST_USE sam_status sam_term_send(sam_term *term, uint16_t tag);
 /* ---- Events: the session ---- */
 
 /* Offers a version of the protocol, and asks for all names. Before it the terminal knows none of the host's files, and refuses each event
- * on one; events after it wait for the answer. */
+ * on one; events after it wait for the answer. Offer it again to learn of files that joined the host since. */
 SAM_MUST_USE sam_status sam_term_offer_version(sam_term *term, uint16_t version);
 
 /* Ends the session. */

@@ -21,7 +21,7 @@ const char *sam_status_text(sam_status status)
         TEXT(SAM_MADE, "the handle is made already");
         TEXT(SAM_NOT_TEXT, "the bytes are not UTF-8");
         TEXT(SAM_NONE, "there is no such file, or nothing more to hand out");
-        TEXT(SAM_ADD_BEGUN, "the host was fed already, and takes no more files");
+        TEXT(SAM_WAITING, "some of what came before waits, so make steps first; what the call brought was not taken");
         TEXT(SAM_ADD_TOO_LONG, "the name has more than 64 runes, or the text more than 1,000,000");
         TEXT(SAM_ADD_NO_TAG, "all 65,536 tags were given");
         TEXT(SAM_BAD_KIND, "the stream is wrong: it has a message of an unknown kind");

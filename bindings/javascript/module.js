@@ -74,12 +74,17 @@ export function truth(number = 0) {
   return data().getUint8(Number(RESULTS) + 8 * number) !== 0;
 }
 
-export function u16(number = 0) {
-  return data().getUint16(Number(RESULTS) + 8 * number, true);
+/** A number so many bytes after the beginning of a result. */
+export function u8(number, after = 0) {
+  return data().getUint8(Number(RESULTS) + 8 * number + after);
 }
 
-export function u32(number = 0) {
-  return data().getUint32(Number(RESULTS) + 8 * number, true);
+export function u16(number = 0, after = 0) {
+  return data().getUint16(Number(RESULTS) + 8 * number + after, true);
+}
+
+export function u32(number = 0, after = 0) {
+  return data().getUint32(Number(RESULTS) + 8 * number + after, true);
 }
 
 /** A count of 64 bits: exact up to 2^53. */

@@ -1,12 +1,18 @@
 /* The two sides: what they share, the host, and the terminal. */
 import * as module from "./module.js";
-import { PIECE, call, least, lend, long, result, short, size, space, truth, u16, u32, u64 } from "./module.js";
+import { PIECE, call, least, lend, long, result, short, size, space, truth, u16, u32, u64, u8 } from "./module.js";
 import { Missing, Status, errorOf } from "./status.js";
 
 const MOST_IN_NAME = 256; // bytes of the longest name
 const MOST_IN_PATTERN = 512; // bytes of the longest pattern
 const LEAST_PIECE = 256; // bytes that are read of a text, where so few runes are wished for
 const GAP = 2 ** 32 - 1; // what stands for a rune that is not loaded
+
+const STEPS = ["idle", "locked", "wrote", "edited", "answered", "received", "acted", "refused"]; // enum sam_step of sulgrevad.h
+
+// A sam_did stands at result(0): its event, its count, its step and why, its start and gone, its came, its tag and its kind.
+const didTag = () => u16(4, 4);
+const didKind = () => u8(4, 6);
 
 const PREFIX = Symbol("prefix"); // how the names of its calls begin
 const handles = new WeakMap(); // of each side where its handle is, 0n once it was freed
@@ -112,6 +118,11 @@ class Side {
     makeOfBytes(this, "feed", [], bytes);
   }
 
+  bring(bytes) {
+    if (!(bytes instanceof Uint8Array)) throw new TypeError("what is brought is a Uint8Array");
+    makeOfBytes(this, "bring", [], bytes);
+  }
+
   finish() {
     make(this, "finish");
   }
@@ -190,6 +201,18 @@ export class Host extends Side {
     return this.addFile(pieces[0] ?? wrong, pieces[1] ?? wrong);
   }
 
+  nextMessage() {
+    return ifAny(() => {
+      make(this, "next_message", result(0), result(1));
+      return { kind: u8(0), tag: u16(1) };
+    });
+  }
+
+  step() {
+    make(this, "step", result(0));
+    return { step: STEPS[u32(2)], kind: didKind(), tag: didTag(), count: u64(1) };
+  }
+
   nextWritten() {
     return ifAny(() => one(this, "next_written", u16));
   }
@@ -263,6 +286,12 @@ export class Terminal extends Side {
 
   offerVersion(version) {
     make(this, "offer_version", short(version));
+  }
+
+  step() {
+    make(this, "step", result(0));
+    const [start, gone, came] = [u32(3), u32(3, 4), u32(4)];
+    return { step: STEPS[u32(2)], kind: didKind(), tag: didTag(), change: { start, gone, came }, event: u64(0), why: u32(2, 4) };
   }
 
   nextRefusal() {

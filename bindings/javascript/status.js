@@ -11,7 +11,7 @@ export const Status = Object.freeze({
   MADE: 5,
   NOT_TEXT: 6,
   NONE: 7,
-  ADD_BEGUN: 17,
+  WAITING: 8,
   ADD_TOO_LONG: 19,
   ADD_NO_TAG: 20,
   BAD_KIND: 33,

@@ -15,7 +15,7 @@ export declare const Status: {
   readonly MADE: 5;
   readonly NOT_TEXT: 6;
   readonly NONE: 7;
-  readonly ADD_BEGUN: 17;
+  readonly WAITING: 8;
   readonly ADD_TOO_LONG: 19;
   readonly ADD_NO_TAG: 20;
   readonly BAD_KIND: 33;
@@ -99,6 +99,8 @@ export declare class Missing extends SamError {}
 export declare class AddRefused extends SamError {}
 /** The other side's stream is wrong, and this side has stopped; or `finish` found that it ends inside a message or frame. */
 export declare class StreamFault extends SamError {}
+/** What a step of a host did. */
+export type HostStep = { step: "idle" | "wrote" | "edited" | "answered"; kind: number; tag: number; count: number };
 /** The host refused a message, and has stopped. */
 export declare class HostRefused extends SamError {}
 /** The terminal refused a frame, and has stopped. */
@@ -115,6 +117,10 @@ declare class Side {
   /** Takes bytes of the other side, in whatever pieces they come, and does what they say. Without bytes it goes on with what waits after
    * `Unfinished`. Throws NoMemory, Unfinished, CountFull, or why this side has stopped, now or before. */
   feed(bytes?: Uint8Array): void;
+  /** Takes bytes of the other side by framing alone: what they say is done by `step`. Throws, in this order: why this side has stopped
+   * before; a SamError with the code WAITING until a step was idle, or at a terminal locked; CountFull; NoMemory. The bytes are then not
+   * taken. */
+  bring(bytes: Uint8Array): void;
   /** Asks whether the other side's stream may end here. It changes nothing. Throws StreamFault with the code TRUNCATED if it ends inside a
    * message or frame, Unfinished if some of what came still waits for memory, or why this side has stopped before. */
   finish(): void;
@@ -145,9 +151,17 @@ declare class Side {
 
 /** The side that holds whole texts and runs commands. It begins with the command file alone, whose tag is 0. */
 export declare class Host extends Side {
-  /** Adds a file, clean and closed, and returns its tag. Throws, in this order: AddRefused after the first feed; NotText; AddRefused for a
-   * name above 64 runes or a text above 1,000,000, and if no tag is left; NoMemory. The host is then as it was. */
+  /** Adds a file, clean and closed, and returns its tag. It may be called at any time: the answer to the terminal's next Tversion has the
+   * name. Throws, in this order: NotText; AddRefused for a name above 64 runes or a text above 1,000,000, and if no tag is left; NoMemory.
+   * The host is then as it was. */
   addFile(name: Text, text?: Text): number;
+  /** The kind of the oldest message that waits, by the numbers of docs/PROTOCOL.md, and the file that it names, or 0; null if none
+   * waits. The next step that takes a message begins with it. */
+  nextMessage(): { kind: number; tag: number } | null;
+  /** Does one thing of what waits, and says what: it writes what was answered last, if that is left over; or the host takes edits of one
+   * file that follow each other, or else answers the oldest message. `feed` makes such steps until one is idle. What a step doesn't say
+   * is 0. Throws Unfinished, where nothing has changed, or why the host has stopped. */
+  step(): HostStep;
   /** The tag of a file that the terminal asked the host to write: write `saved` of it now. Each Twrite gives its tag once, in order; null
    * if there is none left. */
   nextWritten(): number | null;
@@ -169,6 +183,15 @@ export declare class Host extends Side {
 export type Refusal = { event: number; why: number };
 /** From the place `start` on `gone` runes or gaps of the old text gave way to `came` of the new one. */
 export type Change = { start: number; gone: number; came: number };
+/** What a step of a terminal did: `event` is the number of an event that acted or was refused, and `why` the status of a refusal. */
+export type TerminalStep = {
+  step: "idle" | "locked" | "wrote" | "received" | "acted" | "refused";
+  kind: number;
+  tag: number;
+  change: Change;
+  event: number;
+  why: number;
+};
 
 /** The side with the windows. It begins without any file. An event acts at once if it can, or is held until the locks that it waits for are
  * free. One that can't be done is reported by `refusals`. */
@@ -217,7 +240,8 @@ export declare class Terminal extends Side {
   getSnarf(): void;
   /** Gives the host another snarf buffer: at most 4,096 bytes, 32,000 in version 2. Throws NotText, too. */
   setSnarf(text: Text): void;
-  /** Offers a version of the protocol, and asks for the names of all files. Before it the terminal knows none of them. */
+  /** Offers a version of the protocol, and asks for the names of all files. Before it the terminal knows none of them. Offer it again to
+   * learn of files that joined the host since. */
   offerVersion(version: number): void;
   /** Sends the typed runes, once the events before this one have acted. */
   flush(): void;
@@ -225,6 +249,10 @@ export declare class Terminal extends Side {
   exit(): void;
   /** Composes the typed runes that are not sent yet; to be called when the user pauses. */
   flushNow(): void;
+  /** Does one thing of what waits, and says what: it writes what was composed last, if that is left over; or the terminal receives the
+   * oldest frame; or, where none waits, the oldest event acts or is refused. `feed` makes such steps until one is idle or locked. What a
+   * step doesn't say is 0. Throws Unfinished, where nothing has changed, or why the terminal has stopped. */
+  step(): TerminalStep;
   /** The oldest refused event that was not handed out yet; null if there is none. */
   nextRefusal(): Refusal | null;
   /** The refused events that were not handed out yet, oldest first. */

@@ -233,17 +233,28 @@ static struct waiter *free_waiter(struct stay *stay)
     return NULL;
 }
 
+/* A path as seen from the folder of the session, where it leads into that. */
+static const char *seen_from_here(const char *path, const char *folder)
+{
+    size_t len = folder == NULL ? 0 : strlen(folder);
+
+    return len > 1 && strncmp(path, folder, len) == 0 && path[len] == '/' && path[len + 1] != '\0' ? path + len + 1 : path;
+}
+
 /* Has the terminal show a file: a path, a line, and whether who asks waits until it is closed. Where memory is out nothing has changed. */
 static void answer_open(struct session *session, struct caller *caller, const char *path, const char *line, bool waits)
 {
     struct stay *stay = session->stay;
     uint16_t tag = 0;
     bool is_short = session->wire.is_short || stay->has_note;
-    char answer[ANSWER_ROOM];
+    char answer[ANSWER_ROOM], *folder = getcwd(NULL, 0);
+
+    path = seen_from_here(path, folder);
     const char *why = is_short ? cause(ENOMEM) : is_folder(path) ? cause(EISDIR) : join_file(session, path, &tag, &is_short);
 
     if (why == NULL && !say_note(session, "wish %u %s", (unsigned)tag, *line == '\0' ? "0" : line))
         why = cause(ENOMEM);
+    free(folder);
     snprintf(answer, sizeof answer, why == NULL ? "opened\n" : "refused %s\n", why);
     answer_line(caller->socket, answer);
     struct waiter *waiter = why == NULL && waits ? free_waiter(stay) : NULL;

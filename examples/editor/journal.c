@@ -20,7 +20,7 @@
 #include "samhost.h"
 
 enum {
-    VERSION = 1,
+    JOURNAL_VERSION = 1,
     MARK_LEN = 8,
     FRONT_LEN = MARK_LEN + 8, /* of the file */
     HEAD_LEN = 5,             /* of a record */
@@ -237,7 +237,7 @@ int make_journal(struct stay *stay, const char *name)
     if (error != 0)
         return error;
     memcpy(front, MARK, MARK_LEN);
-    put_number(front + MARK_LEN, VERSION, 4);
+    put_number(front + MARK_LEN, JOURNAL_VERSION, 4);
     put_number(front + MARK_LEN + 4, sam_library_version(), 4);
     struct iovec part = {front, FRONT_LEN};
     error = write_all(file, &part, 1);
@@ -271,7 +271,7 @@ int open_journal(struct stay *stay, struct text *all, enum journal_kind *kind)
     if (bytes == MAP_FAILED)
         return errno;
     *all = (struct text){bytes, (size_t)status.st_size};
-    if (memcmp(all->bytes, MARK, MARK_LEN) == 0 && number_at(all->bytes + MARK_LEN, 4) == VERSION)
+    if (memcmp(all->bytes, MARK, MARK_LEN) == 0 && number_at(all->bytes + MARK_LEN, 4) == JOURNAL_VERSION)
         *kind = number_at(all->bytes + MARK_LEN + 4, 4) == sam_library_version() ? JOURNAL_SAME : JOURNAL_OTHER_LIBRARY;
     return 0;
 }

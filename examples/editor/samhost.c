@@ -5,6 +5,8 @@
  *
  * With --times it says when the files were written last, by the seconds since 1970.
  *
+ * samhost --version prints the version.
+ *
  * It reads the files, answers the terminal's messages, and writes a file when the terminal says so. It ends when the terminal leaves, at
  * the end of its input, and at a signal that asks it to end (SIGTERM and others), which does as the end of the input. Texts that were not
  * written are then in FILE.sam-saved; so they are while it runs, a few seconds after they were changed.
@@ -24,6 +26,10 @@
 
 #include "samhost.h"
 
+#ifndef VERSION
+#define VERSION "of no release"
+#endif
+
 enum {
     USUAL_HOURS = 72, /* that a session stays alone */
     MOST_HOURS = 100000
@@ -33,7 +39,8 @@ enum {
     "usage: samhost [--undo] [--times] [--] [FILE ..]\n"                                                                                   \
     "       samhost --serve NAME [--undo] [--times] [--stay HOURS] [--] [FILE ..]\n"                                                       \
     "       samhost --attach NAME | --take [NAME] | --end NAME | --list\n"                                                                 \
-    "       samhost --open [--wait] [--] FILE [+LINE]\n"
+    "       samhost --open [--wait] [--] FILE [+LINE]\n"                                                                                   \
+    "       samhost --version\n"
 
 size_t count_tags(struct session *session)
 {
@@ -204,6 +211,10 @@ int main(int count, char **words)
     enum verb verb = PLAIN;
     int first = take_options(count, words, &verb, &options);
 
+    if (count == 2 && strcmp(words[1], "--version") == 0) {
+        puts("samhost " VERSION);
+        return STATUS_OK;
+    }
     int last = count - 1;
     bool has_line = verb == OPEN && last > first && words[last][0] == '+';
     if (first < 0 || (verb == OPEN ? first + has_line != last : verb > SERVE && first < count)) {

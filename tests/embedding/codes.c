@@ -13,6 +13,7 @@ struct handed {
     uint64_t many;
     size_t len;
     bool is;
+    sam_did did;
 };
 
 static void no_host(sam_host *host, struct handed *out)
@@ -20,6 +21,9 @@ static void no_host(sam_host *host, struct handed *out)
     WANT(sam_host_free(host), SAM_NO_HANDLE);
     WANT(sam_host_add_file(host, BYTES("n"), BYTES("t"), &out->tag), SAM_NO_HANDLE);
     WANT(sam_host_feed(host, BYTES("x")), SAM_NO_HANDLE);
+    WANT(sam_host_bring(host, BYTES("x")), SAM_NO_HANDLE);
+    WANT(sam_host_next_message(host, out->buffer, &out->tag), SAM_NO_HANDLE);
+    WANT(sam_host_step(host, &out->did), SAM_NO_HANDLE);
     WANT(sam_host_finish(host), SAM_NO_HANDLE);
     WANT(sam_host_pending(host, &out->len), SAM_NO_HANDLE);
     WANT(sam_host_take_out(host, out->buffer, sizeof out->buffer, &out->len), SAM_NO_HANDLE);
@@ -71,6 +75,8 @@ static void no_term_for_events(sam_term *term)
 static void no_term_for_bytes(sam_term *term, struct handed *out)
 {
     WANT(sam_term_feed(term, BYTES("x")), SAM_NO_HANDLE);
+    WANT(sam_term_bring(term, BYTES("x")), SAM_NO_HANDLE);
+    WANT(sam_term_step(term, &out->did), SAM_NO_HANDLE);
     WANT(sam_term_finish(term), SAM_NO_HANDLE);
     WANT(sam_term_flush_now(term), SAM_NO_HANDLE);
     WANT(sam_term_pending(term, &out->len), SAM_NO_HANDLE);
@@ -154,8 +160,16 @@ static void adding(void)
     WANT(tag, 1);
     WANT(sam_host_tags(&host, &tags), SAM_OK);
     WANT(tags, 2);
-    WANT(sam_host_feed(&host, NULL, 0), SAM_OK);
-    WANT(sam_host_add_file(&host, BYTES("\xFF"), BYTES("x"), &tag), SAM_ADD_BEGUN);
+    WANT(sam_host_feed(&host, BYTES("\1\0\2\0\2")), SAM_OK); /* Tversion(2) */
+    WANT(sam_host_add_file(&host, BYTES("\xFF"), BYTES("x"), &tag), SAM_NOT_TEXT);
+    WANT(sam_host_add_file(&host, letters, 65, BYTES("x"), &tag), SAM_ADD_TOO_LONG);
+    WANT(tag, 1);
+    WANT(sam_host_add_file(&host, BYTES("late"), BYTES("x"), &tag), SAM_OK);
+    WANT(tag, 2);
+    WANT(sam_host_feed(&host, BYTES("\xFF")), SAM_BAD_KIND);
+    WANT(sam_host_add_file(&host, BYTES("last"), BYTES("x"), &tag), SAM_OK);
+    WANT(tag, 3);
+    WANT(sam_host_feed(&host, NULL, 0), SAM_BAD_KIND);
     WANT(sam_host_free(&host), SAM_OK);
     WANT(sam_host_free(&host), SAM_NO_HANDLE);
 }
@@ -181,7 +195,11 @@ static sam_status fed_host(const char *bytes, size_t len)
     WANT(sam_host_add_file(&host, BYTES("a"), BYTES("one"), &tag), SAM_OK);
     sam_status status = sam_host_feed(&host, (const uint8_t *)bytes, len);
     if (status != SAM_OK) {
+        sam_did did = {0};
         WANT(sam_host_feed(&host, NULL, 0), status);
+        WANT(sam_host_bring(&host, NULL, 0), status);
+        WANT(sam_host_step(&host, &did), status);
+        WANT(did.step, SAM_STEP_IDLE);
         WANT(sam_host_finish(&host), status);
     }
     WANT(sam_host_free(&host), SAM_OK);
@@ -196,7 +214,10 @@ static sam_status fed_term(const char *bytes, size_t len)
     WANT(sam_term_new(&term), SAM_OK);
     sam_status status = sam_term_feed(&term, (const uint8_t *)bytes, len);
     if (status != SAM_OK) {
+        sam_did did = {0};
         WANT(sam_term_feed(&term, NULL, 0), status);
+        WANT(sam_term_bring(&term, NULL, 0), status);
+        WANT(sam_term_step(&term, &did), status);
         WANT(sam_term_cut(&term, 0), status);
         WANT(sam_term_type(&term, 0, BYTES("x")), status);
         WANT(sam_term_edit(&term, 0, 0, 0, BYTES("x")), status);
@@ -235,6 +256,92 @@ static void wrong_streams(void)
     WANT(TERM(HNEWNAME_1 HBINDNAME_1 "\x46\0\x12" SEEN "\0\x01\0\0\0\0\0\x0f\x42\x41"), SAM_TERM_TOO_LONG);
     WANT(TERM("\x48\0\x08" SEEN), SAM_TERM_LOCK_NOT_HELD);
     WANT(TERM(HNEWNAME_1 HBINDNAME_1), SAM_OK);
+}
+
+/* A step of the host, or of the terminal, does this. */
+static sam_did stepped_host(sam_host *host, sam_step step)
+{
+    sam_did did;
+    WANT(sam_host_step(host, &did), SAM_OK);
+    WANT(did.step, step);
+    return did;
+}
+
+static sam_did stepped_term(sam_term *term, sam_step step)
+{
+    sam_did did;
+    WANT(sam_term_step(term, &did), SAM_OK);
+    WANT(did.step, step);
+    return did;
+}
+
+/* Messages to a host: Tversion, Tstartfile, two Ttype and a Tcut of file 1, and a kind that there is not. */
+static void host_steps(void)
+{
+    sam_host host = SAM_HOST_INIT;
+    uint8_t kind = 0;
+    uint16_t tag = 0;
+    WANT(sam_host_new(&host), SAM_OK);
+    WANT(sam_host_add_file(&host, BYTES("a"), BYTES("one"), &tag), SAM_OK);
+    stepped_host(&host, SAM_STEP_IDLE);
+    WANT(sam_host_next_message(&host, &kind, &tag), SAM_NONE);
+    WANT(sam_host_bring(&host,
+                        BYTES("\x01\0\x02\0\x02\x06\0\x02\0\x01\x08\0\x07\0\x01\0\0\0\0x\x08\0\x07\0\x01\0\0\0\x01y"
+                              "\x09\0\x0a\0\x01\0\0\0\0\0\0\0\x01\x17")),
+         SAM_OK);
+    WANT(sam_host_bring(&host, NULL, 0), SAM_WAITING);
+    WANT(sam_host_next_message(&host, &kind, &tag), SAM_OK);
+    WANT(kind * 256 + tag, 0x100);
+    sam_did did = stepped_host(&host, SAM_STEP_ANSWERED);
+    WANT(did.kind == 1 && did.tag == 0 && did.count == 1, true);
+    stepped_host(&host, SAM_STEP_WROTE);
+    did = stepped_host(&host, SAM_STEP_ANSWERED);
+    WANT(did.kind == 6 && did.tag == 1 && did.count == 1, true);
+    stepped_host(&host, SAM_STEP_WROTE);
+    WANT(sam_host_next_message(&host, &kind, &tag), SAM_OK);
+    WANT(kind * 256 + tag, 0x801);
+    did = stepped_host(&host, SAM_STEP_EDITED);
+    WANT(did.tag == 1 && did.count == 3 && did.kind == 0, true);
+    same_text(&host, 1, "yone");
+    WANT(sam_host_bring(&host, NULL, 0), SAM_WAITING);
+    WANT(sam_host_step(&host, &did), SAM_BAD_KIND);
+    WANT(did.step, SAM_STEP_EDITED);
+    WANT(sam_host_free(&host), SAM_OK);
+}
+
+/* Frames to a terminal: Hnewname, Hbindname, Hgrowdata and Hcut of file 1, and Hunlock, which the events wait for. */
+static void term_steps(void)
+{
+    sam_term term = SAM_TERM_INIT;
+    WANT(sam_term_new(&term), SAM_OK);
+    stepped_term(&term, SAM_STEP_IDLE);
+    WANT(sam_term_offer_version(&term, 2), SAM_OK);
+    WANT(sam_term_select(&term, 1, 1, 2), SAM_OK);
+    WANT(sam_term_cut(&term, 1), SAM_OK);
+    WANT(sam_term_cut(&term, 7), SAM_OK);
+    stepped_term(&term, SAM_STEP_LOCKED);
+    WANT(sam_term_bring(&term,
+                        BYTES(HNEWNAME_1 HBINDNAME_1 "\x4d\0\x11" SEEN "\0\x01\0\0\0\0abc"
+                                                     "\x51\0\x12" SEEN "\0\x01\0\0\0\0\0\0\0\x01\x48\0\x08" SEEN)),
+         SAM_OK);
+    WANT(sam_term_bring(&term, NULL, 0), SAM_WAITING);
+    WANT(stepped_term(&term, SAM_STEP_RECEIVED).kind, 0x44);
+    WANT(stepped_term(&term, SAM_STEP_RECEIVED).kind, 0x42);
+    sam_did did = stepped_term(&term, SAM_STEP_RECEIVED);
+    WANT(did.kind == 0x4d && did.tag == 1 && did.start == 0 && did.gone == 0 && did.came == 3, true);
+    did = stepped_term(&term, SAM_STEP_RECEIVED);
+    WANT(did.kind == 0x51 && did.tag == 1 && did.start == 0 && did.gone == 1 && did.came == 0, true);
+    did = stepped_term(&term, SAM_STEP_RECEIVED);
+    WANT(did.kind == 0x48 && did.tag == 0, true);
+    did = stepped_term(&term, SAM_STEP_ACTED);
+    WANT(did.event == 2 && did.tag == 1 && did.gone == 0 && did.came == 0, true);
+    did = stepped_term(&term, SAM_STEP_ACTED);
+    WANT(did.event == 3 && did.tag == 1 && did.start == 1 && did.gone == 1 && did.came == 0, true);
+    stepped_term(&term, SAM_STEP_WROTE);
+    did = stepped_term(&term, SAM_STEP_REFUSED);
+    WANT(did.event == 4 && did.why == SAM_REFUSAL_NO_FILE && did.tag == 0, true);
+    stepped_term(&term, SAM_STEP_IDLE);
+    WANT(sam_term_free(&term), SAM_OK);
 }
 
 /* Streams that end between two frames, and inside one: after its kind, in its length, before its last byte. The handle goes on. */
@@ -656,6 +763,9 @@ int main(void)
     wrong_streams();
     ending_streams();
     puts("wrong streams, and where a stream may end");
+    host_steps();
+    term_steps();
+    puts("single steps");
     not_open();
     puts("a file that is not open");
     session();

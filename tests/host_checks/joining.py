@@ -2,13 +2,11 @@
 import os
 import subprocess
 
-from checks import SECONDS, Skipped, expect
+from checks import SECONDS, expect
 
 from .journals import kill
 from .line import Staying
 from .support import SAMHOST, expect_equal, made, text_of
-
-UNABLE = "the host doesn't take it"
 
 
 def asked(session, note):
@@ -25,10 +23,8 @@ def asked(session, note):
 
 
 def joined(session, path, number):
-    """The tag of a file that joins; skipped where the library takes none any more."""
+    """The tag of a file that joins."""
     answer = asked(session, f"open {number} {path}")
-    if answer == f"refused {number} {UNABLE}":
-        raise Skipped("the library takes no file once the session has begun")
     expect(answer.startswith(f"opened {number} "), f"it answers {answer!r}")
     return int(answer.split(" ")[2])
 
@@ -63,18 +59,17 @@ def check_join_refused(folder):
     (folder / "place").mkdir()
     os.mkfifo(folder / "pipe")
     cases = {
-        "bad.txt": ("refused 1 it is not UTF-8", f"refused 1 {UNABLE}"),
-        "long.txt": ("refused 1 it is longer than 1,000,000 characters", f"refused 1 {UNABLE}"),
-        "nowhere/a.txt": ("refused 1 there is no such folder",),
-        "pipe": ("refused 1 it is not a regular file",),
-        "": ("refused 1 there is no such folder",),
-        "place": ("folder 1 place",),
-        ".": ("folder 1 .",),
+        "bad.txt": "refused 1 it is not UTF-8",
+        "long.txt": "refused 1 it is longer than 1,000,000 characters",
+        "nowhere/a.txt": "refused 1 there is no such folder",
+        "pipe": "refused 1 it is not a regular file",
+        "": "refused 1 there is no such folder",
+        "place": "folder 1 place",
+        ".": "folder 1 .",
     }
     with Staying(folder, "a.txt") as session:
-        for path, answers in cases.items():
-            answer = asked(session, f"open 1 {path}")
-            expect(answer in answers, f"the answer to {path!r} is {answer!r}")
+        for path, wanted in cases.items():
+            expect_equal(asked(session, f"open 1 {path}"), wanted, f"the answer to {path!r}")
         session.terminal.offer_version(2)
         session.settle()
         expect_equal([session.terminal.name(tag) for tag in session.terminal.files() if tag], ["a.txt"], "the files")

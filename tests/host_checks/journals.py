@@ -64,6 +64,27 @@ def check_journal_goes_on(folder):
     expect_equal([name for name in names_in(folder) if "sam" in name], [], "the copies that are left")
 
 
+def check_journal_knows_copies(folder):
+    """A copy that a killed samhost has saved is the next one's own: it is replaced, and goes once the file is written. So is what was cut."""
+    made(folder, a="one two\n")
+    with Staying(folder, "a.txt", options=("--undo",)) as session:
+        session.terminal.select(1, 0, 4)
+        session.terminal.cut(1)
+        session.settle()
+        copies = ["a.txt.sam-saved", "cut.sam-saved"]
+        wait_until(lambda: [name for name in names_in(folder) if "sam-" in name] == copies, "no copies are there")
+        journal = home_of(folder, session.name) / "journal"
+        wait_until(lambda: {10, 11} <= {kind for _, kind in records_of(journal.read_bytes())[0]}, "they are not in the journal")
+        kill(folder, session)
+        session.type("three\n")
+        wait_until(lambda: text_of(folder / "a.txt.sam-saved") == "two\nthree\n", "the copy isn't replaced")
+        expect_equal([name for name in names_in(folder) if "sam-" in name], copies, "the copies")
+        session.terminal.paste(1)
+        session.write()
+        session.leave()
+    expect_equal([name for name in names_in(folder) if "sam-" in name], [], "the copies at the end")
+
+
 def check_journal_through_kills(folder):
     """samhost and relay are killed at random moments, many times, while the user types, cuts, writes and runs commands."""
     (path,) = made(folder, a="one\n" * 20)

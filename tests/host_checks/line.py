@@ -192,7 +192,7 @@ class Staying:
             if time.monotonic() > until and not is_late:
                 is_late = True
                 until += SECONDS * times_longer()
-            expect(time.monotonic() < until, lambda: f"{told}; {self.notes}; {self.errors!r}")
+            expect(time.monotonic() < until, f"{told}; {self.notes}; {self.errors!r}")
 
     def is_quiet(self):
         terminal = self.terminal

@@ -158,7 +158,8 @@ function checkRefusals() {
     { event: events, why: Status.REFUSAL_NO_FILE },
   ]);
   same([terminal.nextRefusal(), terminal.decided, terminal.locked(tag), terminal.commandLocked], [null, events, false, false]);
-  throws("AddRefused", "ADD_BEGUN", () => host.addFile("late"));
+  throws("AddRefused", "ADD_TOO_LONG", () => host.addFile("n".repeat(65)));
+  same([host.addFile("late", "x"), host.text(2)], [2, "x"]);
   throws("Missing", "NONE", () => host.text(9));
   throws("Missing", "NONE", () => host.saved(tag));
   throws("NotText", "NOT_TEXT", () => terminal.type(tag, "\ud834"));
@@ -173,6 +174,22 @@ function checkRefusals() {
   piece.offerVersion(2);
   other.feed(piece.takeOut(1));
   throws("StreamFault", "TRUNCATED", () => other.finish());
+}
+
+function checkSteps() {
+  const [host, terminal, tag] = opened(["one", "abc"]);
+  const none = { start: 0, gone: 0, came: 0 };
+  terminal.check(tag);
+  terminal.edit(tag, 1, 2, "xyz");
+  host.bring(terminal.takeOut());
+  throws("SamError", "WAITING", () => host.bring(new Uint8Array(0)));
+  same(host.nextMessage(), { kind: 3, tag });
+  same(host.step(), { step: "answered", kind: 3, tag, count: 1 });
+  same([host.step().step, host.step()], ["wrote", { step: "edited", kind: 0, tag, count: 2 }]);
+  same([host.step().step, host.nextMessage(), host.text(tag)], ["idle", null, "axyzc"]);
+  terminal.bring(host.takeOut());
+  same(terminal.step(), { step: "received", kind: 71, tag, change: none, event: 0, why: 0 });
+  same(terminal.step().step, "idle");
 }
 
 function checkNumbers() {
@@ -235,6 +252,6 @@ function keyTime() {
 
 /** Runs all checks. Throws where one fails; returns what was measured. */
 export function checkAll() {
-  for (const check of [checkTexts, checkFiles, checkEditing, checkRefusals, checkNumbers, checkEnds, checkMemory, checkScripts]) check();
+  for (const check of [checkTexts, checkFiles, checkEditing, checkRefusals, checkSteps, checkNumbers, checkEnds, checkMemory, checkScripts]) check();
   return keyTime();
 }

@@ -124,9 +124,10 @@ function make(name, ...words) {
   free = SPACE;
   for (const kind of kinds) {
     if (kind.startsWith("out ")) {
-      const at = room(8);
+      const length = kind === "out did" ? 39 : 8; // of a sam_did all but the byte that fills it up
+      const at = room(length + 1);
       given.push(at);
-      handedOut.push([at, 8]);
+      handedOut.push([at, length]);
       continue;
     }
     const word = words[next++];

@@ -17,7 +17,9 @@ struct lent {
 };
 
 union out {
-    uint8_t bytes[8];
+    uint8_t bytes[40];
+    sam_did did;
+    uint8_t u8;
     uint16_t u16;
     uint32_t u32;
     uint64_t u64;

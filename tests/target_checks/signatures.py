@@ -3,8 +3,10 @@ makes the call of a number."""
 import re
 
 DECLARATION = re.compile(r"^(?:SAM_MUST_USE )?sam_status (sam_\w+)\(([^)]*)\);", re.M)
-FIELDS = {"uint16_t": "u16", "uint32_t": "u32", "uint64_t": "u64", "size_t": "size", "bool": "truth", "sam_status": "status"}
+FIELDS = {"uint8_t": "u8", "sam_did": "did", "uint16_t": "u16", "uint32_t": "u32", "uint64_t": "u64", "size_t": "size", "bool": "truth", "sam_status": "status"}
 NUMBERS = {"uint16_t": "u16", "uint32_t": "u32", "size_t": "size"}
+OUT = 8  # bytes that are compared of what is handed out
+DID = 39  # of a sam_did, all but the one that fills it up
 HANDLES = {"sam_host": "host", "sam_term": "term"}
 
 
@@ -17,7 +19,7 @@ def kinds_of(words):
         if kind == "const uint8_t *":
             kinds.append("lent")
             words.pop(0)
-        elif kind == "uint8_t *" or (kind, name) == ("uint32_t *", "into"):
+        elif name == "into":
             kinds.append("room4" if "32" in kind else "room1")
             words.pop(0)
         elif kind.rstrip(" *") in HANDLES:
@@ -29,10 +31,15 @@ def kinds_of(words):
     return kinds
 
 
+def declared(header):
+    """The name and the arguments of each call, in the order of the header."""
+    return DECLARATION.findall(re.sub(r"/\*.*?\*/", "", header, flags=re.S))
+
+
 def signatures(header):
-    """The calls, in the order of the header: their names and kinds."""
-    header = re.sub(r"/\*.*?\*/", "", header, flags=re.S)
-    return [(name, kinds_of([" ".join(word.split()) for word in words.split(",")])) for name, words in DECLARATION.findall(header)]
+    """The calls but for those of a link, which the binding of JavaScript doesn't have: their names and kinds."""
+    calls = [(name, words) for name, words in declared(header) if not name.startswith("sam_link_")]
+    return [(name, kinds_of([" ".join(word.split()) for word in words.split(",")])) for name, words in calls]
 
 
 def case(code, name, kinds):
@@ -45,7 +52,7 @@ def case(code, name, kinds):
         if kind.startswith("out "):
             lines.append(f"union out a{at} = filler();")
             words.append(f"&a{at}.{kind[4:]}")
-            after.append(f"put(a{at}.bytes, 8);")
+            after.append(f"put(a{at}.bytes, {DID if kind == 'out did' else OUT});")
         elif kind in types:
             lines.append(f"{types[kind]}a{at} = {makers[kind]};")
             words.append(f"a{at}")

@@ -34,7 +34,7 @@ The shared library is the first of these that is there:
 
 1. the file that the environment variable SAM_LIBRARY names; if that can't be used, no other is tried;
 2. `out/libsulgrevad.so` of the repository or of the installed editor, if this package lies in one of these;
-3. `libsulgrevad.so.0`, where the system looks for shared libraries: /usr/local/lib after `ldconfig`, or the folders of LD_LIBRARY_PATH.
+3. `libsulgrevad.so.0.1`, where the system looks for shared libraries: /usr/local/lib after `ldconfig`, or the folders of LD_LIBRARY_PATH.
 
 Each call of the library keeps the interpreter's lock, so threads may share a handle; a free-threaded Python has no such lock, so use one
 of your own there. `text`, `saved` and `snarfed` read a long text by several calls: let no other thread change it meanwhile.
@@ -46,7 +46,7 @@ nothing that a link hands out.
 """
 from sulgrevad.link import HELLO_BYTES, MOST_NOTE, Hello, Link, What, read_hello, write_refusal
 from sulgrevad.scripts import replay
-from sulgrevad.sides import Change, Host, Refusal, Terminal
+from sulgrevad.sides import Change, Host, HostDid, Refusal, Terminal, TerminalDid
 from sulgrevad.status import (
     AddRefused,
     CountFull,
@@ -59,9 +59,11 @@ from sulgrevad.status import (
     SamError,
     ScriptFault,
     Status,
+    Step,
     StreamFault,
     TerminalRefused,
     Unfinished,
+    Waiting,
     error_of,
     library_version,
     status_text,
@@ -70,7 +72,8 @@ from sulgrevad.status import (
 __version__ = "0.1.0"
 
 __all__ = [
-    "HELLO_BYTES", "MOST_NOTE", "AddRefused", "Change", "CountFull", "HandleFault", "Hello", "Host", "HostRefused", "Link", "LinkFault",
-    "Missing", "NoMemory", "NotText", "Refusal", "SamError", "ScriptFault", "Status", "StreamFault", "Terminal", "TerminalRefused",
-    "Unfinished", "What", "error_of", "library_version", "read_hello", "replay", "status_text", "write_refusal",
+    "HELLO_BYTES", "MOST_NOTE", "AddRefused", "Change", "CountFull", "HandleFault", "Hello", "Host", "HostDid", "HostRefused", "Link",
+    "LinkFault", "Missing", "NoMemory", "NotText", "Refusal", "SamError", "ScriptFault", "Status", "Step", "StreamFault", "Terminal",
+    "TerminalDid", "TerminalRefused", "Unfinished", "Waiting", "What", "error_of", "library_version", "read_hello", "replay",
+    "status_text", "write_refusal",
 ]  # fmt: skip

@@ -1,18 +1,27 @@
 """The shared library, as ctypes sees it: where it is, and the arguments of each of its calls."""
 import ctypes
 import os
-from ctypes import POINTER, c_bool, c_char, c_char_p, c_size_t, c_uint16, c_uint32, c_uint64, c_void_p
+from ctypes import POINTER, c_bool, c_char, c_char_p, c_size_t, c_uint8, c_uint16, c_uint32, c_uint64, c_void_p
 from pathlib import Path
 from typing import Any, Dict, Tuple, Union
 
 # What is taken as a text: its characters, or its UTF-8.
 Text = Union[str, bytes, bytearray, memoryview]
 
-SONAME = "libsulgrevad.so.0"
+SONAME = "libsulgrevad.so.0.1"
 VERSION = (0, 1)  # major and minor number of the library that this package is for
 
 # A text is read in pieces of so many bytes, and a replay is given so much room first.
 PIECE = 65_536
+
+
+class Did(ctypes.Structure):
+    """sam_did: what a step did."""
+
+    _fields_ = [
+        ("event", c_uint64), ("count", c_size_t), ("step", c_uint32), ("why", c_uint32),
+        ("start", c_uint32), ("gone", c_uint32), ("came", c_uint32), ("tag", c_uint16), ("kind", c_uint8),
+    ]  # fmt: skip
 
 
 class Handle(ctypes.Structure):
@@ -23,12 +32,13 @@ class Handle(ctypes.Structure):
 
 _BYTES, _BUFFER, _RUNES = (c_char_p, c_size_t), (POINTER(c_char), c_size_t), (POINTER(c_uint32), c_size_t)
 _TAG, _U32, _SIZE = POINTER(c_uint16), POINTER(c_uint32), POINTER(c_size_t)
-_U64, _BOOL = POINTER(c_uint64), POINTER(c_bool)
+_U64, _BOOL, _DID = POINTER(c_uint64), POINTER(c_bool), POINTER(Did)
 _TEXT_FROM = (c_uint32, *_BUFFER, _SIZE, _U32)
 
 # The arguments of each call after the handle.
 SIGNATURES: Dict[str, Tuple[Any, ...]] = {
     "host_new": (), "host_free": (), "host_add_file": (*_BYTES, *_BYTES, _TAG), "host_feed": _BYTES, "host_finish": (),
+    "host_bring": _BYTES, "host_next_message": (POINTER(c_uint8), _TAG), "host_step": (_DID,),
     "host_pending": (_SIZE,),
     "host_take_out": (*_BUFFER, _SIZE), "host_next_written": (_TAG,), "host_is_done": (_BOOL,), "host_taken": (_U64,),
     "host_version": (_TAG,), "host_tags": (_SIZE,), "host_has_file": (c_uint16, _BOOL), "host_name": (c_uint16, *_BUFFER, _SIZE),
@@ -42,7 +52,7 @@ SIGNATURES: Dict[str, Tuple[Any, ...]] = {
     "term_open_cmd": (), "term_new_file": (),
     "term_write": (c_uint16,), "term_close": (c_uint16,), "term_work": (c_uint16,), "term_check": (c_uint16,), "term_get_snarf": (),
     "term_set_snarf": _BYTES, "term_offer_version": (c_uint16,), "term_flush": (), "term_exit": (), "term_feed": _BYTES,
-    "term_finish": (), "term_flush_now": (), "term_pending": (_SIZE,), "term_take_out": (*_BUFFER, _SIZE),
+    "term_bring": _BYTES, "term_step": (_DID,), "term_finish": (), "term_flush_now": (), "term_pending": (_SIZE,), "term_take_out": (*_BUFFER, _SIZE),
     "term_next_refusal": (_U64, _U32), "term_events": (_U64,), "term_decided": (_U64,),
     "term_tags": (_SIZE,), "term_is_known": (c_uint16, _BOOL), "term_name": (c_uint16, *_BUFFER, _SIZE),
     "term_is_dirty": (c_uint16, _BOOL), "term_is_changed": (c_uint16, _BOOL), "term_is_open": (c_uint16, _BOOL),

@@ -7,7 +7,7 @@ from typing import Any, Deque, NamedTuple, Optional, Tuple, Union
 
 from sulgrevad._library import LIBRARY
 from sulgrevad.sides import OK, Held, least
-from sulgrevad.status import Missing, Status, error_of
+from sulgrevad.status import Status, error_of
 
 ID_BYTES = 16
 HELLO_BYTES = 42
@@ -17,6 +17,7 @@ MOST_PIECE = 2**20  # bytes that are taken out together
 
 # How much of a buffer a call has filled that was not made yet.
 _NOT_YET = 2 ** (8 * ctypes.sizeof(c_size_t)) - 1
+_NONE = int(Status.NONE)
 
 _Bytes = Union[bytes, bytearray, memoryview]
 
@@ -112,13 +113,18 @@ class Link(Held):
         """The same as `free`."""
         self.free()
 
-    def _moved(self, left: Deque[Tuple[Any, int, c_size_t]], room: int, name: str, *arguments: Any) -> bytes:
-        """The next bytes that a call moves out, at most so many. Where an exception breaks in, the next call has them."""
+    def _moved(self, left: Deque[Tuple[Any, int, c_size_t]], room: int, name: str, *arguments: Any) -> Optional[bytes]:
+        """The next bytes that a call moves out, at most so many; None if it answers SAM_NONE. Where an exception breaks in, the next call
+        has them."""
         moved = left.popleft() if left else (ctypes.create_string_buffer(room), 0, c_size_t(_NOT_YET))
         into, start, count = moved
         try:
             if count.value == _NOT_YET:
-                self._call(name, *arguments, into, len(into), byref(count))
+                code = self._answer(name, *arguments, into, len(into), byref(count))
+                if code == _NONE:
+                    return None
+                if code != OK:
+                    raise error_of(code)
             end = min(start + room, count.value)
             taken: bytes = into[start:end]
             rest = (into, end, count) if end < count.value else None
@@ -191,7 +197,7 @@ class Link(Held):
         room = least(most, MOST_PIECE)
         if self._out:
             self._call("take_out", attempt, ctypes.create_string_buffer(1), 0, byref(c_size_t()))  # is it still the newest?
-        return self._moved(self._out, room, "take_out", attempt)
+        return self._moved(self._out, room, "take_out", attempt) or b""
 
     def feed(self, attempt: int, data: _Bytes) -> None:
         """Takes bytes that came on a connection after the hello, in whatever pieces, all or none. Raises LinkFault (LINK_NOT_OPEN) if the
@@ -204,16 +210,11 @@ class Link(Held):
     def take_in(self, most: int = 65_536) -> bytes:
         """The next bytes of the other side's program, at most so many and of one packet: call it until it returns b"", where a note is
         next, or nothing. ValueError if `most` is below 0."""
-        return self._moved(self._in, least(most, MOST_BODY), "take_in")
+        return self._moved(self._in, least(most, MOST_BODY), "take_in") or b""
 
     def next_note(self) -> Optional[bytes]:
         """The note that is next; None if bytes before it are not taken in yet, or none has come."""
-        if self._in:
-            return None
-        try:
-            return self._moved(self._notes, MOST_NOTE, "next_note")
-        except Missing:
-            return None
+        return None if self._in else self._moved(self._notes, MOST_NOTE, "next_note")
 
     # ---- Readers
 

@@ -2,12 +2,12 @@
 import ctypes
 import operator
 from collections import deque
-from ctypes import byref, c_bool, c_size_t, c_uint16, c_uint32, c_uint64
+from ctypes import byref, c_bool, c_size_t, c_uint8, c_uint16, c_uint32, c_uint64
 from types import TracebackType
 from typing import Any, Deque, Iterator, List, NamedTuple, NoReturn, Optional, SupportsIndex, Tuple, Type, TypeVar, Union
 
-from sulgrevad._library import LIBRARY, PIECE, Handle, Text, bytes_of
-from sulgrevad.status import Missing, Status, error_of
+from sulgrevad._library import LIBRARY, PIECE, Did, Handle, Text, bytes_of
+from sulgrevad.status import Missing, Status, Step, error_of
 
 MOST_IN_NAME = 256  # bytes of the longest name
 MOST_IN_PATTERN = 512  # bytes of the longest pattern
@@ -36,6 +36,28 @@ class Change(NamedTuple):
     start: int
     gone: int
     came: int
+
+
+class HostDid(NamedTuple):
+    """What a step of a host did: `kind` is that of the message of an ANSWERED step, by the numbers of docs/PROTOCOL.md, `tag` the file of
+    an EDITED or ANSWERED one, or 0, and `count` how many messages the host took."""
+
+    step: Step
+    kind: int = 0
+    tag: int = 0
+    count: int = 0
+
+
+class TerminalDid(NamedTuple):
+    """What a step of a terminal did: `kind` is that of the frame of a RECEIVED step, `tag` the file of a RECEIVED or ACTED one, or 0, and
+    `change` what changed in its text; `event` is the number of an event that ACTED or was REFUSED, and `why` the reason of a refusal."""
+
+    step: Step
+    kind: int = 0
+    tag: int = 0
+    change: Change = Change(0, 0, 0)
+    event: int = 0
+    why: Optional[Status] = None
 
 
 def _index(kind: Any, number: SupportsIndex) -> int:
@@ -167,6 +189,19 @@ class _Side(Held):
         data = bytes(memoryview(data))
         self._call("feed", data, len(data))
 
+    def bring(self, data: Union[bytes, bytearray, memoryview]) -> None:
+        """Takes bytes of the other side, in whatever pieces they come, by framing alone: what they say is done by `step`. Raises, in this
+        order: why this side has stopped before; Waiting until a step was IDLE, or at a terminal LOCKED; CountFull; NoMemory. The bytes are
+        then not taken."""
+        data = bytes(memoryview(data))
+        self._call("bring", data, len(data))
+
+    def _step(self) -> Did:
+        """Makes a step, and says what it did."""
+        did = Did()
+        self._call("step", byref(did))
+        return did
+
     def finish(self) -> None:
         """Asks whether the other side's stream may end here, once the input has ended. It changes nothing. Raises StreamFault with the
         code TRUNCATED if it ends inside a message or frame, Unfinished if some of what came or was composed still waits for memory, or
@@ -210,11 +245,29 @@ class Host(_Side):
     _prefix = "sam_host"
 
     def add_file(self, name: Text, text: Text = "") -> int:
-        """Adds a file, clean and closed, and returns its tag: 1 for the first, and so on. Raises, in this order: AddRefused after the
-        first feed, even of no bytes; NotText; AddRefused for a name above 64 runes or a text above 1,000,000, and if no tag is left;
-        NoMemory. The host is then as it was."""
+        """Adds a file, clean and closed, and returns its tag: 1 for the first, and so on. It may be called at any time: the answer to
+        the terminal's next Tversion has the name. Raises, in this order: NotText; AddRefused for a name above 64 runes or a text above
+        1,000,000, and if no tag is left; NoMemory. The host is then as it was."""
         name, text = bytes_of(name), bytes_of(text)
         return self._number("add_file", c_uint16, name, len(name), text, len(text))
+
+    def next_message(self) -> Optional[Tuple[int, int]]:
+        """The kind of the oldest message that waits, and the file that it names, or 0; None if none waits. The next step that takes a message
+        begins with it."""
+        kind, tag = c_uint8(), c_uint16()
+        code = self._answer("next_message", byref(kind), byref(tag))
+        if code == Status.NONE:
+            return None
+        if code != _OK:
+            raise error_of(code)
+        return kind.value, tag.value
+
+    def step(self) -> HostDid:
+        """Does one thing of what waits, and says what: it writes what was answered last, if that is left over; or the host takes edits of
+        one file that follow each other, or else answers the oldest message. `feed` makes such steps until one is IDLE. Raises Unfinished,
+        where nothing has changed, or why the host has stopped, now or before."""
+        did = self._step()
+        return HostDid(Step(did.step), did.kind, did.tag, did.count)
 
     def next_written(self) -> Optional[int]:
         """The tag of a file that the terminal asked the host to write: write `saved` of it to disk now. Each Twrite gives its tag once,
@@ -397,7 +450,8 @@ class Terminal(_Side):
 
     def offer_version(self, version: int) -> None:
         """Offers a version of the protocol, and asks for the names of all files. Before it the terminal knows none of them, and refuses
-        each event on one; events after it wait for the answer. Version 2 allows longer snarfed texts."""
+        each event on one; events after it wait for the answer. Offer it again to learn of files that joined the host since. Version 2
+        allows longer snarfed texts."""
         self._call("offer_version", version)
 
     def flush(self) -> None:
@@ -414,6 +468,14 @@ class Terminal(_Side):
         """Composes the typed runes that are not sent yet; to be called when the user pauses, before the program sleeps. Raises NoMemory,
         Unfinished, or why the terminal has stopped, now or before."""
         self._call("flush_now")
+
+    def step(self) -> TerminalDid:
+        """Does one thing of what waits, and says what: it writes what was composed last, if that is left over; or the terminal receives
+        the oldest frame; or, where none waits, the oldest event acts or is refused. `feed` makes such steps until one is IDLE or LOCKED.
+        Raises Unfinished, where nothing has changed, or why the terminal has stopped, now or before."""
+        did = self._step()
+        why = Status(did.why) if did.why else None
+        return TerminalDid(Step(did.step), did.kind, did.tag, Change(did.start, did.gone, did.came), did.event, why)
 
     def next_refusal(self) -> Optional[Refusal]:
         """The oldest refused event that was not handed out yet; None if there is none."""

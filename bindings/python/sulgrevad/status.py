@@ -17,7 +17,7 @@ class Status(enum.IntEnum):
     MADE = 5
     NOT_TEXT = 6
     NONE = 7
-    ADD_BEGUN = 17
+    WAITING = 8
     ADD_TOO_LONG = 19
     ADD_NO_TAG = 20
     BAD_KIND = 33
@@ -63,6 +63,19 @@ class Status(enum.IntEnum):
     LINK_BAD_LENGTH = 204
     LINK_ACK_AHEAD = 205
     LINK_NO_ROOM = 206
+
+
+class Step(enum.IntEnum):
+    """What a step did (enum sam_step of sulgrevad.h)."""
+
+    IDLE = 0
+    LOCKED = 1
+    WROTE = 2
+    EDITED = 3
+    ANSWERED = 4
+    RECEIVED = 5
+    ACTED = 6
+    REFUSED = 7
 
 
 def status_text(code: int) -> str:
@@ -114,6 +127,10 @@ class CountFull(SamError, OverflowError):
     """A stream of 2**64 bytes, or 2**64 events or connections (SAM_COUNT_FULL)."""
 
 
+class Waiting(SamError):
+    """Some of what came before waits, so make steps first; what was brought was not taken (SAM_WAITING)."""
+
+
 class HandleFault(SamError, ValueError):
     """The host, terminal or link was freed (SAM_NO_HANDLE), or was made twice (SAM_MADE)."""
 
@@ -162,6 +179,7 @@ SINGLE = {
     Status.MADE: HandleFault,
     Status.NOT_TEXT: NotText,
     Status.NONE: Missing,
+    Status.WAITING: Waiting,
 }
 FAMILIES = (
     (range(16, 32), AddRefused),

@@ -8,3 +8,5 @@ pub mod Scripts
 pub mod Measures
 pub mod LinkStatus
 pub mod Links
+pub mod Walking
+pub mod Steps

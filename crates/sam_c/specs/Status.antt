@@ -20,6 +20,8 @@ use Rattle.sam_endpoint.specs.declared.fault.StreamFault.TheVariants as stream
 use Rattle.sam_endpoint.specs.declared.fault.HostStop.TheVariants as host_stop
 use Rattle.sam_endpoint.specs.declared.fault.TermStop.TheVariants as term_stop
 use Rattle.sam_endpoint.specs.declared.fault.EndpointFault.TheVariants as fault
+use Rattle.sam_endpoint.specs.declared.step.BringFault.{BringFault}
+use Rattle.sam_endpoint.specs.declared.step.BringFault.TheVariants as bring
 use Rattle.sam_endpoint.specs.declared.fault.FinishFault.{FinishFault}
 use Rattle.sam_endpoint.specs.declared.fault.FinishFault.TheVariants as ending
 
@@ -47,6 +49,9 @@ not_text = 6
 abbrev pub nothing : ℕ
 nothing = 7
 
+abbrev pub waiting : ℕ
+waiting = 8
+
 -- why a text is not read
 abbrev pub read_status : ReadFault → ℕ
 read_status reading.NotText = not_text
@@ -54,7 +59,6 @@ read_status reading.OutOfMemory = no_memory
 
 -- why a file is not added
 abbrev pub add_status : AddFault → ℕ
-add_status opening.Begun = 17
 add_status opening.NotText = not_text
 add_status opening.TooLong = 19
 add_status opening.NoTag = 20
@@ -121,7 +125,7 @@ replay_status (Ok printed) = ok
 replay_status (Err why) = script_status why
 
 -- what a call to an end answers, where stops have these numbers
-abbrev pub call_status : {S : Type 0} → (S → ℕ) → Result (Unit {0}) (EndpointFault S) → ℕ
+abbrev pub call_status : {A S : Type 0} → (S → ℕ) → Result A (EndpointFault S) → ℕ
 call_status stopped (Ok done) = ok
 call_status stopped (Err fault.OutOfMemory) = no_memory
 call_status stopped (Err fault.Unfinished) = unfinished
@@ -133,6 +137,14 @@ host_status result = call_status host_stop_status result
 
 abbrev pub term_status : Result (Unit {0}) (EndpointFault TermStop) → ℕ
 term_status result = call_status term_stop_status result
+
+-- what bringing bytes answers, where stops have these numbers
+abbrev pub bring_status : {S : Type 0} → (S → ℕ) → Result (Unit {0}) (BringFault S) → ℕ
+bring_status stopped (Ok done) = ok
+bring_status stopped (Err bring.Waiting) = waiting
+bring_status stopped (Err bring.CountFull) = count_full
+bring_status stopped (Err bring.OutOfMemory) = no_memory
+bring_status stopped (Err (bring.Stopped why)) = stopped why
 
 -- what the end of a stream answers, where stops have these numbers
 abbrev pub finish_status : {S : Type 0} → (S → ℕ) → Result (Unit {0}) (FinishFault S) → ℕ

@@ -9,9 +9,11 @@ mod host_readers;
 mod link_calls;
 mod link_status;
 mod measures;
+mod members;
 mod parts;
 mod scripts;
 mod status;
+mod steps;
 mod term_calls;
 mod term_events;
 mod term_readers;
@@ -20,3 +22,4 @@ mod utf8;
 
 pub use handle::{SamHost, SamLink, SamTerm};
 pub use link_calls::{SamLinkHello, SamLinkId};
+pub use steps::SamDid;

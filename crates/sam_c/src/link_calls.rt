@@ -353,7 +353,7 @@ pub extern "C" fn sam_link_attempt(link: &mut SamLink, attempt: &mut u64, alloc:
     with_end!(link alloc end { *attempt = end.attempt(); OK })
 }
 
-/// Returns how many bytes were put.
+/// Returns how many bytes were put: that is the greatest count that the other side may have.
 fn put_count(end: &Link) -> u64
     ensures { IsPutCount end.now result }
 {

@@ -1,10 +1,12 @@
 //! The numbers by which C knows what came of a call: enum sam_status of include/sulgrevad.h.
 
 ghost use Rattle.std.specs.Prelude.{◌≡◌};
-ghost use Rattle.sam_c.specs.Status.{add_status, host_finish_status, host_refusal, host_status, refusal_status, script_status};
-ghost use Rattle.sam_c.specs.Status.{stream_status, term_finish_status, term_refusal, term_status, truncated};
+ghost use Rattle.sam_c.specs.Status.{add_status, bring_status, host_finish_status, host_refusal, host_status, host_stop_status, refusal_status, script_status};
+ghost use Rattle.sam_c.specs.Status.{stream_status, term_finish_status, term_refusal, term_status, term_stop_status, truncated};
 
-use sam_endpoint::{AddFault, EndpointFault, FinishFault, HostStop, StreamFault, TermStop};
+use sam_endpoint::{
+    AddFault, BringFault, EndpointFault, FinishFault, HostStop, StreamFault, TermStop,
+};
 use sam_frame::FeedFault;
 use sam_host::HostFault;
 use sam_script::ScriptFault;
@@ -35,6 +37,9 @@ pub(crate) const NOT_TEXT: u32 = 6;
 /// What was asked for is not there: no such file, none that is open, no saved text, no gap, no current file, or nothing more to hand out.
 pub(crate) const NONE: u32 = 7;
 
+/// Some of what came before waits, and what the call brought was not taken.
+const WAITING: u32 = 8;
+
 /// Added to the number, from 1, of why a file is not added; so too in the families below. Bytes that are no text, and out of memory for a
 /// file or a script, are `NOT_TEXT` and `NO_MEMORY` in place of that.
 const ADD: u32 = 16;
@@ -61,7 +66,7 @@ pub(crate) fn add_status(why: AddFault) -> u32
     match why {
         AddFault::NotText => NOT_TEXT,
         AddFault::OutOfMemory => NO_MEMORY,
-        AddFault::Begun | AddFault::TooLong | AddFault::NoTag => ADD + why as u32,
+        AddFault::TooLong | AddFault::NoTag => ADD + why as u32,
     }
 }
 
@@ -136,6 +141,34 @@ pub(crate) fn term_status(came: Result<(), EndpointFault<TermStop>>) -> u32
         Err(EndpointFault::CountFull) => COUNT_FULL,
         Err(EndpointFault::Stopped(TermStop::Stream(why))) => stream_status(why),
         Err(EndpointFault::Stopped(TermStop::Refused(why))) => term_refusal(why),
+    }
+}
+
+/// Returns the number of what came of bytes that were brought to a host end.
+pub(crate) fn host_bring_status(came: Result<(), BringFault<HostStop>>) -> u32
+    ensures { result ≡ bring_status host_stop_status came }
+{
+    match came {
+        Ok(()) => OK,
+        Err(BringFault::Waiting) => WAITING,
+        Err(BringFault::CountFull) => COUNT_FULL,
+        Err(BringFault::OutOfMemory) => NO_MEMORY,
+        Err(BringFault::Stopped(HostStop::Stream(why))) => stream_status(why),
+        Err(BringFault::Stopped(HostStop::Refused(why))) => host_refusal(why),
+    }
+}
+
+/// Returns the number of what came of bytes that were brought to a terminal end.
+pub(crate) fn term_bring_status(came: Result<(), BringFault<TermStop>>) -> u32
+    ensures { result ≡ bring_status term_stop_status came }
+{
+    match came {
+        Ok(()) => OK,
+        Err(BringFault::Waiting) => WAITING,
+        Err(BringFault::CountFull) => COUNT_FULL,
+        Err(BringFault::OutOfMemory) => NO_MEMORY,
+        Err(BringFault::Stopped(TermStop::Stream(why))) => stream_status(why),
+        Err(BringFault::Stopped(TermStop::Refused(why))) => term_refusal(why),
     }
 }
 

@@ -1,6 +1,7 @@
 pub mod Common
 pub mod HostEndpointFits
 pub mod HostEndpointGoing
+pub mod HostEndpointStepping
 pub mod HostEndpointFiles
 pub mod TermEndpointHeld
 pub mod TermEndpointStamps
@@ -9,6 +10,7 @@ pub mod TermChanges
 pub mod TermEndpointMoves
 pub mod TermEndpointSteps
 pub mod TermEndpointCalls
+pub mod TermEndpointStepping
 pub mod HostEndpointRuns
 pub mod TermEndpointRuns
 pub mod Members

@@ -1,5 +1,5 @@
 -- One step of a terminal end: what holds of the end after it.
-use Rattle.sam_endpoint.proofs.Common.{◌≡◌, refl, ap, inl, sym, subst, ℕ, ◌-◌, ◌≤◌, false, List, [], ◌∷◌, ◌++◌, length, drop, Option, Some, None, Ok, Err, arith, slice_get, IsTrue, All-tail, fits_h, HFrame, Tmesg, host, Held, composed_in, PlainTerminal, UserEvent, act_of, act_on, flush_of, take_of, Acted, StreamFault, TermStop, EndpointFault, FitFrames, Gives, PlainTermEndpoint, act_touch, kept_after, IsDecided, IsQuiet, oldest, refusals_from, ActsFirst, Receives, Tries, stopped_by, All-nil, FitInTurn}
+use Rattle.sam_endpoint.proofs.Common.{◌≡◌, refl, ap, sym, subst, ℕ, ◌-◌, ◌≤◌, false, List, [], ◌∷◌, ◌++◌, length, drop, Option, Some, None, Ok, Err, arith, slice_get, IsTrue, All-tail, fits_h, HFrame, Tmesg, host, Held, composed_in, PlainTerminal, UserEvent, act_of, act_on, flush_of, take_of, Acted, Idle, StreamFault, TermStop, EndpointFault, FitFrames, Gives, PlainTermEndpoint, act_touch, kept_after, IsDecided, oldest, refusals_from, ActsFirst, Receives, Tries, stopped_by, All-nil, FitInTurn}
 use Rattle.std.proofs.Common.{IsOk}
 use Rattle.sam_term.specs.Taking.{IsFailure}
 use Rattle.sam_term.specs.declared.fault.TermFault.{TermFault}
@@ -29,9 +29,13 @@ none_held [] none = refl
 none_held (event ∷ events) none = absurd (grind arith)
 
 -- no event is held, so none can act
-pub none_acts : (t : PlainTerminal) → length t.held ≡ 0 → IsQuiet t
+pub none_acts : (t : PlainTerminal) → length t.held ≡ 0 → act_of t ≡ Ok (t, Idle)
 unfolding act_of
-none_acts t none = inl (ap (λ (events : List UserEvent). act_on t events) (none_held t.held none))
+none_acts t none = ap (λ (events : List UserEvent). act_on t events) (none_held t.held none)
+
+-- only one thing becomes of the oldest event
+pub acted_is : (e : PlainTermEndpoint) (t u : PlainTerminal) (a b : Acted) → act_of e.term ≡ Ok (t, a) → act_of e.term ≡ Ok (u, b) → b ≡ a
+acted_is e t u a b one other = grind arith
 
 pub settled_counted : (e : PlainTermEndpoint) (u : PlainTerminal) (acted : Acted) → IsSound e → act_of e.term ≡ Ok (u, acted) → IsDecided acted → length u.held ≤ e.events
 settled_counted e u acted s act settled = omega (arith, act_held e.term u acted act settled, s.counted)

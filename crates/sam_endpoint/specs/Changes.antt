@@ -105,6 +105,20 @@ abbrev pub act_touch : PlainTerminal → Acted → Option Touch
 act_touch t (Done ms) = oldest_touch t
 act_touch t acted = None
 
+-- how many members the text has that is touched
+abbrev pub touched_len : PlainTerminal → Option Touch → ℕ
+touched_len t None = 0
+touched_len t (Some touch) = length (rasp_at t touch.tag)
+
+-- the change of a text that is touched, of n members before and m after
+abbrev pub change_by : Option Touch → ℕ → ℕ → Change
+change_by None n m = record { start = 0; gone = 0; came = 0 }
+change_by (Some touch) n m = change_of (narrowed (all_kept n) touch.front touch.back) m
+
+-- the change by which one terminal became the other, where no other text is touched
+abbrev pub change_between : PlainTerminal → Option Touch → PlainTerminal → Change
+change_between t touch u = change_by touch (touched_len t touch) (touched_len u touch)
+
 -- the terminal that an answer leaves
 abbrev pub left_by : {A : Type 0} → PlainTerminal → Result (PlainTerminal × A) TermFault → PlainTerminal
 left_by t (Ok x) = x.0

@@ -68,6 +68,10 @@ pub record TakesEdits (e : PlainHostEndpoint) (g : PlainHostEndpoint) : Type 0 w
   pub taken : TakesInSilence e.host messages host
   pub after : g ≡ record e { host = host; waiting = rest }
 
+-- so many
+abbrev pub TakesSo : PlainHostEndpoint → ℕ → PlainHostEndpoint → Type 0
+TakesSo e count g = (took : TakesEdits e g) × (length took.messages ≡ count)
+
 -- what waited first is answered, or all stays, or the host refuses the oldest message
 abbrev pub HandlesNext : PlainHostEndpoint → Answer → PlainHostEndpoint → Type 0
 HandlesNext e (Ok done) g = AnswersFirst e g ⊎ TakesEdits e g

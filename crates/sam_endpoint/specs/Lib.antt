@@ -1,9 +1,12 @@
 pub mod Streams
+pub mod Naming
 pub mod HostEndpoints
 pub mod HostSteps
+pub mod HostStepping
 pub mod HostRuns
 pub mod Changes
 pub mod TermEndpoints
 pub mod TermSteps
+pub mod TermStepping
 pub mod Drawing
 pub mod TermRuns

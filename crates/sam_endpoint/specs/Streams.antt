@@ -11,6 +11,8 @@ use Rattle.sam_frame.specs.Framing.{Held, HasRoom, GaveAll, GaveUp}
 use Rattle.sam_endpoint.specs.declared.fault.EndpointFault.{EndpointFault}
 use Rattle.sam_endpoint.specs.declared.fault.EndpointFault.TheVariants as fault
 use Rattle.sam_endpoint.specs.declared.fault.StreamFault.{StreamFault}
+use Rattle.sam_endpoint.specs.declared.step.BringFault.{BringFault}
+use Rattle.sam_endpoint.specs.declared.step.BringFault.TheVariants as bring
 use Rattle.sam_endpoint.specs.declared.fault.StreamFault.TheVariants.{BadKind, BadLength, BadText}
 
 -- each frame fits in version 2, and so can be written
@@ -43,3 +45,10 @@ GivesAs d h piece (Err (fault.Stopped why)) k = ⊥
 abbrev pub not_taken : {S : Type 0} → EndpointFault S → EndpointFault S
 not_taken fault.Unfinished = fault.OutOfMemory
 not_taken why = why
+
+-- why a piece is not brought that a framer did not take
+abbrev pub bring_fault : {S : Type 0} → EndpointFault S → BringFault S
+bring_fault fault.CountFull = bring.CountFull
+bring_fault fault.OutOfMemory = bring.OutOfMemory
+bring_fault fault.Unfinished = bring.OutOfMemory
+bring_fault (fault.Stopped why) = bring.Stopped why

@@ -8,6 +8,7 @@ use Rattle.sam_frame.specs.Stream.{stream_of}
 use Rattle.sam_term.specs.Fitting.{composed_in}
 use Rattle.sam_term.specs.Term.{PlainTerminal, act_of, flush_of, take_of}
 use Rattle.sam_term.specs.declared.event.Acted.{Acted}
+use Rattle.sam_term.specs.declared.event.Acted.TheVariants as become
 use Rattle.sam_term.specs.declared.fault.TermFault.{TermFault}
 use Rattle.sam_term.specs.declared.event.UserEvent.{UserEvent}
 use Rattle.sam_endpoint.specs.declared.fault.TermStop.{TermStop}
@@ -15,6 +16,8 @@ use Rattle.sam_endpoint.specs.declared.fault.TermStop.TheVariants as stop
 use Rattle.sam_endpoint.specs.declared.fault.EndpointFault.{EndpointFault}
 use Rattle.sam_endpoint.specs.declared.fault.EndpointFault.TheVariants as fault
 use Rattle.sam_term.specs.declared.fault.TermFault.TheVariants as refusal
+use Rattle.sam_endpoint.specs.declared.step.Decision.{Decision}
+use Rattle.sam_endpoint.specs.declared.step.Decision.TheVariants as decision
 use Rattle.sam_endpoint.specs.Changes.{act_touch, frame_touch, kept_after}
 use Rattle.sam_endpoint.specs.Streams.{FitFrames, FitMessages}
 use Rattle.sam_endpoint.specs.TermEndpoints.{PlainTermEndpoint, GoesOn, IsIdle, IsQuiet, IsDecided, Moves, TakesIn, oldest, refusals_from, undone, with_event}
@@ -120,6 +123,23 @@ Acts e (Err (fault.Stopped (stop.Refused why))) g = (act_of e.term ≡ Err why) 
 Acts e (Err (fault.Stopped (stop.Stream why))) g = ⊥
 Acts e (Err fault.OutOfMemory) g = ⊥
 Acts e (Err fault.CountFull) g = ⊥
+
+-- what became of the oldest event; or all stays, or it can't be counted
+abbrev pub Decides : PlainTermEndpoint → Result Decision (EndpointFault TermStop) → PlainTermEndpoint → Type 0
+Decides e (Ok decision.Idle) g = (act_of e.term ≡ Ok (e.term, become.Idle)) × (g ≡ e)
+Decides e (Ok decision.Locked) g = (act_of e.term ≡ Ok (e.term, become.Locked)) × (g ≡ e)
+Decides e (Ok decision.Acted) g = (first : ActsFirst e g) × (ms : List Tmesg) × (first.acted ≡ become.Done ms)
+Decides e (Ok (decision.Refused why)) g = (first : ActsFirst e g) × (first.acted ≡ become.Refused why)
+Decides e (Err why) g = Acts e (Err why) g
+
+-- it stops where the stream shows a fault, else it stays
+abbrev pub Ends : PlainTermEndpoint → Answer → PlainTermEndpoint → Type 0
+Ends e (Ok done) g = (e.broken_by ≡ None) × (g ≡ e)
+Ends e (Err (fault.Stopped (stop.Stream why))) g = (e.broken_by ≡ Some why) × (g ≡ stopped e (stop.Stream why))
+Ends e (Err (fault.Stopped (stop.Refused why))) g = ⊥
+Ends e (Err fault.Unfinished) g = ⊥
+Ends e (Err fault.OutOfMemory) g = ⊥
+Ends e (Err fault.CountFull) g = ⊥
 
 -- the frames that waited are received, and their answers are written
 abbrev pub ReceivesAll : PlainTermEndpoint → Answer → PlainTermEndpoint → Type 0

@@ -2,7 +2,7 @@
 
 ghost use Rattle.std.specs.Prelude.{◌≡◌, ◌≤◌, ◌-◌, [], length, IfOk, OnErr, OnOk, Some, None, if◌then◌else◌};
 ghost use Rattle.sam_term.specs.Term.{is_open, rasp_at, window_at};
-ghost use Rattle.sam_endpoint.specs.Changes.{asked, change_of, edit_touch, event_touch, frame_touch, kept_after, kept_at, oldest_touch};
+ghost use Rattle.sam_endpoint.specs.Changes.{asked, change_by, change_of, edit_touch, event_touch, frame_touch, kept_after, kept_at, oldest_touch, touched_len};
 
 use sam_mesg::Hmesg;
 use sam_term::{Terminal, UserEvent};
@@ -127,6 +127,35 @@ fn change_to(kept: Kept, len: u32) -> Change
             .saturating_sub(kept.back),
         came: len.saturating_sub(kept.front).saturating_sub(kept.back),
     }
+}
+
+/// Returns how many runes and gaps the text has that is touched; 0 if none is.
+pub(crate) fn touched_len(term: &Terminal, touch: Option<Touch>) -> u32
+    ensures { result ≡ touched_len term.now touch }
+{
+    match touch {
+        Some(touch) => len_of(term, touch.tag),
+        None => 0,
+    }
+}
+
+/// Returns the change of the text that is touched, which had `before` runes and gaps and has `after` now; all zeros if none is.
+pub(crate) fn change_by(touch: Option<Touch>, before: u32, after: u32) -> Change
+    ensures { result ≡ change_by touch before after }
+{
+    let Some(touch) = touch else {
+        return Change {
+            start: 0,
+            gone: 0,
+            came: 0,
+        };
+    };
+    let kept = Kept {
+        front: before.min(touch.front),
+        back: before.min(touch.back),
+        len: before,
+    };
+    change_to(kept, after)
 }
 
 /// Returns how many runes and gaps the text of a file has; `None` if it is not open.

@@ -5,9 +5,9 @@ ghost use Rattle.std.specs.Str.{chars, is_utf8};
 ghost use Rattle.std.specs.VecDeque.{deque_len, deque_capacity};
 ghost use Rattle.sam_runes.specs.Checks.{first_of_checks};
 ghost use Rattle.sam_term.specs.Fitting.{FitsLast};
-ghost use Rattle.sam_endpoint.specs.HostEndpoints.{Feeds, Finishes, GoesOn, IsIdle, IsAddFault, new_host_endpoint, add_checks, with_file, writes_of};
+ghost use Rattle.sam_endpoint.specs.HostEndpoints.{Adds, Feeds, Finishes, GoesOn, IsIdle, new_host_endpoint, add_checks, writes_of};
 ghost use Rattle.sam_endpoint.specs.HostRuns.{begun_with};
-ghost use Rattle.sam_endpoint.specs.HostSteps.{Brings, Ends, Handles, HandlesNext, TakesEdits, Writes};
+ghost use Rattle.sam_endpoint.specs.HostSteps.{Brings, Ends, Handles, HandlesNext, TakesSo, Writes};
 
 use crate::fault::{AddFault, EndpointFault, FinishFault, HostStop, StreamFault};
 use crate::incoming::{drop_first, feed_framer};
@@ -49,7 +49,7 @@ fn write_in(host: &Host, message: &Tmesg) -> Option<u16>
 }
 
 /// Returns the oldest message.
-fn oldest(messages: &VecDeque<Tmesg>) -> &Tmesg
+pub(crate) fn oldest(messages: &VecDeque<Tmesg>) -> &Tmesg
     requires { 0 < length messages.now.items }
     ensures { messages.now.items ≡ result.now ∷ drop 1 messages.now.items }
 {
@@ -101,14 +101,12 @@ pub struct HostEndpoint {
     framer: FramerT,
     /// The host, as the messages answered so far left it.
     host: Host,
-    /// Whether a piece was taken, be it an empty one. From then on no file is added.
-    begun: bool,
     /// The messages that came and are not answered yet, the oldest first. There are none after a call that returned `Ok`.
-    waiting: VecDeque<Tmesg>,
+    pub(crate) waiting: VecDeque<Tmesg>,
     /// What is wrong with the stream after these messages; `None` if nothing is.
-    broken_by: Option<StreamFault>,
+    pub(crate) broken_by: Option<StreamFault>,
     /// The frames of the last answer, while their bytes are not pending. There are none after a call that returned `Ok`.
-    unwritten: Vec<HFrame>,
+    pub(crate) unwritten: Vec<HFrame>,
     /// The bytes for the terminal that were not taken out yet.
     pending_bytes: PendingBytes,
     /// The tags of files that the terminal had the host write (Twrite) and `next_written` has not handed out, the oldest first.
@@ -126,7 +124,6 @@ impl Model for HostEndpoint {
     ghost view = { λ a. record {
       framer = a.framer;
       host = a.host;
-      is_begun = a.begun;
       waiting = a.waiting.items;
       broken_by = a.broken_by;
       unwritten = a.unwritten.items;
@@ -138,7 +135,6 @@ impl Model for HostEndpoint {
     ghost invariant = { λ a. IsSound (record {
       framer = a.framer;
       host = a.host;
-      is_begun = a.begun;
       waiting = a.waiting.items;
       broken_by = a.broken_by;
       unwritten = a.unwritten.items;
@@ -167,7 +163,6 @@ impl HostEndpoint {
             alloc,
             framer: FramerT::new(alloc),
             host,
-            begun: false,
             waiting: VecDeque::new(alloc),
             broken_by: None,
             unwritten: Vec::new(alloc),
@@ -181,9 +176,6 @@ impl HostEndpoint {
     fn refusal(&self, name: &[u8], text: &[u8]) -> Option<AddFault>
         ensures { result ≡ first_of_checks (add_checks self.now name.now text.now) }
     {
-        if self.begun {
-            return Some(AddFault::Begun);
-        }
         let Some(name) = runes_in(name) else {
             return Some(AddFault::NotText);
         };
@@ -200,18 +192,17 @@ impl HostEndpoint {
     }
 
     /// Adds a file under the next tag, and returns the tag: 1 for the first file, 2 for the next, and so on. `name` and `text` are UTF-8
-    /// (RFC 3629). The file is clean and closed, and its name is not announced yet. The cost is that of the name and the text.
+    /// (RFC 3629). The file is clean and closed, and its name is not announced yet: the answer to the terminal's next Tversion has it.
     ///
-    /// Errors, in this order: `Begun` if a piece was taken before; `NotText` if the name or the text is not UTF-8; `TooLong` if the name
-    /// has more than `MOST_IN_NAME` runes or the text more than `MAX_RUNES`; `NoTag` if all tags were given; `OutOfMemory`. After an error
-    /// the endpoint is as it was.
+    /// It may be called at any time, also on an endpoint that has stopped, or whose terminal has exited. The host answers no message by it,
+    /// and no byte becomes pending. A message that came before and still waits, as after `Unfinished`, is answered after the file has
+    /// joined. The cost is that of the name and the text.
+    ///
+    /// Errors, in this order: `NotText` if the name or the text is not UTF-8; `TooLong` if the name has more than `MOST_IN_NAME` runes or
+    /// the text more than `MAX_RUNES`; `NoTag` if all tags were given; `OutOfMemory`. After an error the endpoint is as it was.
     #[tactic(auto, using(crate::proofs::HostEndpointFiles::adds_files))]
     pub fn add_file(&mut self, name: &[u8], text: &[u8]) -> Result<u16, AddFault>
-        ensures tag { IfOk result (λ tag. tag ≡ length self.old.host.files.slots) }
-        ensures added { OnOk result (self.new ≡ with_file self.old name.now text.now) }
-        ensures allowed { OnOk result (first_of_checks (add_checks self.old name.now text.now) ≡ None) }
-        ensures refused { IfErr result (IsAddFault (first_of_checks (add_checks self.old name.now text.now))) }
-        ensures unchanged { OnErr result (self.new ≡ self.old) }
+        ensures { Adds self.old name.now text.now result self.new }
     {
         if let Some(fault) = self.refusal(name, text) {
             return Err(fault);
@@ -338,7 +329,7 @@ impl HostEndpoint {
     }
 
     /// Returns whether a message waits to be answered.
-    fn is_waiting(&self) -> bool
+    pub(crate) fn is_waiting(&self) -> bool
         ensures { IsTrue result ↔ (0 < length self.now.waiting) }
     {
         !self.waiting.is_empty()
@@ -346,7 +337,7 @@ impl HostEndpoint {
 
     /// Has the host answer the oldest message that waits, which then waits no longer. All memory is had before: after `Unfinished` all is
     /// as it was. After `Stopped` the message waits on.
-    fn answer_first(&mut self) -> Result<(), EndpointFault<HostStop>>
+    pub(crate) fn answer_first(&mut self) -> Result<(), EndpointFault<HostStop>>
         requires { 0 < length self.old.waiting }
         ensures { Handles self.old result self.new }
     {
@@ -370,14 +361,14 @@ impl HostEndpoint {
         }
     }
 
-    /// Has the host take edits of one file that wait first, at once. Returns whether it took any; they need no answer, and wait no longer.
-    fn take_edits(&mut self) -> bool
-        ensures took { result ≡ true → TakesEdits self.old self.new }
-        ensures unchanged { result ≡ false → self.new ≡ self.old }
+    /// Has the host take edits of one file that wait first, at once. Returns how many; they need no answer, and wait no longer.
+    pub(crate) fn take_edits(&mut self) -> usize
+        ensures took { 0 < result → TakesSo self.old result self.new }
+        ensures unchanged { result ≡ 0 → self.new ≡ self.old }
     {
         let count = self.host.handle_edits(&self.waiting);
         drop_oldest(&mut self.waiting, count);
-        count > 0
+        count
     }
 
     /// Has the host take what waits first: edits of one file at once, else the oldest message.
@@ -385,7 +376,7 @@ impl HostEndpoint {
         requires { 0 < length self.old.waiting }
         ensures { HandlesNext self.old result self.new }
     {
-        if self.take_edits() {
+        if self.take_edits() > 0 {
             return Ok(());
         }
         self.answer_first()
@@ -393,7 +384,7 @@ impl HostEndpoint {
 
     /// Writes the frames of the last answer into the pending bytes, all or none. Its only error is `Unfinished`.
     #[tactic(auto, using(crate::proofs::HostEndpointGoing::none_written))]
-    fn write_answer(&mut self) -> Result<(), EndpointFault<HostStop>>
+    pub(crate) fn write_answer(&mut self) -> Result<(), EndpointFault<HostStop>>
         ensures { Writes self.old result self.new }
     {
         if self.unwritten.is_empty() {
@@ -408,7 +399,7 @@ impl HostEndpoint {
     }
 
     /// Stops the endpoint for good if the stream shows a fault, once all messages before it are answered.
-    fn end(&mut self) -> Result<(), EndpointFault<HostStop>>
+    pub(crate) fn end(&mut self) -> Result<(), EndpointFault<HostStop>>
         ensures { Ends self.old result self.new }
     {
         match self.broken_by {
@@ -435,12 +426,11 @@ impl HostEndpoint {
     }
 
     /// Feeds the piece to the framer when nothing waits. Then its messages wait, and perhaps a fault after them.
-    fn take_in(&mut self, piece: &[u8]) -> Result<(), EndpointFault<HostStop>>
+    pub(crate) fn take_in(&mut self, piece: &[u8]) -> Result<(), EndpointFault<HostStop>>
         requires { self.old.broken_by ≡ None }
         ensures { Brings self.old piece.now result self.new }
     {
         let (messages, broken_by) = feed_framer(&mut self.framer, piece)?;
-        self.begun = true;
         self.waiting = VecDeque::from_vec(messages);
         self.broken_by = broken_by;
         Ok(())

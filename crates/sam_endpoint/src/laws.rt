@@ -2,13 +2,16 @@
 
 ghost use Rattle.sam_endpoint.specs.Changes.{ActsKeep, AskingBegins, FlushesKeep, FramesKeep, KeptTellsChange, UnaskedIsKept};
 ghost use Rattle.sam_endpoint.specs.HostRuns.{OneOutcome, RunsServe, StopsServe};
+ghost use Rattle.sam_endpoint.specs.HostStepping.{HostStepsFeed};
 ghost use Rattle.sam_endpoint.specs.TermRuns.{RunsLead, StopsLead};
+ghost use Rattle.sam_endpoint.specs.TermStepping.{TermStepsFeed};
 
 use sam_frame::one_reading_t;
 
-/// States what every run of a host endpoint that does not stop comes to, whatever the pieces are and whenever memory is refused. The host
-/// has answered the first messages of the stream in order, and the others wait; the frames of its answers are what was taken out, what is
-/// pending, and what is not written yet; the tags that these messages had it write were handed out, each once, or wait to be.
+/// States what every run of a host endpoint that does not stop comes to, whatever the pieces are, whenever memory is refused and wherever
+/// files join. The host has answered the first messages of the stream in order, and the others wait; each file that was added joined
+/// between two answers, in order; the frames of its answers are what was taken out, what is pending, and what is not written yet; the tags
+/// that these messages had it write were handed out, each once, or wait to be.
 #[tactic(auto, using(crate::proofs::HostEndpointRuns::runs_serve))]
 pub fn host_runs_serve()
     ensures { RunsServe }
@@ -20,8 +23,9 @@ pub fn host_stops_serve()
     ensures { StopsServe }
 {}
 
-/// States that two host endpoints to which the same stream came have the same host, the same bytes for the terminal and the same tags to
-/// write, once nothing waits, whatever the pieces were and whenever memory was refused.
+/// States that two host endpoints to which the same stream came, and the same files, each after the same number of messages, have the same
+/// host, the same bytes for the terminal and the same tags to write, once nothing waits, whatever the pieces were and whenever memory was
+/// refused. So a program that keeps the stream, and where each file joined, can make the host again.
 pub fn host_one_outcome()
     ensures { OneOutcome }
 {
@@ -43,6 +47,18 @@ pub fn term_runs_lead()
 #[tactic(auto, using(crate::proofs::TermEndpointRuns::stops_lead))]
 pub fn term_stops_lead()
     ensures { StopsLead }
+{}
+
+/// States that to bring a piece to a host endpoint, and then to go on by steps to their end, is to feed it: the answer is one of `feed`,
+/// and so is the endpoint.
+pub fn host_steps_feed()
+    ensures { HostStepsFeed }
+{}
+
+/// States that to bring a piece to a terminal endpoint none of whose events can act, and then to go on by steps to their end, is to feed
+/// it: the answer is one of `feed`, and so is the endpoint.
+pub fn term_steps_feed()
+    ensures { TermStepsFeed }
 {}
 
 /// States what `TermEndpoint::changed` hands out. So much of a text as is kept stands in it as it stood when that was asked last: it is so

@@ -7,12 +7,18 @@ mod changes;
 mod drawing;
 mod fault;
 mod host_endpoint;
+mod host_steps;
 mod incoming;
 pub mod laws;
+mod naming;
+mod step;
 mod term_endpoint;
+mod term_steps;
 
 pub use changes::{Change, Changes, Kept, Touch};
 pub use drawing::{GAP, read_rasp};
 pub use fault::{AddFault, EndpointFault, FinishFault, HostStop, StreamFault, TermStop};
 pub use host_endpoint::HostEndpoint;
+pub use naming::name_message;
+pub use step::{BringFault, HostStep, TermStep};
 pub use term_endpoint::TermEndpoint;

@@ -1,8 +1,8 @@
 //! A terminal at one end of a stream of bytes each way.
 
 ghost use Rattle.std.specs.Prelude.{◌≡◌, ◌↔◌, IfErr, IfOk, IsOk, IsTrue, None, [], ◌<◌, ◌≤◌, true, false, drop, length, min, option_copied, take, slice_get, ◌++◌};
-ghost use Rattle.sam_endpoint.specs.TermEndpoints.{Asks, Feeds, Finishes, Flushes, GoesOn, IsIdle, IsQuiet, Puts, decided, new_term_endpoint, under_way};
-ghost use Rattle.sam_endpoint.specs.TermSteps.{Acts, ActsAll, Composes, Gains, Holds, Receives, ReceivesAll, Resumes, Tries, Writes, end_fault, stopped_by};
+ghost use Rattle.sam_endpoint.specs.TermEndpoints.{Asks, Feeds, Finishes, Flushes, GoesOn, IsIdle, Puts, decided, new_term_endpoint, under_way};
+ghost use Rattle.sam_endpoint.specs.TermSteps.{Acts, ActsAll, Composes, Decides, Gains, Holds, Receives, ReceivesAll, Resumes, Tries, Writes, end_fault, stopped_by};
 ghost use Rattle.sam_mesg.specs.HostKinds.{fits_h};
 ghost use Rattle.sam_term.specs.Fitting.{AllFit, composed_in};
 ghost use Rattle.sam_term.specs.Term.{act_of, flush_of, take_of};
@@ -10,6 +10,7 @@ ghost use Rattle.sam_term.specs.Term.{act_of, flush_of, take_of};
 use crate::changes::{Change, Changes, frame_touch, len_if_open, oldest_touch};
 use crate::fault::{EndpointFault, FinishFault, StreamFault, TermStop};
 use crate::incoming::{drop_first, feed_framer};
+use crate::step::Decision;
 use sam_frame::{FramerH, PendingBytes};
 use sam_mesg::{Batch, HFrame, Tmesg};
 use sam_term::{Acted, Refusal, TermFault, Terminal, UserEvent};
@@ -36,13 +37,13 @@ pub struct TermEndpoint {
     /// Cuts the host's stream into frames. It has not failed while `broken_by` is `None`.
     framer: FramerH,
     /// The terminal, as the frames and events so far left it. It holds at most as many events as `events` counts.
-    term: Terminal,
+    pub(crate) term: Terminal,
     /// The frames that came and are not received yet, the oldest first. There are none after a call that returned `Ok`.
-    waiting: VecDeque<HFrame>,
+    pub(crate) waiting: VecDeque<HFrame>,
     /// What is wrong with the stream after these frames; `None` if nothing is.
-    broken_by: Option<StreamFault>,
+    pub(crate) broken_by: Option<StreamFault>,
     /// The messages that were composed last, while their bytes are not pending. There are none after a call that returned `Ok`.
-    unwritten: Vec<Tmesg>,
+    pub(crate) unwritten: Vec<Tmesg>,
     /// The bytes for the host that were not taken out yet.
     pending_bytes: PendingBytes,
     /// The stamp of the last frame that was received: how many messages the host had taken when it made it; 0 before the first. It is at
@@ -92,7 +93,7 @@ impl TermEndpoint {
 
     /// Writes what was composed into the pending bytes, all or none. Its only error is `Unfinished`.
     #[tactic(auto, using(crate::proofs::TermEndpointMoves::none_written))]
-    fn write_composed(&mut self) -> Result<(), EndpointFault<TermStop>>
+    pub(crate) fn write_composed(&mut self) -> Result<(), EndpointFault<TermStop>>
         ensures { Writes self.old result self.new }
     {
         if self.unwritten.is_empty() {
@@ -110,7 +111,7 @@ impl TermEndpoint {
     }
 
     /// Stops the endpoint for good if the fault is `Stopped`, and returns the fault.
-    fn stop_by(&mut self, fault: EndpointFault<TermStop>) -> EndpointFault<TermStop>
+    pub(crate) fn stop_by(&mut self, fault: EndpointFault<TermStop>) -> EndpointFault<TermStop>
         ensures answer { result ≡ fault }
         ensures stopped { self.new ≡ stopped_by self.old fault }
     {
@@ -121,7 +122,7 @@ impl TermEndpoint {
     }
 
     /// Has the terminal receive the oldest frame that waits. Returns whether one waited.
-    fn receive_first(&mut self) -> Result<bool, EndpointFault<TermStop>>
+    pub(crate) fn receive_first(&mut self) -> Result<bool, EndpointFault<TermStop>>
         ensures { Receives self.old result self.new }
     {
         let Some(frame) = first_frame(&self.waiting) else {
@@ -141,32 +142,46 @@ impl TermEndpoint {
         }
     }
 
-    /// Has the oldest held event act. Returns whether it could. Memory to report a refusal is had first.
-    fn act_first(&mut self) -> Result<bool, EndpointFault<TermStop>>
+    /// Has the oldest held event act, and returns what became of it. Memory to report a refusal is had first.
+    pub(crate) fn decide_first(&mut self) -> Result<Decision, EndpointFault<TermStop>>
         requires { self.old.unwritten ≡ [] }
-        ensures { Acts self.old result self.new }
+        ensures { Decides self.old result self.new }
     {
         if holds_no_event(&self.term) {
-            return Ok(false);
+            return Ok(Decision::Idle);
         }
         if self.refusals.reserve(1).is_err() {
             return Err(EndpointFault::Unfinished);
         }
         let touch = oldest_touch(&self.term);
         match act_now(&mut self.term) {
-            Ok(Acted::Idle) => Ok(false),
-            Ok(Acted::Locked) => Ok(false),
+            Ok(Acted::Idle) => Ok(Decision::Idle),
+            Ok(Acted::Locked) => Ok(Decision::Locked),
             Ok(Acted::Done(composed)) => {
                 self.unwritten = composed.into_vec();
                 self.changes.note(touch);
-                Ok(true)
+                Ok(Decision::Acted)
             }
             Ok(Acted::Refused(why)) => {
                 let number = self.events - self.term.held() as u64;
                 self.refusals.push_back_reserved((number, why));
-                Ok(true)
+                Ok(Decision::Refused(why))
             }
             Err(fault) => Err(self.stop_by(fault)),
+        }
+    }
+
+    /// Has the oldest held event act. Returns whether it could.
+    fn act_first(&mut self) -> Result<bool, EndpointFault<TermStop>>
+        requires { self.old.unwritten ≡ [] }
+        ensures { Acts self.old result self.new }
+    {
+        match self.decide_first() {
+            Ok(Decision::Idle) => Ok(false),
+            Ok(Decision::Locked) => Ok(false),
+            Ok(Decision::Acted) => Ok(true),
+            Ok(Decision::Refused(_)) => Ok(true),
+            Err(why) => Err(why),
         }
     }
 
@@ -221,7 +236,7 @@ impl TermEndpoint {
     }
 
     /// Feeds the piece to the framer when nothing waits. Then its frames wait, and perhaps a fault after them.
-    fn take_in(&mut self, piece: &[u8]) -> Result<(), EndpointFault<TermStop>>
+    pub(crate) fn take_in(&mut self, piece: &[u8]) -> Result<(), EndpointFault<TermStop>>
         requires { self.old.broken_by ≡ None }
         ensures { Gains self.old piece.now result self.new }
     {
@@ -452,14 +467,14 @@ fn end_fault(why: TermFault) -> EndpointFault<TermStop>
 /// Returns whether no event is held.
 #[tactic(auto, using(crate::proofs::TermEndpointSteps::none_acts))]
 fn holds_no_event(term: &Terminal) -> bool
-    ensures quiet { result ≡ true → IsQuiet term.now }
+    ensures idle { result ≡ true → act_of term.now ≡ Ok (term.now, Acted.Idle) }
     ensures held { result ≡ false → 0 < length term.now.held }
 {
     term.held() == 0
 }
 
 /// Returns the oldest frame.
-fn first_frame(frames: &VecDeque<HFrame>) -> Option<&HFrame>
+pub(crate) fn first_frame(frames: &VecDeque<HFrame>) -> Option<&HFrame>
     ensures { option_copied result ≡ slice_get frames.now.items 0 }
 {
     frames.front()

@@ -9,8 +9,8 @@ use Rattle.sam_local.specs.Worlds.{IsAsIfLocal}
 use Rattle.sam_local.proofs.Runs.{runs_are_as_if_local, rests}
 use Rattle.sam_queue.proofs.Sorts.{items_of-append}
 use Rattle.sam_term.specs.Faults.{term_fault_number}
-use Rattle.sam_workers.specs.declared.stop.Stop.{Stop}
-use Rattle.sam_workers.specs.declared.stop.Stop.TheVariants as stop
+use Rattle.sam_ends.specs.declared.stop.Stop.{Stop}
+use Rattle.sam_ends.specs.declared.stop.Stop.TheVariants as stop
 use Rattle.sam_apart.proofs.RealLaws.{each_of_all, works}
 use Rattle.sam_settle.proofs.SettlingLists.{Parts, parts_of, senders_within, nothing_joined, split_map, frames_taken, all_before_mark, none_left, items_mine}
 use Rattle.sam_apart.proofs.ApartLaws.{joins, understood}
@@ -275,7 +275,7 @@ module _ (e : Ends) (ends : AreEnds e) (given : LinesGive e) where
       host = states.0;
       term = states.1;
       quiet = λ done more w parts reached. quiet_means_agreement w (reached_in_order e.host.files.items w apart.given_fit (done, reached));
-      local = λ done more w parts reached. runs_are_as_if_local e.host.files.items done w apart.given_fit reached;
+      local = λ done more w parts reached. runs_are_as_if_local e.host.files.items done w apart.given_fit reached (none_in done more parts);
     }
 
     pub has_streams : HasStreams e s
@@ -305,7 +305,7 @@ module _ (e : Ends) (ends : AreEnds e) (given : LinesGive e) where
     is_whole none =
         let end = at_its_end none in
         let files = e.host.files.items in
-        let local : IsAsIfLocal files (user_events s.schedule.items) s.world = runs_are_as_if_local files s.schedule.items s.world apart.given_fit headline.run in
+        let local : IsAsIfLocal files (user_events s.schedule.items) s.world = runs_are_as_if_local files s.schedule.items s.world apart.given_fit headline.run none_joins in
         record {
           events = grind (arith, joined, handled_all);
           exited = end.exited;

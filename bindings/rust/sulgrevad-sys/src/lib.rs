@@ -15,7 +15,7 @@ pub const SAM_NO_HANDLE: sam_status = 4;
 pub const SAM_MADE: sam_status = 5;
 pub const SAM_NOT_TEXT: sam_status = 6;
 pub const SAM_NONE: sam_status = 7;
-pub const SAM_ADD_BEGUN: sam_status = 17;
+pub const SAM_WAITING: sam_status = 8;
 pub const SAM_ADD_TOO_LONG: sam_status = 19;
 pub const SAM_ADD_NO_TAG: sam_status = 20;
 pub const SAM_BAD_KIND: sam_status = 33;
@@ -78,6 +78,33 @@ pub const SAM_LINK_WELCOME: u32 = 4;
 pub const SAM_LINK_ID_BYTES: usize = 16;
 pub const SAM_LINK_HELLO_BYTES: usize = 42;
 pub const SAM_LINK_MOST_NOTE: usize = 4096;
+
+/// What a step did: one of the numbers below, or one that this crate doesn't know.
+pub type sam_step = u32;
+
+pub const SAM_STEP_IDLE: sam_step = 0;
+pub const SAM_STEP_LOCKED: sam_step = 1;
+pub const SAM_STEP_WROTE: sam_step = 2;
+pub const SAM_STEP_EDITED: sam_step = 3;
+pub const SAM_STEP_ANSWERED: sam_step = 4;
+pub const SAM_STEP_RECEIVED: sam_step = 5;
+pub const SAM_STEP_ACTED: sam_step = 6;
+pub const SAM_STEP_REFUSED: sam_step = 7;
+
+/// What a step did, in full.
+#[derive(Clone, Copy, Debug, Default, PartialEq, Eq)]
+#[repr(C)]
+pub struct sam_did {
+    pub event: u64,
+    pub count: usize,
+    pub step: sam_step,
+    pub why: sam_status,
+    pub start: u32,
+    pub gone: u32,
+    pub came: u32,
+    pub tag: u16,
+    pub kind: u8,
+}
 
 /// What `sam_term_read` hands out for a rune that is not loaded.
 pub const SAM_GAP: u32 = u32::MAX;
@@ -145,6 +172,9 @@ extern "C" {
         tag: *mut u16,
     ) -> sam_status;
     pub fn sam_host_feed(host: *mut sam_host, bytes: *const u8, len: usize) -> sam_status;
+    pub fn sam_host_bring(host: *mut sam_host, bytes: *const u8, len: usize) -> sam_status;
+    pub fn sam_host_next_message(host: *mut sam_host, kind: *mut u8, tag: *mut u16) -> sam_status;
+    pub fn sam_host_step(host: *mut sam_host, did: *mut sam_did) -> sam_status;
     pub fn sam_host_finish(host: *mut sam_host) -> sam_status;
     pub fn sam_host_pending(host: *mut sam_host, len: *mut usize) -> sam_status;
     pub fn sam_host_take_out(host: *mut sam_host, into: *mut u8, room: usize, count: *mut usize) -> sam_status;
@@ -206,6 +236,8 @@ extern "C" {
     pub fn sam_term_flush(term: *mut sam_term) -> sam_status;
     pub fn sam_term_exit(term: *mut sam_term) -> sam_status;
     pub fn sam_term_feed(term: *mut sam_term, bytes: *const u8, len: usize) -> sam_status;
+    pub fn sam_term_bring(term: *mut sam_term, bytes: *const u8, len: usize) -> sam_status;
+    pub fn sam_term_step(term: *mut sam_term, did: *mut sam_did) -> sam_status;
     pub fn sam_term_finish(term: *mut sam_term) -> sam_status;
     pub fn sam_term_flush_now(term: *mut sam_term) -> sam_status;
     pub fn sam_term_pending(term: *mut sam_term, len: *mut usize) -> sam_status;

@@ -156,10 +156,10 @@ pub enum Error {
     Unfinished,
     /// A stream of 2^64 bytes, or 2^64 events or connections.
     CountFull,
+    /// Some of what came before waits, so make steps first; what was brought was not taken.
+    Waiting,
     /// Bytes that are not UTF-8.
     NotText,
-    /// A host that was fed takes no more files.
-    Begun,
     /// A name above 64 runes, or a text above 1,000,000.
     TooLong,
     /// All 65,536 tags were given.
@@ -187,8 +187,8 @@ impl Error {
             sys::SAM_NO_MEMORY => Error::NoMemory,
             sys::SAM_UNFINISHED => Error::Unfinished,
             sys::SAM_COUNT_FULL => Error::CountFull,
+            sys::SAM_WAITING => Error::Waiting,
             sys::SAM_NOT_TEXT => Error::NotText,
-            sys::SAM_ADD_BEGUN => Error::Begun,
             sys::SAM_ADD_TOO_LONG => Error::TooLong,
             sys::SAM_ADD_NO_TAG => Error::NoTag,
             sys::SAM_SCRIPT_COUNT_FULL => Error::ScriptCountFull,
@@ -207,8 +207,8 @@ impl Error {
             Error::NoMemory => sys::SAM_NO_MEMORY,
             Error::Unfinished => sys::SAM_UNFINISHED,
             Error::CountFull => sys::SAM_COUNT_FULL,
+            Error::Waiting => sys::SAM_WAITING,
             Error::NotText => sys::SAM_NOT_TEXT,
-            Error::Begun => sys::SAM_ADD_BEGUN,
             Error::TooLong => sys::SAM_ADD_TOO_LONG,
             Error::NoTag => sys::SAM_ADD_NO_TAG,
             Error::Stream(why) => why.status(),
@@ -250,7 +250,7 @@ mod tests {
         (2, Error::Unfinished),
         (3, Error::CountFull),
         (6, Error::NotText),
-        (17, Error::Begun),
+        (8, Error::Waiting),
         (19, Error::TooLong),
         (20, Error::NoTag),
         (33, Error::Stream(StreamFault::BadKind)),

@@ -1,8 +1,9 @@
 //! The host: whole texts, commands, and the answers to a terminal's messages.
 
-use crate::{done, short_text, tells, told, whole_text, Error, PIECE};
+use crate::step::host_step;
+use crate::{done, short_text, tells, told, whole_text, Error, HostStep, PIECE};
 use std::cell::UnsafeCell;
-use sulgrevad_sys::{self as sys, sam_host};
+use sulgrevad_sys::{self as sys, sam_did, sam_host};
 
 /// A host. It is dropped with what is pending. A thread may hand it to another, but two can't share it:
 ///
@@ -36,8 +37,8 @@ impl Host {
         self.handle.get()
     }
 
-    /// Adds a file and returns its tag: 1 for the first. Errors in order: `Begun`, `TooLong`, `NoTag`, `NoMemory`; the host is then as
-    /// it was.
+    /// Adds a file, clean and closed, and returns its tag: 1 for the first. It may be called at any time: the answer to the terminal's
+    /// next Tversion has the name. Errors in order: `TooLong`, `NoTag`, `NoMemory`; the host is then as it was.
     pub fn add_file(&mut self, name: &str, text: &str) -> Result<u16, Error> {
         let mut tag = 0;
         done(unsafe { sys::sam_host_add_file(self.at(), name.as_ptr(), name.len(), text.as_ptr(), text.len(), &mut tag) })?;
@@ -49,6 +50,28 @@ impl Host {
     /// why the host has stopped, now or before: `Stream`, `HostRefused`. What stood before the fault is answered.
     pub fn feed(&mut self, bytes: &[u8]) -> Result<(), Error> {
         done(unsafe { sys::sam_host_feed(self.at(), bytes.as_ptr(), bytes.len()) })
+    }
+
+    /// Takes bytes of the terminal's messages by framing alone: the messages that are whole wait for `step`. Errors in order: why the host
+    /// has stopped before; `Waiting` until a step was `Idle`; `CountFull`; `NoMemory`. The bytes are then not taken.
+    pub fn bring(&mut self, bytes: &[u8]) -> Result<(), Error> {
+        done(unsafe { sys::sam_host_bring(self.at(), bytes.as_ptr(), bytes.len()) })
+    }
+
+    /// The kind of the oldest message that waits, by the numbers of docs/PROTOCOL.md, and the file that it names, or 0; `None` if none
+    /// waits. The next step that takes a message begins with it.
+    pub fn next_message(&self) -> Option<(u8, u16)> {
+        let mut tag = 0;
+        told(|kind| unsafe { sys::sam_host_next_message(self.at(), kind, &mut tag) }).map(|kind| (kind, tag))
+    }
+
+    /// Does one thing of what waits, and says what: it writes what was answered last, if that is left over; or the host takes edits of one
+    /// file that follow each other, or else answers the oldest message. `feed` makes such steps until one is `Idle`. Errors: `Unfinished`,
+    /// where nothing has changed, or why the host has stopped, now or before.
+    pub fn step(&mut self) -> Result<HostStep, Error> {
+        let mut did = sam_did::default();
+        done(unsafe { sys::sam_host_step(self.at(), &mut did) })?;
+        Ok(host_step(&did))
     }
 
     /// Asks whether the terminal's stream may end here, once the input has ended. It changes nothing. Errors in order: why the host has

@@ -39,12 +39,14 @@ mod error;
 mod host;
 mod link;
 mod script;
+mod step;
 mod terminal;
 
 pub use error::{Error, HostFault, LinkFault, Refusal, StreamFault, TermFault};
 pub use host::Host;
 pub use link::{read_hello, write_refusal, Hello, Link, Phase, Role, What, HELLO_BYTES, MOST_NOTE};
 pub use script::replay;
+pub use step::{HostStep, TermStep};
 pub use terminal::{Change, Terminal};
 
 use std::ffi::CStr;

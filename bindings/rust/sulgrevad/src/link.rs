@@ -107,9 +107,8 @@ pub fn write_refusal(why: LinkFault, bytes: &[u8]) -> Option<[u8; HELLO_BYTES]> 
 /// let attempt = terminal.call(false)?;
 /// let mut line = [0; 100]; // what a connection carries
 /// let count = terminal.take_out(attempt, &mut line)?;
-/// let (hello, rest) = line[..count].split_first_chunk().expect("a hello is first");
-/// host.answer(hello)?;
-/// host.feed(attempt, rest)?;
+/// host.answer(line[..42].try_into().expect("a hello is first"))?;
+/// host.feed(attempt, &line[42..count])?;
 /// let mut text = [0; 100];
 /// assert_eq!(host.take_in(&mut text), 5);
 /// assert_eq!(&text[..5], b"hello");

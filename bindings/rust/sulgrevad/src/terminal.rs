@@ -1,8 +1,9 @@
 //! The terminal: windows, keyboard and mouse over partly loaded texts.
 
-use crate::{done, short_text, tells, text_from, told, whole_text, Error, Refusal, PIECE};
+use crate::step::term_step;
+use crate::{done, short_text, tells, text_from, told, whole_text, Error, Refusal, TermStep, PIECE};
 use std::cell::UnsafeCell;
-use sulgrevad_sys::{self as sys, sam_term};
+use sulgrevad_sys::{self as sys, sam_did, sam_term};
 
 /// What `read` hands out for a rune that is not loaded.
 const GAP: u32 = sys::SAM_GAP;
@@ -182,7 +183,8 @@ impl Terminal {
     }
 
     /// Offers a version of the protocol, and asks for the names of all files. Before it the terminal knows none of them, and refuses each
-    /// event on one; events after it wait for the answer. Version 2 allows longer snarfed texts.
+    /// event on one; events after it wait for the answer. Offer it again to learn of files that joined the host since. Version 2 allows
+    /// longer snarfed texts.
     pub fn offer_version(&mut self, version: u16) -> Result<(), Error> {
         done(unsafe { sys::sam_term_offer_version(self.at(), version) })
     }
@@ -191,6 +193,21 @@ impl Terminal {
     /// `CountFull`, or why the terminal has stopped, now or before: `Stream`, `TermRefused`.
     pub fn feed(&mut self, bytes: &[u8]) -> Result<(), Error> {
         done(unsafe { sys::sam_term_feed(self.at(), bytes.as_ptr(), bytes.len()) })
+    }
+
+    /// Takes bytes of the host's frames by framing alone: the frames that are whole wait for `step`. Errors in order: why the terminal has
+    /// stopped before; `Waiting` until a step was `Idle` or `Locked`; `CountFull`; `NoMemory`. The bytes are then not taken.
+    pub fn bring(&mut self, bytes: &[u8]) -> Result<(), Error> {
+        done(unsafe { sys::sam_term_bring(self.at(), bytes.as_ptr(), bytes.len()) })
+    }
+
+    /// Does one thing of what waits, and says what: it writes what was composed last, if that is left over; or the terminal receives the
+    /// oldest frame; or, where none waits, the oldest event acts or is refused. `feed` makes such steps until one is `Idle` or `Locked`.
+    /// Errors: `Unfinished`, where nothing has changed, or why the terminal has stopped, now or before.
+    pub fn step(&mut self) -> Result<TermStep, Error> {
+        let mut did = sam_did::default();
+        done(unsafe { sys::sam_term_step(self.at(), &mut did) })?;
+        Ok(term_step(&did))
     }
 
     /// Asks whether the host's stream may end here, once the input has ended. It changes nothing. Errors in order: why the terminal has

@@ -81,9 +81,12 @@ fn what_is_refused_says_why() {
     let attempt = link.call(false).unwrap();
     let (hello, _) = written(&mut link, attempt);
     assert_eq!(host.answer(&hello), Err(Error::Link(LinkFault::OtherSession)));
+    assert_eq!(link.answer(&hello), Err(Error::Link(LinkFault::WrongRole)));
     let refusal = write_refusal(LinkFault::OtherSession, &hello).unwrap();
     assert_eq!(read_hello(&refusal).unwrap().unwrap().what, What::Refused(LinkFault::OtherSession));
     assert_eq!(link.welcomed(&refusal), Err(Error::Link(LinkFault::OtherSession)));
     assert_eq!(link.phase(), Phase::Asking);
     assert_eq!(write_refusal(LinkFault::NotOpen, &hello), None);
+    link.acknowledge().unwrap();
+    assert_eq!(link.put_count(), 11);
 }

@@ -3,7 +3,7 @@
 mod both;
 
 use both::{carry, opened};
-use sulgrevad::{Change, Error, Refusal, StreamFault};
+use sulgrevad::{Change, Error, HostStep, Refusal, StreamFault, TermStep};
 
 #[test]
 fn an_edit_that_would_cross_waits() -> Result<(), Error> {
@@ -200,19 +200,86 @@ fn a_stream_ends_between_two_messages() -> Result<(), Error> {
 }
 
 #[test]
+fn a_file_joins_a_running_session() -> Result<(), Error> {
+    let (mut host, mut term, _) = opened("one\n")?;
+    let late = host.add_file("late", "two\n")?;
+    carry(&mut term, &mut host)?;
+    assert_eq!((late, host.pending(), term.is_known(late)), (2, 0, false));
+    term.offer_version(2)?;
+    carry(&mut term, &mut host)?;
+    assert_eq!(term.name(late).as_deref(), Some("late"));
+    term.open(late)?;
+    term.view(late, 0, 80)?;
+    carry(&mut term, &mut host)?;
+    assert_eq!(term.text(late, 0).as_deref(), Some("two\n"));
+    Ok(())
+}
+
+#[test]
 fn refusals_and_faults_have_names() -> Result<(), Error> {
     let (mut host, mut term, _) = opened("one\n")?;
     term.cut(9)?;
     assert_eq!(term.refusals().collect::<Vec<_>>(), vec![(3, Ok(Refusal::NoFile))]);
     assert_eq!(Refusal::NoFile.to_string(), "the event was refused: no file has its tag");
     assert_eq!(host.feed(&[23]), Err(Error::Stream(StreamFault::BadKind)));
-    assert_eq!(host.add_file("a", "b"), Err(Error::Begun));
-    assert_eq!(Error::Begun.status(), 17);
-    assert_eq!(Error::Begun.to_string(), "the host was fed already, and takes no more files");
+    assert_eq!(host.add_file(&"n".repeat(65), "b"), Err(Error::TooLong));
+    assert_eq!(Error::TooLong.status(), 19);
     assert_eq!(
-        sulgrevad::status_text(17),
-        "SAM_ADD_BEGUN: the host was fed already, and takes no more files"
+        Error::TooLong.to_string(),
+        "the name has more than 64 runes, or the text more than 1,000,000"
     );
+    assert_eq!(
+        sulgrevad::status_text(19),
+        "SAM_ADD_TOO_LONG: the name has more than 64 runes, or the text more than 1,000,000"
+    );
+    assert_eq!(sulgrevad::status_text(17), "unknown status");
     assert_eq!(sulgrevad::library_version(), (0, 1, 0));
+    Ok(())
+}
+
+#[test]
+fn single_steps_say_what_they_did() -> Result<(), Error> {
+    let (mut host, mut term, file) = opened("hello\n")?;
+    term.view(file, 0, 6)?;
+    let up: Vec<u8> = term.take_out().flatten().collect();
+    host.bring(&up)?;
+    assert_eq!(host.bring(&[]), Err(Error::Waiting));
+    assert_eq!(host.next_message(), Some((4, file))); // Trequest
+    assert_eq!(host.step()?, HostStep::Answered { kind: 4, tag: file });
+    assert_eq!((host.step()?, host.step()?, host.next_message()), (HostStep::Wrote, HostStep::Idle, None));
+    term.select(file, 5, 5)?;
+    term.cut(file + 7)?;
+    let down: Vec<u8> = host.take_out().flatten().collect();
+    term.bring(&down)?;
+    let change = Change {
+        start: 0,
+        gone: 6,
+        came: 6,
+    };
+    assert_eq!(
+        term.step()?,
+        TermStep::Received {
+            kind: 73,
+            tag: file,
+            change
+        }
+    ); // Hdata
+    assert!(matches!(term.step()?, TermStep::Received { kind: 75, .. })); // Hunlockfile
+    assert!(matches!(term.step()?, TermStep::Acted { tag, .. } if tag == file));
+    let event = term.events();
+    assert_eq!(
+        term.step()?,
+        TermStep::Refused {
+            event,
+            why: Ok(Refusal::NoFile)
+        }
+    );
+    assert_eq!(term.step()?, TermStep::Idle);
+    term.type_(file, "x")?;
+    term.type_(file, "y")?;
+    term.edit(file, 0, 1, "")?;
+    host.bring(&term.take_out().flatten().collect::<Vec<u8>>())?;
+    assert_eq!(host.step()?, HostStep::Edited { tag: file, count: 2 });
+    assert_eq!(host.text(file).as_deref(), Some("elloxy\n"));
     Ok(())
 }

@@ -1,0 +1,83 @@
+//! What a single step of a host or a terminal did.
+
+use crate::{Change, Refusal};
+use sulgrevad_sys::{self as sys, sam_did};
+
+/// What a step of a host did.
+#[derive(Clone, Copy, Debug, PartialEq, Eq)]
+#[non_exhaustive]
+pub enum HostStep {
+    /// Nothing: nothing waits.
+    Idle,
+    /// What was answered last is pending now.
+    Wrote,
+    /// The host took so many messages that type or cut in one file, all at once.
+    Edited { tag: u16, count: usize },
+    /// The host answered one message of this kind, by the numbers of docs/PROTOCOL.md; `tag` is the file that it names, or 0.
+    Answered { kind: u8, tag: u16 },
+}
+
+/// What a step of a terminal did.
+#[derive(Clone, Copy, Debug, PartialEq, Eq)]
+#[non_exhaustive]
+pub enum TermStep {
+    /// Nothing: nothing waits, and no event is held.
+    Idle,
+    /// Nothing: no frame waits, and a lock holds the oldest event back.
+    Locked,
+    /// What was composed last is pending now.
+    Wrote,
+    /// The terminal received one frame of this kind, by the numbers of docs/PROTOCOL.md; `tag` is the file that it names, or 0, and `change`
+    /// what changed in its text.
+    Received { kind: u8, tag: u16, change: Change },
+    /// The event of this number, counted from 1, acted; `tag` is the file that it names, or 0, and `change` what changed in its text.
+    Acted { event: u64, tag: u16, change: Change },
+    /// The event of this number was refused: why, or the number of a reason that this crate doesn't know.
+    Refused { event: u64, why: Result<Refusal, u32> },
+}
+
+fn change_of(did: &sam_did) -> Change {
+    Change {
+        start: did.start,
+        gone: did.gone,
+        came: did.came,
+    }
+}
+
+pub(crate) fn host_step(did: &sam_did) -> HostStep {
+    match did.step {
+        sys::SAM_STEP_WROTE => HostStep::Wrote,
+        sys::SAM_STEP_EDITED => HostStep::Edited {
+            tag: did.tag,
+            count: did.count,
+        },
+        sys::SAM_STEP_ANSWERED => HostStep::Answered {
+            kind: did.kind,
+            tag: did.tag,
+        },
+        _ => HostStep::Idle,
+    }
+}
+
+pub(crate) fn term_step(did: &sam_did) -> TermStep {
+    let (event, tag) = (did.event, did.tag);
+    match did.step {
+        sys::SAM_STEP_LOCKED => TermStep::Locked,
+        sys::SAM_STEP_WROTE => TermStep::Wrote,
+        sys::SAM_STEP_RECEIVED => TermStep::Received {
+            kind: did.kind,
+            tag,
+            change: change_of(did),
+        },
+        sys::SAM_STEP_ACTED => TermStep::Acted {
+            event,
+            tag,
+            change: change_of(did),
+        },
+        sys::SAM_STEP_REFUSED => TermStep::Refused {
+            event,
+            why: Refusal::of(did.why).ok_or(did.why),
+        },
+        _ => TermStep::Idle,
+    }
+}

@@ -1,0 +1,82 @@
+-- What the calls do that take bytes in and go on by single steps.
+use Rattle.std.specs.Prelude.{◌≡◌, ℕ, List, slice_get, Option, option_map, Some, None, Result, Ok, Err}
+use Rattle.sam_mesg.specs.TerminalKinds.{kind_t}
+use Rattle.sam_endpoint.specs.Naming.{file_of_t}
+use Rattle.sam_endpoint.specs.HostEndpoints.{PlainHostEndpoint}
+use Rattle.sam_endpoint.specs.HostStepping.{BringsIn as HostBringsIn, Steps as HostSteps}
+use Rattle.sam_endpoint.specs.TermEndpoints.{PlainTermEndpoint}
+use Rattle.sam_endpoint.specs.TermStepping.{BringsIn as TermBringsIn, Steps as TermSteps}
+use Rattle.sam_endpoint.specs.declared.fault.EndpointFault.{EndpointFault}
+use Rattle.sam_endpoint.specs.declared.fault.HostStop.{HostStop}
+use Rattle.sam_endpoint.specs.declared.fault.TermStop.{TermStop}
+use Rattle.sam_endpoint.specs.declared.step.BringFault.{BringFault}
+use Rattle.sam_endpoint.specs.declared.step.HostStep.{HostStep}
+use Rattle.sam_endpoint.specs.declared.step.HostStep.TheVariants as host
+use Rattle.sam_endpoint.specs.declared.step.TermStep.{TermStep}
+use Rattle.sam_endpoint.specs.declared.step.TermStep.TheVariants as term
+use Rattle.sam_c.specs.declared.steps.SamDid.{SamDid}
+use Rattle.sam_c.specs.Status.{no_handle, bring_status, call_status, host_stop_status, term_stop_status, refusal_status}
+use Rattle.sam_c.specs.Calls.{AtHandle}
+
+-- ## Bytes in
+
+abbrev pub HostBrought : Option PlainHostEndpoint → List ℕ → ℕ → Option PlainHostEndpoint → Type 0
+HostBrought before piece status after =
+    AtHandle before status after
+    (λ e status g. (result : Result (Unit {0}) (BringFault HostStop)) × HostBringsIn e piece result g
+    × (status ≡ bring_status host_stop_status result))
+
+abbrev pub TermBrought : Option PlainTermEndpoint → List ℕ → ℕ → Option PlainTermEndpoint → Type 0
+TermBrought before piece status after =
+    AtHandle before status after
+    (λ e status g. (result : Result (Unit {0}) (BringFault TermStop)) × TermBringsIn e piece result g
+    × (status ≡ bring_status term_stop_status result))
+
+-- ## What a step did
+
+-- a step of this number that says no more
+abbrev pub did_nothing : ℕ → SamDid
+did_nothing step = record { event = 0; count = 0; step = step; why = 0; start = 0; gone = 0; came = 0; tag = 0; kind = 0 }
+
+abbrev pub tag_or_zero : Option ℕ → ℕ
+tag_or_zero None = 0
+tag_or_zero (Some tag) = tag
+
+abbrev pub did_of_host : HostStep → SamDid
+did_of_host host.Idle = did_nothing 0
+did_of_host host.Wrote = did_nothing 2
+did_of_host (host.Edited tag count) = record (did_nothing 3) { tag = tag; count = count }
+did_of_host (host.Answered kind tag) = record (did_nothing 4) { kind = kind; tag = tag_or_zero tag; count = 1 }
+
+abbrev pub did_of_term : TermStep → SamDid
+did_of_term term.Idle = did_nothing 0
+did_of_term term.Locked = did_nothing 1
+did_of_term term.Wrote = did_nothing 2
+did_of_term (term.Received kind tag change) =
+    record (did_nothing 5) { kind = kind; tag = tag_or_zero tag; start = change.start; gone = change.gone; came = change.came }
+did_of_term (term.Acted number tag change) =
+    record (did_nothing 6) { event = number; tag = tag_or_zero tag; start = change.start; gone = change.gone; came = change.came }
+did_of_term (term.Refused number why) = record (did_nothing 7) { event = number; why = refusal_status why }
+
+-- what a step did, or what stood there before
+abbrev pub did_or : {S F : Type 0} → (S → SamDid) → SamDid → Result S F → SamDid
+did_or did_of before (Ok step) = did_of step
+did_or did_of before (Err why) = before
+
+abbrev pub HostStepped : Option PlainHostEndpoint → SamDid → ℕ → SamDid → Option PlainHostEndpoint → Type 0
+HostStepped None before status after g = (status ≡ no_handle) × (after ≡ before) × (g ≡ None)
+HostStepped (Some e) before status after g =
+    (k : PlainHostEndpoint) × (result : Result HostStep (EndpointFault HostStop)) × (g ≡ Some k) × HostSteps e result k
+    × (status ≡ call_status host_stop_status result) × (after ≡ did_or did_of_host before result)
+
+abbrev pub TermStepped : Option PlainTermEndpoint → SamDid → ℕ → SamDid → Option PlainTermEndpoint → Type 0
+TermStepped None before status after g = (status ≡ no_handle) × (after ≡ before) × (g ≡ None)
+TermStepped (Some e) before status after g =
+    (k : PlainTermEndpoint) × (result : Result TermStep (EndpointFault TermStop)) × (g ≡ Some k) × TermSteps e result k
+    × (status ≡ call_status term_stop_status result) × (after ≡ did_or did_of_term before result)
+
+-- ## What the next step begins with
+
+-- the kind of the oldest message that waits, and the file that it names
+abbrev pub next_of : PlainHostEndpoint → Option (ℕ × ℕ)
+next_of e = option_map (λ m. (kind_t m, tag_or_zero (file_of_t m))) (slice_get e.waiting 0)

@@ -1,0 +1,132 @@
+//! A terminal that goes on by single steps, each of which says what it did.
+
+ghost use Rattle.std.specs.Prelude.{◌≡◌, ◌↔◌, ◌<◌, [], IsTrue, length};
+ghost use Rattle.sam_endpoint.specs.TermEndpoints.{IsDone};
+ghost use Rattle.sam_endpoint.specs.TermSteps.{Ends};
+ghost use Rattle.sam_endpoint.specs.TermStepping.{BringsIn, DecidesStep, ReceivesStep, Steps};
+
+use crate::changes::{change_by, frame_touch, oldest_touch, touched_len};
+use crate::fault::{EndpointFault, TermStop};
+use crate::naming::{name_frame, oldest_file};
+use crate::step::{BringFault, Decision, TermStep};
+use crate::term_endpoint::{TermEndpoint, first_frame};
+
+impl TermEndpoint {
+    /// Takes a piece of the host's stream, of any length, by framing alone: the frames that are whole with it wait, in order, for `step` to
+    /// have the terminal receive them.
+    ///
+    /// Errors, in this order: `Stopped` if the endpoint has stopped before; `Waiting` if something of before waits, which is so until `step`
+    /// has returned `Idle` or `Locked`; `CountFull` if the stream would be longer than 2^64-1 bytes; `OutOfMemory`. After an error the piece
+    /// is not taken, and the endpoint is as it was.
+    #[tactic(auto, using(crate::proofs::TermEndpointStepping::not_brought))]
+    pub fn bring(&mut self, piece: &[u8]) -> Result<(), BringFault<TermStop>>
+        ensures { BringsIn self.old piece.now result self.new }
+    {
+        if let Some(why) = self.stopped() {
+            return Err(BringFault::Stopped(why));
+        }
+        if self.broken_by.is_some() || !self.is_idle() {
+            return Err(BringFault::Waiting);
+        }
+        match self.take_in(piece) {
+            Ok(()) => Ok(()),
+            Err(why) => Err(BringFault::of(why)),
+        }
+    }
+
+    /// Goes on by one step with what waits, and says what it did. It writes the messages that were composed last, if some are left over.
+    /// Else it has the terminal receive the oldest frame that waits. Where none does, it has the oldest held event act. `feed` does these
+    /// steps until one is `Idle` or `Locked`.
+    ///
+    /// Errors, in this order:
+    ///
+    /// - `Stopped` if the endpoint had stopped before. It is as it was.
+    /// - `Unfinished` if memory was refused. Nothing has changed: make the step again.
+    /// - `Stopped` if the terminal refuses the oldest frame, which waits on; or if no frame waits, and the stream has a fault after those
+    ///   that came, or more than 2^64-1 messages would be composed.
+    #[tactic(auto, using(crate::proofs::TermEndpointStepping::stepped_facts))]
+    pub fn step(&mut self) -> Result<TermStep, EndpointFault<TermStop>>
+        ensures { Steps self.old result self.new }
+    {
+        if let Some(why) = self.stopped() {
+            return Err(EndpointFault::Stopped(why));
+        }
+        if self.has_unwritten() {
+            self.write_composed()?;
+            return Ok(TermStep::Wrote);
+        }
+        if self.is_waiting() {
+            return self.receive_step();
+        }
+        self.end()?;
+        self.decide_step()
+    }
+
+    /// Returns whether messages that were composed are not written yet.
+    fn has_unwritten(&self) -> bool
+        ensures { IsTrue result ↔ (0 < length self.now.unwritten) }
+    {
+        !self.unwritten.is_empty()
+    }
+
+    /// Returns whether a frame waits to be received.
+    fn is_waiting(&self) -> bool
+        ensures { IsTrue result ↔ (0 < length self.now.waiting) }
+    {
+        !self.waiting.is_empty()
+    }
+
+    /// Stops the endpoint for good if the stream shows a fault, once all frames before it are received.
+    fn end(&mut self) -> Result<(), EndpointFault<TermStop>>
+        ensures { Ends self.old result self.new }
+    {
+        match self.broken_by {
+            None => Ok(()),
+            Some(why) => Err(self.stop_by(EndpointFault::Stopped(TermStop::Stream(why)))),
+        }
+    }
+
+    /// Has the terminal receive the oldest frame, and says which it was.
+    fn receive_step(&mut self) -> Result<TermStep, EndpointFault<TermStop>>
+        requires { 0 < length self.old.waiting }
+        ensures { ReceivesStep self.old result self.new }
+    {
+        let Some(frame) = first_frame(&self.waiting) else {
+            return Ok(TermStep::Idle);
+        };
+        let (kind, tag) = name_frame(&frame.msg);
+        let touch = frame_touch(&self.term, &frame.msg);
+        let before = touched_len(&self.term, touch);
+        self.receive_first()?;
+        let change = change_by(touch, before, touched_len(&self.term, touch));
+        Ok(TermStep::Received { kind, tag, change })
+    }
+
+    /// Has the oldest held event act, and says what became of it.
+    #[tactic(auto, using(crate::proofs::TermEndpointStepping::acted_told))]
+    fn decide_step(&mut self) -> Result<TermStep, EndpointFault<TermStop>>
+        requires { self.old.unwritten ≡ [] }
+        ensures { DecidesStep self.old result self.new }
+    {
+        let tag = oldest_file(&self.term);
+        let touch = oldest_touch(&self.term);
+        let before = touched_len(&self.term, touch);
+        match self.decide_first() {
+            Ok(Decision::Idle) => Ok(TermStep::Idle),
+            Ok(Decision::Locked) => Ok(TermStep::Locked),
+            Ok(Decision::Acted) => {
+                let change = change_by(touch, before, touched_len(&self.term, touch));
+                Ok(TermStep::Acted {
+                    number: self.decided(),
+                    tag,
+                    change,
+                })
+            }
+            Ok(Decision::Refused(why)) => Ok(TermStep::Refused {
+                number: self.decided(),
+                why,
+            }),
+            Err(why) => Err(why),
+        }
+    }
+}
