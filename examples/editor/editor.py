@@ -251,10 +251,14 @@ class Editor(Desk, Waiting, Actions):
         self.has_begun = True
         for line in self._early_lines:
             self.keeping.hear_host(said(line), line)
-        asked_for = self.asked_for
-        is_other = len(known) > 1 if asked_for is None else len(known) != len(asked_for) and any(self.name(tag) not in asked_for for tag in known)
-        if is_other:
+        if self._has_others(known):
             self.do_menu()  # of a folder the host has the files below it
+
+    def _has_others(self, known: List[int]) -> bool:
+        """Whether there are files whose names the user did not give."""
+        if self.asked_for is None:
+            return len(known) > 1
+        return len(known) != len(self.asked_for) and any(self.name(tag) not in self.asked_for for tag in known)
 
     def update(self) -> None:
         """After keys or bytes: files that came or went, keys that waited, refusals, what the windows show."""

@@ -79,7 +79,8 @@ class Loop:
         if not self.editor.is_lost:
             self._do(self.editor.pause)
         self._send()
-        waits = [self.editor.wakes_in(), self.link.delay(), self.decoder.delay(time.monotonic())]  # before it draws: what ends in between is drawn then
+        # Before it draws: what ends in between is drawn then.
+        waits = [self.editor.wakes_in(), self.link.delay(), self.decoder.delay(time.monotonic())]
         if self.editor.is_over:
             return 0
         waits.append(self.screen.draw(self.editor, self.link))
@@ -125,11 +126,15 @@ class Loop:
         self.screen.give_back("samterm: connecting; ^C goes back to the text")
         self.link.connect_in_front(lambda line: print(printable(line), flush=True), self.signals, self._is_stopped)
         self.screen.redraw()
+        self._is_stopped()  # by a `^C` that ended the connection before it was seen here
         self._fit()
 
     def _is_stopped(self) -> bool:
         """Whether a signal has come that ends waiting for the line: `^C` that alone, others the session."""
-        numbers = os.read(self.signals, MOST_SIGNALS)
+        try:
+            numbers = os.read(self.signals, MOST_SIGNALS)
+        except BlockingIOError:
+            return False
         for number in ENDS:
             if number in numbers and number != signal.SIGINT:
                 self._end(number)

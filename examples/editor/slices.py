@@ -1,5 +1,5 @@
-"""While the user rests the whole text of open files is loaded, so that little waits for the host later, and all can be edited where the line
-is lost."""
+"""While the user rests the whole text of open files is loaded: so little waits for the host later, and all can be edited where the line is
+lost."""
 from typing import Iterator, Optional, Tuple
 
 from windows import MOST_IN_LOAD, Window, end_of_load

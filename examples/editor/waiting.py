@@ -258,7 +258,8 @@ class Waiting:
     def _is_refused(self, first: Pressed) -> bool:
         """Whether the first key that waits goes with a word, since the line is lost and the user knows. One that typed text waits behind
         stays: that text would go elsewhere."""
-        if not self.way.is_known_late or first.answers or any(isinstance(kept.key, (Text, Paste)) for kept in islice(self.deferred, 1, None)):
+        has_text_behind = any(isinstance(kept.key, (Text, Paste)) for kept in islice(self.deferred, 1, None))
+        if not self.way.is_known_late or first.answers or has_text_behind:
             return False
         key = first.key
         if isinstance(key, (Text, Paste)):

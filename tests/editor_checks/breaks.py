@@ -7,6 +7,8 @@ import signal
 import threading
 import time
 
+from checks import Skipped
+
 from .fuzz import Run
 from .model import Model
 from .pairs import LONG as MANY_LINES
@@ -44,7 +46,8 @@ def check_keys_on_a_lost_line(folder):
     pair, editor, key, text, line = with_line("one two\nthree\n", has_vault=True)
     line.is_broken = True
     pair.wait(0.5)
-    for each in (text("x"), key("^Right"), key("^W"), key("Shift-Home"), key("^X"), key("^End"), key("^V"), text("!"), key("^Z"), key("^R")):
+    keys = (text("x"), key("^Right"), key("^W"), key("Shift-Home"), key("^X"), key("^End"), key("^V"), text("!"), key("^Z"), key("^R"))
+    for each in keys:
         editor.take(each)
         expect(not editor.deferred and not pair.terminal.locked(1), f"{each} waits, or locks the file")
     model = Model("one two\nthree\n", 200)
@@ -351,6 +354,19 @@ def check_leave_and_take(folder):
 # ---- Files that join
 
 
+def expect_joining():
+    """Skips where the library takes no file once a session has begun."""
+    from sulgrevad import AddRefused, Host, Terminal
+
+    with Host() as host, Terminal() as terminal:
+        terminal.offer_version(2)
+        host.feed(terminal.take_out())
+        try:
+            host.add_file("late")
+        except AddRefused as why:
+            raise Skipped("the library takes no file once a session has begun") from why
+
+
 def open_path(session, path, shown=None):
     """Opens a path by the menu of files, once an entry shows."""
     session.keys("F2")
@@ -363,6 +379,7 @@ def open_path(session, path, shown=None):
 def check_open_by_path(folder):
     """The menu of files opens what is beside the host: by its path, by a part of it, in a folder, one that isn't there as new, and one that
     is open already by its window. What was typed for a path that can't be opened goes into no other file."""
+    expect_joining()
     path, other = made(folder, a="one\n", bee="bee\n")
     (folder / "sub").mkdir()
     (folder / "sub" / "deep.txt").write_text("deep\n")
@@ -410,6 +427,7 @@ def check_open_by_path(folder):
 
 def check_open_while_the_line_breaks(folder):
     """A path that was opened as the line broke comes once it is back, and what was typed for it goes into it."""
+    expect_joining()
     made(folder, a="one\n", bee="bee\n")
     with Session(folder, "a.txt", stays=True, width=120) as session:
         session.wait_for("one")
