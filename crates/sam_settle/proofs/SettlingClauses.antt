@@ -5,6 +5,7 @@ use Rattle.std.proofs.lemmas.List.Elements.{All-nil}
 use Rattle.sam_host.specs.declared.fault.HostFault.TheVariants as refusal
 use Rattle.sam_world.specs.Given.{IsFile}
 use Rattle.sam_crossing.specs.World.{is_quiet, user_events, joined_files}
+use Rattle.sam_crossing.specs.declared.event.Event.{Event}
 use Rattle.sam_world.proofs.Runs.{files_then}
 use Rattle.sam_local.specs.Worlds.{IsAsIfLocal}
 use Rattle.sam_local.proofs.Runs.{runs_are_as_if_local, rests}
