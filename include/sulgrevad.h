@@ -740,6 +740,10 @@ SAM_MUST_USE sam_status sam_link_put_count(sam_link *link, uint64_t *count);
  * at least what sam_link_put_count was then. */
 SAM_MUST_USE sam_status sam_link_acknowledged(sam_link *link, uint64_t *count);
 
+/* How many bytes of this side's stream the newest connection has not been given: sam_link_take_out hands them out, unless the other side's
+ * hello tells that they have come. */
+SAM_MUST_USE sam_status sam_link_unsent(sam_link *link, size_t *count);
+
 /* How many bytes of the other side's stream have come. */
 SAM_MUST_USE sam_status sam_link_received(sam_link *link, uint64_t *count);
 

@@ -389,6 +389,11 @@ class Link:
         return self._acknowledged
 
     @property
+    def unsent(self) -> int:
+        self._open()
+        return self.put_count - self._given
+
+    @property
     def received(self) -> int:
         self._open()
         return self._received

@@ -50,6 +50,7 @@ static void no_handles(sam_link *link)
     WANT(sam_link_attempt(link, &number), SAM_NO_HANDLE);
     WANT(sam_link_put_count(link, &number), SAM_NO_HANDLE);
     WANT(sam_link_acknowledged(link, &number), SAM_NO_HANDLE);
+    WANT(sam_link_unsent(link, &count), SAM_NO_HANDLE);
     WANT(sam_link_received(link, &number), SAM_NO_HANDLE);
     WANT(memcmp(bytes, "unused", 7) == 0 && number == 5 && phase == 6 && count == 7, 1);
 }
@@ -144,6 +145,8 @@ static void bytes_go(sam_link *terminal, sam_link *host)
     WANT(number, 19);
     WANT(READ(sam_link_acknowledged(terminal, &number)), SAM_OK);
     WANT(number, 19);
+    WANT(READ(sam_link_unsent(terminal, &count)), SAM_OK);
+    WANT(count, 0);
     WANT(READ(sam_link_received(terminal, &number)), SAM_OK);
     WANT(number, 11);
     WANT(READ(sam_link_attempt(terminal, &number)), SAM_OK);

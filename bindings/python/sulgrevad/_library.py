@@ -70,7 +70,7 @@ SIGNATURES: Dict[str, Tuple[Any, ...]] = {
     "link_broken": (c_uint64,), "link_put": _BYTES, "link_put_note": _BYTES, "link_ask": (), "link_acknowledge": (),
     "link_take_out": (c_uint64, *_BUFFER, _SIZE), "link_feed": (c_uint64, *_BYTES), "link_take_in": (*_BUFFER, _SIZE),
     "link_next_note": (*_BUFFER, _SIZE), "link_phase": (_U32,), "link_attempt": (_U64,), "link_put_count": (_U64,),
-    "link_acknowledged": (_U64,), "link_received": (_U64,),
+    "link_acknowledged": (_U64,), "link_unsent": (_SIZE,), "link_received": (_U64,),
 }  # fmt: skip
 
 # All arguments, and the result, of each call that takes no handle.

@@ -241,6 +241,11 @@ class Link(Held):
         return self._number("acknowledged", c_uint64)
 
     @property
+    def unsent(self) -> int:
+        """How many bytes of this side's stream the newest connection has not been given."""
+        return self._number("unsent", c_size_t)
+
+    @property
     def received(self) -> int:
         """How many bytes of the other side's stream have come."""
         return self._number("received", c_uint64)

@@ -1,12 +1,12 @@
 -- What the calls of a link do.
-use Rattle.std.specs.Prelude.{◌≡◌, ◌⊎◌, ◌<◌, ◌^◌, ℕ, List, ◌++◌, length, Bool, true, false, nat_lt, Option, Some, None, Result, Ok, Err}
+use Rattle.std.specs.Prelude.{◌≡◌, ◌⊎◌, ℕ, List, ◌++◌, length, Bool, true, false, nat_lt, Option, Some, None, Result, Ok, Err}
 use Rattle.sam_mesg.specs.Bounds.{entry}
 use Rattle.sam_mesg.specs.Spelling.{eight, frame}
 use Rattle.sam_link.specs.End.{Answers, Calls, End, TakesOut, Welcomes, broken, fresh}
 use Rattle.sam_link.specs.Feeding.{Feeds, PutsNote}
 use Rattle.sam_link.specs.Hellos.{ReadsHello, spelled, what_number}
 use Rattle.sam_link.specs.Inbox.{GivesNote, ready}
-use Rattle.sam_link.specs.Keeping.{Keeps, Puts, may_have}
+use Rattle.sam_link.specs.Keeping.{Keeps, Puts}
 use Rattle.sam_link.specs.declared.fault.AnswerFault.{AnswerFault}
 use Rattle.sam_link.specs.declared.fault.CallFault.{CallFault}
 use Rattle.sam_link.specs.declared.fault.FeedFault.{FeedFault}
@@ -172,14 +172,3 @@ abbrev pub LinkNextNote : Option End → List ℕ → List ℕ → ℕ → ℕ �
 LinkNextNote None before after old status new g = (status ≡ no_handle) × (after ≡ before) × (new ≡ old) × (g ≡ None)
 LinkNextNote (Some e) before after old status new g =
     (n : End) × (g ≡ Some n) × NextNote e (nat_lt (length before) 4096) before after old status new n
-
--- ## Readers
-
--- the greatest count that the other side may have: how many bytes were put
-pub record IsPutCount (e : End) (count : ℕ) : Type 0 where
-  pub there : may_have e.keeps count ≡ true
-  pub most : (more : ℕ) → count < more → more < 2 ^ 64 → may_have e.keeps more ≡ false
-
-abbrev pub LinkPutCount : Option End → ℕ → ℕ → ℕ → Type 0
-LinkPutCount None old status new = (status ≡ no_handle) × (new ≡ old)
-LinkPutCount (Some e) old status new = (status ≡ ok) × IsPutCount e new

@@ -1,14 +1,14 @@
 //! What C calls of a link: include/sulgrevad.h says of each call what it does. A call returns a number of `sam_status`; after
 //! `SAM_NO_HANDLE`, `SAM_NONE` and each refusal what its other arguments lead to is as it was.
 
-ghost use Rattle.std.specs.Prelude.{◌≡◌, ◌≤◌, [], false, length};
+ghost use Rattle.std.specs.Prelude.{◌≡◌, ◌≤◌, ◌+◌, ◌-◌, [], false, length};
 ghost use Rattle.sam_mesg.specs.Spelling.{eight, frame};
 ghost use Rattle.sam_link.specs.Putting.{data_stream};
 ghost use Rattle.sam_c.specs.Calls.{Reports};
 ghost use Rattle.sam_c.specs.Hosts.{Freed};
 ghost use Rattle.sam_c.specs.LinkStatus.{phase_number};
-ghost use Rattle.sam_c.specs.Links.{HelloTold, IsPutCount, LinkAcknowledges, LinkAnswered, LinkBroken, LinkCalled, LinkFed, LinkMade};
-ghost use Rattle.sam_c.specs.Links.{LinkNextNote, LinkNotePut, LinkPut, LinkPutCount, LinkTakenIn, LinkTakenOut, LinkWelcomed};
+ghost use Rattle.sam_c.specs.Links.{HelloTold, LinkAcknowledges, LinkAnswered, LinkBroken, LinkCalled, LinkFed, LinkMade};
+ghost use Rattle.sam_c.specs.Links.{LinkNextNote, LinkNotePut, LinkPut, LinkTakenIn, LinkTakenOut, LinkWelcomed};
 ghost use Rattle.sam_c.specs.Links.{NextNote, RefusalWritten, TakesAnswer, TakesWelcome, id_bytes, refusing, told};
 
 use crate::handle::{SamLink, with_end};
@@ -353,30 +353,13 @@ pub extern "C" fn sam_link_attempt(link: &mut SamLink, attempt: &mut u64, alloc:
     with_end!(link alloc end { *attempt = end.attempt(); OK })
 }
 
-/// Returns how many bytes were put: that is the greatest count that the other side may have.
-fn put_count(end: &Link) -> u64
-    ensures { IsPutCount end.now result }
-{
-    let mut low = end.acknowledged();
-    let mut high = u64::MAX;
-    while low < high {
-        let middle = high - (high - low) / 2;
-        if end.may_have(middle) {
-            low = middle;
-        } else {
-            high = middle - 1;
-        }
-    }
-    low
-}
-
 /// Hands out how many bytes were put. `SAM_NO_HANDLE` if the handle is empty.
 #[unsafe(no_mangle)]
 pub extern "C" fn sam_link_put_count(link: &mut SamLink, count: &mut u64, alloc: Global) -> u32
-    ensures told { LinkPutCount link.old.held.end count.old result count.new }
+    ensures told { Reports link.old.held.end result count.old count.new (λ e. e.keeps.base + length e.keeps.kept) }
     ensures kept { link.new.held.end ≡ link.old.held.end }
 {
-    with_end!(link alloc end { *count = put_count(&end); OK })
+    with_end!(link alloc end { *count = end.put_len(); OK })
 }
 
 /// Hands out how many bytes the other side has acknowledged. `SAM_NO_HANDLE` if the handle is empty.
@@ -386,6 +369,15 @@ pub extern "C" fn sam_link_acknowledged(link: &mut SamLink, count: &mut u64, all
     ensures kept { link.new.held.end ≡ link.old.held.end }
 {
     with_end!(link alloc end { *count = end.acknowledged(); OK })
+}
+
+/// Hands out how many bytes of this side's stream the newest connection has not been given. `SAM_NO_HANDLE` if the handle is empty.
+#[unsafe(no_mangle)]
+pub extern "C" fn sam_link_unsent(link: &mut SamLink, count: &mut usize, alloc: Global) -> u32
+    ensures told { Reports link.old.held.end result count.old count.new (λ e. length e.keeps.kept - e.keeps.sent) }
+    ensures kept { link.new.held.end ≡ link.old.held.end }
+{
+    with_end!(link alloc end { *count = end.unsent(); OK })
 }
 
 /// Hands out how many bytes of the other side's stream have come. `SAM_NO_HANDLE` if the handle is empty.

@@ -81,6 +81,20 @@ impl Kept {
         self.sent
     }
 
+    /// Returns how many bytes were put.
+    pub fn put_len(&self) -> u64
+        ensures { result ≡ self.now.base + length self.now.kept }
+    {
+        self.base + self.len() as u64
+    }
+
+    /// Returns how many of the kept bytes this connection has not been given.
+    pub fn unsent(&self) -> usize
+        ensures { result ≡ length self.now.kept - self.now.sent }
+    {
+        self.len() - self.sent
+    }
+
     /// Returns whether so many bytes more can be counted.
     fn has_room(&self, len: u64) -> bool
         ensures { Decides result (HasRoom self.now len) }

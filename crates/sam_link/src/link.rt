@@ -1,6 +1,6 @@
 //! One end of a link.
 
-ghost use Rattle.std.specs.Prelude.{◌≡◌, ◌≤◌, ◌+◌, ◌++◌, [], OnOk, OnErr, drop, length, min, take};
+ghost use Rattle.std.specs.Prelude.{◌≡◌, ◌≤◌, ◌+◌, ◌-◌, ◌++◌, [], OnOk, OnErr, drop, length, min, take};
 ghost use Rattle.std.specs.Prelude.{◌&&◌, ◌==◌, true, if◌then◌else◌};
 ghost use Rattle.sam_link.specs.End.{Calls, TakesOut, broken, ended, fresh, is_up, may_send, same_id, says};
 ghost use Rattle.sam_link.specs.declared.hello.What.TheVariants as What;
@@ -470,6 +470,21 @@ impl Link {
         ensures { result ≡ self.now.received }
     {
         self.received
+    }
+
+    /// Returns how many bytes this side's stream has, heads of packets included.
+    pub fn put_len(&self) -> u64
+        ensures { result ≡ self.now.keeps.base + length self.now.keeps.kept }
+    {
+        self.kept.put_len()
+    }
+
+    /// Returns how many bytes of this side's stream the newest connection has not been given. They go out by `take_out`, as far as the
+    /// other side's hello doesn't tell that they have come.
+    pub fn unsent(&self) -> usize
+        ensures { result ≡ length self.now.keeps.kept - self.now.keeps.sent }
+    {
+        self.kept.unsent()
     }
 
     /// Returns how many bytes of this side's stream the other side has acknowledged.

@@ -302,6 +302,7 @@ extern "C" {
     pub fn sam_link_attempt(link: *mut sam_link, attempt: *mut u64) -> sam_status;
     pub fn sam_link_put_count(link: *mut sam_link, count: *mut u64) -> sam_status;
     pub fn sam_link_acknowledged(link: *mut sam_link, count: *mut u64) -> sam_status;
+    pub fn sam_link_unsent(link: *mut sam_link, count: *mut usize) -> sam_status;
     pub fn sam_link_received(link: *mut sam_link, count: *mut u64) -> sam_status;
 
     pub fn sam_replay(

@@ -242,6 +242,11 @@ impl Link {
         tells(|count| unsafe { sys::sam_link_acknowledged(self.at(), count) })
     }
 
+    /// How many bytes of this side's stream the newest connection has not been given.
+    pub fn unsent(&self) -> usize {
+        tells(|count| unsafe { sys::sam_link_unsent(self.at(), count) })
+    }
+
     /// How many bytes of the other side's stream have come.
     pub fn received(&self) -> u64 {
         tells(|count| unsafe { sys::sam_link_received(self.at(), count) })
