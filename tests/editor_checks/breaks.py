@@ -527,7 +527,8 @@ def check_old_host(folder):
     """Where samhost is too old for a session that stays, it is run without, which is told."""
     (path,) = made(folder, a="one\n")
     host = folder / "host"
-    host.write_text(f'#!/bin/sh\n[ "$1" = --serve ] && echo "usage: samhost [--undo] [--times] [--] [FILE ..]" >&2 && exit 2\nexec {SAMHOST} "$@"\n')
+    usage = "usage: samhost [--undo] [--times] [--] [FILE ..]"
+    host.write_text(f'#!/bin/sh\n[ "$1" = --serve ] && echo "{usage}" >&2 && exit 2\nexec {SAMHOST} "$@"\n')
     host.chmod(0o755)
     with Session(folder, "a.txt", host=str(host), stays=True) as session:
         session.wait_for("one")
