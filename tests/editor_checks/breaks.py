@@ -4,6 +4,7 @@ import os
 import random
 import re
 import signal
+import subprocess
 import threading
 import time
 
@@ -422,6 +423,20 @@ def check_open_by_path(folder):
         session.wait_for("xbeestray")
         session.keys("C-w")
         wait_for_text(other, "xbeestray\n")
+        session.leave()
+
+
+def check_wished_file(folder):
+    """A program at the host has a file shown, and a line of it selected, once no key comes."""
+    expect_joining()
+    made(folder, a="one\n", bee="".join(f"line {number}\n" for number in range(1, 9)))
+    with Session(folder, "a.txt", stays=True, width=120) as session:
+        session.wait_for("one")
+        session.wait_for_quiet()
+        environment = {**os.environ, "XDG_STATE_HOME": str(folder / STATE)}
+        subprocess.run([SAMHOST, "--open", "bee.txt", "+3"], cwd=folder, env=environment, check=True, timeout=20)
+        session.wait_to_go_to("bee.txt")
+        session.wait_for("14,21 of 56")
         session.leave()
 
 
