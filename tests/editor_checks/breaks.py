@@ -4,6 +4,7 @@ import os
 import random
 import re
 import signal
+import subprocess
 import threading
 import time
 
@@ -425,6 +426,20 @@ def check_open_by_path(folder):
         session.leave()
 
 
+def check_wished_file(folder):
+    """A program at the host has a file shown, and a line of it selected, once no key comes."""
+    expect_joining()
+    made(folder, a="one\n", bee="".join(f"line {number}\n" for number in range(1, 9)))
+    with Session(folder, "a.txt", stays=True, width=120) as session:
+        session.wait_for("one")
+        session.wait_for_quiet()
+        environment = {**os.environ, "XDG_STATE_HOME": str(folder / STATE)}
+        subprocess.run([SAMHOST, "--open", "bee.txt", "+3"], cwd=folder, env=environment, check=True, timeout=20)
+        session.wait_to_go_to("bee.txt")
+        session.wait_for("14,21 of 56")
+        session.leave()
+
+
 def check_open_while_the_line_breaks(folder):
     """A path that was opened as the line broke comes once it is back, and what was typed for it goes into it."""
     expect_joining()
@@ -527,7 +542,8 @@ def check_old_host(folder):
     """Where samhost is too old for a session that stays, it is run without, which is told."""
     (path,) = made(folder, a="one\n")
     host = folder / "host"
-    host.write_text(f'#!/bin/sh\n[ "$1" = --serve ] && echo "usage: samhost [--undo] [--times] [--] [FILE ..]" >&2 && exit 2\nexec {SAMHOST} "$@"\n')
+    usage = "usage: samhost [--undo] [--times] [--] [FILE ..]"
+    host.write_text(f'#!/bin/sh\n[ "$1" = --serve ] && echo "{usage}" >&2 && exit 2\nexec {SAMHOST} "$@"\n')
     host.chmod(0o755)
     with Session(folder, "a.txt", host=str(host), stays=True) as session:
         session.wait_for("one")

@@ -66,7 +66,9 @@ def expect_sleep(session):
 class Session:
     """A terminal in a tmux of its own."""
 
-    def __init__(self, folder, *files, slow=None, width=80, height=24, settings="", program=SAMTERM, host=None, stays=bool(os.environ.get("SAM_STAYS")), take=None):
+    def __init__(
+        self, folder, *files, slow=None, width=80, height=24, settings="", program=SAMTERM, host=None, stays=False, take=None
+    ):
         """Where the session stays, it goes on through a line that breaks; with a name it is one that another has left."""
         self.folder, self.status_file = folder, folder / "status"
         self.ends_staying = True  # else the session is left at the host, for another
