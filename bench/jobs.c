@@ -28,6 +28,8 @@ static const struct {
     {"handle", handle},
     {"undo", undo},
     {"both_ends", both_ends},
+    {"linked", linked},
+    {"unlinked", unlinked},
 };
 
 int main(int words, char **word)

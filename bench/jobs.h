@@ -1,5 +1,5 @@
 /* jobs.h: the jobs of the C program, and what they share. bench/README.md says what they are for. plain.rs names the function of plain Rust
- * that does the same as each. */
+ * that does the same as each, but for `linked`, beside which `unlinked` stands. */
 #ifndef JOBS_H
 #define JOBS_H
 
@@ -29,6 +29,8 @@ struct report receive(uint32_t size);
 struct report handle(uint32_t size);
 struct report undo(uint32_t size);
 struct report both_ends(uint32_t size);
+struct report linked(uint32_t size);
+struct report unlinked(uint32_t size);
 
 /* ---- support.c ---- */
 

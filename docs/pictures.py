@@ -65,31 +65,34 @@ SPREAD = 0.16  # how far from the middle of a box its arrows meet it, by how far
 FURTHEST = BOX_WIDTH / 2 - 12
 # Where each crate stands (its middle, its row from the top), and what it has in a few words.
 PLACES = {
-    "sam_play": (430, 0, "the program"),
-    "sam_session": (430, 1, "the program by its modes"),
-    "sam_spawn": (380, 2, "starts and joins them"),
-    "sam_modes": (540, 2, "words, inputs, faults"),
-    "sam_c": (700, 2, "the library for C"),
-    "sam_settle": (320, 3, "five ends, one run"),
-    "sam_joined": (860, 2, "two endpoints, one run"),
-    "sam_apart": (230, 4, "sides apart are one run"),
-    "sam_rest": (510, 4, "no session is stuck"),
-    "sam_script": (890, 4, "scripts, read and shown"),
-    "sam_workers": (310, 5, "five workers"),
-    "sam_world": (510, 5, "both sides as one state"),
-    "sam_queue": (390, 6, "lines between threads"),
-    "sam_local": (550, 6, "as if no network"),
-    "sam_crossing": (550, 7, "crossing messages agree"),
-    "sam_sides": (300, 8, "what each side did"),
-    "sam_endpoint": (700, 8, "a side with its bytes"),
-    "sam_link": (100, 8, "over lines that break"),
-    "sam_frame": (100, 9, "streams of messages"),
-    "sam_host": (280, 9, "the host"),
-    "sam_term": (460, 9, "the terminal"),
-    "sam_mesg": (190, 10, "messages and their bytes"),
-    "sam_text": (370, 10, "files, command lines"),
-    "sam_rasp": (550, 10, "texts with gaps"),
-    "sam_runes": (370, 11, "texts as lists of runes"),
+    "sam_play": (670, 0, "the program"),
+    "sam_session": (722, 1, "scripts on threads, modes"),
+    "sam_spawn": (182, 2, "starts and joins five"),
+    "sam_tasks": (346, 2, "what five begin with"),
+    "sam_settle": (524, 2, "five ends, one run"),
+    "sam_modes": (684, 2, "words, inputs, faults"),
+    "sam_c": (914, 2, "the library for C"),
+    "sam_term_worker": (86, 3, "the terminal's worker"),
+    "sam_workers": (246, 3, "the other four"),
+    "sam_joined": (726, 3, "two endpoints, one run"),
+    "sam_ends": (322, 4, "what five workers share"),
+    "sam_apart": (522, 4, "sides apart are one run"),
+    "sam_rest": (618, 5, "no session is stuck"),
+    "sam_script": (914, 5, "scripts, read and shown"),
+    "sam_world": (518, 6, "both sides as one state"),
+    "sam_queue": (178, 5, "lines between threads"),
+    "sam_local": (480, 7, "as if no network"),
+    "sam_crossing": (444, 8, "crossing messages agree"),
+    "sam_link": (86, 7, "over lines that break"),
+    "sam_sides": (354, 9, "what each side did"),
+    "sam_endpoint": (720, 9, "a side with its bytes"),
+    "sam_frame": (120, 10, "streams of messages"),
+    "sam_host": (280, 10, "the host"),
+    "sam_term": (460, 10, "the terminal"),
+    "sam_mesg": (190, 11, "messages and their bytes"),
+    "sam_text": (370, 11, "files, command lines"),
+    "sam_rasp": (550, 11, "texts with gaps"),
+    "sam_runes": (370, 12, "texts as lists of runes"),
 }
 LEFT_OUT = {
     *("sam_tests_whole", "sam_tests_codec", "sam_tests_lines", "sam_tests_gates", "sam_test_support", "sam_examples"),
@@ -137,7 +140,7 @@ def crates_picture():
         kind = "side" if name in ("sam_host", "sam_term") else "box"
         parts += [box(x - BOX_WIDTH / 2, y - BOX_HEIGHT / 2, BOX_WIDTH, BOX_HEIGHT, kind)]
         parts += [text(x, y - 3, name, "name"), text(x, y + 13, words, "grey")]
-    return picture("The crates and what each stands on", 1000, FIRST_ROW + ROW_HEIGHT * 11 + 44, parts)
+    return picture("The crates and what each stands on", 1000, FIRST_ROW + ROW_HEIGHT * 12 + 44, parts)
 
 
 # ---- The threads

@@ -20,10 +20,10 @@
  * and texts may hold NUL (U+0000) as they hold any other rune, and none is added at their end: go by the lengths. Runes are counted
  * by uint32_t; bytes, the room of a buffer, tags and lines of a script by size_t; events and messages by uint64_t.
  *
- * Handles. sam_host and sam_term are the caller's, on the stack or wherever they like. A handle whose bytes are all zero is empty:
- * SAM_HOST_INIT and SAM_TERM_INIT are, and in C so is {0}. sam_host_new or sam_term_new makes it, and sam_host_free or sam_term_free
- * leaves it empty again. The caller doesn't read, change or copy a handle that is made. Readers take it without const, since each
- * call takes out what the handle holds and puts it back: two of them may not run at once.
+ * Handles. sam_host, sam_term and sam_link are the caller's, on the stack or wherever they like. A handle whose bytes are all zero is
+ * empty: SAM_HOST_INIT, SAM_TERM_INIT and SAM_LINK_INIT are, and in C so is {0}. sam_host_new and its like make it, and sam_host_free and
+ * its like leave it empty again. The caller doesn't read, change or copy a handle that is made. Readers take it without const, since
+ * each call takes out what the handle holds and puts it back: two of them may not run at once.
  *
  * Status. Each call but sam_library_version and sam_status_text returns an enum sam_status, and hands other results out through
  * pointers. After SAM_NO_HANDLE, SAM_NO_MEMORY and SAM_NONE, and where a comment below says 'refused', what the pointers lead to is as
@@ -91,7 +91,7 @@ enum sam_status {
     SAM_OK = 0,
     SAM_NO_MEMORY = 1,  /* what the call brought was not taken: make it again */
     SAM_UNFINISHED = 2, /* what the call brought was taken, and some of it waits: feed no bytes to go on */
-    SAM_COUNT_FULL = 3, /* a stream of 2^64 bytes, or 2^64 events; what the call brought was not taken */
+    SAM_COUNT_FULL = 3, /* a stream of 2^64 bytes, or 2^64 events or connections; what the call brought was not taken */
     SAM_NO_HANDLE = 4,  /* the handle is NULL, or empty: not made yet, or freed */
     SAM_MADE = 5,       /* the handle is made already */
     SAM_NOT_TEXT = 6,   /* the bytes are not UTF-8 */
@@ -99,7 +99,7 @@ enum sam_status {
     SAM_WAITING = 8,    /* sam_host_bring, sam_term_bring: some of what came before waits, and the bytes were not taken: step first */
 
     SAM_ADD = 16, /* sam_host_add_file refused a file, and the host is as it was */
-    SAM_ADD_BEGUN = SAM_ADD + 1,
+    /* SAM_ADD + 1 was SAM_ADD_BEGUN, of a host that was fed already: it is not given again */
     SAM_ADD_TOO_LONG = SAM_ADD + 3,
     SAM_ADD_NO_TAG = SAM_ADD + 4,
 
@@ -142,6 +142,22 @@ enum sam_status {
     SAM_SCRIPT_LINE = SAM_SCRIPT + 1,
     SAM_SCRIPT_COUNT_FULL = SAM_SCRIPT + 2,
 
+    SAM_LINK = 192, /* why a call of a link is refused; the link goes on. The first seven also go over the line, as 17 to 23 */
+    SAM_LINK_NOT_A_LINK = SAM_LINK + 1,    /* the bytes are no hello */
+    SAM_LINK_OTHER_VERSION = SAM_LINK + 2, /* a hello of another version */
+    SAM_LINK_BAD_HELLO = SAM_LINK + 3,     /* a hello that says nothing which this side takes */
+    SAM_LINK_NO_SESSION = SAM_LINK + 4,    /* the terminal resumes a session that the host doesn't have */
+    SAM_LINK_OTHER_SESSION = SAM_LINK + 5, /* the id is another */
+    SAM_LINK_OLD_ATTEMPT = SAM_LINK + 6,   /* the connection isn't the newest */
+    SAM_LINK_WRONG_COUNT = SAM_LINK + 7,   /* bytes are counted that can't have come */
+    SAM_LINK_WRONG_ROLE = SAM_LINK + 8,    /* a call of the other side, or no side at all */
+    SAM_LINK_NOT_OPEN = SAM_LINK + 9,      /* the connection is over, replaced, or has no hello yet */
+    SAM_LINK_TOO_LONG = SAM_LINK + 10,     /* a note of more than 4,096 bytes */
+    SAM_LINK_BAD_KIND = SAM_LINK + 11,     /* a packet of an unknown kind came; this connection is over */
+    SAM_LINK_BAD_LENGTH = SAM_LINK + 12,   /* a packet of a length that its kind can't have came; this connection is over */
+    SAM_LINK_ACK_AHEAD = SAM_LINK + 13,    /* bytes were acknowledged that didn't go; this connection is over */
+    SAM_LINK_NO_ROOM = SAM_LINK + 14,      /* the buffer has less room than the longest note */
+
     SAM_STATUS_WIDTH = 0x7FFFFFFF /* never returned: it keeps the type at 32 bits under any compiler's options */
 };
 typedef enum sam_status sam_status;
@@ -164,10 +180,17 @@ struct sam_term {
 };
 typedef struct sam_term sam_term;
 
+struct sam_link {
+    void *at;
+    uint64_t made;
+};
+typedef struct sam_link sam_link;
+
 /* Empty handles, as in `sam_host host = SAM_HOST_INIT;`. */
 /* clang-format off */
 #define SAM_HOST_INIT {NULL, 0}
 #define SAM_TERM_INIT {NULL, 0}
+#define SAM_LINK_INIT {NULL, 0}
 /* clang-format on */
 
 /* ---- Single steps ---- */
@@ -212,9 +235,11 @@ SAM_MUST_USE sam_status sam_host_new(sam_host *host);
 /* Frees a host, with what was pending. SAM_NO_HANDLE if it is empty or NULL. */
 sam_status sam_host_free(sam_host *host);
 
-/* Adds a file, clean and closed, and hands out its tag: 1 for the first, and so on. Refused, in this order: SAM_NO_HANDLE;
- * SAM_ADD_BEGUN after the first feed, even of no bytes; SAM_NOT_TEXT; SAM_ADD_TOO_LONG for a name above 64 runes or a text above
- * 1,000,000; SAM_ADD_NO_TAG after 65,535 files; SAM_NO_MEMORY. The host is then as it was. */
+/* Adds a file, clean and closed, and hands out its tag: 1 for the first, and so on. It may be called at any time, also on a host that
+ * has stopped. No byte becomes pending: the answer to the terminal's next Tversion has the name. Messages that wait, as after
+ * SAM_UNFINISHED, are answered after the file has joined. Refused, in this order: SAM_NO_HANDLE; SAM_NOT_TEXT; SAM_ADD_TOO_LONG for
+ * a name above 64 runes or a text above 1,000,000; SAM_ADD_NO_TAG after 65,535 files, new ones of the terminal counted;
+ * SAM_NO_MEMORY. The host is then as it was. */
 SAM_MUST_USE sam_status sam_host_add_file(sam_host *host, const uint8_t *name, size_t name_len, const uint8_t *text, size_t text_len,
                                           uint16_t *tag);
 
@@ -452,7 +477,7 @@ SAM_MUST_USE sam_status sam_term_send(sam_term *term, uint16_t tag);
 /* ---- Events: the session ---- */
 
 /* Offers a version of the protocol, and asks for all names. Before it the terminal knows none of the host's files, and refuses each event
- * on one; events after it wait for the answer. */
+ * on one; events after it wait for the answer. Offer it again to learn of files that joined the host since. */
 SAM_MUST_USE sam_status sam_term_offer_version(sam_term *term, uint16_t version);
 
 /* Ends the session. */
@@ -581,6 +606,142 @@ SAM_MUST_USE sam_status sam_term_snarfed(sam_term *term, uint32_t place, uint8_t
 
 /* How many runes the host's snarf buffer has, as it said last. */
 SAM_MUST_USE sam_status sam_term_snarf_len(sam_term *term, uint32_t *runes);
+
+/* ==== A link ====
+ *
+ * A link carries the bytes of a session, and notes of the program, over connections that may break at any byte: each byte and each note
+ * comes out at the other side once and in order. Each side has an end; docs/LINK.md has what they say to each other, docs/EMBEDDING.md a
+ * loop of events. An end opens no connection and knows no clock, as a host and a terminal read and write nothing. The terminal's side
+ * opens a connection and calls; the host's side answers:
+ *
+ *     sam_link_call(&link, false, &attempt)           the terminal opened a connection
+ *     sam_link_take_out(&link, attempt, ..)           bytes for it: the hello first
+ *     sam_link_read_hello(bytes, ..)                  the host has 42 bytes: of which session?
+ *     sam_link_answer(&link, bytes, 42)               that one's end takes the connection
+ *     sam_link_welcomed(&link, bytes, 42)             the terminal has the host's 42 bytes
+ *     sam_link_feed(&link, attempt, ..)               what came after the hello
+ *     sam_link_take_in(&link, ..)                     what of it is for the program, and sam_link_next_note the notes
+ *
+ * A count of a stream counts all its bytes, those of heads too. A piece, a note and an answer are taken whole or not at all. Of these
+ * calls sam_link_new, _put, _put_note, _ask, _acknowledge and _feed take memory, the others none. */
+
+/* The side of an end. */
+enum sam_link_role { SAM_LINK_TERMINAL = 0, SAM_LINK_HOST = 1 };
+
+/* How the newest connection stands: there is none, or it is over; the terminal has called; both sides have said hello. */
+enum sam_link_phase { SAM_LINK_DOWN = 0, SAM_LINK_ASKING = 1, SAM_LINK_OPEN = 2 };
+
+/* What a hello says, but for the refusals, which are 17 to 23 in the order of SAM_LINK_NOT_A_LINK to SAM_LINK_WRONG_COUNT. A terminal that
+ * was welcomed once resumes. */
+enum sam_link_what { SAM_LINK_BEGIN = 1, SAM_LINK_RESUME = 2, SAM_LINK_TAKE_OVER = 3, SAM_LINK_WELCOME = 4 };
+
+#define SAM_LINK_ID_BYTES 16
+#define SAM_LINK_HELLO_BYTES 42
+#define SAM_LINK_MOST_NOTE 4096
+
+/* ---- A link: making and freeing ---- */
+
+/* Makes the end of this side (enum sam_link_role), before its first connection. The id is the session's name, 16 bytes that the terminal
+ * chose at random: a name, and no secret. Refused, in this order: SAM_NO_HANDLE, SAM_MADE, SAM_LINK_WRONG_ROLE for any other number,
+ * SAM_NO_MEMORY. The handle is then as it was. */
+SAM_MUST_USE sam_status sam_link_new(sam_link *link, uint32_t role, const uint8_t id[SAM_LINK_ID_BYTES]);
+
+/* Frees an end, with all that it keeps. SAM_NO_HANDLE if it is empty or NULL. */
+sam_status sam_link_free(sam_link *link);
+
+/* ---- A link: hellos without a handle ---- */
+
+/* Reads the hello with which bytes begin, and hands out what it says (enum sam_link_what, or 17 to 23), the id and the number of the
+ * connection. SAM_NONE: nothing is wrong so far, and there are fewer than 42 bytes. Refused, in this order: SAM_LINK_NOT_A_LINK as soon as
+ * the bytes differ from the mark, SAM_LINK_OTHER_VERSION with the ninth byte, SAM_LINK_BAD_HELLO with the tenth if it says nothing. What
+ * the pointers lead to is then as it was. */
+SAM_MUST_USE sam_status sam_link_read_hello(const uint8_t *bytes, size_t len, uint32_t *what, uint8_t id[SAM_LINK_ID_BYTES],
+                                            uint64_t *attempt);
+
+/* Writes the hello by which a host refuses a connection: why is one of SAM_LINK_NOT_A_LINK to SAM_LINK_WRONG_COUNT, and bytes are what
+ * came. It names the session and the connection of the hello with which they begin; if sam_link_read_hello reads none, all zeros. SAM_NONE
+ * for any other reason, and the buffer is as it was. */
+SAM_MUST_USE sam_status sam_link_write_refusal(uint32_t why, const uint8_t *bytes, size_t len, uint8_t into[SAM_LINK_HELLO_BYTES]);
+
+/* ---- A link: connections ---- */
+
+/* The terminal's end: another connection was opened, and the one before is over. Hands out its number, counted from 1, which names it in
+ * the calls below. With take_over, as long as no host has welcomed this end, the session is to begin with the texts of another. Refused, in
+ * this order: SAM_LINK_WRONG_ROLE, SAM_COUNT_FULL after 2^64-1 connections. */
+SAM_MUST_USE sam_status sam_link_call(sam_link *link, bool take_over, uint64_t *attempt);
+
+/* The terminal's end takes the first 42 bytes that the host sent on the newest connection. Refused, and nothing is changed then: first as
+ * sam_link_read_hello refuses the bytes (SAM_NONE: fewer than 42); then, in this order, SAM_LINK_WRONG_ROLE; SAM_LINK_NOT_OPEN if no
+ * call waits for a welcome; the host's reason, if it refuses (sam_link_read_hello tells this from the rest: it hands out 17 to 23);
+ * SAM_LINK_BAD_HELLO; SAM_LINK_OTHER_SESSION; SAM_LINK_OLD_ATTEMPT; SAM_LINK_WRONG_COUNT. */
+SAM_MUST_USE sam_status sam_link_welcomed(sam_link *link, const uint8_t *bytes, size_t len);
+
+/* The host's end takes the connection whose first 42 bytes these are, and the one before is over. The connection has the number that
+ * sam_link_read_hello hands out. Refused, and nothing is changed then, nor for the older connection: first as sam_link_read_hello refuses
+ * the bytes (SAM_NONE: fewer than 42); then, in this order, SAM_LINK_WRONG_ROLE, SAM_LINK_BAD_HELLO, SAM_LINK_NO_SESSION,
+ * SAM_LINK_OTHER_SESSION, SAM_LINK_OLD_ATTEMPT, SAM_LINK_WRONG_COUNT. */
+SAM_MUST_USE sam_status sam_link_answer(sam_link *link, const uint8_t *bytes, size_t len);
+
+/* A connection has ended, or is given up. If it isn't the newest nothing is changed. */
+SAM_MUST_USE sam_status sam_link_broken(sam_link *link, uint64_t attempt);
+
+/* ---- A link: what is put ---- */
+
+/* Puts bytes for the other side's program, all or none, whether a connection is there or not. Refused, in this order: SAM_COUNT_FULL if
+ * the stream would have more than 2^64-1 bytes, SAM_NO_MEMORY. */
+SAM_MUST_USE sam_status sam_link_put(sam_link *link, const uint8_t *bytes, size_t len);
+
+/* Puts a note, behind all that was put. It comes out after these bytes and before later ones. Refused, in this order: SAM_LINK_TOO_LONG for
+ * more than 4,096 bytes, SAM_COUNT_FULL, SAM_NO_MEMORY. */
+SAM_MUST_USE sam_status sam_link_put_note(sam_link *link, const uint8_t *bytes, size_t len);
+
+/* Asks the other side to acknowledge now. So a line that carries nothing any more is found out: if no byte comes, it is broken. Refused, in
+ * this order: SAM_COUNT_FULL, SAM_NO_MEMORY. */
+SAM_MUST_USE sam_status sam_link_ask(sam_link *link);
+
+/* Acknowledges all bytes that have come, as the end does by itself when it is asked and after each 16,384 bytes. Refused, in this order:
+ * SAM_COUNT_FULL, SAM_NO_MEMORY. */
+SAM_MUST_USE sam_status sam_link_acknowledge(sam_link *link);
+
+/* ---- A link: bytes out and in ---- */
+
+/* Moves the next bytes for a connection into the buffer, as many as there are and have room, and hands out how many: first the hello, and
+ * then the stream from where this connection goes on. A terminal's end hands out none of the stream before the welcome, but on the first
+ * connection. SAM_LINK_NOT_OPEN if the connection is over or isn't the newest. */
+SAM_MUST_USE sam_status sam_link_take_out(sam_link *link, uint64_t attempt, uint8_t *into, size_t room, size_t *count);
+
+/* Takes bytes that came on a connection after the hello, in whatever pieces, all or none. Refused: SAM_LINK_NOT_OPEN if the connection is
+ * over, isn't the newest, or has no hello yet; then SAM_COUNT_FULL if the other side's stream would have more than 2^64-1 bytes. Then
+ * SAM_NO_MEMORY, and the piece may be fed again; or, if the piece has a wrong packet, SAM_LINK_BAD_KIND or SAM_LINK_BAD_LENGTH, and if it
+ * has none, but acknowledges what this connection wasn't given, SAM_LINK_ACK_AHEAD: then this connection is over, and nothing else has
+ * changed. */
+SAM_MUST_USE sam_status sam_link_feed(sam_link *link, uint64_t attempt, const uint8_t *bytes, size_t len);
+
+/* Moves the next bytes of the other side's program into the buffer, as many as one packet has left and have room, and hands out how many:
+ * call it until it hands out 0, where a note is next, or nothing. */
+SAM_MUST_USE sam_status sam_link_take_in(sam_link *link, uint8_t *into, size_t room, size_t *count);
+
+/* Moves the note that is next into the buffer, and hands out its length, which may be 0. Refused, in this order: SAM_LINK_NO_ROOM if the
+ * buffer has less room than 4,096 bytes, SAM_NONE if no note is next: bytes before it are not taken in yet, or none has come. */
+SAM_MUST_USE sam_status sam_link_next_note(sam_link *link, uint8_t *into, size_t room, size_t *len);
+
+/* ---- A link: readers ---- */
+
+/* How the newest connection stands: enum sam_link_phase. */
+SAM_MUST_USE sam_status sam_link_phase(sam_link *link, uint32_t *phase);
+
+/* The number of the newest connection: at a host's end the newest that it took. 0 before the first. */
+SAM_MUST_USE sam_status sam_link_attempt(sam_link *link, uint64_t *attempt);
+
+/* How many bytes this side's stream has. */
+SAM_MUST_USE sam_status sam_link_put_count(sam_link *link, uint64_t *count);
+
+/* How many of them the other side has acknowledged: those after them are kept in memory. All that was put at one time has come once this is
+ * at least what sam_link_put_count was then. */
+SAM_MUST_USE sam_status sam_link_acknowledged(sam_link *link, uint64_t *count);
+
+/* How many bytes of the other side's stream have come. */
+SAM_MUST_USE sam_status sam_link_received(sam_link *link, uint64_t *count);
 
 /* ==== Scripts ==== */
 

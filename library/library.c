@@ -16,13 +16,12 @@ const char *sam_status_text(sam_status status)
         TEXT(SAM_OK, "the call did what it was asked");
         TEXT(SAM_NO_MEMORY, "out of memory; what the call brought was not taken, so make it again");
         TEXT(SAM_UNFINISHED, "out of memory; what the call brought was taken, so feed no bytes to go on");
-        TEXT(SAM_COUNT_FULL, "a stream has 2^64 bytes, or there were 2^64 events");
+        TEXT(SAM_COUNT_FULL, "a stream has 2^64 bytes, or there were 2^64 events or connections");
         TEXT(SAM_NO_HANDLE, "the handle is NULL or empty: it was not made yet, or it was freed");
         TEXT(SAM_MADE, "the handle is made already");
         TEXT(SAM_NOT_TEXT, "the bytes are not UTF-8");
         TEXT(SAM_NONE, "there is no such file, or nothing more to hand out");
         TEXT(SAM_WAITING, "some of what came before waits, so make steps first; what the call brought was not taken");
-        TEXT(SAM_ADD_BEGUN, "the host was fed already, and takes no more files");
         TEXT(SAM_ADD_TOO_LONG, "the name has more than 64 runes, or the text more than 1,000,000");
         TEXT(SAM_ADD_NO_TAG, "all 65,536 tags were given");
         TEXT(SAM_BAD_KIND, "the stream is wrong: it has a message of an unknown kind");
@@ -56,6 +55,20 @@ const char *sam_status_text(sam_status status)
         TEXT(SAM_REFUSAL_BAD_VERSION, "the event was refused: there is no version 0");
         TEXT(SAM_SCRIPT_LINE, "the script has a line that is wrong or can't be done");
         TEXT(SAM_SCRIPT_COUNT_FULL, "the script has a line that would count more than 2^64-1 messages");
+        TEXT(SAM_LINK_NOT_A_LINK, "the bytes are not the hello of a link");
+        TEXT(SAM_LINK_OTHER_VERSION, "the hello is of another version of the link");
+        TEXT(SAM_LINK_BAD_HELLO, "the hello says nothing that this side takes");
+        TEXT(SAM_LINK_NO_SESSION, "the terminal resumes a session, and the host has none of this id");
+        TEXT(SAM_LINK_OTHER_SESSION, "the hello is of another session");
+        TEXT(SAM_LINK_OLD_ATTEMPT, "the hello is of a connection that is not the newest");
+        TEXT(SAM_LINK_WRONG_COUNT, "the hello counts bytes that can't have come");
+        TEXT(SAM_LINK_WRONG_ROLE, "the call is one of the other side of a link, or no side has this number");
+        TEXT(SAM_LINK_NOT_OPEN, "the connection is over, is not the newest, or has no hello yet");
+        TEXT(SAM_LINK_TOO_LONG, "the note has more than 4,096 bytes");
+        TEXT(SAM_LINK_BAD_KIND, "a packet of an unknown kind came, and the connection is over");
+        TEXT(SAM_LINK_BAD_LENGTH, "a packet came with a length that its kind can't have, and the connection is over");
+        TEXT(SAM_LINK_ACK_AHEAD, "bytes are acknowledged that did not go, and the connection is over");
+        TEXT(SAM_LINK_NO_ROOM, "the buffer has less room than the longest note, 4,096 bytes");
     }
     return "unknown status";
 }

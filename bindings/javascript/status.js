@@ -12,7 +12,6 @@ export const Status = Object.freeze({
   NOT_TEXT: 6,
   NONE: 7,
   WAITING: 8,
-  ADD_BEGUN: 17,
   ADD_TOO_LONG: 19,
   ADD_NO_TAG: 20,
   BAD_KIND: 33,
@@ -44,6 +43,20 @@ export const Status = Object.freeze({
   REFUSAL_BAD_VERSION: 136,
   SCRIPT_LINE: 161,
   SCRIPT_COUNT_FULL: 162,
+  LINK_NOT_A_LINK: 193,
+  LINK_OTHER_VERSION: 194,
+  LINK_BAD_HELLO: 195,
+  LINK_NO_SESSION: 196,
+  LINK_OTHER_SESSION: 197,
+  LINK_OLD_ATTEMPT: 198,
+  LINK_WRONG_COUNT: 199,
+  LINK_WRONG_ROLE: 200,
+  LINK_NOT_OPEN: 201,
+  LINK_TOO_LONG: 202,
+  LINK_BAD_KIND: 203,
+  LINK_BAD_LENGTH: 204,
+  LINK_ACK_AHEAD: 205,
+  LINK_NO_ROOM: 206,
 });
 
 /** The name of a status and a sentence about it, as "SAM_NOT_TEXT: the bytes are not UTF-8"; "unknown status" for any other number. */

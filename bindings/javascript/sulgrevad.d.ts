@@ -16,7 +16,6 @@ export declare const Status: {
   readonly NOT_TEXT: 6;
   readonly NONE: 7;
   readonly WAITING: 8;
-  readonly ADD_BEGUN: 17;
   readonly ADD_TOO_LONG: 19;
   readonly ADD_NO_TAG: 20;
   readonly BAD_KIND: 33;
@@ -48,6 +47,20 @@ export declare const Status: {
   readonly REFUSAL_BAD_VERSION: 136;
   readonly SCRIPT_LINE: 161;
   readonly SCRIPT_COUNT_FULL: 162;
+  readonly LINK_NOT_A_LINK: 193;
+  readonly LINK_OTHER_VERSION: 194;
+  readonly LINK_BAD_HELLO: 195;
+  readonly LINK_NO_SESSION: 196;
+  readonly LINK_OTHER_SESSION: 197;
+  readonly LINK_OLD_ATTEMPT: 198;
+  readonly LINK_WRONG_COUNT: 199;
+  readonly LINK_WRONG_ROLE: 200;
+  readonly LINK_NOT_OPEN: 201;
+  readonly LINK_TOO_LONG: 202;
+  readonly LINK_BAD_KIND: 203;
+  readonly LINK_BAD_LENGTH: 204;
+  readonly LINK_ACK_AHEAD: 205;
+  readonly LINK_NO_ROOM: 206;
 };
 
 /** The name of a status and a sentence about it. */
@@ -138,8 +151,9 @@ declare class Side {
 
 /** The side that holds whole texts and runs commands. It begins with the command file alone, whose tag is 0. */
 export declare class Host extends Side {
-  /** Adds a file, clean and closed, and returns its tag. Throws, in this order: AddRefused after the first feed; NotText; AddRefused for a
-   * name above 64 runes or a text above 1,000,000, and if no tag is left; NoMemory. The host is then as it was. */
+  /** Adds a file, clean and closed, and returns its tag. It may be called at any time: the answer to the terminal's next Tversion has the
+   * name. Throws, in this order: NotText; AddRefused for a name above 64 runes or a text above 1,000,000, and if no tag is left; NoMemory.
+   * The host is then as it was. */
   addFile(name: Text, text?: Text): number;
   /** The kind of the oldest message that waits, by the numbers of docs/PROTOCOL.md, and the file that it names, or 0; null if none
    * waits. The next step that takes a message begins with it. */
@@ -226,7 +240,8 @@ export declare class Terminal extends Side {
   getSnarf(): void;
   /** Gives the host another snarf buffer: at most 4,096 bytes, 32,000 in version 2. Throws NotText, too. */
   setSnarf(text: Text): void;
-  /** Offers a version of the protocol, and asks for the names of all files. Before it the terminal knows none of them. */
+  /** Offers a version of the protocol, and asks for the names of all files. Before it the terminal knows none of them. Offer it again to
+   * learn of files that joined the host since. */
   offerVersion(version: number): void;
   /** Sends the typed runes, once the events before this one have acted. */
   flush(): void;

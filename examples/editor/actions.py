@@ -1,12 +1,14 @@
 """What each key does. A method `do_NAME` stands for each action of the table of keys, here or in moving.py."""
 from commands import Commands, line_at
 from find import Find
+from joining import Files
 from keys import Paste, Text
 from menus import Help, Menu
 from moving import Moves
 from texts import COMMAND, GAP, MOST_RUNES
 from windows import Window
 
+MOST_PASTED_HERE = 4_096  # runes that `^V` types where the session stays: so no break can lock the file meanwhile
 LEAST_ROWS = 4  # rows of the least window, with its title
 TOO_LONG = f"the file would have more than {MOST_RUNES:,} characters"
 
@@ -95,8 +97,10 @@ class Actions(Commands, Moves):
     def do_menu(self) -> None:
         tags = self.tags
         entries = [("* " if self.is_changed(tag) else "  ", self.name(tag)) for tag in tags]
-        if tags:
-            chosen = tags.index(self.active.tag) if self.active.tag in tags else 0
+        chosen = tags.index(self.active.tag) if self.active.tag in tags else 0
+        if self.joining.is_there:
+            self.menu = Files(self.joining, entries, chosen, lambda at: self.show(tags[at]))
+        elif tags:
             self.menu = Menu("Files", entries, chosen, lambda at: self.show(tags[at]))
         else:
             self.message = "no file: ^N makes one"
@@ -127,20 +131,35 @@ class Actions(Commands, Moves):
 
     # ---- Actions: files
 
-    def do_new(self) -> None:
+    def await_file(self) -> None:
+        """The host makes a file, opens one or closes one: keys wait for that."""
         self._awaits_file = True
+
+    def do_new(self) -> None:
+        self.await_file()
         self.terminal.new_file()
 
     def do_write(self) -> None:
         tag = self.active.tag
         if self.active is self.command:
             return
+        if self.way.is_late:
+            self.write_later(tag)
+            return
         question = self.keeping.question(tag)
         if question:
             self.notes.forget(self.keeping.refusals[tag])
         if not question or self.is_sure(question):
-            self.keeping.write(tag)
-            self.terminal.write(tag)
+            self.write(tag)
+
+    def write(self, tag: int) -> None:
+        self.keeping.write(tag)
+        self.terminal.write(tag)
+
+    def write_later(self, tag: int) -> None:
+        """A file is written when the line is back."""
+        self.keeping.write_later(tag)
+        self.message = f"{self.name(tag)} is written when the line is back"
 
     def do_close(self) -> None:
         tag = self.focus.tag
@@ -149,7 +168,7 @@ class Actions(Commands, Moves):
         elif not self.is_changed(tag) or self.is_sure(f"{self.name(tag)} was not written; ^K again closes it"):
             if self.is_changed(tag):
                 self.keeping.let_go(tag)
-            self._awaits_file = True
+            self.await_file()
             self.terminal.close(tag)
 
     def do_old(self) -> None:
@@ -199,14 +218,30 @@ class Actions(Commands, Moves):
             self.terminal.snarf(self.focus.tag)
 
     def do_paste(self) -> None:
-        if self._has_room(len(self._snarfed)) and self._goes("^V"):
+        is_short = self.way.line is not None and self.knows_snarfed and 0 < len(self._snarfed) <= MOST_PASTED_HERE
+        if self.way.is_late or is_short:
+            self._paste_here()
+        elif self._has_room(len(self._snarfed)) and self._goes("^V"):
             self.log.comes = self._snarfed
             self.texts.paste(self.focus.tag)
             if self.terminal.locked(self.focus.tag):
                 self._pasting.add(self.focus.tag)
 
+    @property
+    def knows_snarfed(self) -> bool:
+        """Whether all of what was cut or copied last is known here."""
+        is_line = self.focus is self.command and "\n" in self._snarfed  # the host would run it
+        return GAP not in self._snarfed and (self._snarfed != "" or self.terminal.snarf_len == 0) and not is_line
+
+    def _paste_here(self) -> None:
+        """Types what was cut or copied last: the host would have to answer before more is typed."""
+        if self._has_room(len(self._snarfed)) and self._goes("^V"):
+            self.texts.left = self._snarfed
+            self.texts.replace(self.focus.tag, self._snarfed)
+            self.cut_text = ""
+
     def do_look(self) -> None:
-        if self.is_lost:
+        if self.is_alone:
             start, end = self.focus.dot
             self.sought_here = self.focus.read(start, end - start)
             Find(self).go_on(self.sought_here)
@@ -215,8 +250,10 @@ class Actions(Commands, Moves):
         self.focus.anchor = self.focus.goal = None
 
     def do_search(self) -> None:
-        if self.is_lost:
+        if self.is_alone:
             Find(self).go_on(self.sought_here or self.terminal.pattern)
+        elif self.sought_here and self.focus is not self.command:  # which the host has not searched
+            Find(self).ask_host(self.sought_here)
         else:
             self.terminal.search(self.focus.tag)
         self.focus.anchor = self.focus.goal = None
@@ -284,8 +321,11 @@ class Actions(Commands, Moves):
     def _can_turn(self, step, lacks, nothing: str) -> bool:
         """Whether there is a step, and all of its text is known."""
         self.focus.anchor = self.focus.goal = None
-        if step is None:
+        is_out_of_reach = step is not None and self.way.is_late and (step.before or step.after) is not None
+        if is_out_of_reach:
+            self.message = "what went or came is kept by the host: that can be done when the line is back"
+        elif step is None:
             self.message = f"{nothing} in the command window: Esc goes to the text" if self.focus is self.command else nothing
         elif lacks:
             self.message = f"that can't be taken back: {lacks} characters of what went were not loaded"
-        return step is not None and not lacks
+        return step is not None and not lacks and not is_out_of_reach

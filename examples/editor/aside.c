@@ -273,6 +273,9 @@ static void hold_closed(struct session *session, uint16_t tag, const char *name)
 
 void save_closing(struct session *session, uint16_t tag)
 {
+    if (is_done_already(session, DOING_CLOSE, tag))
+        return;
+    note_closing(session, tag);
     char *name = name_of(session, tag);
     const char *known = name == NULL ? "a file" : name;
     int error = save_for_good(session, tag, known);
@@ -282,6 +285,7 @@ void save_closing(struct session *session, uint16_t tag)
         hold_closed(session, tag, known);
     }
     free(name);
+    note_done(session, DOING_CLOSE, tag, error != 0);
 }
 
 void free_document(struct document *document)

@@ -5,6 +5,7 @@ from typing import Callable, Iterable, List, Optional, Sequence, Set, Tuple
 
 from actions import TOO_LONG, Actions
 from desk import Desk
+from joining import Joining
 from keeping import Keeping, shown_name
 from keys import PLACE, Input, Key, Mouse, Paste, Text
 from left import Left
@@ -12,7 +13,9 @@ from lines import Numbers
 from link import SECONDS_TO_END
 from notes import OFFER, REPEAT, Notes, said
 from pointing import Pointer
+from slices import Slices
 from sulgrevad import Refusal, SamError, Status, Terminal
+from staying import Note
 from stream import CLEAN, CLOSE, DELNAME, MOVETO, NEWNAME, SETDOT, UNLOCK, UNLOCKFILE, Frame, Stream
 from texts import COMMAND, COMMAND_NAME, Texts
 from undo import Undo
@@ -43,16 +46,19 @@ class Editor(Desk, Waiting, Actions):
     """The terminal with its windows. Keys come in by `take`, bytes of the host by `feed`, lines of its standard error by `hear`."""
 
     def __init__(
-        self, terminal: Terminal, clock: Callable[[], float] = time.monotonic, indents: bool = True, asked_for: Sequence[str] = ()
+        self, terminal: Terminal, clock: Callable[[], float] = time.monotonic, indents: bool = True,
+        asked_for: Optional[Sequence[str]] = (),
     ):
         super().__init__(Texts(terminal))
         self._begin_waiting()
         self.terminal, self.clock, self.indents = terminal, clock, indents
-        self.asked_for = {shown_name(path) for path in asked_for}  # the names that the files have whose paths the user gave
+        # The names that the files have whose paths the user gave; None where he goes on with a session.
+        self.asked_for = None if asked_for is None else {shown_name(path) for path in asked_for}
+        self._early_lines: List[str] = []  # of texts that were not written, told before their names
         self.way, self.notes = Way(terminal, clock), Notes(clock)
         self.vault = Vault(terminal, self.texts)
         self.log, self.numbers, self.keeping = Undo(terminal, self.texts, self.vault), Numbers(self.texts), Keeping(self)
-        self.left = Left(self)
+        self.left, self.slices, self.joining = Left(self), Slices(self), Joining(self)
         told = {CLEAN: self._meet_clean, CLOSE: self._meet_close, MOVETO: self._meet_move, SETDOT: self._meet_dot}
         told.update({UNLOCK: self._meet_unlock, NEWNAME: self._meet_name, DELNAME: self._meet_name, UNLOCKFILE: self._meet_pasted})
         self.stream = Stream(terminal, self.texts, told)
@@ -95,6 +101,11 @@ class Editor(Desk, Waiting, Actions):
             self._known = self.terminal.files()
         return [tag for tag in self._known if tag not in (COMMAND, self.vault.tag) and tag not in self.left.tags]
 
+    @property
+    def is_alone(self) -> bool:
+        """Whether nothing can be asked of the host: it is lost, or its answers are late."""
+        return self.is_lost or self.way.is_late
+
     def is_changed(self, tag: int) -> bool:
         """Whether a file was not written since it was changed, or its last write failed. The command file is never written."""
         return tag != COMMAND and (self.terminal.is_changed(tag) or tag in self.keeping.unwritten)
@@ -107,6 +118,9 @@ class Editor(Desk, Waiting, Actions):
     def show(self, tag: int, replaces: bool = True) -> None:
         """Shows a file: in its window, else in place of the one that was used last, or in another. Before that it is opened."""
         window = self.window_of(tag)
+        if not window.is_open and self.way.is_late:
+            self.message = f"{self.name(tag)} is not open: that can be done when the line is back"
+            return
         if not window.is_open and not self.is_lost:
             self.terminal.open(tag)
         self.put_up(window, replaces)
@@ -126,6 +140,8 @@ class Editor(Desk, Waiting, Actions):
         """A line of the host's standard error. What it says of a text stays on the screen until it is read. Where `^W` was the last key,
         and it may replace another program's text, this asks; else the next `^W` does."""
         told = said(line)
+        if not self.has_begun and "failed" in told.what:
+            self._early_lines.append(line)  # the files that it is about have no names yet
         tags = self.keeping.hear_host(told, line)
         if told.what == "written":
             self.left.hear_written(told.names[0], told.when)
@@ -135,6 +151,22 @@ class Editor(Desk, Waiting, Actions):
             self.notes.keep(told.rank, line + OFFER if told.what == "left" else line)
         else:
             self.message = line
+
+    def meet_note(self, note: Note) -> None:
+        """A note of the host that is no line to tell."""
+        self.joining.meet(note)
+
+    def give_back_typed(self, why: str) -> None:
+        """What was typed for a file that doesn't come is put in nowhere: `^V` has it, or else a file here."""
+        typed = self.typed_ahead
+        self.deferred.clear()
+        if typed and self.cut_text:
+            why += f"; {self.keeping.keep_typed(typed)}"
+        elif typed:
+            self.terminal.set_snarf(typed)
+            self.note_snarfed(typed)
+            why += "; ^V has what you typed for it"
+        self.notes.keep(1, why)
 
     def _meet_clean(self, frame: Frame) -> None:
         """The host has written a file, or could not. It may say that a little later, so it is asked once more."""
@@ -172,7 +204,7 @@ class Editor(Desk, Waiting, Actions):
     def pause(self) -> None:
         """The user pauses: sends what was typed, and asks the host by the command file whether it has arrived, unless a lock says that an
         answer is due."""
-        self.way.send(COMMAND if self.command.is_open and not self._is_lock_held else None)
+        self.way.send(COMMAND if self.command.is_open and not self.is_lock_held else None)
 
     def lose(self, why: str) -> None:
         """The host is gone: what is loaded can still be read. What was changed is written here."""
@@ -181,6 +213,7 @@ class Editor(Desk, Waiting, Actions):
         self.is_lost = self.texts.is_final = True
         self.vault.stop()
         self.kept_here = self.keeping.keep_here(self.way.has_all)
+        self.go_to(self.shown_focus)
         self.deferred.clear()
         self.message = ""
         for line in self.kept_here or ["what is loaded can still be read. ^Q leaves"]:
@@ -216,21 +249,32 @@ class Editor(Desk, Waiting, Actions):
             self.message = "no file: ^N makes one, F1 shows the keys"
         self.terminal.open_cmd()
         self.has_begun = True
-        if len(known) != len(self.asked_for) and any(self.name(tag) not in self.asked_for for tag in known):
+        for line in self._early_lines:
+            self.keeping.hear_host(said(line), line)
+        if self._has_others(known):
             self.do_menu()  # of a folder the host has the files below it
+
+    def _has_others(self, known: List[int]) -> bool:
+        """Whether there are files whose names the user did not give."""
+        if self.asked_for is None:
+            return len(known) > 1
+        return len(known) != len(self.asked_for) and any(self.name(tag) not in self.asked_for for tag in known)
 
     def update(self) -> None:
         """After keys or bytes: files that came or went, keys that waited, refusals, what the windows show."""
         self._asks_at = [] if self.is_lost else [self.clock() + left for left in (self.busy_left, self.rest_left) if left > 0]
         if not self.is_lost and not self.terminal.exited:
             self._meet_files()
-            self._awaits_file = self._awaits_file and self._is_lock_held
+            self.joining.go_on()
+            self._awaits_file = self._awaits_file and self.is_lock_held
             self._go_on_with_vault()
             self._act_in_order()
             for refusal in self.terminal.refusals():
                 self._tell_refusal(refusal)
             self.left.go_on()
+            self.keeping.go_on()
             self._update_windows()
+            self.slices.go_on()
         elif self.is_lost:
             self._update_windows()
         is_time = self._leaves_at is not None and self.clock() >= self._leaves_at
@@ -252,7 +296,7 @@ class Editor(Desk, Waiting, Actions):
     def wakes_in(self) -> Optional[float]:
         """Seconds until something is to be done though nothing comes; None where that has no end. A time that has come since the last
         update counts: else nobody would ask any more for what that left."""
-        waits = [self.way.seconds, *(when - self.clock() for when in self._asks_at)]
+        waits = [self.way.seconds, self.keeping.seconds_until_here, self.joining.seconds, *(when - self.clock() for when in self._asks_at)]
         if not self.is_lost:
             waits.append(self.way.seconds_of_silence)
         if self.deferred and self.deferred[0].answers:
@@ -317,7 +361,7 @@ class Editor(Desk, Waiting, Actions):
 
     def act_again(self, why: str) -> None:
         """The key that acts now does so again, once the host has answered."""
-        if self._is_lock_held and not self.is_lost:
+        if self.is_lock_held and not self.is_lost:
             self._again, self.message = self._acting, why
         else:
             self.message = "that can't be done now"

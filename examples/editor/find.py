@@ -61,7 +61,7 @@ class Find:
             self._select(place, place + len(pattern))
         elif not pattern:
             self.editor.message = "nothing was searched yet"
-        elif self._gap == 0 or self.editor.is_lost:
+        elif self._gap == 0 or self.editor.is_alone:
             self.editor.message = "it stands nowhere above" if self._gap == 0 else "not in what is loaded above"
         else:
             low = max(0, self._gap - reach)
@@ -72,7 +72,7 @@ class Find:
         return None
 
     def go_on(self, pattern: str) -> None:
-        """Without a host: goes to the next place in what is loaded at which a pattern stands."""
+        """Without a line: goes to the next place in what is loaded at which a pattern stands."""
         self.pattern = pattern
         place = self._after(self.window.dot[0] + 1)
         if place is not None:
@@ -92,7 +92,7 @@ class Find:
         if place is not None:
             self._select(place, place + len(self.pattern))
         elif self.pattern:
-            self._why = why + (")" if self.editor.is_lost else help)
+            self._why = why + (")" if self.editor.is_alone else help)
 
     def _select(self, start: int, end: int) -> None:
         self.window.select(start)
@@ -126,11 +126,16 @@ class Find:
             end = low + len(self.pattern) - 1
         return None
 
+    def ask_host(self, pattern: str) -> None:
+        """Has the host go to the next place of a pattern that was sought here."""
+        self.editor.sought_here = ""
+        self.editor.run_aside(f"/{escaped(pattern)}/")
+
     def _finish(self) -> None:
         """The host goes to the place, also where it is not loaded, and knows the pattern from then on."""
         self.is_over = True
-        self.editor.sought_here = self.pattern if self.editor.is_lost else ""
-        if not self.pattern or self.window is self.editor.command or self.editor.is_lost or not self.editor.command.is_open:
+        self.editor.sought_here = self.pattern if self.editor.is_alone else ""
+        if not self.pattern or self.window is self.editor.command or self.editor.is_alone or not self.editor.command.is_open:
             return
         start, end = self.window.dot
         is_found = self.window.read(start, end - start) == self.pattern

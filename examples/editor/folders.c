@@ -1,4 +1,4 @@
-/* folders.c: reads the text files below a folder, as a terminal can open no other file later.
+/* folders.c: reads the text files below a folder.
  *
  * Files of a folder come before those of the folders in it, by their names. None is taken that is hidden or below a link to a folder.
  */
@@ -51,6 +51,7 @@ static void offer_file(struct offer *offer, const char *path)
 {
     struct stat status;
     uint32_t code = SAM_NOT_TEXT;
+    uint16_t tag;
     struct text text = {0};
 
     if (stat(path, &status) != 0 || S_ISDIR(status.st_mode) || has_mark(offer->marks, &status))
@@ -61,7 +62,7 @@ static void offer_file(struct offer *offer, const char *path)
     offer->seen++;
     int error = S_ISREG(status.st_mode) ? read_whole(path, &text) : NOT_REGULAR;
     if (error == 0 && (text.len == 0 || memchr(text.bytes, '\0', text.len) == NULL))
-        error = add_text(offer->session, path, &text, &code);
+        error = add_text(offer->session, path, &text, &code, &tag);
     free(text.bytes);
     if (error == 0 && code == SAM_OK)
         error = add_mark(offer->marks, status.st_dev, status.st_ino);

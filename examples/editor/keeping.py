@@ -1,11 +1,14 @@
 """What became of the texts: which could not be written, which the host has saved aside, and which have to be written here."""
+import contextlib
+import os
 from collections import Counter
-from typing import Dict, List, Set, Tuple
+from typing import Dict, List, Optional, Set, Tuple
 
 import rescue
 from notes import Said, printable
 from texts import GAP, Change
 
+HERE_AFTER = 10.0  # seconds without a line after which changed texts are also written here, and then again
 MOST_RUNES_IN_NAME = 64  # in the session; of a longer path the host shows the end
 
 
@@ -31,6 +34,9 @@ class Keeping:
         self._written: Dict[int, int] = {}  # how many of them there were at the last write
         self._saved: Dict[int, int] = {}  # how many of them are in what the host has saved aside
         self._dropped: Dict[int, Tuple[str, str]] = {}  # names and texts of files that were dropped with open eyes, until they are saved
+        self.put_off: List[int] = []  # files that are written when the line is back
+        self._here: Dict[Tuple[Optional[int], str], str] = {}  # what was written here while the line was lost: the path, by tag and name
+        self._here_at: Optional[float] = None  # when
 
     def name(self, tag: int) -> str:
         return self.terminal.name(tag) or f"unnamed-{tag}"
@@ -40,6 +46,11 @@ class Keeping:
         self._refused.pop(tag, None)
         self._writing[tag] += 1
         self._written[tag] = self._changes[tag]
+
+    def write_later(self, tag: int) -> None:
+        """A file is to be written when the line is back."""
+        if tag not in self.put_off:
+            self.put_off.append(tag)
 
     def is_writing(self, tag: int) -> bool:
         """Whether a write of a file is not answered."""
@@ -109,7 +120,7 @@ class Keeping:
         lines = []
         while self._dropped:  # each goes once it is written
             tag, (name, text) = next(iter(self._dropped.items()))
-            lines.append(self._kept(name, text))
+            lines.append(self._kept(name, text, tag))
             del self._dropped[tag]
         waiting = self.editor.typed_ahead
         for tag in filter(self.terminal.is_open, self.editor.tags):
@@ -118,7 +129,7 @@ class Keeping:
             if more or (self.editor.is_changed(tag) and not is_saved):
                 try:
                     text = rescue.loaded(self.terminal, tag, self.editor.vault.going)
-                    lines.append(self._kept(self.name(tag), text + more))
+                    lines.append(self._kept(self.name(tag), text + more, tag))
                 except Exception as error:  # whatever it is, the other texts are written
                     self.is_hopeless = True
                     lines.append(f"the text of {self.name(tag)} is lost: {error}")
@@ -127,7 +138,60 @@ class Keeping:
                 waiting = "" if more else waiting
         begun = "" if has_ended_well else self.editor.begun_line()
         lines += [self._kept(name, text) for name, text in (("typed", waiting), ("command", begun)) if text]
-        return lines + self._kept_cut(has_all and self.is_cut_saved)
+        lines += self._kept_cut(has_all and self.is_cut_saved)
+        self.drop_here()
+        return lines
+
+    # ---- While the line is lost
+
+    @property
+    def seconds_until_here(self) -> Optional[float]:
+        """How long until changed texts are written here; None where the line is not lost."""
+        if not self.editor.way.is_late:
+            return None
+        since = self._here_at
+        return HERE_AFTER - (self.editor.way.silence if since is None else self.editor.clock() - since)
+
+    def go_on(self) -> None:
+        """Where the line is lost for a while, changed texts are also written here. Once it is back, and the host has all, they go, and
+        files are written that were to be written."""
+        way, left = self.editor.way, self.seconds_until_here
+        if left is not None and left <= 0:
+            self._here_at = self.editor.clock()
+            self._keep_all_here()
+        elif left is None and self._here_at is not None and way.has_all:
+            self._here_at = None
+            self.drop_here()
+        for tag in [] if way.is_late else list(self.put_off):
+            if not self.terminal.is_open(tag):
+                self.put_off.remove(tag)
+            elif not self.terminal.locked(tag) and not self.terminal.command_locked:
+                self.put_off.remove(tag)
+                if self.question(tag):
+                    self.editor.notes.keep(2, f"{self.name(tag)} is not written yet: ^W asks first")
+                else:
+                    self.editor.write(tag)
+
+    def _keep_all_here(self) -> None:
+        editor = self.editor
+        texts = [(tag, self.name(tag), lambda tag=tag: rescue.loaded(self.terminal, tag, editor.vault.going))
+                 for tag in filter(self.terminal.is_open, editor.tags) if editor.is_changed(tag)]  # fmt: skip
+        texts += [(None, "typed", lambda: editor.typed_ahead), (None, "command", editor.begun_line)]
+        texts.append((None, "cut", lambda: rescue.told(editor.cut_text)))
+        for tag, name, text_of in texts:
+            with contextlib.suppress(Exception):  # it is tried again, and at the end it is told
+                text, path = text_of(), self._here.get((tag, name))
+                if path is not None:
+                    rescue.write_again(path, text)
+                elif text and (path := rescue.keep(name, text)) is not None:
+                    self._here[tag, name] = path
+
+    def drop_here(self) -> None:
+        """What was written here while the line was lost goes."""
+        while self._here:
+            _, path = self._here.popitem()
+            with contextlib.suppress(OSError):
+                os.unlink(path)
 
     def _kept_cut(self, is_saved: bool) -> List[str]:
         """The same of what was cut, unless the host has told that it has saved all of that."""
@@ -140,14 +204,19 @@ class Keeping:
             lines.append(f"of what was cut {lacks} characters were not loaded: samhost saves all of it, unless it was killed before")
         return lines
 
+    def keep_typed(self, text: str) -> str:
+        """The same of what was typed for a file that did not come."""
+        return self._kept("typed", text)
+
     def keep_late(self) -> List[str]:
         """The same of what was typed when the host was lost already: some of it before the user could know."""
         text, self.typed_late = self.typed_late, ""
         return [self._kept("typed", text)] if text else []
 
-    def _kept(self, name: str, text: str) -> str:
+    def _kept(self, name: str, text: str, tag: Optional[int] = None) -> str:
+        path = self._here.pop((tag, name), None)
         try:
-            path = rescue.keep(name, text)
+            path = rescue.keep(name, text) if path is None else rescue.write_again(path, text)
         except Exception:  # out of memory, say: the other texts are written
             path = None
         self.is_hopeless = self.is_hopeless or path is None

@@ -24,6 +24,7 @@ class Binding(NamedTuple):
     reads: bool = False  # it changes no file, so it acts without a host, too
     extends: bool = False  # with Shift it selects
     leads: bool = False  # keys go elsewhere after it
+    asks: bool = False  # the host has to answer before other keys act, so it doesn't act while the line is lost
 
 
 BINDINGS = (
@@ -34,25 +35,25 @@ BINDINGS = (
     Binding(("^T", "F3"), "split", "another window, for the next file without one", WINDOWS, reads=True, leads=True),
     Binding(("^Y", "F4"), "unsplit", "takes the window off the screen; its file stays open", WINDOWS, reads=True, leads=True),
     Binding(("F8",), "small", "makes the command window small, and large again", WINDOWS, reads=True),
-    Binding(("F5",), "redraw", "draws the screen anew", WINDOWS, reads=True),
+    Binding(("F5",), "redraw", "draws the screen anew; tries a lost line at once", WINDOWS, reads=True),
     Binding(("^\\", "F12"), "suspend", "goes back to the shell, until its `fg`", WINDOWS, reads=True),
     Binding(("F9",), "old", "takes, compares or drops what an earlier session left", WINDOWS, leads=True),
-    Binding(("^N",), "new", "makes a new file; the command line `f NAME` names it", WINDOWS, leads=True),
+    Binding(("^N",), "new", "makes a new file; the command line `f NAME` names it", WINDOWS, leads=True, asks=True),
     Binding(("^W",), "write", "writes the file", WRITTEN),
-    Binding(("^K",), "close", "closes the file for good; asks if it was not written", ANSWERS, leads=True),
-    Binding(("^Q",), "leave", "leaves; asks if a file was not written", ANSWERS, reads=True, leads=True),
+    Binding(("^K",), "close", "closes the file for good; asks if it was not written", ANSWERS, leads=True, asks=True),
+    Binding(("^Q",), "leave", "leaves; asks if a file was not written", ANSWERS, reads=True, leads=True, asks=True),
     Binding(("^Z",), "undo", "takes back the last change of this window"),
     Binding(("^R",), "redo", "makes again what was taken back"),
     Binding(("^X",), "cut", "cuts the selection", needs="selection"),
     Binding(("^C",), "snarf", "copies the selection", reads=True),
     Binding(("^V",), "paste", "pastes what was cut or copied last", needs="selection"),
     Binding(("^A",), "select_all", "selects the whole file", reads=True),
-    Binding(("^D",), "word", "selects the word; so does a double click"),
+    Binding(("^D",), "word", "selects the word; so does a double click", asks=True),
     Binding(("^S", "F7"), "find", "finds as you type; Enter has the host look", reads=True, leads=True),
     Binding(("^L",), "look", "looks for the next place of the selected text", reads=True),
     Binding(("^F",), "search", "searches the last pattern again", reads=True),
     Binding(("^B",), "search_back", "searches it above", reads=True),
-    Binding(("^E",), "send", "runs the selection as a command line", ANSWERS, ROWS),
+    Binding(("^E",), "send", "runs the selection as a command line", ANSWERS, ROWS, asks=True),
     Binding(("Backspace",), "erase_left", "erase the selection, or a character", needs="erased_left"),
     Binding(("Delete",), "erase_right", "erase the selection, or a character", needs="erased_right"),
     Binding(("Left",), "left", "move; with Shift they select", needs="left", reads=True, extends=True),

@@ -296,8 +296,9 @@ class Choice:
         olds, steps = self.left.all, {"Up": -1, "Down": 1}
         acts = {"\n": self.left.take, "c": self.left.compare, "d": self.left.remove}
         self.chosen = max(0, min(self.chosen, len(olds) - 1))
-        if self.left.editor.is_lost:
+        if self.left.editor.is_alone:
             self.is_over = True
+            self.left.editor.message = "that can be done only where the host answers"
         elif isinstance(key, Key) and key.name in steps:
             self.chosen = max(0, min(self.chosen + steps[key.name], len(olds) - 1))
         elif isinstance(key, Text) and key.runes in acts and olds:

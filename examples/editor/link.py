@@ -1,9 +1,11 @@
 """The link: the process of the host, and the bytes that go to it and come from it."""
+import contextlib
 import os
 import select
+import signal
 import subprocess
 import time
-from typing import Callable, Dict, List, Optional
+from typing import Callable, Dict, List, Optional, Union
 
 PIECE = 65_536  # bytes that are read at once
 SECONDS_TO_END = 10  # how long the host may take to end
@@ -11,12 +13,23 @@ SECONDS_OF_SILENCE = 2  # the same where it has not answered for a while
 MOST_NOISE = 65_536  # bytes that may come before the stream
 
 
+def wait_for(wanted: Dict[int, int], seconds: Optional[float]) -> Dict[int, int]:
+    """Waits for events by descriptor, for so many seconds at most; for ever where that is None. Returns those that are there."""
+    poll = select.poll()
+    for descriptor, events in wanted.items():
+        poll.register(descriptor, events)
+    return dict(poll.poll(None if seconds is None else max(0, int(seconds * 1000 + 0.999))))
+
+
 class Link:
     """A host's process. Nothing here waits, but for `wait_for_stream` and `close`."""
 
-    def __init__(self, command: List[str]):
-        pipe = subprocess.PIPE
-        self.process = subprocess.Popen(command, stdin=pipe, stdout=pipe, stderr=pipe, bufsize=0)
+    why = "the host is gone"  # where it is lost
+
+    def __init__(self, command: List[str], own_session: bool = False):
+        """In a session of its own a process has no screen, so that it can't ask there."""
+        pipe, self._is_leader = subprocess.PIPE, own_session
+        self.process = subprocess.Popen(command, stdin=pipe, stdout=pipe, stderr=pipe, bufsize=0, start_new_session=own_session)
         self.sink, self.source, self.messages = (
             end.fileno() for end in (self.process.stdin, self.process.stdout, self.process.stderr)
         )
@@ -67,7 +80,21 @@ class Link:
         *lines, self._line = (self._line + data).split(b"\n") if data else [self._line, b""]
         return [line.decode("utf-8", "replace") for line in lines if line]
 
-    def wanted(self) -> dict:
+    def take(self, ready: Dict[int, int]) -> List[Union[str, bytes]]:
+        """What has come: first what the host says of a text, which it says before it answers."""
+        data = self.receive() if self.source in ready and not self.is_lost else b""
+        lines: List[Union[str, bytes]] = [] if self.is_quiet else list(self.listen())
+        return lines + ([data] if data else [])
+
+    def take_early(self) -> List[Union[str, bytes]]:
+        """The same of what came before there was a screen."""
+        return [self.early]
+
+    def delay(self) -> Optional[float]:
+        """Nothing is due here by the clock."""
+        return None
+
+    def wanted(self) -> Dict[int, int]:
         """What to wait for: events by descriptor."""
         wanted = {}
         if not self.is_lost:
@@ -123,13 +150,25 @@ class Link:
     def _pass_on(self, hear: Callable[[str], None], take: Callable[[bytes], None], until: float) -> bool:
         """Waits until something can be done, and passes on what has come: a host that still answers would else wait for us. Returns
         whether that was before a time."""
-        poll = select.poll()
-        for descriptor, events in self.wanted().items():
-            poll.register(descriptor, events)
-        ready: Dict[int, int] = dict(poll.poll(max(0, int((until - time.monotonic()) * 1000))))
+        ready = wait_for(self.wanted(), max(0.0, until - time.monotonic()))
         if self.source in ready and (data := self.receive()):
             take(data)
         if self.messages in ready:
             for line in self.listen():
                 hear(line)
         return bool(ready)
+
+    def kill(self) -> None:
+        """Ends the process, and what it has begun in a session of its own."""
+        for end in (self.process.stdin, self.process.stdout, self.process.stderr):
+            with contextlib.suppress(OSError):
+                end.close()
+        if self.process.poll() is None:
+            with contextlib.suppress(OSError):
+                os.killpg(self.process.pid, signal.SIGKILL) if self._is_leader else self.process.kill()
+
+    def is_over(self, waits: bool = False) -> bool:
+        """Whether the process is gone."""
+        with contextlib.suppress(subprocess.TimeoutExpired):
+            self.process.wait(SECONDS_OF_SILENCE if waits else 0)
+        return self.process.returncode is not None

@@ -2,6 +2,7 @@
 
 What the user does goes one way: keys, the terminal, the link, the host, the link, the terminal, the screen.
 """
+import functools
 import os
 import select
 import signal
@@ -12,7 +13,9 @@ from typing import Callable, Deque, Dict, List, Optional
 from decode import Decoder
 from editor import Editor
 from keys import Input
-from link import Link
+from link import wait_for
+from notes import printable
+from staying import Line
 from sulgrevad import SamError, Terminal
 from screen import Screen, sequences
 
@@ -28,7 +31,7 @@ BROKEN_PASTE = "the end of a paste has not come, so all keys are part of it. Esc
 class Loop:
     """One session at a screen."""
 
-    def __init__(self, terminal: Terminal, link: Link, screen: Screen, editor: Editor, hear: Callable[[str], None]):
+    def __init__(self, terminal: Terminal, link: Line, screen: Screen, editor: Editor, hear: Callable[[str], None]):
         self.terminal, self.link, self.screen, self.editor, self.hear = terminal, link, screen, editor, hear
         self.decoder = Decoder(sequences())
         self.keys: Deque[Input] = deque()  # those that the editor has not taken
@@ -65,10 +68,7 @@ class Loop:
 
     def _ready(self, seconds: Optional[float]) -> Dict[int, int]:
         """What is there to be read or written: events by descriptor. Sleeps until something is, or so long where a time is given."""
-        poll = select.poll()
-        for descriptor, events in {KEYBOARD: select.POLLIN, self.signals: select.POLLIN, **self.link.wanted()}.items():
-            poll.register(descriptor, events)
-        return dict(poll.poll(None if seconds is None else int(seconds * 1000 + 0.999)))
+        return wait_for({KEYBOARD: select.POLLIN, self.signals: select.POLLIN, **self.link.wanted()}, seconds)
 
     def _idle(self) -> Optional[float]:
         """Before it sleeps: sends what was typed, and draws. Returns how many seconds it may sleep; None where that has no end."""
@@ -79,7 +79,8 @@ class Loop:
         if not self.editor.is_lost:
             self._do(self.editor.pause)
         self._send()
-        waits = [self.editor.wakes_in(), self.decoder.delay(time.monotonic())]  # before it draws: what ends in between is drawn then
+        # Before it draws: what ends in between is drawn then.
+        waits = [self.editor.wakes_in(), self.link.delay(), self.decoder.delay(time.monotonic())]
         if self.editor.is_over:
             return 0
         waits.append(self.screen.draw(self.editor, self.link))
@@ -116,9 +117,28 @@ class Loop:
         if self.editor.clip is not None:
             self.screen.put_on_clipboard(self.editor.clip)
             self.editor.clip = None
-        for wish in self.editor.wishes:
-            getattr(self.screen, wish)()
-        self.editor.wishes.clear()
+        wishes, self.editor.wishes = self.editor.wishes, []
+        for wish in wishes:
+            self._connect() if wish == "connect" else getattr(self.screen, wish)()
+
+    def _connect(self) -> None:
+        """Tries the line at once, and gives the screen back meanwhile: ssh may ask there. `^C` ends that."""
+        self.screen.give_back("samterm: connecting; ^C goes back to the text")
+        self.link.connect_in_front(lambda line: print(printable(line), flush=True), self.signals, self._is_stopped)
+        self.screen.redraw()
+        self._is_stopped()  # by a `^C` that ended the connection before it was seen here
+        self._fit()
+
+    def _is_stopped(self) -> bool:
+        """Whether a signal has come that ends waiting for the line: `^C` that alone, others the session."""
+        try:
+            numbers = os.read(self.signals, MOST_SIGNALS)
+        except BlockingIOError:
+            return False
+        for number in ENDS:
+            if number in numbers and number != signal.SIGINT:
+                self._end(number)
+        return any(number in numbers for number in ENDS)
 
     def _end(self, number: int) -> None:
         self.editor.is_over, self.ended_by = True, number
@@ -150,15 +170,16 @@ class Loop:
             self.editor.arrange(*self.screen.size)
 
     def _take_bytes(self, ready: Dict[int, int]) -> None:
-        data = self.link.receive() if self.link.source in ready and not self.link.is_lost else b""
-        if not self.link.is_quiet:  # what the host says of a text it says before it answers
-            for line in self.link.listen():
-                self.hear(line)
-        if data:
-            self._do(lambda: self.editor.feed(data))
-            self._do(self.editor.update)
+        for item in self.link.take(ready):
+            if isinstance(item, str):
+                self.hear(item)
+            elif isinstance(item, bytes):
+                self._do(functools.partial(self.editor.feed, item))
+                self._do(self.editor.update)
+            else:
+                self.editor.meet_note(item)
         if self.link.is_lost and not self.editor.is_over:
-            self.editor.lose("the host is gone")
+            self.editor.lose(self.link.why)
 
     def _send(self) -> None:
         self.link.send(self.terminal.take_out())

@@ -1,4 +1,4 @@
-/* opening.c: reads the files at the start. */
+/* opening.c: reads files: those of the words at the start, and others that are asked for later. */
 #define _XOPEN_SOURCE 700
 #include <errno.h>
 #include <fcntl.h>
@@ -44,7 +44,7 @@ static char *shown_name(const char *path)
     return formatted("\xE2\x80\xA6%s", at); /* U+2026, three dots */
 }
 
-static const char *why_not_added(uint32_t code)
+const char *why_not_added(uint32_t code)
 {
     switch (code) {
     case SAM_NOT_TEXT:
@@ -60,23 +60,22 @@ static const char *why_not_added(uint32_t code)
     }
 }
 
-int add_text(struct session *session, const char *path, const struct text *text, uint32_t *code)
+int add_text(struct session *session, const char *path, const struct text *text, uint32_t *code, uint16_t *tag)
 {
-    uint16_t tag = 0;
-    char *own = formatted("%s", path), *shown = shown_name(path), *end = NULL;
+    struct document document = {.path = formatted("%s", path), .shown = shown_name(path)};
+    struct content content = access(path, F_OK) == 0 ? content_of(text) : (struct content){.kind = NOT_THERE};
+    char *end = NULL;
     int error = end_of_links(path, &end);
 
     *code = SAM_NO_MEMORY;
-    if (error == 0 && own != NULL && shown != NULL)
-        *code = sam_host_add_file(&session->host, (const uint8_t *)shown, strlen(shown), text->bytes, text->len, &tag);
-    if (*code == SAM_OK) {
-        struct content content = access(path, F_OK) == 0 ? content_of(text) : (struct content){.kind = NOT_THERE};
-        session->documents[tag] = (struct document){.path = own, .shown = shown};
-        error = note_known(&session->documents[tag], end, content);
-    } else {
-        free(own);
-        free(shown);
-    }
+    if (error == 0)
+        error = document.path == NULL || document.shown == NULL ? ENOMEM : note_known(&document, end, content);
+    if (error == 0) /* from here on nothing takes memory */
+        *code = sam_host_add_file(&session->host, (const uint8_t *)document.shown, strlen(document.shown), text->bytes, text->len, tag);
+    if (*code == SAM_OK)
+        session->documents[*tag] = document;
+    else
+        free_document(&document);
     free(end);
     return error;
 }
@@ -86,10 +85,11 @@ static int add_file(struct session *session, const char *path)
 {
     struct text text;
     uint32_t code = SAM_OK;
+    uint16_t tag;
     int error = read_whole(path, &text);
 
     if (error == 0)
-        error = add_text(session, path, &text, &code);
+        error = add_text(session, path, &text, &code, &tag);
     free(text.bytes);
     if (error == 0 && code == SAM_OK)
         return STATUS_OK;
@@ -99,14 +99,7 @@ static int add_file(struct session *session, const char *path)
 
 /* ---- Two names of one file ---- */
 
-/* What two names of one file have in common: its device and inode, or where it isn't there those of its folder, and its name there. */
-struct identity {
-    dev_t device;
-    ino_t inode;
-    char *name;
-};
-
-static int identify(const char *path, struct identity *identity)
+int identify(const char *path, struct identity *identity)
 {
     struct stat status;
     char *end = NULL, *folder = NULL;
@@ -126,13 +119,16 @@ static int identify(const char *path, struct identity *identity)
     if (error == 0) {
         identity->device = status.st_dev;
         identity->inode = status.st_ino;
+    } else {
+        free(identity->name);
+        identity->name = NULL;
     }
     free(folder);
     free(end);
     return error;
 }
 
-static bool is_one_file(const struct identity *one, const struct identity *other)
+bool is_one_file(const struct identity *one, const struct identity *other)
 {
     return one->device == other->device && one->inode == other->inode && (one->name == NULL) == (other->name == NULL) &&
            (one->name == NULL || strcmp(one->name, other->name) == 0);
@@ -156,7 +152,7 @@ static int refuse_twice(char **paths, struct identity *identities, int count)
     return STATUS_OK;
 }
 
-static bool is_folder(const char *path)
+bool is_folder(const char *path)
 {
     struct stat status;
 

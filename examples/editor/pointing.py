@@ -39,7 +39,7 @@ class Pointer:
             return
         place = window.layout().place_at(mouse.row - window.y - 1, mouse.column)
         when, spot = self._clicked
-        if spot == (window, place) and mouse.when - when < DOUBLE_CLICK:
+        if spot == (window, place) and mouse.when - when < DOUBLE_CLICK and not self.editor.is_alone:
             self.editor.terminal.dclick(window.tag, place)
             self._clicked, window.anchor = (0.0, None), None
             return

@@ -16,6 +16,7 @@ MOST_NAMES = 1000  # names that are tried
 MOST_IN_BASE = 200  # bytes of the front of a name that names of files here begin with
 MOST_READ = 65_536  # runes that are read at once
 
+NEW = ".new"  # after the name of such a file while it is written again
 SUFFIX = ".sam-here"  # what comes after the name of a file, and before a number
 ENDS = re.compile(re.escape(SUFFIX) + r"(\.\d+)?$")
 GAPS = re.compile(f"{GAP}+")
@@ -84,6 +85,16 @@ def keep(name: str, text: str) -> Optional[str]:
             _note(name, os.path.realpath(path))
             return os.path.realpath(path)
     return None
+
+
+def write_again(path: str, text: str) -> str:
+    """Puts another text in the place of such a file's, whole or not at all. Returns its path."""
+    new = path + NEW
+    with contextlib.suppress(FileNotFoundError):
+        os.unlink(new)
+    _write(Path(new), text)
+    os.replace(new, path)
+    return path
 
 
 def _first_free(front: str, make: Callable[[str], None]) -> Optional[str]:

@@ -5,6 +5,8 @@
  *
  * With --times it says when the files were written last, by the seconds since 1970.
  *
+ * samhost --version prints the version.
+ *
  * It reads the files, answers the terminal's messages, and writes a file when the terminal says so. It ends when the terminal leaves, at
  * the end of its input, and at a signal that asks it to end (SIGTERM and others), which does as the end of the input. Texts that were not
  * written are then in FILE.sam-saved; so they are while it runs, a few seconds after they were changed.
@@ -24,11 +26,39 @@
 
 #include "samhost.h"
 
+#ifndef VERSION
+#define VERSION "of no release"
+#endif
+
+enum {
+    USUAL_HOURS = 72, /* that a session stays alone */
+    MOST_HOURS = 100000
+};
+
+#define USAGE                                                                                                                              \
+    "usage: samhost [--undo] [--times] [--] [FILE ..]\n"                                                                                   \
+    "       samhost --serve NAME [--undo] [--times] [--stay HOURS] [--] [FILE ..]\n"                                                       \
+    "       samhost --attach NAME | --take [NAME] | --end NAME | --list\n"                                                                 \
+    "       samhost --open [--wait] [--] FILE [+LINE]\n"                                                                                   \
+    "       samhost --version\n"
+
 size_t count_tags(struct session *session)
 {
     size_t tags = 0;
 
     return sam_host_tags(&session->host, &tags) == SAM_OK ? tags : 0;
+}
+
+int close_session(struct session *session, enum ending ending)
+{
+    bool is_alone = ending != LEFT && !session->due.is_waiting;
+    bool is_saved = save_last(session, is_alone);
+
+    if (ending == LEFT)
+        drop_copy(&session->cut.aside);
+    else
+        is_saved &= save_cut(session, is_alone);
+    return !is_saved ? STATUS_LOST : ending == FAULT ? STATUS_FAULT : ending == LINE_BROKE ? STATUS_BROKEN : STATUS_OK;
 }
 
 /* Serves the files of a session that was opened. Returns the exit status. */
@@ -39,16 +69,10 @@ static int run(struct session *session)
 
     set_signals(&mask);
     fcntl(STDOUT_FILENO, F_SETFL, flags | O_NONBLOCK);
-    enum ending ending = serve(session, &mask);
-    bool is_alone = ending != LEFT && !session->journal.is_waiting;
-    bool is_saved = save_last(session, is_alone);
-    if (ending == LEFT)
-        drop_copy(&session->cut.aside);
-    else
-        is_saved &= save_cut(session, is_alone);
+    int status = close_session(session, serve(session, &mask));
     send_the_rest(session, &mask);
     fcntl(STDOUT_FILENO, F_SETFL, flags);
-    return !is_saved ? STATUS_LOST : ending == FAULT ? STATUS_FAULT : ending == LINE_BROKE ? STATUS_BROKEN : STATUS_OK;
+    return status;
 }
 
 static mode_t mode_of_new_files(void)
@@ -59,9 +83,9 @@ static mode_t mode_of_new_files(void)
     return 0666 & ~mask;
 }
 
-/* Makes a session without files. Returns whether there is memory for it. */
-static bool make_session(struct session *session)
+bool make_session(struct session *session)
 {
+    session->wire.carrier = &by_standard_streams;
     session->documents = calloc(ALL_TAGS, sizeof *session->documents);
     session->text.bytes = malloc(MOST_BYTES);
     session->mode_of_new_files = mode_of_new_files();
@@ -69,7 +93,7 @@ static bool make_session(struct session *session)
     return has_room && sam_host_new(&session->host) == SAM_OK;
 }
 
-static void free_session(struct session *session)
+void free_session(struct session *session)
 {
     size_t tags = count_tags(session);
 
@@ -82,41 +106,100 @@ static void free_session(struct session *session)
     free(session);
 }
 
-/* What the words say beside the files. */
-struct options {
-    bool has_vault, tells_times;
-};
-
-/* Opens a session and serves it. Returns the exit status. */
-static int serve_files(struct session *session, char **paths, int count, const struct options *options)
+int open_session(struct session *session, char **paths, int count, const struct options *options)
 {
     if (!make_session(session)) {
         say("out of memory");
         return STATUS_MEMORY;
     }
     int status = add_files(session, paths, count);
-    if (status == STATUS_OK) {
-        if (options->tells_times)
-            tell_times(session);
-        report_left(session, options->has_vault);
-        status = options->has_vault ? add_vault(session) : STATUS_OK;
+    if (status != STATUS_OK)
+        return status;
+    if (options->tells_times)
+        tell_times(session);
+    report_left(session, options->has_vault);
+    return options->has_vault ? add_vault(session) : STATUS_OK;
+}
+
+/* Opens a session and serves it, over standard input and output. Returns the exit status. */
+static int serve_files(char **paths, int count, const struct options *options)
+{
+    struct session *session = calloc(1, sizeof *session);
+
+    if (session == NULL) {
+        say("out of memory");
+        return STATUS_MEMORY;
     }
-    return status == STATUS_OK ? run(session) : status;
+    int status = open_session(session, paths, count, options);
+    if (status == STATUS_OK)
+        status = run(session);
+    free_session(session);
+    return status;
+}
+
+/* ---- Words ---- */
+
+enum verb { PLAIN, SERVE, ATTACH, LIST, END, TAKE, OPEN };
+
+/* The milliseconds of hours in words; -1 where that is no number of hours. */
+static int64_t hours_of(const char *word)
+{
+    char *end;
+    double hours = strtod(word, &end);
+
+    return *word == '\0' || *end != '\0' || !(hours >= 0 && hours <= MOST_HOURS) ? -1 : (int64_t)(hours * 3600000);
+}
+
+/* What a word before the name of a session says. */
+static enum verb verb_of(const char *word)
+{
+    if (strcmp(word, "--serve") == 0)
+        return SERVE;
+    if (strcmp(word, "--attach") == 0)
+        return ATTACH;
+    return strcmp(word, "--end") == 0 ? END : PLAIN;
+}
+
+/* Takes an option, and the word after it where it has one. Returns how many words it took; 0 where they are wrong. */
+static int take_option(char **words, int left, enum verb *verb, struct options *options)
+{
+    const char *word = words[0], *next = left > 1 ? words[1] : "";
+    bool has_name = is_home_name(next) && *verb == PLAIN;
+
+    if (strcmp(word, "--undo") == 0)
+        options->has_vault = true;
+    else if (strcmp(word, "--times") == 0)
+        options->tells_times = true;
+    else if (strcmp(word, "--stay") == 0)
+        return (options->longest_alone = hours_of(next)) < 0 ? 0 : 2;
+    else if (strcmp(word, "--list") == 0 && *verb == PLAIN)
+        *verb = LIST;
+    else if (strcmp(word, "--open") == 0 && *verb == PLAIN)
+        *verb = OPEN;
+    else if (strcmp(word, "--wait") == 0 && *verb == OPEN)
+        options->waits = true;
+    else if (strcmp(word, "--take") == 0 && *verb == PLAIN) {
+        *verb = TAKE;
+        options->name = has_name ? next : NULL;
+        return has_name ? 2 : 1;
+    } else if (has_name && (*verb = verb_of(word)) != PLAIN) {
+        options->name = next;
+        return 2;
+    } else
+        return 0;
+    return 1;
 }
 
 /* Takes the options. Returns the first word after them; -1 where a word is wrong. */
-static int take_options(int count, char **words, struct options *options)
+static int take_options(int count, char **words, enum verb *verb, struct options *options)
 {
-    int at = 1;
+    int at = 1, taken;
 
-    for (; at < count && words[at][0] == '-'; at++) {
+    for (; at < count && words[at][0] == '-'; at += taken) {
         if (strcmp(words[at], "--") == 0)
             return at + 1;
-        if (strcmp(words[at], "--undo") == 0)
-            options->has_vault = true;
-        else if (strcmp(words[at], "--times") == 0)
-            options->tells_times = true;
-        else
+        taken = take_option(words + at, count - at, verb, options);
+        if (taken == 0)
             return -1;
     }
     return at;
@@ -124,19 +207,37 @@ static int take_options(int count, char **words, struct options *options)
 
 int main(int count, char **words)
 {
-    struct options options = {false, false};
-    int first = take_options(count, words, &options), status = STATUS_MEMORY;
+    struct options options = {.longest_alone = USUAL_HOURS * INT64_C(3600000)};
+    enum verb verb = PLAIN;
+    int first = take_options(count, words, &verb, &options);
 
-    if (first < 0) {
-        fputs("usage: samhost [--undo] [--times] [--] [FILE ..]\n", stderr);
+    if (count == 2 && strcmp(words[1], "--version") == 0) {
+        puts("samhost " VERSION);
+        return STATUS_OK;
+    }
+    int last = count - 1;
+    bool has_line = verb == OPEN && last > first && words[last][0] == '+';
+    if (first < 0 || (verb == OPEN ? first + has_line != last : verb > SERVE && first < count)) {
+        fputs(USAGE, stderr);
         return STATUS_WORDS;
     }
-    struct session *session = calloc(1, sizeof *session);
-    if (session == NULL) {
-        say("out of memory");
-    } else {
-        status = serve_files(session, words + first, count - first, &options);
-        free_session(session);
+    switch (verb) {
+    case ATTACH:
+        return attach(options.name);
+    case OPEN:
+        return open_in_session(words[first], has_line ? words[last] + 1 : "", options.waits);
+    case TAKE:
+        return take(options.name);
+    case LIST:
+        return list_sessions();
+    case END:
+        return end_session(options.name);
+    case SERVE:
+        if (options.longest_alone > 0)
+            return begin_to_stay(words + first, count - first, &options);
+        break;
+    case PLAIN:
+        break;
     }
-    return status;
+    return serve_files(words + first, count - first, &options);
 }

@@ -1,7 +1,7 @@
 /* samhost.h: what the parts of samhost share.
  *
  *     samhost.c   the words of the command, and one session
- *     opening.c   reads the files at the start
+ *     opening.c   reads files
  *     left.c      reports what an earlier session left of them, and offers the texts
  *     folders.c   reads the text files below a folder
  *     serving.c   carries bytes between the host and standard input and output, and sleeps
@@ -12,6 +12,20 @@
  *     paths.c     names of files, and what stands in them
  *     places.c    folders for what can't stand beside its file
  *     saying.c    writes lines to standard error
+ *
+ * Of a session that stays when its line breaks:
+ *
+ *     homes.c     its folder, with the lock and the socket
+ *     relay.c     carries bytes between standard input and output and the socket
+ *     taking.c    hands it to another terminal
+ *     joining.c   adds files, and finds their names
+ *     asking.c    lists such sessions, and ends one
+ *     parting.c   begins it in a process of its own, or finds it again
+ *     calling.c   takes connections and their hellos
+ *     staying.c   serves it over its link
+ *     journal.c   a file that only grows, of what it has done
+ *     steps.c     what stands there
+ *     replaying.c makes it again of that, where its process is gone
  *
  * Calls that can fail return 0 or an error number of errno.h, unless they say otherwise.
  */
@@ -50,7 +64,16 @@ enum {
     MOST_SET = 32000 /* bytes of the body of the last */
 };
 
-enum { STATUS_OK = 0, STATUS_UNREADABLE = 1, STATUS_WORDS = 2, STATUS_FAULT = 3, STATUS_MEMORY = 4, STATUS_LOST = 5, STATUS_BROKEN = 6 };
+enum {
+    STATUS_OK = 0,
+    STATUS_UNREADABLE = 1,
+    STATUS_WORDS = 2,
+    STATUS_FAULT = 3,
+    STATUS_MEMORY = 4,
+    STATUS_LOST = 5,
+    STATUS_BROKEN = 6,
+    STATUS_NO_SESSION = 7
+};
 
 /* Why a session ends. */
 enum ending { GOES_ON, LEFT, INPUT_ENDED, LINE_BROKE, FAULT };
@@ -95,15 +118,23 @@ struct copy {
     struct content content;
 };
 
+/* By what a copy is known. All zero where there is none. */
+struct copy_mark {
+    dev_t device;
+    ino_t inode;
+    struct timespec written;
+};
+
 /* What the host of the library doesn't know of a file. */
 struct document {
     char *path;  /* where it was read; NULL for a file that the terminal made */
     char *shown; /* its name in the session, the end of a long path */
     struct known *known;
     struct copy aside;
-    bool is_unsaved;  /* the terminal believes it written, and it is not */
-    bool is_reported; /* it was said that its text can't be saved */
-    bool is_left;     /* it is what an earlier session saved aside, which goes where it is written empty */
+    struct copy_mark noted; /* the copy that the journal has */
+    bool is_unsaved;        /* the terminal believes it written, and it is not */
+    bool is_reported;       /* it was said that its text can't be saved */
+    bool is_left;           /* it is what an earlier session saved aside, which goes where it is written empty */
 };
 
 /* A text that could not be saved when its file was closed. */
@@ -118,11 +149,21 @@ struct cut {
     struct text snarf, moved; /* room for one text each (MOST_BYTES) */
     bool is_moved;
     struct copy aside; /* of the user's */
-    bool is_reported;  /* it was said that it can't be saved */
+    struct copy_mark noted;
+    bool is_reported; /* it was said that it can't be saved */
+};
+
+struct session;
+
+/* What carries the bytes, as read() and write() do: standard input and output, or a link. */
+struct carrier {
+    ssize_t (*read)(struct session *session, uint8_t *into, size_t room);
+    ssize_t (*write)(struct session *session, const uint8_t *bytes, size_t len);
 };
 
 /* The bytes that wait on both sides, and whether the terminal still listens. */
 struct wire {
+    const struct carrier *carrier;
     uint8_t input[PIECE], output[PIECE];
     size_t taken, input_len; /* bytes of `input`: taken by the host, and in all */
     size_t left;             /* bytes that are still to be taken of a message that has begun */
@@ -137,7 +178,7 @@ struct wire {
 };
 
 /* When texts are saved aside by themselves. Times are milliseconds. */
-struct journal {
+struct due {
     bool is_waiting;
     int64_t first, last; /* when the first and the last input came since */
 };
@@ -153,6 +194,141 @@ struct marks {
     size_t count;
 };
 
+enum {
+    NAME_DIGITS = 16,   /* digits of the name of a session that stays: the first half of its link's id */
+    MOST_CALLERS = 8,   /* connections without a hello */
+    MOST_WAITERS = 64,  /* connections that wait until a file is closed */
+    CALLER_ROOM = 8192, /* bytes of what a connection asks for */
+    MACHINE_ROOM = 256  /* bytes of the name of a machine, and the zero after it */
+};
+
+/* What another samhost asks for begins with a mark, and the length of its words in two bytes; each word ends in a NUL. */
+#define QUESTION_MARK "\x89samask\n"
+enum {
+    QUESTION_MARK_LEN = 8,
+    QUESTION_HEAD = 10,
+    ANSWER_ROOM = 8192 /* bytes of the longest answer */
+};
+
+#define JOURNAL "journal" /* names of files in the folder of a session that stays */
+#define ABOUT "name"
+
+/* The folder of a session that stays, and that of all of them; the lock, where this process holds it. Open files, or -1. */
+struct home {
+    char name[NAME_DIGITS + 1];
+    int all, folder, lock;
+};
+
+/* A connection that has not said all of its hello. */
+struct caller {
+    int socket; /* -1 where there is none */
+    int64_t since;
+    size_t len;
+    uint8_t bytes[CALLER_ROOM];
+};
+
+/* Who waits until a file is closed. */
+struct waiter {
+    int socket; /* -1 where nobody does */
+    uint16_t tag;
+};
+
+/* Bytes between a connection and the link. */
+struct piece {
+    size_t sent, len;
+    uint8_t bytes[PIECE];
+};
+
+/* A note for the terminal that is not put yet. */
+struct note {
+    struct note *next;
+    char *words;
+};
+
+/* What a record of a journal is of. */
+enum step {
+    STEP_START = 1, /* the session: its folder, and what the words said */
+    STEP_FILE,      /* a file that the host was given */
+    STEP_BEGUN,     /* all of the first ones stand before this */
+    STEP_HELLO,     /* a connection that the link took */
+    STEP_UP,        /* bytes that the link took */
+    STEP_DOWN,      /* bytes of the host that the link put */
+    STEP_NOTE,      /* a note that the link put */
+    STEP_NOTED,     /* the next note of the terminal was done */
+    STEP_DONE,      /* a file was written, or saved before it was closed, and what is known of it since */
+    STEP_KEPT,      /* what is known of a file since its text was saved aside */
+    STEP_KEPT_CUT   /* the copy of what was cut last */
+};
+
+/* What is done to files because of a message. */
+enum doing { DOING_WRITE = 1, DOING_CLOSE };
+
+/* The body of a record that is made. */
+struct body {
+    uint8_t *bytes;
+    size_t len, room;
+    bool is_short; /* memory was out */
+};
+
+/* A record that is read, of which the body goes as it is taken. */
+struct record {
+    enum step step;
+    const uint8_t *body;
+    size_t len;
+    bool is_wrong, is_short; /* it has less than was taken; memory was out */
+};
+
+struct journal {
+    int file;         /* -1 where there is none */
+    bool is_unsynced; /* something may not be on the disk */
+    bool is_awaited;  /* that has to be there before anything more is sent */
+};
+
+enum journal_kind { JOURNAL_UNKNOWN, JOURNAL_OTHER_LIBRARY, JOURNAL_SAME };
+
+/* Why a session can't be made again of its journal. */
+enum replay_fault {
+    REPLAY_OK,
+    REPLAY_NOTHING, /* it had not begun */
+    REPLAY_UNREADABLE,
+    REPLAY_OTHER,     /* the journal is of another version */
+    REPLAY_SHORT,     /* memory is out */
+    REPLAY_NO_FOLDER, /* the folder in which it began is gone */
+    REPLAY_DIFFERS
+};
+
+/* A session that is being made again. */
+struct replay {
+    struct record *done; /* what was done to files, in order */
+    size_t count, next;
+    enum replay_fault fault;
+};
+
+/* What a session that stays has beside its files. Times are those of now(). */
+struct stay {
+    struct home home;
+    sam_link link; /* empty before the first hello */
+    uint8_t id[SAM_LINK_ID_BYTES];
+    int listener;
+    struct caller callers[MOST_CALLERS];
+    struct waiter waiters[MOST_WAITERS];
+    int line; /* the newest connection; -1 where it is over */
+    uint64_t attempt;
+    struct piece in, out;
+    struct note *notes; /* that wait */
+    unsigned missing;   /* lines that there was no memory for */
+    struct journal journal;
+    struct replay *replay; /* NULL but while it is made again */
+    enum ending ending;
+    struct session *heir;                 /* what another terminal has made of the session; else NULL */
+    uint8_t note[SAM_LINK_MOST_NOTE + 1]; /* of the terminal, that is to be done, and a zero after it */
+    size_t note_len;
+    bool has_note;
+    bool has_ended; /* the last note is put */
+    bool is_again;  /* it was made again of its journal */
+    int64_t begun, alone_since, longest_alone;
+};
+
 struct session {
     sam_host host;
     uint16_t vault;             /* the tag of the file for undo; 0 where there is none */
@@ -162,8 +338,17 @@ struct session {
     struct cut cut;
     bool is_lost; /* a text of a closed file could neither be saved nor held in memory, or what came last could not be taken */
     struct wire wire;
-    struct journal journal;
+    struct due due;
     mode_t mode_of_new_files;
+    struct stay *stay; /* NULL where the session ends with its line */
+};
+
+/* What the words say beside the files. */
+struct options {
+    bool has_vault, tells_times;
+    int64_t longest_alone; /* milliseconds that a session stays alone */
+    const char *name;      /* of a session that stays */
+    bool waits;            /* until a file is closed */
 };
 
 /* A text that is to stand in a file. */
@@ -179,6 +364,16 @@ struct request {
 };
 
 /* samhost.c */
+
+/* Makes a session without files. Returns whether there is memory for it. */
+bool make_session(struct session *session);
+void free_session(struct session *session);
+
+/* Reads the files into a session, and says what is to be known of them. Returns the exit status: 0, or why the session can't begin. */
+int open_session(struct session *session, char **paths, int count, const struct options *options);
+
+/* At the end of a session: saves what is not written, and says where it is. Returns the exit status. */
+int close_session(struct session *session, enum ending ending);
 
 /* How many tags the host has given; 0 where there is no host. */
 size_t count_tags(struct session *session);
@@ -197,8 +392,22 @@ int add_vault(struct session *session);
 /* Reads a whole file into memory of the caller's; a file that isn't there is empty. */
 int read_whole(const char *path, struct text *text);
 
-/* Adds a file that was read to the host, whose status it hands out. */
-int add_text(struct session *session, const char *path, const struct text *text, uint32_t *code);
+/* Adds a file that was read to the host, whose status it hands out, and its tag. After an error nothing is added. */
+int add_text(struct session *session, const char *path, const struct text *text, uint32_t *code, uint16_t *tag);
+
+/* Why the host doesn't take a file, by its status. */
+const char *why_not_added(uint32_t code);
+
+/* What two names of one file have in common: its device and inode, or where it isn't there those of its folder, and its name there. */
+struct identity {
+    dev_t device;
+    ino_t inode;
+    char *name; /* the caller's */
+};
+
+bool is_folder(const char *path);
+int identify(const char *path, struct identity *identity);
+bool is_one_file(const struct identity *one, const struct identity *other);
 
 /* left.c */
 
@@ -221,6 +430,32 @@ int add_folder(struct session *session, const char *path, struct marks *marks);
 /* Lets signals that ask for it end the session (SIGTERM, SIGHUP, SIGINT and others), and none that may come of its work. */
 void set_signals(sigset_t *mask);
 
+/* Whether a signal has come that ends the session. */
+bool is_signalled(void);
+
+/* Milliseconds of a clock that only goes forward. */
+int64_t now(void);
+
+extern const struct carrier by_standard_streams;
+
+/* Reads bytes, to stand after those that wait, and notes how the input ends. Returns whether some have come. */
+bool read_bytes(struct session *session);
+
+/* Has the host take what was read, piece by piece, until too little is left or memory is out; and sends the answers. */
+enum ending take_input(struct session *session);
+
+/* Takes what was read, where memory was out for it. What can't be taken in a while is lost. */
+enum ending take_again(struct session *session, int *tries);
+
+/* Sends pending bytes, as many as go without waiting. */
+void send_pending(struct session *session);
+
+/* Saves changed texts aside where it is time. Returns whether it was. */
+bool save_due(struct session *session);
+
+/* In how many milliseconds save_due, or take_input where memory is out, is to be called; -1 where neither is. */
+int64_t save_is_due_in(const struct session *session);
+
 /* Carries bytes and does what they ask until the session ends. Returns why it ends. */
 enum ending serve(struct session *session, const sigset_t *mask);
 
@@ -231,6 +466,9 @@ void send_the_rest(struct session *session, const sigset_t *mask);
 
 /* Writes the files that the terminal has said to write since it was asked last. */
 void write_files(struct session *session);
+
+/* Saves the texts aside that an earlier terminal has not written, and reports them. */
+void report_taken(struct session *session);
 
 /* Notes what a document has read from a path or written to it. */
 int note_known(struct document *document, const char *path, struct content content);
@@ -355,5 +593,202 @@ char *own_front(const char *path);
 
 /* Writes a line to standard error, unless nobody reads there. Each control character in it comes out as a question mark. */
 void say(const char *format, ...);
+
+/* Has lines go to a function, without their front and newline, in place of standard error; NULL: no longer. */
+typedef void listener(void *at, const char *line);
+void set_listener(listener *listens, void *at);
+
+/* homes.c */
+
+/* Whether a word is the name of a session that stays. */
+bool is_home_name(const char *word);
+
+/* Opens the folder of a session; makes it where `makes` says so. EPERM where one of that name is not the user's alone. */
+int open_home(const char *name, bool makes, struct home *home);
+void close_home(struct home *home);
+
+/* Opens a file in the folder, which is made where it isn't there, for the user alone whatever the umask. */
+int make_in_home(const struct home *home, const char *name, int flags, int *file);
+
+/* Removes the folder and what a session has in it. */
+void remove_home(struct home *home);
+
+/* Takes the lock, which is kept until the file of it is closed. EWOULDBLOCK where a living samhost has it. */
+int lock_home(struct home *home);
+
+/* Notes in the lock which process has it. */
+void note_owner(const struct home *home);
+
+/* Makes the socket, which nobody but the user may connect to. Connections come once it listens; who has it listen is who is found at its
+ * other end. */
+int bind_home(const struct home *home, int *listener);
+int listen_at(int listener);
+
+/* Connects to the samhost of a session. */
+int connect_home(const struct home *home, int *line);
+
+/* Whether the other end of a connection is the user's own; hands out its process, unless the pointer is NULL. */
+bool is_ours(int socket, pid_t *process);
+
+/* Visits the folder of each session, until a visit returns an error number. */
+int each_home(int (*visit)(struct home *home, void *at), void *at);
+
+/* relay.c */
+
+/* Carries bytes until either side ends. Returns the exit status. */
+int relay(int line);
+
+/* Answers the terminal's hello by a refusal: no session of this name is there. Returns the exit status. */
+int refuse_hello(void);
+
+/* asking.c */
+
+/* Lists the sessions that stay; ends one. Both return the exit status. */
+int list_sessions(void);
+int end_session(const char *name);
+
+/* Has the terminal of the newest session show a file, at a line where one is named. Waits until the file is closed where `waits` says so:
+ * then the exit status is 0 only if it was written. */
+int open_in_session(const char *path, const char *line, bool waits);
+
+/* Writes into the folder of a session what the list says of it. */
+void note_about(const struct session *session);
+
+/* taking.c */
+
+/* Has the terminal of a hello, which is whole, take the session over. A session that goes on in its place is the old one's heir then. Else
+ * nothing has changed. */
+uint32_t take_over(struct session *session, struct caller *caller, const uint8_t *id, uint64_t attempt);
+
+/* parting.c */
+
+/* Makes a session that stays, without files, in a folder that is its own from now on. NULL where memory is out. */
+struct session *make_staying(const struct home *home, int64_t longest_alone);
+
+/* Frees a session, and closes what it has open. Its folder stays. */
+void free_staying(struct session *session);
+
+/* Relays to a session for a terminal that takes it over: to the only one where no name is given. Returns the exit status. */
+int take(const char *name);
+
+/* Begins a session that stays, in a process of its own, and relays. Returns the exit status, also in that process. */
+int begin_to_stay(char **paths, int count, const struct options *options);
+
+/* Relays to a session that stays. Returns the exit status. */
+int attach(const char *name);
+
+/* Ends a session whose samhost is gone: saves its texts aside. Its folder is locked. Returns the exit status. */
+int end_without_samhost(struct home *home);
+
+/* calling.c */
+
+/* The name of this machine. */
+void name_machine(char machine[MACHINE_ROOM]);
+
+/* Takes connections that wait, those that are the user's. */
+void accept_callers(struct stay *stay);
+
+/* Reads what a connection without a hello says, and does it. */
+void hear_caller(struct session *session, struct caller *caller);
+
+/* Before a file is closed: says to those who wait for it whether it was written. */
+void note_closing(struct session *session, uint16_t tag);
+
+/* Ends connections that have said too little for too long. Returns in how many milliseconds the next one is due; -1 where there is none. */
+int64_t drop_callers(struct stay *stay);
+
+/* The newest connection is over. */
+void drop_line(struct stay *stay);
+
+/* The name of the session whose link has an id. */
+void name_of_id(const uint8_t id[SAM_LINK_ID_BYTES], char name[NAME_DIGITS + 1]);
+
+/* Has the first note stand before all that wait; it says where the terminal has come to. Returns whether there is memory for it. */
+bool say_first(struct session *session);
+
+/* staying.c */
+
+/* Has lines for standard error become notes, from now on. */
+void listen_for_notes(struct session *session);
+
+/* Puts a note behind those that wait. Returns whether there is memory for it. */
+bool say_note(struct session *session, const char *format, ...);
+
+/* Tells the terminal that another one, on this machine, has the session now, as far as its line takes that without waiting. */
+void say_the_last(struct session *session, const char *machine);
+
+/* Puts the notes that wait, as soon as there is a link. */
+void put_notes(struct session *session);
+
+/* Serves a session that stays, over its link, until it ends. Returns the exit status. */
+int stay_and_serve(struct session *session);
+
+/* joining.c */
+
+/* Does what a note of the terminal asks. Returns whether there was memory for it: else nothing has changed. */
+bool do_note(struct session *session, const char *note);
+
+/* Adds a file to a session that has begun, unless it is there, and hands out its tag. Returns NULL, or why that can't be. `is_short` says
+ * that memory is out. */
+const char *join_file(struct session *session, const char *path, uint16_t *tag, bool *is_short);
+
+/* journal.c */
+
+/* Makes a journal of this name in the folder of a session, in the place of one that is there. */
+int make_journal(struct stay *stay, const char *name);
+bool has_journal(const struct home *home);
+
+/* Opens the journal that is there, and hands out all that it has, which stays readable until close_records. */
+int open_journal(struct stay *stay, struct text *all, enum journal_kind *kind);
+void close_records(struct text *all);
+
+/* Cuts the journal to its whole records. */
+int cut_journal(struct stay *stay, size_t len);
+
+/* Adds a record. Where that can't be, there is no journal from then on, and the terminal is told so. */
+void add_record(struct session *session, enum step step, const uint8_t *bytes, size_t len);
+void add_body(struct session *session, enum step step, struct body *body);
+
+/* Has all that was written be on the disk. */
+void sync_journal(struct session *session);
+
+/* Where the first record begins; and the record there, of which the place goes on to the next one. False at the end, or where the rest is
+ * torn. */
+size_t first_record(void);
+bool next_record(const struct text *all, size_t *at, struct record *record);
+
+/* What a body has, in order. Words may be NULL; they are taken into memory of the caller's. */
+void add_number(struct body *body, uint64_t number);
+void add_data(struct body *body, const void *bytes, size_t len);
+void add_words(struct body *body, const char *words);
+uint64_t take_number(struct record *record);
+const uint8_t *take_data(struct record *record, size_t *len);
+char *take_words(struct record *record);
+
+/* steps.c */
+
+/* Notes how a session began, and its files. */
+void note_start(struct session *session);
+
+/* Notes a file that the host was given. */
+void note_file(struct session *session, uint16_t tag);
+
+/* Notes what was done to a file; or that a text which could not be saved is held in memory. */
+void note_done(struct session *session, enum doing doing, uint16_t tag, bool is_held);
+
+/* Notes the copies of texts that are new. */
+void note_copies(struct session *session);
+
+/* Takes what a record says of a document, and of the copy of what was cut last. */
+void take_document(struct session *session, struct record *record);
+void take_cut_copy(struct session *session, struct record *record);
+
+/* replaying.c */
+
+/* Makes a session again of its journal. */
+enum replay_fault begin_again(struct session *session);
+
+/* Whether something was done to a file before, so that it is not to be done again. */
+bool is_done_already(struct session *session, enum doing doing, uint16_t tag);
 
 #endif

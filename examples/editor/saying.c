@@ -1,4 +1,4 @@
-/* saying.c: writes lines to standard error, and waits for room there only for a moment.
+/* saying.c: writes lines to standard error, and waits for room there only for a moment; or hands them to a listener.
  *
  * Nobody may read them: then a pipe is full at some time, and a write to it would hold up the saving of texts for ever. So an alarm breaks
  * it off. O_NONBLOCK would do so, too, but for each other program that has the same standard error as well.
@@ -26,6 +26,8 @@ enum {
 static volatile sig_atomic_t is_late;
 static unsigned unheard; /* lines that did not go, since the last that did */
 static bool is_torn;     /* a part of a line went last */
+static listener *heard_by;
+static void *heard_at;
 
 /* ---- The alarm ---- */
 
@@ -100,18 +102,34 @@ static size_t control_len(const char *at)
     return first == 0xC2 && second >= 0x80 && second <= 0x9F ? 2 : 0;
 }
 
-static void say_words(const char *words)
+/* Puts a question mark in the place of each control character. */
+static void make_printable(char *words)
 {
-    char line[sizeof FRONT + LINE_ROOM] = FRONT;
-    size_t len = strlen(FRONT), first = is_torn ? 0 : 1;
+    char *end = words;
 
     while (*words != '\0') {
         size_t control = control_len(words);
-        line[len++] = control > 0 ? '?' : *words;
+        *end++ = control > 0 ? '?' : *words;
         words += control > 0 ? control : 1;
     }
+    *end = '\0';
+}
+
+static void say_words(const char *words)
+{
+    char line[sizeof FRONT + LINE_ROOM] = FRONT;
+    size_t len = strlen(FRONT), first = is_torn ? 0 : 1, more = strlen(words);
+
+    memcpy(line + len, words, more);
+    len += more;
     line[len++] = '\n';
     write_line(line + first, len - first);
+}
+
+void set_listener(listener *listens, void *at)
+{
+    heard_by = listens;
+    heard_at = at;
 }
 
 void say(const char *format, ...)
@@ -122,6 +140,11 @@ void say(const char *format, ...)
     va_start(list, format);
     vsnprintf(words, sizeof words, format, list);
     va_end(list);
+    make_printable(words);
+    if (heard_by != NULL) {
+        heard_by(heard_at, words);
+        return;
+    }
     if (unheard > 0 && has_room(false)) {
         snprintf(count, sizeof count, "lines missing before this one, since nobody read them: %u", unheard);
         say_words(count);

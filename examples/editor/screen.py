@@ -10,7 +10,7 @@ from typing import Dict, List, Optional, Tuple
 
 from editor import Editor
 from layout import Row, fitted
-from link import Link
+from staying import Line
 from windows import Window
 
 Run = Tuple[str, int]  # a text and its curses attributes
@@ -87,11 +87,17 @@ class Screen:
         self.drawn.clear()
         self._shown = None
 
-    def suspend(self, is_group: bool = True) -> None:
-        """Gives the terminal back to the shell, and stops until that goes on with this job."""
+    def give_back(self, line: str = "") -> None:
+        """Gives the terminal back, until `redraw`, with a line that says what for."""
         self.close()
         curses.def_prog_mode()
         curses.endwin()
+        if line:
+            self._tell(line + "\n")
+
+    def suspend(self, is_group: bool = True) -> None:
+        """Gives the terminal back to the shell, and stops until that goes on with this job."""
+        self.give_back()
         before = signal.signal(signal.SIGTSTP, signal.SIG_DFL)
         os.kill(0 if is_group else os.getpid(), signal.SIGTSTP)
         signal.signal(signal.SIGTSTP, before)
@@ -109,7 +115,7 @@ class Screen:
         self.drawn.clear()
         self._shown = None
 
-    def draw(self, editor: Editor, link: Link) -> Optional[float]:
+    def draw(self, editor: Editor, link: Line) -> Optional[float]:
         """Draws what changed. Where that is the count of bytes alone it is drawn a little later: returns in how many seconds."""
         rows, columns = self.screen.getmaxyx()
         shown = (frame_of(editor, rows, columns), cursor_of(editor), status(editor, link))
@@ -150,9 +156,9 @@ class Screen:
 def frame_of(editor: Editor, rows: int, columns: int) -> Dict[int, List[Run]]:
     """What stands in each row of the screen, but for the status line."""
     frame: Dict[int, List[Run]] = {}
-    for window in editor.shown:
+    for window in [editor.shown_focus] if editor.is_tiny else editor.windows:
         frame.update(window_rows(editor, window))
-    menu = editor.help or editor.menu
+    menu = editor.shown_menu
     if menu is not None and menu.is_box:
         frame.update(menu_rows(menu, max(1, rows - FOOT), columns))
     lines = lines_of(editor.message, columns, rows)
@@ -172,7 +178,7 @@ def lines_of(message: str, columns: int, rows: int) -> List[str]:
 
 def window_rows(editor: Editor, window: Window) -> Dict[int, List[Run]]:
     """The title of a window and its rows, by the row of the screen."""
-    is_focus = window is editor.focus
+    is_focus = window is editor.shown_focus
     mark = "*" if editor.is_changed(window.tag) else " "
     title = f"{'>' if is_focus else ' '}{mark} {editor.name(window.tag)}"
     attributes = curses.A_REVERSE | (curses.A_BOLD if is_focus else curses.A_NORMAL)
@@ -222,7 +228,7 @@ def menu_rows(menu, rows: int, columns: int) -> Dict[int, List[Run]]:
     return frame
 
 
-def status(editor: Editor, link: Link) -> str:
+def status(editor: Editor, link: Line) -> str:
     """Name, mark of a change, dot, line, locks, held events, runes not sent, and messages on the way."""
     terminal, window = editor.terminal, editor.active
     name = editor.name(window.tag)
@@ -232,12 +238,15 @@ def status(editor: Editor, link: Link) -> str:
         line = editor.numbers.line(window.tag, window.caret)
         parts.append(f"{start},{end} of {window.length}" + (f", line {line}" if line is not None else ""))
     parts.append("HOST LOST" if editor.is_lost else locks_of(editor))
+    is_broken = editor.way.is_broken and not editor.is_lost
+    if is_broken:
+        parts.append(editor.way.line.told)
     for name, count in (("held", terminal.held + len(editor.deferred)), ("unsent", terminal.unsent), ("waiting", len(link.waiting))):
         if count:
             parts.append(f"{name} {count}")
-    if editor.way.told and not editor.is_lost:
+    if editor.way.told and not editor.is_lost and not is_broken:
         parts.append(f"{editor.way.told} on the way")
-    if editor.way.is_silent and not editor.is_lost:
+    if editor.way.is_silent and not editor.is_lost and not is_broken:
         parts.append(f"no answer for {int(editor.way.silence)} s")
     return " | ".join(parts)
 
@@ -254,7 +263,7 @@ def locks_of(editor: Editor) -> str:
 
 def cursor_of(editor: Editor) -> Optional[Tuple[int, int]]:
     """Where the cursor stands; None where it is not to be seen."""
-    window, menu = editor.focus, editor.help or editor.menu
+    window, menu = editor.shown_focus, editor.shown_menu
     if (menu is not None and menu.is_box) or not window.is_open:
         return None
     layout, caret = window.layout(), window.caret

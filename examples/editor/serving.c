@@ -1,4 +1,4 @@
-/* serving.c: carries bytes between the host and standard input and output, and sleeps.
+/* serving.c: carries bytes between the host and standard input and output, and sleeps. A session that stays has them carried by its link.
  *
  * The host takes one message at a time, so that a file is written, or saved before it is closed, as it stands at its message. A while after
  * the last message texts are saved aside.
@@ -25,9 +25,9 @@ enum {
 
 static volatile sig_atomic_t was_signalled;
 
-/* ---- The journal ---- */
+/* ---- When texts are saved aside ---- */
 
-static int64_t now(void)
+int64_t now(void)
 {
     struct timespec time = {0};
 
@@ -36,36 +36,58 @@ static int64_t now(void)
 }
 
 /* Notes that a message has come, which may have changed a text. */
-static void note_input(struct journal *journal)
+static void note_input(struct due *due)
 {
-    journal->last = now();
-    if (!journal->is_waiting)
-        journal->first = journal->last;
-    journal->is_waiting = true;
+    due->last = now();
+    if (!due->is_waiting)
+        due->first = due->last;
+    due->is_waiting = true;
 }
 
 /* How many milliseconds are left until texts are to be saved aside. */
-static int64_t time_left(const struct journal *journal)
+static int64_t time_left(const struct due *due)
 {
-    int64_t idle = journal->last + IDLE, longest = journal->first + LONGEST_UNSAVED, due = idle < longest ? idle : longest;
-    int64_t left = due - now();
+    int64_t idle = due->last + IDLE, longest = due->first + LONGEST_UNSAVED;
+    int64_t left = (idle < longest ? idle : longest) - now();
 
     return left > 0 ? left : 0;
 }
 
-/* Saves changed texts aside where it is time. Where that fails it is tried again after LONGEST_UNSAVED, or at the next quiet. */
-static void keep_journal(struct session *session)
+/* Where that fails it is tried again after LONGEST_UNSAVED, or at the next quiet. */
+bool save_due(struct session *session)
 {
-    struct journal *journal = &session->journal;
+    struct due *due = &session->due;
 
-    if (!journal->is_waiting || time_left(journal) > 0)
-        return;
-    journal->is_waiting = !save_changed(session);
-    journal->first = now();
-    journal->last = journal->first + LONGEST_UNSAVED - IDLE;
+    if (!due->is_waiting || time_left(due) > 0)
+        return false;
+    due->is_waiting = !save_changed(session);
+    due->first = now();
+    due->last = due->first + LONGEST_UNSAVED - IDLE;
+    return true;
+}
+
+int64_t save_is_due_in(const struct session *session)
+{
+    int64_t left = session->due.is_waiting ? time_left(&session->due) : -1;
+
+    return session->wire.is_short && (left < 0 || left > PAUSE) ? PAUSE : left;
 }
 
 /* ---- Bytes ---- */
+
+static ssize_t read_input(struct session *session, uint8_t *into, size_t room)
+{
+    (void)session;
+    return read(STDIN_FILENO, into, room);
+}
+
+static ssize_t write_output(struct session *session, const uint8_t *bytes, size_t len)
+{
+    (void)session;
+    return write(STDOUT_FILENO, bytes, len);
+}
+
+const struct carrier by_standard_streams = {read_input, write_output};
 
 /* Notes that nothing more can be sent. The end of the input will come, and what stands before it still counts. */
 static void stop_sending(struct wire *wire, int error)
@@ -75,8 +97,7 @@ static void stop_sending(struct wire *wire, int error)
         say("standard output can't be written: %s", cause(error));
 }
 
-/* Sends pending bytes, as many as go without waiting. */
-static void send_pending(struct session *session)
+void send_pending(struct session *session)
 {
     struct wire *wire = &session->wire;
 
@@ -86,7 +107,7 @@ static void send_pending(struct session *session)
             if (sam_host_take_out(&session->host, wire->output, PIECE, &wire->output_len) != SAM_OK || wire->output_len == 0)
                 return;
         }
-        ssize_t count = write(STDOUT_FILENO, wire->output + wire->sent, wire->output_len - wire->sent);
+        ssize_t count = wire->carrier->write(session, wire->output + wire->sent, wire->output_len - wire->sent);
         if (count >= 0)
             wire->sent += (size_t)count;
         else if (errno == EAGAIN || errno == EINTR)
@@ -188,8 +209,7 @@ static enum ending feed_close(struct session *session)
     return feed(session, CLOSE_LEN);
 }
 
-/* Has the host take what was read, piece by piece, until too little is left or memory is out. */
-static enum ending take_input(struct session *session)
+enum ending take_input(struct session *session)
 {
     struct wire *wire = &session->wire;
     enum ending ending = GOES_ON;
@@ -201,7 +221,7 @@ static enum ending take_input(struct session *session)
     while (ending == GOES_ON && !wire->is_short && (len = next_piece(wire, &is_close)) > 0)
         ending = is_close ? feed_close(session) : feed(session, len);
     if (wire->taken != before || wire->is_short)
-        note_input(&session->journal);
+        note_input(&session->due);
     send_pending(session);
     return ending;
 }
@@ -212,15 +232,16 @@ static bool may_read(const struct wire *wire)
     return wire->end == GOES_ON && wire->input_len - wire->taken < PIECE;
 }
 
-/* Reads bytes, to stand after those that wait, and notes how the input ends. Returns whether some have come. */
-static bool read_bytes(struct wire *wire)
+bool read_bytes(struct session *session)
 {
+    struct wire *wire = &session->wire;
+
     if (!may_read(wire))
         return false;
     memmove(wire->input, wire->input + wire->taken, wire->input_len - wire->taken);
     wire->input_len -= wire->taken;
     wire->taken = 0;
-    ssize_t count = read(STDIN_FILENO, wire->input + wire->input_len, PIECE - wire->input_len);
+    ssize_t count = wire->carrier->read(session, wire->input + wire->input_len, PIECE - wire->input_len);
     if (count == 0) {
         wire->end = INPUT_ENDED;
     } else if (count > 0) {
@@ -255,8 +276,8 @@ static bool wait_for_bytes(const struct session *session, const sigset_t *mask, 
 {
     const struct wire *wire = &session->wire;
     fd_set in, out;
-    bool is_waiting = is_reading && session->journal.is_waiting;
-    int64_t left = is_waiting ? time_left(&session->journal) : PAUSE;
+    bool is_waiting = is_reading && session->due.is_waiting;
+    int64_t left = is_waiting ? time_left(&session->due) : PAUSE;
 
     if (wire->is_short && left > PAUSE)
         left = PAUSE;
@@ -290,8 +311,7 @@ static bool is_over(struct wire *wire)
     return wire->gone != 0 && now() - wire->gone > LONGEST_GONE;
 }
 
-/* Takes what was read, where memory was out for it. What can't be taken in a while is lost. */
-static enum ending take_again(struct session *session, int *tries)
+enum ending take_again(struct session *session, int *tries)
 {
     struct wire *wire = &session->wire;
     enum ending ending = GOES_ON;
@@ -317,7 +337,7 @@ static enum ending take_the_rest(struct session *session)
         ending = take_input(session);
         if (ending == GOES_ON)
             ending = take_again(session, &tries);
-    } while (ending == GOES_ON && !wire->is_short && ++pieces <= MOST_PIECES_LEFT && read_bytes(wire));
+    } while (ending == GOES_ON && !wire->is_short && ++pieces <= MOST_PIECES_LEFT && read_bytes(session));
     fcntl(STDIN_FILENO, F_SETFL, flags);
     return ending == GOES_ON ? end_input(session) : ending;
 }
@@ -328,11 +348,11 @@ enum ending serve(struct session *session, const sigset_t *mask)
     enum ending ending = GOES_ON;
 
     while (ending == GOES_ON && !was_signalled && !is_over(wire)) {
-        bool has_come = wait_for_bytes(session, mask, true) && read_bytes(wire);
+        bool has_come = wait_for_bytes(session, mask, true) && read_bytes(session);
         send_pending(session);
         if (has_come || wire->is_short)
             ending = take_input(session);
-        keep_journal(session);
+        save_due(session);
     }
     return ending == GOES_ON ? take_the_rest(session) : ending;
 }
@@ -350,6 +370,11 @@ void send_the_rest(struct session *session, const sigset_t *mask)
 }
 
 /* ---- Signals ---- */
+
+bool is_signalled(void)
+{
+    return was_signalled;
+}
 
 static void on_signal(int number)
 {

@@ -5,17 +5,19 @@ import os
 import shlex
 import signal
 import sys
-from typing import List, Optional
+from typing import List, NamedTuple, Optional
 
 import rescue
 from editor import Editor
 from link import SECONDS_OF_SILENCE, SECONDS_TO_END, Link
 from loop import KEYBOARD, Loop
 from notes import printable, said
-from sulgrevad import SamError, Terminal
 from screen import FOOT, Screen
+from staying import Line, Staying
 from stream import FIRST
+from sulgrevad import SamError, Terminal
 
+USAGE = "usage: "  # the words of a samhost that knows of no session that stays: it is run without then
 STATUS_NO_HOST, STATUS_LOST, STATUS_UNSAVED, STATUS_SIGNAL = 1, 3, 5, 128
 
 
@@ -33,8 +35,10 @@ def say_all(lines: List[str]) -> None:
 class Session:
     """The terminal, the editor and the link to the host."""
 
-    def __init__(self, terminal: Terminal, link: Link, editor: Editor):
+    def __init__(self, terminal: Terminal, link: Line, editor: Editor):
         self.terminal, self.link, self.editor = terminal, link, editor
+        if isinstance(link, Staying):
+            editor.way.line = link
         self.told: List[str] = []  # what the host told while the screen hid standard error
         self.ended_by = 0
 
@@ -48,8 +52,13 @@ class Session:
         is_there = self.link.wait_for_stream(FIRST, self._hear_early)
         for line in self.link.noise:
             say(f"samterm: the host's command printed: {line}")
-        if is_there:
-            is_there = self._takes(self.link.early)
+        for item in self.link.take_early() if is_there else []:
+            if isinstance(item, str):
+                self._hear_early(item)
+            elif isinstance(item, bytes):
+                is_there = is_there and self._takes(item)
+            else:
+                self.editor.meet_note(item)
         if is_there and self.link.noise:
             self.editor.notes.keep(1, f"the host's command printed: {self.link.noise[-1]}")
         return is_there
@@ -67,7 +76,7 @@ class Session:
         return True
 
     def _hear_early(self, line: str) -> None:
-        if said(line).what != "written":
+        if said(line).what != "written" and not (isinstance(self.link, Staying) and line.startswith(USAGE)):
             say(line)
         self.editor.hear(line)
 
@@ -108,13 +117,29 @@ class Session:
             if self.editor.typed_ahead:
                 say(f"samterm: typed while the host was left, and put in nowhere: {self.editor.typed_ahead!r}")
             self.editor.deferred.clear()
-        elif not self.editor.is_lost and not self.ended_by:
+        elif not self.editor.is_lost and not self.ended_by and not isinstance(self.link, Staying):
             say(f"samterm: the host has {self._seconds_to_end} seconds to save what it got; ^C doesn't wait for it")
 
     @property
     def _seconds_to_end(self) -> int:
         """How long the host may take: one that said nothing will say nothing."""
+        if self.editor.way.is_broken:
+            return 0
         return SECONDS_OF_SILENCE if self.editor.way.is_silent else SECONDS_TO_END
+
+    @property
+    def _stays(self) -> bool:
+        """Whether the session goes on at the host without us."""
+        return isinstance(self.link, Staying) and self.link.ended_with is None and not self.link.is_lost
+
+    def _tell_of_staying(self) -> None:
+        """How the user comes back to a session that stays, and what that lacks."""
+        if self._stays:
+            lacks = "" if self.editor.way.has_all else ", which may lack what was done last here"
+            say(f"samterm: the session stays at the host{lacks}. This goes on with it: {self._take_words()}")
+
+    def _take_words(self) -> str:
+        return shlex.join(["samterm", "--take", shlex.join(self.link.command), self.link.name])
 
     def _end(self) -> int:
         """Ends the link, and writes here what nobody has saved, also where a fault ends that. Returns the exit status."""
@@ -129,12 +154,13 @@ class Session:
         finally:
             for line in self.told:
                 say(line)
-            self._keep_here(status == 0 and not keeping.is_hopeless)
+            self._keep_here((status == 0 or (self._stays and self.editor.way.has_all)) and not keeping.is_hopeless)
+            self._tell_of_staying()
         if keeping.is_hopeless or status == STATUS_UNSAVED:
             return STATUS_UNSAVED
         if self.ended_by:
             return STATUS_SIGNAL + self.ended_by
-        return STATUS_LOST if self.editor.is_lost or keeping.has_left else 0
+        return STATUS_LOST if self.editor.is_lost or keeping.has_left or self._stays else 0
 
     def _end_link(self) -> Optional[int]:
         """Sends what was typed, and waits for the host's end. Returns its status; None where it doesn't end, or the user doesn't wait."""
@@ -146,6 +172,8 @@ class Session:
         with contextlib.suppress(KeyboardInterrupt):  # the user doesn't wait for the host any longer
             try:
                 signal.signal(signal.SIGINT, signal.default_int_handler)
+                if isinstance(self.link, Staying):
+                    self.link.ends = self.terminal.exited or self.editor.is_leaving
                 return self.link.close(self._hear, self._take_last, self._seconds_to_end)
             finally:
                 signal.signal(signal.SIGINT, signal.SIG_IGN)  # one more is not to stop what is written here
@@ -161,23 +189,60 @@ class Session:
             say_all(keeping.keep_late())
 
 
-def edit(command: List[str], files: List[str], indents: bool = True) -> int:
-    """Runs a host by a command with the names of files after it, and edits these. Returns the exit status."""
+class Wish(NamedTuple):
+    """What the user asks for: the words of the host's command, the files, how Enter begins a line, for how many hours a session stays
+    that is alone, and whether he goes on with one that stays, whose name may be given in place of the files."""
+
+    command: List[str]
+    files: List[str]
+    indents: bool = True
+    hours: Optional[str] = None
+    takes_over: bool = False
+
+    @property
+    def stays(self) -> bool:
+        return self.takes_over or self.hours is None or float(self.hours) > 0
+
+    def words(self, stays: bool) -> List[str]:
+        """The words for a host after those of the session."""
+        times = ["--times"] if any(rescue.left(self.files).values()) else []  # whether these are newer only the host can tell
+        hours = ["--stay", self.hours] if stays and self.hours is not None else []
+        return ["--undo", *times, *hours, *(["--"] if any(name.startswith("-") for name in self.files) else []), *self.files]
+
+    def link(self, stays: bool) -> Line:
+        if not stays:
+            return Link([*self.command, *self.words(False)])
+        if self.takes_over:
+            return Staying(self.command, lambda name: ["--take", *self.files], takes_over=True)
+        return Staying(self.command, lambda name: ["--serve", name, *self.words(True)])
+
+
+def edit(wish: Wish) -> int:
+    """Runs a host, and edits files. Returns the exit status."""
+    rescue.host = (*wish.command, "--undo")
+    status = _edit(wish, wish.stays)
+    if status is None:
+        say("samterm: that samhost is too old for a session that stays: a line that breaks ends this one")
+        status = _edit(wish, False)
+    return STATUS_NO_HOST if status is None else status
+
+
+def _edit(wish: Wish, stays: bool) -> Optional[int]:
+    """The same; None where the host knows of no session that stays."""
+    files = None if wish.takes_over else wish.files
     with Terminal() as terminal:
-        editor = Editor(terminal, indents=indents, asked_for=files)
-        rescue.host = tuple(command)
-        if any(rescue.left(files).values()):  # whether these are newer than the files only the host can tell
-            command = [*command, "--times"]
-        command = [*command, *(["--"] if any(name.startswith("-") for name in files) else []), *files]
+        editor = Editor(terminal, indents=wish.indents, asked_for=files)
         try:
-            link = Link(command)
+            link = wish.link(stays)
         except OSError as error:
-            say(f"samterm: {command[0]}: {error.strerror}")
+            say(f"samterm: {wish.command[0]}: {error.strerror}")
             return STATUS_NO_HOST
         session = Session(terminal, link, editor)
         if not session.begin():
+            if isinstance(link, Staying) and link.refused_words and not wish.takes_over:
+                return None
             link.close(say)
-            say(f"samterm: {shlex.join(command)}: the host doesn't answer")
+            say(f"samterm: {shlex.join(wish.command)}: the host doesn't answer")
             return STATUS_NO_HOST
         session.run()
         return session.status

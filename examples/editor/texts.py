@@ -85,6 +85,7 @@ class Texts:
         self.terminal = terminal
         self.versions: Dict[int, int] = {}  # of each text; another one once it changed, or was loaded further
         self.is_final = False  # the host is gone, so no more of any text is loaded
+        self.holds_back = False  # its answers are late, so nothing is asked for
         self._dots: Dict[int, Tuple[int, int]] = {}  # where dots were moved to since: the terminal may hold such events for ever
         self.left = ""  # what is to be typed, and was not taken
         self.listeners: List[Callable[[List[Change]], None]] = []

@@ -42,6 +42,7 @@ class Vault:
         self.kept: Optional[Kept] = None  # what was kept last, until undo takes it over
         self.going: Optional[Change] = None  # what goes for what is put back, until the host has answered
         self.has_lost_copied = False  # there was no room for what the user has copied
+        self.is_out_of_reach = False  # the host's answers are late
         self._parts: List[Part] = []
         self._steps: Deque[Callable[[], None]] = deque()
         self._file = 0  # whose text is moved
@@ -49,9 +50,8 @@ class Vault:
         self._refused: Optional[tuple] = None  # what there was no room for
 
     def find(self, tags: List[int]) -> None:
-        """The names of the host's files are known: the last one may be the vault."""
-        if tags and self.terminal.name(tags[-1]) == NAME:
-            self.tag = tags[-1]
+        """The names of the host's files are known: the last one of the vault's name is that. A file may have joined after it."""
+        self.tag = next((tag for tag in reversed(tags) if self.terminal.name(tag) == NAME), None)
 
     @property
     def is_busy(self) -> bool:
@@ -74,7 +74,7 @@ class Vault:
         """Has the host keep a text. Returns whether there is room for it."""
         before, self._refused = self._refused, None
         room = MOST_RUNES - sum(part.count for part in self.live()) - self.terminal.snarf_len
-        if self.tag is None or before == (tag, start, end) or end - start > room:
+        if self.tag is None or self.is_out_of_reach or before == (tag, start, end) or end - start > room:
             return False
         terminal, dot = self.terminal, self.terminal.dot(tag)
         kept = Kept(tag, start, end, terminal.len(tag) - end, Part(end - start))

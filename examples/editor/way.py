@@ -1,11 +1,13 @@
-"""The way to the host: how many messages to tell of, and when to ask whether they have arrived."""
+"""The way to the host: how many messages to tell of, when to ask whether they have arrived, and whether its answers are late."""
 from typing import Callable, Optional
 
+from staying import Staying
 from sulgrevad import Terminal
 from texts import COMMAND
 
 TOLD_AFTER = 0.15  # seconds on the way before messages are told of, so that with a quick host nothing flickers
 SILENT_AFTER = 3  # seconds without a word of the host, though an answer is due, that are told of
+KNOWN_AFTER = 3.0  # seconds for which answers are late until the user has to know: up to then keys wait, as over a slow line
 
 
 class Way:
@@ -23,6 +25,8 @@ class Way:
         self._since: Optional[float] = None  # since when messages are on the way
         self._last: Optional[int] = None  # at the end of the session, how many messages the user has made
         self._heard_at = 0.0  # when bytes of the host came last
+        self.line: Optional[Staying] = None  # to a session that stays; its notes come in order with the stream
+        self._late_since: Optional[float] = None
 
     @property
     def _arrived(self) -> int:
@@ -30,7 +34,7 @@ class Way:
 
     def confirm(self) -> None:
         """What the host has told by another way than its stream may come a little later. One question more, and it is here."""
-        self._is_unasked = True
+        self._is_unasked = self.line is None
 
     @property
     def is_confirmed(self) -> bool:
@@ -56,6 +60,8 @@ class Way:
     @property
     def has_all(self) -> bool:
         """Whether the host is known to have taken all that the user did."""
+        if self.line is not None:
+            return self.terminal.unsent == 0 and self.terminal.pending == 0 and self.line.has_all
         return self.terminal.unsent == 0 and self._arrived >= (self.terminal.sent if self._last is None else self._last)
 
     def hear(self) -> None:
@@ -66,11 +72,47 @@ class Way:
     @property
     def silence(self) -> float:
         """For how many seconds the host has said nothing, though an answer is due."""
+        if self.line is not None:
+            return self.line.silence
         return 0.0 if self._since is None else self.clock() - max(self._since, self._heard_at)
 
     @property
     def is_silent(self) -> bool:
-        return self.silence >= SILENT_AFTER
+        return self.is_late if self.line is not None else self.silence >= SILENT_AFTER
+
+    # ---- A line that goes on through breaks
+
+    @property
+    def is_broken(self) -> bool:
+        return self.line is not None and self.line.is_broken
+
+    @property
+    def is_late(self) -> bool:
+        """Whether the line is lost, or an answer is late: what would lock a file until the line is back is held back then."""
+        return self.line is not None and (self.line.is_broken or self.line.silence >= self.line.late_after)
+
+    @property
+    def is_known_late(self) -> bool:
+        """Whether that stood on the screen for a while."""
+        return self._late_since is not None and self.clock() - self._late_since >= KNOWN_AFTER
+
+    def note_late(self) -> None:
+        """Looks whether answers are late."""
+        if not self.is_late:
+            self._late_since = None
+        elif self._late_since is None:
+            self._late_since = self.clock()
+
+    @property
+    def _seconds_of_lateness(self) -> Optional[float]:
+        """How long until the line may be late, is known to be, or another second of that is to be told of."""
+        line = self.line
+        if line is None or (line.silence <= 0 and not line.is_broken):
+            return None
+        if self._late_since is None:
+            return max(0.0, line.late_after - line.silence)
+        left = KNOWN_AFTER - (self.clock() - self._late_since)
+        return left if left > 0 else 1.0 - line.silence % 1.0
 
     def _note(self) -> None:
         if self.terminal.under_way == 0:
@@ -87,6 +129,8 @@ class Way:
     @property
     def seconds_of_silence(self) -> Optional[float]:
         """How long until another second of silence is to be told of; None where no answer is due."""
+        if self.line is not None:
+            return self._seconds_of_lateness
         if self._since is None:
             return None
         return SILENT_AFTER - self.silence if not self.is_silent else 1.0 - self.silence % 1.0

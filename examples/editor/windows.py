@@ -138,6 +138,8 @@ class Window:
         elif self.is_open:
             self._reach()
             self._follow_dot()
+            if self.texts.holds_back:
+                return
             self._load(is_busy, turns)
             if rests and self._turns:
                 self._load_beside()

@@ -12,8 +12,9 @@
 
 #include "samhost.h"
 
-#define NO_NAME EDOM      /* the error number of a file that has no name yet, or one that no file can have */
-#define IS_THERE EALREADY /* the error number of a file that is there, and that nobody has asked for */
+#define NO_NAME EDOM           /* the error number of a file that has no name yet, or one that no file can have */
+#define NOT_WRITTEN EOWNERDEAD /* the error number of a file that an earlier terminal has changed */
+#define IS_THERE EALREADY      /* the error number of a file that is there, and that nobody has asked for */
 
 const char *cause(int error)
 {
@@ -24,6 +25,8 @@ const char *cause(int error)
         return "it has no name yet, or one that no file can have";
     case IS_THERE:
         return "it is there already, and the next write replaces it";
+    case NOT_WRITTEN:
+        return "it was not written before this terminal took the session over";
     case IS_CHANGED:
         return "another program changed it, and the next write replaces it";
     default:
@@ -164,6 +167,20 @@ static void report_unwritten(struct session *session, uint16_t tag, const char *
     free(unnamed);
 }
 
+void report_taken(struct session *session)
+{
+    size_t tags = count_tags(session);
+
+    for (size_t tag = 1; tag < tags; tag++) {
+        int error;
+        if (!session->documents[tag].is_unsaved)
+            continue;
+        char *path = path_of(session, (uint16_t)tag, &error);
+        report_unwritten(session, (uint16_t)tag, path, NOT_WRITTEN);
+        free(path);
+    }
+}
+
 /* Whether the terminal drops a text that an earlier session saved: it writes it empty. */
 static bool is_dropped(struct session *session, uint16_t tag)
 {
@@ -193,6 +210,10 @@ static void write_file(struct session *session, uint16_t tag)
     int error;
     char *path = path_of(session, tag, &error);
 
+    if (is_done_already(session, DOING_WRITE, tag)) {
+        free(path);
+        return;
+    }
     if (path != NULL && is_dropped(session, tag)) {
         drop_left(session, tag, path);
     } else {
@@ -203,6 +224,7 @@ static void write_file(struct session *session, uint16_t tag)
             report_unwritten(session, tag, path, error);
     }
     free(path);
+    note_done(session, DOING_WRITE, tag, false);
 }
 
 void write_files(struct session *session)

@@ -203,10 +203,13 @@ class Run:
         """Whether a row stands far from the start of its line."""
         return row.start - self.model.line_start(row.start) > LONG
 
+    def session(self, folder):
+        return Session(folder, "a.txt", slow=self.delay, width=self.width, height=self.height)
+
     def go(self, folder):
         path = folder / "a.txt"
         path.write_text(self.text, newline="")
-        with Session(folder, "a.txt", slow=self.delay, width=self.width, height=self.height) as session:
+        with self.session(folder) as session:
             session.wait_for("> ")
             session.wait_to_go_to("a.txt")
             try:

@@ -196,6 +196,76 @@ def check_esc_while_held_up(folder):
         session.leave_unwritten()
 
 
+def check_esc_behind_any_key(folder):
+    """The screen shows at once where Esc leads, whichever keys wait before it; and all keys go where they go one by one."""
+    made(folder, a="one\n", b="two\n")
+    with Session(folder, "a.txt", "b.txt") as session:
+        session.wait_for("one")
+        session.keys("C-t")
+        session.wait_for("two")
+        session.keys("C-p", "C-p")
+        session.wait_to_go_to("a.txt")
+        session.wait_for_quiet()
+        with session.stopped_host():
+            session.keys("C-v", "C-p", "Z")
+            session.keys("Escape")
+            session.wait_to_go_to(COMMAND_WINDOW)
+            session.type("$a/!/")
+            session.keys("Enter", "Escape", "C-n", "Escape")
+            session.wait_to_go_to(COMMAND_WINDOW)
+            session.type("f new.txt")
+            session.keys("Enter", "Escape", "N")
+            wait_until(lambda: not session.goes_to(COMMAND_WINDOW), "it shows the command window")
+            session.keys("F2", "Down", "Escape", "Escape")
+            session.wait_to_go_to(COMMAND_WINDOW)
+            expect(session.held() > 10, "nothing waits: this test is wrong")
+        session.wait_for("N")
+        session.wait_for_quiet()
+        session.wait_to_go_to(COMMAND_WINDOW)
+        got = {name: session.rows(name) for name in ("a.txt", "new.txt")}
+        expect(got["a.txt"][:2] == ["one", ""] and got["new.txt"][:1] == ["N"], f"the windows have {got}")
+        session.keys("Escape", "C-w")
+        wait_until(lambda: (folder / "new.txt").exists(), "the new file is not written")
+        session.keys("F2")
+        session.wait_for("b.txt")
+        session.type("b.txt")
+        session.keys("Enter")
+        session.wait_to_go_to("b.txt")
+        session.keys("C-w")
+        wait_until(lambda: (folder / "b.txt").read_text() == "Ztwo\n!", lambda: f"b.txt has {(folder / 'b.txt').read_text()!r}")
+        session.leave()
+
+
+def check_esc_leads_where_it_shows(folder):
+    """Over keys that lead elsewhere, all keys that come at once do what they do one by one, and what Esc shows meanwhile is where it
+    leads in the end."""
+    for seed in range(40):
+        numbers = random.Random(seed)
+        (quick, first, key, text), (slow, second, _, _) = (opened("one two\n", "b\n", "c\n", size=(40, 80)) for _ in range(2))
+        for pair in (quick, slow):
+            pair.terminal.set_snarf("pasted ")
+            pair.finish()
+        keys = [key("^V")]
+        for _ in range(numbers.randrange(1, 6)):
+            keys.append(numbers.choice((key("^P"), key("^N"), key("Esc"), key("^T"), key("^Y"), text("x"), key("^D"), key("^W"))))
+        keys.append(key("Esc"))
+        for each in keys:
+            first.take(each)
+            quick.finish()
+            second.take(each)
+        shown, waits = second.shown_focus is second.command, bool(second.deferred)
+        slow.finish()
+        for tail in (text("y"),):
+            first.take(tail)
+            quick.finish()
+            second.take(tail)
+            slow.finish()
+        ends = [({tag: pair.host.text(tag) for tag in pair.terminal.files()}, pair.editor.focus.tag) for pair in (quick, slow)]
+        expect(ends[0] == ends[1], f"seed {seed}, {keys}: at once {ends[1]}, one by one {ends[0]}")
+        if waits and not {"^T", "^Y"} & {each.name for each in keys if hasattr(each, "name")}:
+            expect(shown == (second.focus is second.command), f"seed {seed}, {keys}: Esc shows another window than it leads to")
+
+
 # The actions that need no settled place, each with what it waits for. All others wait for that.
 FREE = {"help", "switch", "next_window", "menu", "split", "unsplit", "small", "redraw", "suspend", "old", "new"}
 

@@ -30,6 +30,12 @@ def stat_of(process):
         return None
 
 
+def below(process):
+    """The children of a process."""
+    stats = {int(entry.name): stat_of(entry.name) for entry in Path("/proc").iterdir() if entry.name.isdecimal()}
+    return [child for child, stat in stats.items() if stat is not None and int(stat[1]) == process]
+
+
 def children_of(process):
     """The processes below a process, by the name of their command."""
     found = {}
@@ -60,12 +66,17 @@ def expect_sleep(session):
 class Session:
     """A terminal in a tmux of its own."""
 
-    def __init__(self, folder, *files, slow=None, width=80, height=24, settings="", program=SAMTERM, host=None):
+    def __init__(self, folder, *files, slow=None, width=80, height=24, settings="", program=SAMTERM, host=None, stays=bool(os.environ.get("SAM_STAYS")), take=None):
+        """Where the session stays, it goes on through a line that breaks; with a name it is one that another has left."""
         self.folder, self.status_file = folder, folder / "status"
+        self.ends_staying = True  # else the session is left at the host, for another
         self.tmux_words = ["tmux", "-S", str(folder / ".tmux"), "-f", "/dev/null", "-u"]
         words = host or (f"{SLOW} {slow} {SAMHOST}" if slow is not None else str(SAMHOST))
         host = f"--host '{words}'"
         host = "" if words == str(ROOT / "out" / "samhost") else host  # it is what samterm takes by itself
+        host += "" if stays else " --stay 0"
+        if take is not None:
+            host = f"--take '{words}' {take}"
         command = f"cd {folder}; {settings} {program} {host} {' '.join(files)} 2> stderr; echo $? > status; exec sleep 1000"
         own = {"TMPDIR": str(folder), "XDG_STATE_HOME": str(folder / STATE)}
         environment = {**os.environ, "SAM_LIBRARY": str(LIBRARY), "LC_ALL": "C.UTF-8", "SHELL": "/bin/sh", **own}
@@ -79,9 +90,19 @@ class Session:
         """Ends all of it, and waits for that: what still ends may save a text."""
         processes = list(self.processes().values()) if self.is_there() else []
         subprocess.run([*self.tmux_words, "kill-server"], capture_output=True)
+        processes += self.end_staying() if self.ends_staying else []
         until = time.monotonic() + SECONDS
         while time.monotonic() < until and any((stat_of(process) or "Z")[0] != "Z" for process in processes):
             time.sleep(0.01)
+
+    def end_staying(self):
+        """Ends the sessions that stay. Answers the processes of their hosts, which their locks name."""
+        hosts = []
+        for lock in (self.folder / STATE / "sulgrevad").glob("*/lock"):
+            with contextlib.suppress(OSError, ValueError):
+                hosts.append(int(lock.read_text()))
+                os.kill(hosts[-1], signal.SIGTERM)
+        return hosts
 
     def is_there(self):
         return subprocess.run([*self.tmux_words, "has-session"], capture_output=True).returncode == 0
@@ -221,6 +242,28 @@ class Session:
         self.keys("C-q")
         self.answer("not written", "C-q")
         self.wait_for_end(status)
+
+    def relay(self):
+        """The process that carries the bytes of a session that stays; None between two."""
+        terminal = next(iter(below(int(self.tmux("display-message", "-p", "#{pane_pid}")))), None)
+        return next((process for process in below(terminal) if (stat_of(process) or "Z")[0] != "Z"), None)
+
+    def break_line(self, number=signal.SIGKILL):
+        """Ends the process that carries the bytes."""
+        relay = wait_until(self.relay, "there is no line to break")
+        with contextlib.suppress(ProcessLookupError):
+            os.kill(relay, number)
+
+    @contextlib.contextmanager
+    def stopped_line(self):
+        """The line stands still meanwhile: nothing goes over it, and nobody says so."""
+        relay = wait_until(self.relay, "there is no line to stop")
+        os.kill(relay, signal.SIGSTOP)
+        try:
+            yield
+        finally:
+            with contextlib.suppress(ProcessLookupError):
+                os.kill(relay, signal.SIGCONT)
 
     def terminal(self):
         """The process of samterm."""

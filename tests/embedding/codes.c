@@ -160,8 +160,16 @@ static void adding(void)
     WANT(tag, 1);
     WANT(sam_host_tags(&host, &tags), SAM_OK);
     WANT(tags, 2);
-    WANT(sam_host_feed(&host, NULL, 0), SAM_OK);
-    WANT(sam_host_add_file(&host, BYTES("\xFF"), BYTES("x"), &tag), SAM_ADD_BEGUN);
+    WANT(sam_host_feed(&host, BYTES("\1\0\2\0\2")), SAM_OK); /* Tversion(2) */
+    WANT(sam_host_add_file(&host, BYTES("\xFF"), BYTES("x"), &tag), SAM_NOT_TEXT);
+    WANT(sam_host_add_file(&host, letters, 65, BYTES("x"), &tag), SAM_ADD_TOO_LONG);
+    WANT(tag, 1);
+    WANT(sam_host_add_file(&host, BYTES("late"), BYTES("x"), &tag), SAM_OK);
+    WANT(tag, 2);
+    WANT(sam_host_feed(&host, BYTES("\xFF")), SAM_BAD_KIND);
+    WANT(sam_host_add_file(&host, BYTES("last"), BYTES("x"), &tag), SAM_OK);
+    WANT(tag, 3);
+    WANT(sam_host_feed(&host, NULL, 0), SAM_BAD_KIND);
     WANT(sam_host_free(&host), SAM_OK);
     WANT(sam_host_free(&host), SAM_NO_HANDLE);
 }

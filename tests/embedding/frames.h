@@ -8,7 +8,8 @@
 
 /* The kinds that are made here. */
 enum {
-    TSTARTCMDFILE = 2,
+    TVERSION = 1,
+    TSTARTCMDFILE,
     TCHECK,
     TREQUEST,
     TSTARTFILE = 6,
@@ -16,11 +17,15 @@ enum {
     TTYPE,
     TCUT,
     TPASTE,
+    TSTARTNEWFILE = 12,
     TSEND = 17,
     TSETSNARF = 20,
-    HBINDNAME = 66,
-    HNEWNAME = 68,
-    HGROW = 70,
+    HVERSION = 65,
+    HBINDNAME,
+    HCURRENT,
+    HNEWNAME,
+    HMOVNAME,
+    HGROW,
     HCHECK,
     HUNLOCK,
     HDATA,

@@ -368,6 +368,24 @@ static void compare(void)
     printf("%lu files open, %lu of %lu runes loaded, all as the host has them\n", open, loaded, all);
 }
 
+/* Adds a file to the host, under the next tag. */
+static void join(void)
+{
+    char name[16], text[64];
+    uint16_t tag = 0;
+    size_t next = 0;
+    sam_status status;
+    want("tags of the host", sam_host_tags(&host, &next));
+    snprintf(name, sizeof name, "file %u", (unsigned)next);
+    snprintf(text, sizeof text, "%u: all of the text \xE2\x86\x92 here\nand a second line\n", (unsigned)next);
+    do
+        status = sam_host_add_file(&host, (const uint8_t *)name, strlen(name), (const uint8_t *)text, strlen(text), &tag);
+    while (noted(ADD_FILE, status) == SAM_NO_MEMORY);
+    want("a file", status);
+    if (tag != next)
+        fail("the tag of a file", tag);
+}
+
 static void make(void)
 {
     sam_status status;
@@ -377,18 +395,8 @@ static void make(void)
     while ((status = noted(TERM_NEW, sam_term_new(&term))) == SAM_NO_MEMORY)
         ;
     want("a terminal", status);
-    for (int i = 1; i <= FILES; i++) {
-        char name[16], text[64];
-        uint16_t tag = 0;
-        snprintf(name, sizeof name, "file %d", i);
-        snprintf(text, sizeof text, "%d: all of the text \xE2\x86\x92 here\nand a second line\n", i);
-        do
-            status = sam_host_add_file(&host, (const uint8_t *)name, strlen(name), (const uint8_t *)text, strlen(text), &tag);
-        while (noted(ADD_FILE, status) == SAM_NO_MEMORY);
-        want("a file", status);
-        if (tag != i)
-            fail("the tag of a file", tag);
-    }
+    for (int i = 1; i <= FILES; i++)
+        join();
 }
 
 /* Adds the calls that found memory short to the file that $SEEN names. */

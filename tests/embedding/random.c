@@ -1,7 +1,7 @@
 /*
- * random SEED EVENTS: a host and a terminal in one process (pair.h). The user does EVENTS random things; then all is sent until nothing is
- * left, and every loaded rune of the terminal has to be the host's rune there. On the way a copy of each text is kept by sam_term_changed
- * alone, and has to be the terminal's. It prints what it counted.
+ * random SEED EVENTS: a host and a terminal in one process (pair.h). The user does EVENTS random things, and now and then a file joins the
+ * host; then all is sent until nothing is left, and every loaded rune of the terminal has to be the host's rune there. On the way a copy
+ * of each text is kept by sam_term_changed alone, and has to be the terminal's. It prints what it counted.
  */
 #include "pair.h"
 
@@ -13,7 +13,7 @@ static const char *const texts[] = {"a",           "\n",  "h\xC3\xA9llo", "x\xE2
 static void user(void)
 {
     uint32_t kind = pick(KINDS), a = pick(40), b = pick(40);
-    uint16_t tag = (uint16_t)pick(FILES + 2);
+    uint16_t tag = (uint16_t)pick(FILES + 4);
     act(kind, tag, a, b, texts[pick(sizeof texts / sizeof texts[0])]);
     for (;;) {
         uint64_t event;
@@ -43,6 +43,8 @@ int main(int argc, char **argv)
     }
     for (unsigned long i = 0; i < events; i++) {
         user();
+        if (pick(64) == 0)
+            join();
         while (pick(3) != 0 && (pick(2) ? carry_up() : carry_down())) {
         }
         if (i % 4 == 0)

@@ -229,6 +229,66 @@ static void feed_fault(void)
     want_pending(HOST, &wanted);
 }
 
+/* ---- Files that join ---- */
+
+/* Adds the file `late` once memory is there; nothing has changed before. */
+static uint16_t add_late(void)
+{
+    uint16_t tag = 0;
+    sam_status status;
+    read_state(HOST, &before);
+    while ((status = sam_host_add_file(&host, (const uint8_t *)"late", 4, (const uint8_t *)"two", 3, &tag)) == SAM_NO_MEMORY)
+        want_as_before(HOST, "a file that does not join");
+    want("a file that joins", status);
+    want_text(tag, "two");
+    return tag;
+}
+
+/* The next version has the name. */
+static void add_late_file(void)
+{
+    struct piece wanted = {0};
+    show_host("ab");
+    want_number("its tag", add_late(), 2);
+    ASK(TVERSION, "2", 2);
+    add_frame(&wanted, HVERSION, 2, "2", 2);
+    add_frame(&wanted, HNEWNAME, 2, "2", 1);
+    add_frame(&wanted, HMOVNAME, 2, "2s", 1, "a");
+    add_frame(&wanted, HNEWNAME, 2, "2", 2);
+    add_frame(&wanted, HMOVNAME, 2, "2s", 2, "late");
+    add_frame(&wanted, HACK, 2, "");
+    add_frame(&wanted, HUNLOCK, 2, "");
+    want_pending(HOST, &wanted);
+}
+
+/* A message that waits for memory is answered after the file has joined; one whose answer waits to be written was answered before. */
+static void add_while_waiting(void)
+{
+    struct piece piece = {0}, wanted = {0};
+    struct state start;
+    uint64_t taken = 0;
+    sam_status status;
+    show_host("ab");
+    add_message(&piece, TSTARTNEWFILE, "");
+    read_state(HOST, &start);
+    while ((status = sam_host_feed(&host, piece.bytes, piece.len)) == SAM_NO_MEMORY)
+        continue;
+    want("taken", sam_host_taken(&host, &taken));
+    uint16_t late = add_late(), new_file = taken == 1 ? 3 : 2;
+    want_number("the tag of the file that joined", late, 5 - new_file);
+    while (status == SAM_UNFINISHED || status == SAM_NO_MEMORY)
+        status = sam_host_feed(&host, NULL, 0);
+    want("a message that waited", status);
+    want_text(new_file, "");
+    want_text(late, "two");
+    add_frame(&wanted, HNEWNAME, 2, "2", new_file);
+    add_frame(&wanted, HBINDNAME, 2, "2", new_file);
+    add_frame(&wanted, HCURRENT, 2, "2", new_file);
+    add_frame(&wanted, HUNLOCK, 2, "");
+    before = start;
+    want_pending(HOST, &wanted);
+}
+
 /* ---- Rasps ---- */
 
 static void grow(void)
@@ -652,6 +712,8 @@ static const struct {
     {"decode_bad_t", decode_bad_t},
     {"decode_bad_h", decode_bad_h},
     {"feed_fault", feed_fault},
+    {"add_late_file", add_late_file},
+    {"add_while_waiting", add_while_waiting},
     {"grow", grow},
     {"data", data},
     {"type_in", type_in},

@@ -89,8 +89,6 @@ def test_files_are_refused_in_order():
     expect_equal(code_of(host.add_file, "a" * 65, b"\xff"), "NOT_TEXT")
     expect_equal(code_of(host.add_file, "a" * 65, "x"), "ADD_TOO_LONG")
     expect_equal(host.tags, 3)
-    host.feed()
-    expect_equal(code_of(host.add_file, b"\xff", "x"), "ADD_BEGUN")
 
 
 def test_tags_run_out():

@@ -158,7 +158,8 @@ function checkRefusals() {
     { event: events, why: Status.REFUSAL_NO_FILE },
   ]);
   same([terminal.nextRefusal(), terminal.decided, terminal.locked(tag), terminal.commandLocked], [null, events, false, false]);
-  throws("AddRefused", "ADD_BEGUN", () => host.addFile("late"));
+  throws("AddRefused", "ADD_TOO_LONG", () => host.addFile("n".repeat(65)));
+  same([host.addFile("late", "x"), host.text(2)], [2, "x"]);
   throws("Missing", "NONE", () => host.text(9));
   throws("Missing", "NONE", () => host.saved(tag));
   throws("NotText", "NOT_TEXT", () => terminal.type(tag, "\ud834"));

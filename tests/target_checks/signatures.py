@@ -31,10 +31,15 @@ def kinds_of(words):
     return kinds
 
 
+def declared(header):
+    """The name and the arguments of each call, in the order of the header."""
+    return DECLARATION.findall(re.sub(r"/\*.*?\*/", "", header, flags=re.S))
+
+
 def signatures(header):
-    """The calls, in the order of the header: their names and kinds."""
-    header = re.sub(r"/\*.*?\*/", "", header, flags=re.S)
-    return [(name, kinds_of([" ".join(word.split()) for word in words.split(",")])) for name, words in DECLARATION.findall(header)]
+    """The calls but for those of a link, which the binding of JavaScript doesn't have: their names and kinds."""
+    calls = [(name, words) for name, words in declared(header) if not name.startswith("sam_link_")]
+    return [(name, kinds_of([" ".join(word.split()) for word in words.split(",")])) for name, words in calls]
 
 
 def case(code, name, kinds):

@@ -19,6 +19,8 @@ of them reads or writes anything: the program carries the bytes.
 Units: places and lengths count runes (Unicode scalar values, the characters of a `str`), and a text has at most 1,000,000. A text that
 is given may be a `str`, or its UTF-8 as `bytes`.
 
+A `Link` carries the bytes of both, and notes of the program, over connections that may break at any byte: docs/EMBEDDING.md has a loop.
+
 `replay` runs a script of docs/SCRIPTS.md over a host and a terminal of its own.
 
 Errors: each family of status codes has an exception class below `SamError`, whose `code` is the `Status`; `status_text` explains one.
@@ -32,15 +34,17 @@ The shared library is the first of these that is there:
 
 1. the file that the environment variable SAM_LIBRARY names; if that can't be used, no other is tried;
 2. `out/libsulgrevad.so` of the repository or of the installed editor, if this package lies in one of these;
-3. `libsulgrevad.so.0`, where the system looks for shared libraries: /usr/local/lib after `ldconfig`, or the folders of LD_LIBRARY_PATH.
+3. `libsulgrevad.so.0.1`, where the system looks for shared libraries: /usr/local/lib after `ldconfig`, or the folders of LD_LIBRARY_PATH.
 
 Each call of the library keeps the interpreter's lock, so threads may share a handle; a free-threaded Python has no such lock, so use one
 of your own there. `text`, `saved` and `snarfed` read a long text by several calls: let no other thread change it meanwhile.
 
 A signal's handler that raises, as Python's own for ^C does, may break in once the library has done a call. Then nobody knows whether a
 piece or an event was taken, and what `next_written`, `next_refusal` or `changed` was to hand out is lost. So a program that goes on after
-a signal has a handler that only notes it. A `MemoryError` of Python's own may lose what these three and `add_file` hand out, too.
+a signal has a handler that only notes it. A `MemoryError` of Python's own may lose what these three and `add_file` hand out, too; but
+nothing that a link hands out.
 """
+from sulgrevad.link import HELLO_BYTES, MOST_NOTE, Hello, Link, What, read_hello, write_refusal
 from sulgrevad.scripts import replay
 from sulgrevad.sides import Change, Host, HostDid, Refusal, Terminal, TerminalDid
 from sulgrevad.status import (
@@ -48,6 +52,7 @@ from sulgrevad.status import (
     CountFull,
     HandleFault,
     HostRefused,
+    LinkFault,
     Missing,
     NoMemory,
     NotText,
@@ -67,7 +72,8 @@ from sulgrevad.status import (
 __version__ = "0.1.0"
 
 __all__ = [
-    "AddRefused", "Change", "CountFull", "HandleFault", "Host", "HostDid", "HostRefused", "Missing", "NoMemory", "NotText", "Refusal",
-    "SamError", "ScriptFault", "Status", "Step", "StreamFault", "Terminal", "TerminalDid", "TerminalRefused", "Unfinished", "Waiting",
-    "error_of", "library_version", "replay", "status_text",
+    "HELLO_BYTES", "MOST_NOTE", "AddRefused", "Change", "CountFull", "HandleFault", "Hello", "Host", "HostDid", "HostRefused", "Link",
+    "LinkFault", "Missing", "NoMemory", "NotText", "Refusal", "SamError", "ScriptFault", "Status", "Step", "StreamFault", "Terminal",
+    "TerminalDid", "TerminalRefused", "Unfinished", "Waiting", "What", "error_of", "library_version", "read_hello", "replay",
+    "status_text", "write_refusal",
 ]  # fmt: skip

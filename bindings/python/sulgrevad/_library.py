@@ -8,7 +8,7 @@ from typing import Any, Dict, Tuple, Union
 # What is taken as a text: its characters, or its UTF-8.
 Text = Union[str, bytes, bytearray, memoryview]
 
-SONAME = "libsulgrevad.so.0"
+SONAME = "libsulgrevad.so.0.1"
 VERSION = (0, 1)  # major and minor number of the library that this package is for
 
 # A text is read in pieces of so many bytes, and a replay is given so much room first.
@@ -25,7 +25,7 @@ class Did(ctypes.Structure):
 
 
 class Handle(ctypes.Structure):
-    """sam_host and sam_term; empty if all bytes are zero."""
+    """sam_host, sam_term and sam_link; empty if all bytes are zero."""
 
     _fields_ = [("at", c_void_p), ("made", c_uint64)]
 
@@ -66,6 +66,11 @@ SIGNATURES: Dict[str, Tuple[Any, ...]] = {
     "term_command_locked": (_BOOL,), "term_held": (_U64,), "term_unsent": (_U32,), "term_sent": (_U64,),
     "term_under_way": (_U64,), "term_pattern": (*_BUFFER, _SIZE), "term_snarfed": _TEXT_FROM, "term_snarf_len": (_U32,),
     "term_exited": (_BOOL,), "term_version": (_TAG,),
+    "link_new": (c_uint32, c_char_p), "link_free": (), "link_call": (c_bool, _U64), "link_welcomed": _BYTES, "link_answer": _BYTES,
+    "link_broken": (c_uint64,), "link_put": _BYTES, "link_put_note": _BYTES, "link_ask": (), "link_acknowledge": (),
+    "link_take_out": (c_uint64, *_BUFFER, _SIZE), "link_feed": (c_uint64, *_BYTES), "link_take_in": (*_BUFFER, _SIZE),
+    "link_next_note": (*_BUFFER, _SIZE), "link_phase": (_U32,), "link_attempt": (_U64,), "link_put_count": (_U64,),
+    "link_acknowledged": (_U64,), "link_received": (_U64,),
 }  # fmt: skip
 
 # All arguments, and the result, of each call that takes no handle.
@@ -73,6 +78,8 @@ FREE_SIGNATURES: Dict[str, Tuple[Tuple[Any, ...], Any]] = {
     "library_version": ((), c_uint32),
     "status_text": ((c_uint32,), c_char_p),
     "replay": ((*_BYTES, *_BUFFER, _SIZE, _SIZE), c_uint32),
+    "link_read_hello": ((*_BYTES, _U32, POINTER(c_char), _U64), c_uint32),
+    "link_write_refusal": ((c_uint32, *_BYTES, POINTER(c_char)), c_uint32),
 }
 
 

@@ -14,13 +14,13 @@ MOST_IN_PATTERN = 512  # bytes of the longest pattern
 LEAST_PIECE = 256  # bytes that are read of a text, where so few runes are wished for
 GAP = 2**32 - 1  # what stands for a rune that is not loaded
 
-# SAM_OK as a plain number: once a call is done nothing may want memory, and up to Python 3.11 to look up a Status does.
-_OK = int(Status.OK)
+# SAMOK as a plain number: once a call is done nothing may want memory, and up to Python 3.11 to look up a Status does.
+OK = int(Status.OK)
 
 # The first number that is too great for a type of an argument.
-_END = {c_uint16: 2**16, c_uint32: 2**32, c_size_t: 2 ** (8 * ctypes.sizeof(c_size_t))}
+_END = {c_uint16: 2**16, c_uint32: 2**32, c_uint64: 2**64, c_size_t: 2 ** (8 * ctypes.sizeof(c_size_t))}
 
-_AnySide = TypeVar("_AnySide", bound="_Side")
+_AnyHeld = TypeVar("_AnyHeld", bound="Held")
 
 
 class Refusal(NamedTuple):
@@ -68,7 +68,7 @@ def _index(kind: Any, number: SupportsIndex) -> int:
     return index
 
 
-def _least(most: Optional[int], there: int) -> int:
+def least(most: Optional[int], there: int) -> int:
     """The smaller of a wished number, if there is one, and of how many there are. ValueError for one below 0."""
     if most is None:
         return there
@@ -77,17 +77,15 @@ def _least(most: Optional[int], there: int) -> int:
     return min(operator.index(most), there)
 
 
-class _Side:
-    """What host and terminal share: a handle, its calls, the pending bytes."""
+class Held:
+    """What host, terminal and link share: a handle, and its calls."""
 
     _prefix = ""
 
-    def __init__(self) -> None:
+    def __init__(self, *arguments: Any) -> None:
         if not hasattr(self, "_handle"):  # else it is made already, which the library says
-            # What take_out moved out where an exception broke it off: a buffer, how much of it was returned, and how much it has.
-            self._left: Deque[Tuple[Any, int, c_size_t]] = deque()
             self._handle = Handle()
-        self._call("new")
+        self._call("new", *arguments)
 
     def __reduce__(self) -> NoReturn:
         """Refuses to be copied or pickled: a copy would free what this one has."""
@@ -105,9 +103,9 @@ class _Side:
         return status
 
     def _call(self, name: str, *arguments: Any) -> None:
-        """Makes a call. Raises what it answers other than SAM_OK."""
+        """Makes a call. Raises what it answers other than SAMOK."""
         code = self._answer(name, *arguments)
-        if code != _OK:
+        if code != OK:
             raise error_of(code)
 
     def _number(self, name: str, kind: Any, *arguments: Any) -> int:
@@ -127,6 +125,37 @@ class _Side:
         """Makes a call that hands out yes or no."""
         return bool(self._number(name, c_bool, *arguments))
 
+    def free(self) -> None:
+        """Frees it, with all that it holds. Any later call but this one raises HandleFault."""
+        self._answer("free")
+
+    def __enter__(self: _AnyHeld) -> _AnyHeld:
+        return self
+
+    def __exit__(
+        self, kind: Optional[Type[BaseException]], error: Optional[BaseException], trace: Optional[TracebackType]
+    ) -> None:
+        self.free()
+
+    def __del__(self) -> None:
+        if hasattr(self, "_handle"):
+            self.free()
+
+
+class _Side(Held):
+    """What host and terminal share: their texts, and the pending bytes."""
+
+    def __init__(self) -> None:
+        if not hasattr(self, "_left"):
+            # What take_out moved out where an exception broke it off: a buffer, how much of it was returned, and how much it has.
+            self._left: Deque[Tuple[Any, int, c_size_t]] = deque()
+        super().__init__()
+
+    def free(self) -> None:
+        """Frees it, with what was pending. Any later call but this one raises HandleFault."""
+        self._left.clear()
+        super().free()
+
     def _range(self, name: str, tag: int) -> Tuple[int, int]:
         """Makes a call that hands out two places."""
         start, end = c_uint32(), c_uint32()
@@ -141,7 +170,7 @@ class _Side:
 
     def _long_text(self, name: str, place: int, most: Optional[int], *arguments: Any) -> str:
         """The runes of a text from a place on: `most` at most, all if that is None."""
-        left = _least(most, 2**32)
+        left = least(most, 2**32)
         into, count, runes = ctypes.create_string_buffer(min(PIECE, max(LEAST_PIECE, left))), c_size_t(), c_uint32()
         pieces: List[str] = []
         while True:
@@ -190,7 +219,7 @@ class _Side:
     def take_out(self, most: Optional[int] = None) -> bytes:
         """Moves out the pending bytes, all or the first `most`; b"" if there are none. ValueError if `most` is below 0. Where another
         exception breaks in, as a MemoryError, they are still pending, and may come by more than one call."""
-        room = _least(most, self.pending)
+        room = least(most, self.pending)
         if room == 0:
             return b""
         moved = self._left.popleft() if self._left else (ctypes.create_string_buffer(room), 0, c_size_t())
@@ -209,23 +238,6 @@ class _Side:
             self._left.appendleft(rest)
         return taken
 
-    def free(self) -> None:
-        """Frees it, with what was pending. Any later call but this one raises HandleFault."""
-        self._left.clear()
-        self._answer("free")
-
-    def __enter__(self: _AnySide) -> _AnySide:
-        return self
-
-    def __exit__(
-        self, kind: Optional[Type[BaseException]], error: Optional[BaseException], trace: Optional[TracebackType]
-    ) -> None:
-        self.free()
-
-    def __del__(self) -> None:
-        if hasattr(self, "_handle"):
-            self.free()
-
 
 class Host(_Side):
     """The side that holds whole texts and runs commands. It begins with the command file alone, whose tag is 0."""
@@ -233,9 +245,9 @@ class Host(_Side):
     _prefix = "sam_host"
 
     def add_file(self, name: Text, text: Text = "") -> int:
-        """Adds a file, clean and closed, and returns its tag: 1 for the first, and so on. Raises, in this order: AddRefused after the
-        first feed, even of no bytes; NotText; AddRefused for a name above 64 runes or a text above 1,000,000, and if no tag is left;
-        NoMemory. The host is then as it was."""
+        """Adds a file, clean and closed, and returns its tag: 1 for the first, and so on. It may be called at any time: the answer to
+        the terminal's next Tversion has the name. Raises, in this order: NotText; AddRefused for a name above 64 runes or a text above
+        1,000,000, and if no tag is left; NoMemory. The host is then as it was."""
         name, text = bytes_of(name), bytes_of(text)
         return self._number("add_file", c_uint16, name, len(name), text, len(text))
 
@@ -438,7 +450,8 @@ class Terminal(_Side):
 
     def offer_version(self, version: int) -> None:
         """Offers a version of the protocol, and asks for the names of all files. Before it the terminal knows none of them, and refuses
-        each event on one; events after it wait for the answer. Version 2 allows longer snarfed texts."""
+        each event on one; events after it wait for the answer. Offer it again to learn of files that joined the host since. Version 2
+        allows longer snarfed texts."""
         self._call("offer_version", version)
 
     def flush(self) -> None:
@@ -470,7 +483,7 @@ class Terminal(_Side):
         code = self._answer("next_refusal", byref(event), byref(why))
         if code == Status.NONE:
             return None
-        if code != _OK:
+        if code != OK:
             raise error_of(code)
         return Refusal(event.value, Status(why.value))
 
@@ -537,7 +550,7 @@ class Terminal(_Side):
         """The runes of an open file from a place on, at most `count`; None stands for one that is not loaded. Raises Missing,
         and ValueError if a number is below 0."""
         length = self.len(tag)
-        room = _least(count, max(0, length - max(0, place)))
+        room = least(count, max(0, length - max(0, place)))
         into, got = (c_uint32 * room)(), c_uint32()
         self._call("read", tag, place, into, room, byref(got))
         return [None if rune == GAP else chr(rune) for rune in into[: got.value]]

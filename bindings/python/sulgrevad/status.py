@@ -18,7 +18,6 @@ class Status(enum.IntEnum):
     NOT_TEXT = 6
     NONE = 7
     WAITING = 8
-    ADD_BEGUN = 17
     ADD_TOO_LONG = 19
     ADD_NO_TAG = 20
     BAD_KIND = 33
@@ -50,6 +49,20 @@ class Status(enum.IntEnum):
     REFUSAL_BAD_VERSION = 136
     SCRIPT_LINE = 161
     SCRIPT_COUNT_FULL = 162
+    LINK_NOT_A_LINK = 193
+    LINK_OTHER_VERSION = 194
+    LINK_BAD_HELLO = 195
+    LINK_NO_SESSION = 196
+    LINK_OTHER_SESSION = 197
+    LINK_OLD_ATTEMPT = 198
+    LINK_WRONG_COUNT = 199
+    LINK_WRONG_ROLE = 200
+    LINK_NOT_OPEN = 201
+    LINK_TOO_LONG = 202
+    LINK_BAD_KIND = 203
+    LINK_BAD_LENGTH = 204
+    LINK_ACK_AHEAD = 205
+    LINK_NO_ROOM = 206
 
 
 class Step(enum.IntEnum):
@@ -91,6 +104,11 @@ class SamError(Exception):
             self.code = code
         super().__init__(status_text(code) if isinstance(self.code, Status) else f"status {code}")
 
+    @property
+    def status(self) -> int:
+        """The same as `code`."""
+        return self.code
+
     def __reduce__(self) -> Tuple[Any, ...]:
         """Is copied and pickled by its code, of which the sentence is made."""
         return type(self), (self.code,), self.__dict__
@@ -106,7 +124,7 @@ class Unfinished(SamError, MemoryError):
 
 
 class CountFull(SamError, OverflowError):
-    """A stream of 2**64 bytes, or 2**64 events (SAM_COUNT_FULL)."""
+    """A stream of 2**64 bytes, or 2**64 events or connections (SAM_COUNT_FULL)."""
 
 
 class Waiting(SamError):
@@ -114,7 +132,7 @@ class Waiting(SamError):
 
 
 class HandleFault(SamError, ValueError):
-    """The host or terminal was freed (SAM_NO_HANDLE), or was made twice (SAM_MADE)."""
+    """The host, terminal or link was freed (SAM_NO_HANDLE), or was made twice (SAM_MADE)."""
 
 
 class NotText(SamError, ValueError):
@@ -142,6 +160,10 @@ class TerminalRefused(SamError):
     """The terminal refused a frame, and has stopped (SAM_TERM_..)."""
 
 
+class LinkFault(SamError):
+    """A call of a link was refused, or bytes are no hello (SAM_LINK_..). The link goes on."""
+
+
 class ScriptFault(SamError, ValueError):
     """A script can't be replayed (SAM_SCRIPT_..). `line` is its first wrong line, counted from 1, or if none is wrong the line at
     which nothing is there to take; None if a count is full."""
@@ -165,6 +187,7 @@ FAMILIES = (
     (range(64, 96), HostRefused),
     (range(96, 128), TerminalRefused),
     (range(160, 192), ScriptFault),
+    (range(192, 224), LinkFault),
 )
 
 

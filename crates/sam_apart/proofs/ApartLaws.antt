@@ -1,5 +1,5 @@
 -- Two sides that worked apart are one run of the world; each read the other's stream, and neither refused the other.
-use Rattle.sam_apart.proofs.Common.{◌≡◌, ℕ, false, List, [], ◌∷◌, ◌++◌, Some, None, Err, refl, sym, append_assoc, arith, le-ltb, append-nil, or_from, append_cancel_left, MesgFault, FitsT, Tmesg, FitsH, HFrame, Direction, terminal, host, frame_of, FitInTurn, version_after, stream_of, IsOpen, Shows, stream_of-append, stream_of-one, PlainHost, answer, new_host, HostFault, starts_sound, PlainTerminal, new_terminal, take_of, TermFault, TermLog, PlainWorld, new_world, run_of, merged, is_bad_log, IsInOrder, HostRuns, TermRuns, world, Begins, settles, fits, each_append, users_merged_from, FitsUnder, starts_in_order, reached_in_order, host_never_refuses, terminal_never_refuses, sides, Apart, Joined, Understood}
+use Rattle.sam_apart.proofs.Common.{◌≡◌, ℕ, false, List, [], ◌∷◌, ◌++◌, Some, None, Err, refl, sym, append_assoc, arith, le-ltb, append-nil, or_from, append_cancel_left, MesgFault, FitsT, Tmesg, FitsH, HFrame, Direction, terminal, host, frame_of, FitInTurn, version_after, stream_of, IsOpen, Shows, stream_of-append, stream_of-one, PlainHost, answer, new_host, HostFault, starts_sound, PlainTerminal, new_terminal, take_of, TermFault, TermLog, PlainWorld, new_world, run_of, merged, is_bad_log, IsInOrder, HostRuns, TermRuns, world, Begins, settles, fits, each_append, users_merged_from, files_merged_from, FitsUnder, starts_in_order, reached_in_order, host_never_refuses, terminal_never_refuses, sides, Apart, Joined, Understood}
 use Rattle.sam_frame.specs.Reading.{IsStream, IsSound}
 use Rattle.sam_frame.proofs.Unique.{one_reading}
 use Rattle.sam_frame.proofs.Cuttings.{Shows-longer}
@@ -89,6 +89,7 @@ module _ (given : List (List ℕ × List ℕ)) (entries : List TermLog) (h : Pla
     replays,
     (good_log entries h.taken (fits sides counts entries (new_host given) h new_terminal t handled composed taken taken_begins.rest host_runs a.term_runs)),
     (users_merged_from 0 entries h.taken),
+    (files_merged_from 0 entries h.taken),
     composed_in_turn,
     answered_in_turn,
   )

@@ -4,7 +4,7 @@ use Rattle.sam_crossing.specs.Order.{InOrder, views}
 use Rattle.sam_crossing.specs.StreamVersions.{version_behind}
 use Rattle.sam_crossing.proofs.Composing.{not_done_ahead}
 use Rattle.sam_crossing.proofs.Streaming.{still_done}
-use Rattle.sam_crossing.specs.declared.event.Event.TheVariants.{User, Act, Flush, HostTake, TermTake}
+use Rattle.sam_crossing.specs.declared.event.Event.TheVariants.{User, Add, Act, Flush, HostTake, TermTake}
 use Rattle.sam_sides.specs.declared.log.TermLog.TheVariants as log
 use Rattle.sam_apart.proofs.RealLaws.{counts, answered_as}
 use Rattle.sam_apart.proofs.ApartKinds.{act_turn, flush_turn, take_turn, answered as answer_is}
@@ -136,6 +136,7 @@ host_step w next (m ∷ ms) is j s = taken (answer w.host.0 m) refl s
 
 walked_step : (w next : Listed) (e : Event) → Walked w → step listing w e ≡ Some next → Walked next
 walked_step w next (User x) j s = grind arith
+walked_step w next (Add name text) j s = absurd (cc)
 walked_step w next Act j s = composes w next (acted (act_of w.term.0)) w.down Act j s (grind (arith, act_turn, place))
 walked_step w next Flush j s =
     composes w next (unless_refused (flush_of w.term.0)) w.down Flush j s

@@ -25,7 +25,7 @@ pub use Rattle.sam_term.specs.declared.fault.TermFault.{TermFault}
 pub use Rattle.sam_sides.specs.RealSides.{acted, sides, unless_refused}
 pub use Rattle.sam_apart.specs.Apart.{Apart, Joined, Understood}
 pub use Rattle.sam_crossing.proofs.OrderLaws.{host_never_refuses, reached_in_order, starts_in_order, steps_in_order, terminal_never_refuses, version_at_its_place}
-pub use Rattle.sam_world.proofs.ComesToSync.{FitsUnder, each_append, fits, settles, users_merged_from}
+pub use Rattle.sam_world.proofs.ComesToSync.{FitsUnder, each_append, fits, settles, users_merged_from, files_merged_from}
 pub use Rattle.sam_crossing.specs.RunOrder.{IsInOrder}
 pub use Rattle.sam_crossing.specs.World.{mesgs, PlainWorld, after_answer, composed_by, host_takes, new_world, run_of, step_of}
 pub use Rattle.sam_world.specs.Sides.{Counts, Each, HostRuns, Steps, TermRuns, World, if_given, answered, composed, host_take, run, step, term_take, world}

@@ -1,4 +1,5 @@
 -- The real sides count as the law of two sides asks, their frames are told apart, and their world is the plain world.
+use Rattle.sam_crossing.specs.declared.event.Event.TheVariants.{Add}
 use Rattle.sam_apart.proofs.Common.{◌≡◌, suc, ◌≤◌, List, [], ◌∷◌, Some, Result, Ok, refl, arith, FitsT, Tmesg, FitsH, HFrame, terminal, host, frame_of, PlainHost, PlainTerminal, Made, flush_of, take_of, TermFault, Acted, PlainWorld, composed_by, step_of, run_of, Each, Counts, TermRuns, TermLog, World, step, run, act_of, sides, unless_refused, acted}
 use Rattle.std.proofs.Common.{All, option_map}
 use Rattle.std.proofs.lemmas.Option.{same_Some}
@@ -66,16 +67,15 @@ down_free = record { free = λ a b x y p q e. (downwards.one_frame 2 a b x y p q
 abbrev pub plain : World PlainHost PlainTerminal Tmesg HFrame → PlainWorld
 plain w = record { host = w.host; term = w.term; up = w.up; down = w.down }
 
-same_step : (w : World PlainHost PlainTerminal Tmesg HFrame) (e : Event) → step_of (plain w) e ≡ option_map plain (step sides w e)
-same_step w e = grind arith
-
-same_run : (es : List Event) (w : World PlainHost PlainTerminal Tmesg HFrame) → run_of (plain w) es ≡ option_map plain (run sides w es)
-same_run [] w = refl
-same_run (e ∷ es) w = grind (arith, same_step, (same_run es))
+-- no file joins two sides, so a step of theirs is one of the plain world
+same_step : (w v : World PlainHost PlainTerminal Tmesg HFrame) (e : Event) → step sides w e ≡ Some v → step_of (plain w) e ≡ Some (plain v)
+same_step w v (Add name text) s = absurd (cc)
+same_step w v e s = grind arith
 
 -- a run of the two sides is a run of the plain world
 pub plain_run : (w last : World PlainHost PlainTerminal Tmesg HFrame) (es : List Event) → run sides w es ≡ Some last → run_of (plain w) es ≡ Some (plain last)
-plain_run w last es e = grind (arith, same_run)
+plain_run w last [] r = grind arith
+plain_run w last (e ∷ es) r = grind (arith, same_step, (λ (v : World PlainHost PlainTerminal Tmesg HFrame). plain_run v last es))
 
 -- ## Sides at work
 

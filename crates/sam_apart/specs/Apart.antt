@@ -16,7 +16,7 @@ use Rattle.sam_term.specs.declared.fault.TermFault.{TermFault}
 use Rattle.sam_term.specs.declared.fault.TermFault.TheVariants as fault
 use Rattle.sam_sides.specs.declared.log.TermLog.{TermLog}
 use Rattle.sam_world.specs.Logs.{logged_users}
-use Rattle.sam_crossing.specs.World.{user_events, PlainWorld, new_world, run_of}
+use Rattle.sam_crossing.specs.World.{user_events, joined_files, PlainWorld, new_world, run_of}
 use Rattle.sam_sides.specs.RealSides.{sides}
 use Rattle.sam_world.specs.Sides.{Each, HostRuns, TermRuns}
 use Rattle.sam_world.specs.Prefixes.{Begins}
@@ -50,6 +50,7 @@ pub record Joined (given : List (List ℕ × List ℕ)) (entries : List TermLog)
   pub downwards : answered ≡ taken ++ world.down
   pub good : is_bad_log entries h.taken ≡ false
   pub users_are : user_events (merged entries h.taken) ≡ logged_users entries
+  pub none_join : joined_files (merged entries h.taken) ≡ []
   pub composed_in_turn : FitInTurn terminal 1 composed
   pub answered_in_turn : FitInTurn host 1 answered
 

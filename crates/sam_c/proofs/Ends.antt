@@ -1,4 +1,4 @@
--- The two ends as what a box in C's heap holds, and each handle beside the parts of such a box.
+-- The ends as what a box in C's heap holds, and each handle beside the parts of such a box.
 use Rattle.sam_c.proofs.Walks.{[], Bx, RattleType, Slot, plain}
 use denote.Param.Laws.{Laws}
 use mir.Syntax.{dnil, impl, tnil}
@@ -9,7 +9,10 @@ use Rattle.sam_endpoint.specs.contracts.host_endpoint.HostEndpoint.{the_row as H
 use Rattle.sam_endpoint.proofs.host_endpoint.HostEndpoint.TheLaws.{the_row_laws as host_endpoint}
 use Rattle.sam_endpoint.specs.contracts.term_endpoint.TermEndpoint.{the_row as TermEndpoint}
 use Rattle.sam_endpoint.proofs.term_endpoint.TermEndpoint.TheLaws.{the_row_laws as term_endpoint}
+use Rattle.sam_link.specs.contracts.link.Link.{the_row as Link}
+use Rattle.sam_link.proofs.link.Link.TheLaws.{the_row_laws as link}
 use Rattle.sam_c.specs.contracts.handle.HeldHost as HeldHost
+use Rattle.sam_c.specs.contracts.handle.HeldLink as HeldLink
 use Rattle.sam_c.specs.contracts.handle.HeldTerm as HeldTerm
 use Rattle.sam_c.specs.contracts.parts.Parts as Parts
 
@@ -33,3 +36,12 @@ TermParts = plain (λ _. Parts.the_row TermEndpoint Heap.the_row ghosts)
 
 abbrev pub HeldTerms : Slot 0
 HeldTerms = plain (λ _. HeldTerm.the_row)
+
+abbrev pub LinkBox : Bx
+LinkBox = boxed Link link
+
+abbrev pub LinkParts : Slot 0
+LinkParts = plain (λ _. Parts.the_row Link Heap.the_row ghosts)
+
+abbrev pub HeldLinks : Slot 0
+HeldLinks = plain (λ _. HeldLink.the_row)

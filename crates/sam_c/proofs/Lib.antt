@@ -5,3 +5,4 @@ pub mod Filling
 pub mod Putting
 pub mod Replaying
 pub mod Measuring
+pub mod LinkIds

@@ -10,6 +10,7 @@ use Rattle.std.specs.Global.{Global}
 use Rattle.std_heap.specs.contracts.GlobalAllocator.TheImpl.{ghosts}
 use Rattle.sam_endpoint.specs.contracts.host_endpoint.HostEndpoint.{the_row as HostEndpoint}
 use Rattle.sam_endpoint.specs.contracts.term_endpoint.TermEndpoint.{the_row as TermEndpoint}
+use Rattle.sam_link.specs.contracts.link.Link.{the_row as Link}
 
 -- what a box of this value owns, its token being the right to free the block; nothing where there is no value
 abbrev pub holds : (Ty → Ptr → Fml) → (R : RattleType) → Ptr → Option R.Denot → Fml
@@ -23,15 +24,24 @@ holds_host alloc = holds (ghosts.dealloc_token alloc) HostEndpoint
 abbrev pub holds_term : Global → Ptr → Option TermEndpoint.Denot → Fml
 holds_term alloc = holds (ghosts.dealloc_token alloc) TermEndpoint
 
+abbrev pub holds_link : Global → Ptr → Option Link.Denot → Fml
+holds_link alloc = holds (ghosts.dealloc_token alloc) Link
+
 abbrev pub held_host_coded : Coded (Option HostEndpoint.Denot)
 held_host_coded = coded_option HostEndpoint.coded
 
 abbrev pub held_term_coded : Coded (Option TermEndpoint.Denot)
 held_term_coded = coded_option TermEndpoint.coded
 
--- "sam host" and "sam term", the first letter in the highest byte
+abbrev pub held_link_coded : Coded (Option Link.Denot)
+held_link_coded = coded_option Link.coded
+
+-- "sam host", "sam term" and "sam link", the first letter in the highest byte
 abbrev pub host_mark : ℕ
 host_mark = 8314046373061161844
 
 abbrev pub term_mark : ℕ
 term_mark = 8314046373261832813
+
+abbrev pub link_mark : ℕ
+link_mark = 8314046373127876203

@@ -1,13 +1,12 @@
 -- What the calls of a host do.
 use Rattle.std.specs.Prelude.{◌≡◌, ◌⊎◌, ℕ, List, [], ◌∷◌, ◌++◌, length, take, drop, min, Option, option_map, Some, None, Result, Ok, Err}
-use Rattle.sam_runes.specs.Checks.{first_of_checks}
 use Rattle.sam_runes.specs.Slots.{slot}
 use Rattle.sam_text.specs.Files.{PlainFile, file_at}
 use Rattle.sam_endpoint.specs.declared.fault.EndpointFault.{EndpointFault}
 use Rattle.sam_endpoint.specs.declared.fault.FinishFault.{FinishFault}
 use Rattle.sam_endpoint.specs.declared.fault.HostStop.{HostStop}
 use Rattle.sam_endpoint.specs.declared.fault.AddFault.{AddFault}
-use Rattle.sam_endpoint.specs.HostEndpoints.{PlainHostEndpoint, new_host_endpoint, Feeds, Finishes, IsAddFault, add_checks, with_file}
+use Rattle.sam_endpoint.specs.HostEndpoints.{PlainHostEndpoint, new_host_endpoint, Adds, Feeds, Finishes}
 use Rattle.sam_c.specs.Status.{ok, no_memory, is_made, no_handle, nothing, add_status, host_status, host_finish_status}
 use Rattle.sam_c.specs.Calls.{AtHandle}
 
@@ -40,12 +39,6 @@ tag_or before (Err why) = before
 abbrev pub add_status_of : Result ℕ AddFault → ℕ
 add_status_of (Ok tag) = ok
 add_status_of (Err why) = add_status why
-
--- what adding a file answers, and how it leaves the end
-abbrev pub Adds : PlainHostEndpoint → List ℕ → List ℕ → Result ℕ AddFault → PlainHostEndpoint → Type 0
-Adds e name text (Ok tag) g =
-    (tag ≡ length e.host.files.slots) × (first_of_checks (add_checks e name text) ≡ None) × (g ≡ with_file e name text)
-Adds e name text (Err why) g = IsAddFault (first_of_checks (add_checks e name text)) why × (g ≡ e)
 
 abbrev pub HostAdded : Option PlainHostEndpoint → List ℕ → List ℕ → ℕ → ℕ → ℕ → Option PlainHostEndpoint → Type 0
 HostAdded None name text old_tag status new_tag after = (status ≡ no_handle) × (new_tag ≡ old_tag) × (after ≡ None)

@@ -6,4 +6,7 @@ pub mod Hosts
 pub mod Terms
 pub mod Scripts
 pub mod Measures
+pub mod LinkStatus
+pub mod Links
+pub mod Walking
 pub mod Steps

@@ -59,7 +59,6 @@ read_status reading.OutOfMemory = no_memory
 
 -- why a file is not added
 abbrev pub add_status : AddFault → ℕ
-add_status opening.Begun = 17
 add_status opening.NotText = not_text
 add_status opening.TooLong = 19
 add_status opening.NoTag = 20

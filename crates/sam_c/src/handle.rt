@@ -2,12 +2,15 @@
 //! address to the calls. An exported type may hold no box, so a handle carries the parts of one under a pointer to bytes.
 
 ghost use Rattle.std.specs.Prelude.{◌≡◌, None, Option, Some, eqb, is_some, option_map};
-ghost use Rattle.sam_c.specs.Handles.{held_host_coded, held_term_coded, holds_host, holds_term, host_mark, term_mark};
+ghost use Rattle.sam_c.specs.Handles.{held_host_coded, held_link_coded, held_term_coded, holds_host, holds_link, holds_term};
+ghost use Rattle.sam_c.specs.Handles.{host_mark, link_mark, term_mark};
 ghost use Rattle.sam_endpoint.specs.HostEndpoints.{PlainHostEndpoint};
 ghost use Rattle.sam_endpoint.specs.TermEndpoints.{PlainTermEndpoint};
+ghost use Rattle.sam_link.specs.End.{End};
 
 use crate::parts::Parts;
 use sam_endpoint::{HostEndpoint, TermEndpoint};
+use sam_link::Link;
 use std::alloc::Global;
 use std::marker::Model;
 
@@ -39,6 +42,9 @@ const HOST_MARK: u64 = 8_314_046_373_061_161_844;
 
 /// What stands in a terminal's handle that is made: "sam term" as a number. Any other number says that the handle is empty.
 const TERM_MARK: u64 = 8_314_046_373_261_832_813;
+
+/// What stands in a link's handle that is made: "sam link" as a number. Any other number says that the handle is empty.
+const LINK_MARK: u64 = 8_314_046_373_127_876_203;
 
 /// A host end behind a pointer, or none. The derived drop leaves the memory to whoever holds the pointer by then.
 #[repr(C)]
@@ -258,6 +264,118 @@ impl SamTerm {
 }
 
 impl Drop for SamTerm {
+    /// Frees the end, if the handle holds one.
+    fn drop(self) {
+        drop(self.into_end());
+    }
+}
+
+/// A link's end behind a pointer, or none. The derived drop leaves the memory to whoever holds the pointer by then.
+#[repr(C)]
+#[derive(Drop)]
+pub struct HeldLink {
+    /// Where the end lies, as a pointer to bytes; null if there is none.
+    at: *mut u8,
+    /// The allocator that the end's box came from.
+    alloc: Global,
+    /// The end behind the pointer, as contracts see it.
+    pub ghost end: { Option End } by { held_link_coded },
+}
+
+impl Model for HeldLink {
+    ghost also_owns = { λ h. holds_link h.alloc h.at h.end };
+}
+
+unsafe impl Send for HeldLink {}
+
+impl HeldLink {
+    /// Keeps the parts of a box.
+    fn of_parts(parts: Parts<Link, Global>) -> HeldLink
+        ensures { result.end ≡ parts.value }
+    {
+        let Parts { at, alloc } = parts;
+        HeldLink {
+            at: at as *mut u8,
+            alloc,
+        }
+    }
+
+    /// Gives the parts back.
+    fn into_parts(self) -> Parts<Link, Global>
+        ensures { result.value ≡ self.end }
+    {
+        let HeldLink { at, alloc } = self;
+        Parts {
+            at: at as *mut Link,
+            alloc,
+        }
+    }
+}
+
+/// The handle of a link: `sam_link` of include/sulgrevad.h. It is empty, or holds an end, which clauses call `held.end`.
+#[repr(C)]
+pub struct SamLink {
+    /// The end, if the handle is made.
+    held: HeldLink,
+    /// `LINK_MARK` if and only if the handle holds an end.
+    made: u64,
+    /// States that `held` and `made` agree.
+    ghost is_marked: { is_some held.end ≡ eqb made link_mark },
+}
+
+impl SamLink {
+    /// Makes an empty handle.
+    fn empty(alloc: Global) -> SamLink
+        ensures { result.held.end ≡ None }
+    {
+        SamLink {
+            held: HeldLink::of_parts(Parts::none(alloc)),
+            made: 0,
+        }
+    }
+
+    /// Returns the end; `None` if the handle is empty.
+    fn into_end(self) -> Option<Box<Link>>
+        ensures { option_map (λ end. end.value) result ≡ self.held.end }
+    {
+        let SamLink { held, made } = self;
+        if made == LINK_MARK {
+            Some(held.into_parts().into_box())
+        } else {
+            None
+        }
+    }
+
+    /// Returns whether the handle holds an end.
+    pub(crate) fn is_made(&self) -> bool
+        ensures { result ≡ is_some self.now.held.end }
+    {
+        self.made == LINK_MARK
+    }
+
+    /// Takes the end out of the handle, which is then empty. Returns `None` if it was empty.
+    pub(crate) fn take(&mut self, alloc: Global) -> Option<Box<Link>>
+        ensures end { option_map (λ end. end.value) result ≡ self.old.held.end }
+        ensures empty { self.new.held.end ≡ None }
+    {
+        if !self.is_made() {
+            return None;
+        }
+        std::mem::replace(self, SamLink::empty(alloc)).into_end()
+    }
+
+    /// Puts an end into the handle. One that it held before is freed.
+    pub(crate) fn put(&mut self, end: Box<Link>)
+        ensures { self.new.held.end ≡ Some end.value }
+    {
+        *self = SamLink {
+            held: HeldLink::of_parts(Parts::of(end)),
+            made: LINK_MARK,
+        };
+    }
+}
+
+impl Drop for SamLink {
     /// Frees the end, if the handle holds one.
     fn drop(self) {
         drop(self.into_end());

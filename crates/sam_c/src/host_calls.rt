@@ -42,11 +42,12 @@ pub extern "C" fn sam_host_free(host: &mut SamHost, alloc: Global) -> u32
     }
 }
 
-/// Adds a file, clean and closed, and hands out its tag: 1 for the first, and so on. The name and the text are UTF-8.
+/// Adds a file, clean and closed, and hands out its tag: 1 for the first, and so on. The name and the text are UTF-8. It may be called at
+/// any time: a terminal finds the name in the answer to its next Tversion.
 ///
-/// Errors, in this order: `SAM_NO_HANDLE`; `SAM_ADD_BEGUN` after the first feed; `SAM_NOT_TEXT` if the name or the text is not UTF-8;
-/// `SAM_ADD_TOO_LONG` for a name of more than 64 runes or a text of more than 1,000,000; `SAM_ADD_NO_TAG` if all tags were given;
-/// `SAM_NO_MEMORY`. After an error the host and the tag are as they were.
+/// Errors, in this order: `SAM_NO_HANDLE`; `SAM_NOT_TEXT` if the name or the text is not UTF-8; `SAM_ADD_TOO_LONG` for a name of more than
+/// 64 runes or a text of more than 1,000,000; `SAM_ADD_NO_TAG` if all tags were given; `SAM_NO_MEMORY`. After an error the host and the tag
+/// are as they were.
 #[unsafe(no_mangle)]
 pub extern "C" fn sam_host_add_file(
     host: &mut SamHost,

@@ -1,4 +1,4 @@
-//! The host and the terminal for C, and the replay of scripts. Each export does what a call of a lower crate does, and states its clauses
+//! The host, the terminal and a link for C, and the replay of scripts. Each export does what a call of a lower crate does, and states its clauses
 //! again over the value that the handle holds, or over the bytes that it is given. What a C program owes, and what each call does, stands
 //! in include/sulgrevad.h.
 #![tactic(auto)]
@@ -6,7 +6,10 @@
 mod handle;
 mod host_calls;
 mod host_readers;
+mod link_calls;
+mod link_status;
 mod measures;
+mod members;
 mod parts;
 mod scripts;
 mod status;
@@ -17,5 +20,6 @@ mod term_readers;
 mod term_texts;
 mod utf8;
 
-pub use handle::{SamHost, SamTerm};
+pub use handle::{SamHost, SamLink, SamTerm};
+pub use link_calls::{SamLinkHello, SamLinkId};
 pub use steps::SamDid;

@@ -1,5 +1,5 @@
-//! Measures of a partial text, from a place on: runes, bytes and lines. They walk over the members of the range alone, and look each of
-//! them up in the rasp.
+//! Measures of a partial text, from a place on: runes, bytes and lines. They walk over the members of the range alone, section by
+//! section.
 
 ghost use Rattle.std.specs.Prelude.{◌≡◌, ◌^◌, ◌<◌, ◌≤◌, drop, option_to_list, Some};
 ghost use Rattle.sam_c.specs.Buffers.{Fills};
@@ -7,6 +7,7 @@ ghost use Rattle.sam_c.specs.Calls.{Writes, written};
 ghost use Rattle.sam_rasp.specs.Rows.{gaps_of};
 ghost use Rattle.sam_c.specs.Measures.{bytes_in, front_runes, line_after, place_after, sizes};
 
+use crate::members::Members;
 use crate::status::OK;
 use crate::utf8::{Filled, put_rune};
 use sam_rasp::Rasp;
@@ -27,9 +28,10 @@ fn fill_front(rasp: &Rasp, place: u32, into: &mut [u8]) -> Filled
     ensures few { result.runes < 2 ^ 32 }
 {
     let mut filled = Filled { bytes: 0, runes: 0 };
+    let mut members = Members::of(rasp);
     let end = rasp.len().max(place);
     for at in place..end {
-        let Some(Some(rune)) = rasp.loaded(at) else {
+        let Some(Some(rune)) = members.at(at) else {
             return filled;
         };
         let Some(next) = put_rune(rune, into, filled.bytes) else {
@@ -80,9 +82,10 @@ pub(crate) fn size_of_range(rasp: &Rasp, start: u32, end: u32) -> Sizes
     ensures { (result.bytes, result.gaps) ≡ sizes rasp.now start end }
 {
     let mut all = Sizes { bytes: 0, gaps: 0 };
+    let mut members = Members::of(rasp);
     let last = end.min(rasp.len()).max(start);
     for place in start..last {
-        let one = size_of(rasp.loaded(place));
+        let one = size_of(members.at(place));
         all.bytes += one.bytes;
         all.gaps += one.gaps;
     }
@@ -95,9 +98,10 @@ pub(crate) fn place_after(rasp: &Rasp, start: u32, bytes: usize) -> u32
     ensures { result ≡ place_after rasp.now start bytes }
 {
     let mut left = bytes;
+    let mut members = Members::of(rasp);
     let end = rasp.len().max(start);
     for place in start..end {
-        let Some(Some(rune)) = rasp.loaded(place) else {
+        let Some(Some(rune)) = members.at(place) else {
             return place;
         };
         let size = rune.len_utf8();
@@ -114,12 +118,13 @@ pub(crate) fn line_after(rasp: &Rasp, start: u32, lines: u32) -> Option<u32>
     ensures { result ≡ line_after rasp.now start lines }
 {
     let mut left = lines;
+    let mut members = Members::of(rasp);
     let end = rasp.len().max(start);
     for place in start..end {
         if left == 0 {
             return Some(place);
         }
-        let Some(Some(rune)) = rasp.loaded(place) else {
+        let Some(Some(rune)) = members.at(place) else {
             return None;
         };
         if rune == '\n' {

@@ -23,7 +23,7 @@ pub(crate) const NO_MEMORY: u32 = 1;
 const UNFINISHED: u32 = 2;
 
 /// The stream would have 2^64 bytes, or there would be 2^64 events. What the call brought was not taken.
-const COUNT_FULL: u32 = 3;
+pub(crate) const COUNT_FULL: u32 = 3;
 
 /// The handle is empty: not made yet, or freed.
 pub(crate) const NO_HANDLE: u32 = 4;
@@ -66,7 +66,7 @@ pub(crate) fn add_status(why: AddFault) -> u32
     match why {
         AddFault::NotText => NOT_TEXT,
         AddFault::OutOfMemory => NO_MEMORY,
-        AddFault::Begun | AddFault::TooLong | AddFault::NoTag => ADD + why as u32,
+        AddFault::TooLong | AddFault::NoTag => ADD + why as u32,
     }
 }
 

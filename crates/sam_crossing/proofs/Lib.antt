@@ -30,5 +30,7 @@ pub mod Receiving
 pub mod Ordered
 pub mod Streaming
 pub mod Starting
+pub mod Joining
+pub mod MoreFiles
 pub mod RunLaws
 pub mod OrderLaws

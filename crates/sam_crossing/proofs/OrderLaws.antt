@@ -1,13 +1,16 @@
 -- Every run keeps both sides in order; so neither refuses the other, and they agree wherever nothing is under way.
-use Rattle.sam_crossing.proofs.Common.{◌≡◌, ℕ, ◌+◌, ◌≤◌, false, ◌==◌, List, [], ◌∷◌, ◌++◌, length, Option, Some, None, Ok, eqb-true, arith, length-append, unwrap_or, map-append, most_count, first_of_checks, PlainHost, Reply, answer, stamped, HostFault, window_at, PlainTerminal, Made, flushed, frame_outcome, frame_checks, known_at, put_window, blank_window, TermFault, UserEvent, Tmesg, Hmesg}
+use Rattle.sam_crossing.proofs.Common.{◌≡◌, ℕ, ◌+◌, ◌≤◌, Bool, true, false, ◌&&◌, ◌==◌, nat_le, if◌then◌else◌, refl, sym, ap, ◌∙◌, subst, same_Some, Result, List, [], ◌∷◌, ◌++◌, length, Option, Some, None, Ok, eqb-true, arith, length-append, unwrap_or, map-append, most_count, max_runes, first_of_checks, PlainHost, given_slots, starts_sound, new_terminal, Reply, answer, stamped, HostFault, window_at, PlainTerminal, Made, flushed, frame_outcome, frame_checks, known_at, put_window, blank_window, TermFault, UserEvent, Tmesg, Hmesg}
 use Rattle.std.proofs.Common.{Err}
 use Rattle.sam_term.specs.Term.{act_of, flush_of, take_of}
 use Rattle.sam_term.specs.declared.event.Acted.{Acted}
 use Rattle.sam_mesg.specs.declared.hmesg.HFrame.{HFrame}
-use Rattle.sam_crossing.specs.World.{new_world, PlainWorld, composed_by, step_of, host_after_all, mesgs}
+use Rattle.sam_runes.specs.Texts.{most_in_name}
+use Rattle.sam_host.specs.Laws.{AreGiven}
+use Rattle.sam_crossing.specs.Joining.{HasGiven, with_more}
+use Rattle.sam_crossing.specs.World.{new_world, PlainWorld, composed_by, step_of, after_answer, host_takes, joined_by, host_after_all, mesgs}
 use Rattle.sam_crossing.specs.RunOrder.{IsInOrder, StartsInOrder, StepsInOrder, RunsInOrder, HostNeverRefuses, TerminalNeverRefuses, OnlyCountsStop, QuietMeansAgreement, FreeMeansAhead, FreeMeansOneVersion, ReachedInOrder, FreeMeansVersionAtPlace, OthersStayFree}
 use Rattle.sam_crossing.specs.declared.event.Event.{Event}
-use Rattle.sam_crossing.specs.declared.event.Event.TheVariants.{TermTake}
+use Rattle.sam_crossing.specs.declared.event.Event.TheVariants.{User, Add, Act, Flush, HostTake, TermTake}
 use Rattle.sam_host.specs.declared.fault.HostFault.TheVariants as hostfault
 use Rattle.sam_term.specs.declared.records.Window.{Window}
 use Rattle.sam_term.specs.declared.records.KnownFile.{KnownFile}
@@ -21,6 +24,7 @@ use Rattle.sam_crossing.proofs.Acting.{event_goes}
 use Rattle.sam_crossing.proofs.Receiving.{received}
 use Rattle.sam_crossing.proofs.Ordered.{HostGoes, host_goes, mesgs_stamped, answer_is, free_shows, quiet_settles}
 use Rattle.sam_crossing.proofs.Starting.{starts}
+use Rattle.sam_crossing.proofs.MoreFiles.{new_more, given_both, nothing_more, one_more, given_kept, given_joined, host_goes_more}
 use Rattle.sam_crossing.proofs.Streaming.{one_version, version_at_place}
 use Rattle.sam_term.proofs.TermLaws.{known-put}
 pub use Rattle.sam_sides.proofs.Refusing.{refused_act, refused_flush}
@@ -29,7 +33,12 @@ use Rattle.sam_crossing.proofs.RunLaws.{run_keeps, act_is, counted-start, counte
 -- ## The start
 
 pub starts_in_order : StartsInOrder
-starts_in_order given fit = record { counted = counted-start given; ordered = starts given fit }
+starts_in_order given fit = record {
+  counted = counted-start given;
+  given = record { command = omega arith; work = tt; fit = (starts_sound given fit).files };
+  ordered = starts given fit;
+  joined = λ more few. subst (λ (h : PlainHost). InOrder h new_terminal [] []) (sym (new_more given more)) (starts (given ++ more) (given_both given more fit few));
+}
 
 -- ## An act
 
@@ -60,28 +69,102 @@ pub answer_gives : (h : PlainHost) (m : Tmesg) (x : Reply) (r : PlainHost × Lis
 unfolding answer
 answer_gives h m x r a e = grind (arith, answer_is)
 
-answer_goes : (h : PlainHost) (t : PlainTerminal) (m : Tmesg) (up : List Tmesg) (down : List HFrame) (r : PlainHost × List HFrame)
-    → InOrder h t (m ∷ up) (mesgs down) → answer h m ≡ Ok r → InOrder r.0 t up (mesgs (down ++ r.1))
-answer_goes h t m up down r o e =
-    let g : HostGoes h t m up (mesgs down) = host_goes h t m up (mesgs down) o in
-    rw (answer_gives h m g.reply r g.answers_it e, map-append, mesgs_stamped) g.next
-
 -- ## Every step
 
 flush_goes : (h : PlainHost) (t : PlainTerminal) (up : List Tmesg) (down : List Hmesg) (r : Made) → InOrder h t up down → flush_of t ≡ Ok r → InOrder h r.0 (up ++ r.1) down
 unfolding flush_of
 flush_goes h t up down r o e = rw (← counted-result (flushed t).0.sent (flushed t) r e) (flushed_goes h t up down o)
 
-ordered_step : (w next : PlainWorld) (e : Event) → InOrder w.host w.term w.up (mesgs w.down) → step_of w e ≡ Some next → InOrder next.host next.term next.up (mesgs next.down)
-ordered_step w next TermTake o s = go (λ v. InOrder v.host v.term v.up (mesgs v.down)) (λ frame frames r is e. take_goes w.host w.term w.up w.down frame frames r o is e)
+-- the host takes no part in the step
+abbrev is_apart : Event → Bool
+is_apart (User e) = true
+is_apart (Add name text) = false
+is_apart Act = true
+is_apart Flush = true
+is_apart HostTake = false
+is_apart TermTake = true
+
+host_same : (w next : PlainWorld) (e : Event) → is_apart e ≡ true → step_of w e ≡ Some next → next.host ≡ w.host
+host_same w next e apart s = grind arith
+
+-- so what it keeps in order with one host it keeps so with any
+apart_step : (w next : PlainWorld) (e : Event) (h : PlainHost) → is_apart e ≡ true → InOrder h w.term w.up (mesgs w.down) → step_of w e ≡ Some next → InOrder h next.term next.up (mesgs next.down)
+apart_step w next TermTake h apart o s =
+    go (λ v. InOrder h v.term v.up (mesgs v.down)) (λ frame frames r is e. take_goes h w.term w.up w.down frame frames r o is e)
   where
     go : (P : PlainWorld → Type 0)
         → ((frame : HFrame) (frames : List HFrame) (r : Made) → w.down ≡ frame ∷ frames → take_of w.term frame ≡ Ok r → P (record w { term = r.0; up = w.up ++ r.1; down = frames })) → P next
     go P takes = grind arith
-ordered_step w next e o s = grind (arith, (act_goes w.host w.term w.up (mesgs w.down)), (flush_goes w.host w.term w.up (mesgs w.down)), answer_goes)
+apart_step w next e h apart o s = grind (arith, (act_goes h w.term w.up (mesgs w.down)), (flush_goes h w.term w.up (mesgs w.down)))
+
+-- the host's answer
+record Answers (w next : PlainWorld) : Type 0 where
+  message : Tmesg
+  rest : List Tmesg
+  is_up : w.up ≡ message ∷ rest
+  goes : HostGoes w.host w.term message rest (mesgs w.down)
+  is : next ≡ record w { host = goes.reply.0; up = rest; down = w.down ++ stamped goes.reply.0.taken goes.reply.1 }
+
+answers_step : (w next : PlainWorld) → IsInOrder w → (u : List Tmesg) → w.up ≡ u → host_takes w u ≡ Some next → Answers w next
+answers_step w next i [] eu s = absurd (grind (arith, s))
+answers_step w next i (m ∷ ms) eu s = by (answer w.host m) refl s
+  where
+    goes : HostGoes w.host w.term m ms (mesgs w.down)
+    goes = host_goes w.host w.term m ms (mesgs w.down) (subst (λ (l : List Tmesg). InOrder w.host w.term l (mesgs w.down)) eu i.ordered)
+
+    by : (a : Result (PlainHost × List HFrame) HostFault) → answer w.host m ≡ a → after_answer (record w { up = ms }) a ≡ Some next → Answers w next
+    by (Err why) q e = absurd (grind (arith, e))
+    by (Ok r) q e = record {
+      message = m;
+      rest = ms;
+      is_up = eu;
+      goes = goes;
+      is = sym (same_Some _ _ e) ∙ ap (λ (y : PlainHost × List HFrame). record w { host = y.0; up = ms; down = w.down ++ y.1 }) (answer_gives w.host m goes.reply r goes.answers_it q);
+    }
+
+-- the file that joins
+pub record Joins (w next : PlainWorld) (name text : List ℕ) : Type 0 where
+  pub short : (length name ≤ most_in_name) × (length text ≤ max_runes)
+  pub is : next ≡ joined_by w name text
+
+pub joins_step : (w next : PlainWorld) (name text : List ℕ) → step_of w (Add name text) ≡ Some next → Joins w next name text
+joins_step w next name text s = by _ _ _ refl refl s
+  where
+    by : (a b c : Bool) → nat_le (length name) most_in_name ≡ b → nat_le (length text) max_runes ≡ c → (if a && b && c then Some (joined_by w name text) else None) ≡ Some next → Joins w next name text
+    by true true true e f s = record { short = (grind (arith, e), grind (arith, f)); is = sym (same_Some _ _ s) }
+    by a b c e f s = absurd (grind (arith, s))
+
+given_step : (w next : PlainWorld) (e : Event) → IsInOrder w → step_of w e ≡ Some next → HasGiven next.host.files
+given_step w next (Add name text) i s =
+    let j = joins_step w next name text s in subst (λ (v : PlainWorld). HasGiven v.host.files) (sym j.is) (given_joined w.host (name, text) j.short.1 i.given)
+given_step w next HostTake i s =
+    let a = answers_step w next i w.up refl s in
+    subst (λ (v : PlainWorld). HasGiven v.host.files) (sym a.is) (given_kept w.host a.message a.goes.reply i.given a.goes.answers_it)
+given_step w next e i s = subst (λ (h : PlainHost). HasGiven h.files) (sym (host_same w next e refl s)) i.given
+
+-- with more files, too
+joined_step : (w next : PlainWorld) (e : Event) → IsInOrder w → step_of w e ≡ Some next → (more : List (List ℕ × List ℕ)) → AreGiven more
+    → InOrder (with_more next.host (given_slots more)) next.term next.up (mesgs next.down)
+joined_step w next (Add name text) i s more few =
+    let j = joins_step w next name text s in
+    subst (λ (v : PlainWorld). InOrder (with_more v.host (given_slots more)) v.term v.up (mesgs v.down)) (sym j.is)
+    (subst (λ (h : PlainHost). InOrder h w.term w.up (mesgs w.down)) (sym (one_more w.host (name, text) (given_slots more))) (i.joined ((name, text) ∷ more) (j.short.0, j.short.1, few)))
+joined_step w next HostTake i s more few =
+    let a = answers_step w next i w.up refl s in
+    let wide = host_goes_more w.host w.term a.message a.rest (mesgs w.down) a.goes more few i.given
+    (subst (λ (l : List Tmesg). InOrder (with_more w.host (given_slots more)) w.term l (mesgs w.down)) a.is_up (i.joined more few)) in
+    subst (λ (v : PlainWorld). InOrder (with_more v.host (given_slots more)) v.term v.up (mesgs v.down)) (sym a.is) (rw (map-append, mesgs_stamped) wide)
+joined_step w next e i s more few =
+    subst (λ (h : PlainHost). InOrder (with_more h (given_slots more)) next.term next.up (mesgs next.down)) (sym (host_same w next e refl s))
+    (apart_step w next e (with_more w.host (given_slots more)) refl (i.joined more few) s)
 
 pub steps_in_order : StepsInOrder
-steps_in_order w next e i s = record { counted = counted_step w e next i.counted s; ordered = ordered_step w next e i.ordered s }
+steps_in_order w next e i s = record {
+  counted = counted_step w e next i.counted s;
+  given = given_step w next e i s;
+  ordered = subst (λ (h : PlainHost). InOrder h next.term next.up (mesgs next.down)) (nothing_more next.host) (joined_step w next e i s [] tt);
+  joined = joined_step w next e i s;
+}
 
 pub runs_in_order : RunsInOrder
 runs_in_order w last es i s = run_keeps IsInOrder (λ v e next c q. steps_in_order v next e c q) w es last i s

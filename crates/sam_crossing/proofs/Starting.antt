@@ -3,21 +3,21 @@ use Rattle.sam_crossing.proofs.Common.{◌≡◌, ℕ, suc, Bool, true, false, n
 use Rattle.sam_host.specs.Laws.{AreGiven}
 
 -- neither open nor announced
-abbrev IsShut : Option PlainFile → Type 0
+abbrev pub IsShut : Option PlainFile → Type 0
 IsShut None = Unit
 IsShut (Some x) = (x.opened ≡ false) × (x.announced ≡ false)
 
-given_shut : (given : List (List ℕ × List ℕ)) (g : ℕ) → IsShut (slot (given_slots given) g)
+pub given_shut : (given : List (List ℕ × List ℕ)) (g : ℕ) → IsShut (slot (given_slots given) g)
 given_shut [] g = grind arith
 given_shut (x ∷ more) g = grind (arith, (given_shut more))
 
 all_shut : (given : List (List ℕ × List ℕ)) (g : ℕ) → IsShut (slot (new_host given).files.slots g)
 all_shut given g = grind (arith, given_shut)
 
-shut_fits : (b : Bool) (s : Option PlainFile) → IsShut s → Fits_slot Unknown (file_of_slot b s)
+pub shut_fits : (b : Bool) (s : Option PlainFile) → IsShut s → Fits_slot Unknown (file_of_slot b s)
 shut_fits b s e = grind arith
 
-shut_announced : (s : Option PlainFile) → IsShut s → (unwrap_or s blank_file).opened ≡ true → (unwrap_or s blank_file).announced ≡ true
+pub shut_announced : (s : Option PlainFile) → IsShut s → (unwrap_or s blank_file).opened ≡ true → (unwrap_or s blank_file).announced ≡ true
 shut_announced s e u = grind arith
 
 pub starts : (given : List (List ℕ × List ℕ)) → AreGiven given → InOrder (new_host given) new_terminal [] []

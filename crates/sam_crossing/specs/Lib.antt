@@ -5,5 +5,6 @@ pub mod Steady
 pub mod Fold
 pub mod Order
 pub mod StreamVersions
+pub mod Joining
 pub mod World
 pub mod RunOrder

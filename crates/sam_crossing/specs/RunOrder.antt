@@ -1,7 +1,7 @@
 -- What is kept in order in every state of a run, and what follows from it.
 use Rattle.std.specs.Prelude.{◌≡◌, ℕ, ◌+◌, ◌≤◌, ◌==◌, false, List, [], ◌∷◌, length, Some, Ok, Err}
 use Rattle.sam_runes.specs.Texts.{most_count}
-use Rattle.sam_host.specs.Host.{answer}
+use Rattle.sam_host.specs.Host.{answer, given_slots}
 use Rattle.sam_host.specs.Laws.{AreGiven}
 use Rattle.sam_host.specs.declared.fault.HostFault.{HostFault}
 use Rattle.sam_host.specs.declared.fault.HostFault.TheVariants as hostfault
@@ -14,6 +14,7 @@ use Rattle.sam_term.specs.declared.lock.Lock.TheVariants.{FileLock}
 use Rattle.sam_term.specs.declared.fault.TermFault.TheVariants as fault
 use Rattle.sam_mesg.specs.declared.tmesg.Tmesg.{Tmesg}
 use Rattle.sam_mesg.specs.declared.hmesg.HFrame.{HFrame}
+use Rattle.sam_crossing.specs.Joining.{HasGiven, with_more}
 use Rattle.sam_crossing.specs.Order.{InOrder}
 use Rattle.sam_crossing.specs.StreamVersions.{version_behind}
 use Rattle.sam_crossing.specs.World.{PlainWorld, mesgs, new_world, step_of, run_of, IsReached, is_locked, SidesAgreeWhereQuiet, IsAhead, HasOneVersion}
@@ -30,10 +31,12 @@ pub record IsCounted (w : PlainWorld) : Type 0 where
   pub stamps : Stamped w.host.taken w.down
 
 -- messages and frames are counted, and once all that is under way was handled, with nothing new begun, no lock is held and both
--- sides agree
+-- sides agree. So it is where files joined now, however many
 pub record IsInOrder (w : PlainWorld) : Type 0 where
   pub counted : IsCounted w
+  pub given : HasGiven w.host.files
   pub ordered : InOrder w.host w.term w.up (mesgs w.down)
+  pub joined : (more : List (List ℕ × List ℕ)) → AreGiven more → InOrder (with_more w.host (given_slots more)) w.term w.up (mesgs w.down)
 
 -- the count of messages has room for the unsent runes
 abbrev pub IsCountable : PlainWorld → Type 0

@@ -2,6 +2,7 @@
 
 ghost use Rattle.std.specs.Prelude.{◌≡◌, IfOk};
 
+use sam_runes::Runes;
 use sam_term::event::UserEvent;
 use std::alloc::{AllocError, Global};
 
@@ -11,6 +12,10 @@ use std::alloc::{AllocError, Global};
 pub enum Event {
     /// The user does something: the terminal holds this after the events that it holds already, and does nothing else yet.
     User(UserEvent),
+    /// A file of this name and this text joins the session: the host has it under its next tag, clean, not open and not announced. No
+    /// message, frame or count comes of it. The terminal learns of it by the answer to its next `Tversion`. Not a step if all tags were
+    /// given, if the name has more than `MOST_IN_NAME` runes, or the text more than `MAX_RUNES`.
+    Add(Runes, Runes),
     /// The terminal tries its oldest held event. Where it holds none, or a lock holds the oldest back, this changes nothing.
     Act,
     /// The terminal composes its unsent runes as one message. Where nothing is unsent, this changes nothing.
@@ -28,6 +33,7 @@ impl Event {
     {
         match self {
             Event::User(e) => Ok(Event::User(e.copy(alloc)?)),
+            Event::Add(name, text) => Ok(Event::Add(name.copy(alloc)?, text.copy(alloc)?)),
             Event::Act => Ok(Event::Act),
             Event::Flush => Ok(Event::Flush),
             Event::HostTake => Ok(Event::HostTake),

@@ -1,4 +1,4 @@
--- Files that a host end begins with.
+-- Files that join the files of a host end.
 use Rattle.sam_endpoint.proofs.Common.{◌≡◌, ◌≤◌, ℕ, false, List, length, None, arith, chars, IsUtf8, encode_utf8_all, IsUtf8-from_is_utf8, chars_from_encodes, PlainHost, with_given, PlainHostEndpoint, add_checks, with_file}
 use Rattle.std.specs.Str.{is_utf8}
 use Rattle.sam_runes.specs.Checks.{first_of_checks}

@@ -1,6 +1,8 @@
 -- Going on with what waits, step by step.
-use Rattle.sam_endpoint.proofs.Common.{◌≡◌, ◌⊎◌, ◌<◌, ◌≤◌, take, drop, length, length-append, refl, sym, ap, if◌then◌else◌, subst, ◌∙◌, ℕ, List, [], ◌∷◌, ◌++◌, true, Option, None, Ok, Err, inl, inr, append_assoc, append-nil, arith, Tmesg, HFrame, host, terminal, stream_of, Held, stream_of-append, PlainHost, answer, StreamFault, HostStop, EndpointFault, Gives, PlainHostEndpoint, Answers, Feeds, GoesOn, Serves, TakesIn, writes_of, Answer, AnswersFirst, Ends, Writes}
+use Rattle.sam_endpoint.proofs.Common.{◌≡◌, ◌⊎◌, ◌<◌, ◌≤◌, take, drop, length, length-append, refl, sym, ap, if◌then◌else◌, subst, ◌∙◌, ℕ, List, [], ◌∷◌, ◌++◌, Option, None, Ok, Err, inl, inr, append_assoc, append-nil, arith, Tmesg, HFrame, host, terminal, stream_of, Held, stream_of-append, PlainHost, answer, with_given, map, StreamFault, HostStop, EndpointFault, Gives, PlainHostEndpoint, Answers, Feeds, GoesOn, Serves, TakesIn, writes_of, Answer, AnswersFirst, Ends, Writes}
 use Rattle.std.proofs.Common.{length-take-le, take-append-drop}
+use Rattle.std.proofs.lemmas.List.{map-append}
+use Rattle.sam_endpoint.specs.HostEndpoints.{Step, Answered, Joined}
 use Rattle.sam_endpoint.specs.declared.fault.HostStop.TheVariants as stop
 use Rattle.sam_endpoint.specs.declared.fault.EndpointFault.TheVariants as fault
 use Rattle.sam_host.specs.Edits.{TakesInSilence}
@@ -10,11 +12,12 @@ use Rattle.sam_endpoint.specs.HostSteps.{Handles, TakesEdits, TakesSo, written}
 
 -- ## Answers one after another
 
-pub serves_more : (h : PlainHost) (ms : List Tmesg) (first : List HFrame) (writes : List ℕ) (k : PlainHost) (ns : List Tmesg) (rest : List HFrame) (more : List ℕ) (g : PlainHost)
-    → Serves h ms first writes k → Serves k ns rest more g → Serves h (ms ++ ns) (first ++ rest) (writes ++ more) g
-serves_more h [] first writes k ns rest more g p q = grind arith
-serves_more h (m ∷ ms) first writes k ns rest more g (middle, front, back, noted, answered, frames, notes, serves) q =
-    grind (arith, append_assoc, (serves_more middle ms back noted k ns rest more g serves q))
+pub serves_more : (h : PlainHost) (xs : List Step) (first : List HFrame) (writes : List ℕ) (k : PlainHost) (ys : List Step) (rest : List HFrame) (more : List ℕ) (g : PlainHost)
+    → Serves h xs first writes k → Serves k ys rest more g → Serves h (xs ++ ys) (first ++ rest) (writes ++ more) g
+serves_more h [] first writes k ys rest more g p q = grind arith
+serves_more h (Answered m ∷ xs) first writes k ys rest more g (middle, front, back, noted, answered, frames, notes, serves) q =
+    grind (arith, append_assoc, (serves_more middle xs back noted k ys rest more g serves q))
+serves_more h (Joined file ∷ xs) first writes k ys rest more g p q = serves_more (with_given h file) xs first writes k ys rest more g p q
 
 bytes_more : (e k g : PlainHostEndpoint) (first rest : List HFrame) → k.pending_bytes ++ stream_of host k.unwritten ≡ e.pending_bytes ++ stream_of host (e.unwritten ++ first)
     → g.pending_bytes ++ stream_of host g.unwritten ≡ k.pending_bytes ++ stream_of host (k.unwritten ++ rest)
@@ -22,7 +25,17 @@ bytes_more : (e k g : PlainHostEndpoint) (first rest : List HFrame) → k.pendin
 bytes_more e k g first rest p q = grind (arith, stream_of-append, append_assoc)
 
 answers_more : (e k g : PlainHostEndpoint) (ms ns : List Tmesg) → Answers e ms k → Answers k ns g → Answers e (ms ++ ns) g
-answers_more e k g ms ns p q = grind (arith, serves_more, append_assoc, bytes_more)
+answers_more e k g ms ns p q = record {
+  frames = p.frames ++ q.frames;
+  more = p.more ++ q.more;
+  serves = subst (λ (steps : List Step). Serves e.host steps (p.frames ++ q.frames) (p.more ++ q.more) g.host) (sym (map-append Answered ms ns))
+      (serves_more e.host (map Answered ms) p.frames p.more k.host (map Answered ns) q.frames q.more g.host p.serves q.serves);
+  waiting = grind (arith, append_assoc);
+  bytes = bytes_more e k g p.frames q.frames p.bytes q.bytes;
+  writes = grind (arith, append_assoc);
+  framer = q.framer ∙ p.framer;
+  broken_by = q.broken_by ∙ p.broken_by;
+}
 
 -- the oldest message was answered and dropped
 pub first_done : (e before g : PlainHostEndpoint) (m : Tmesg) (rest : List Tmesg) (h : PlainHost) (frames : List HFrame) (writes : List ℕ) → before ≡ e
@@ -59,7 +72,7 @@ no_write h k (Twrite f) e = ap (λ b. if b then [] else f ∷ []) (silent_write 
 no_write h k m e = refl
 
 -- to take messages in silence is to answer them
-silent : (h : PlainHost) (ms : List Tmesg) (g : PlainHost) → TakesInSilence h ms g → Serves h ms [] [] g
+silent : (h : PlainHost) (ms : List Tmesg) (g : PlainHost) → TakesInSilence h ms g → Serves h (map Answered ms) [] [] g
 silent h [] g is = (refl, refl, is)
 silent h (m ∷ ms) g (k, answered, rest) = (k, [], [], [], answered, refl, grind (arith, (no_write h k m answered)), silent k ms g rest)
 
@@ -74,7 +87,6 @@ edits_gone e l k gone took =
       bytes = grind (arith, append-nil);
       writes = sym (append-nil l.writes);
       framer = refl;
-      begun = refl;
       broken_by = refl;
     } in
     subst (λ (x : PlainHostEndpoint). HasGone e x) (sym took.after) (record {
@@ -140,7 +152,7 @@ ends e l g result u w q = grind arith
 -- ## Feeding
 
 pub taken_in : (e before g : PlainHostEndpoint) (piece : List ℕ) (messages : List Tmesg) (broken_by : Option StreamFault) (rest : Held) → before ≡ e
-    → Gives terminal before.framer piece messages broken_by rest → g ≡ record before { framer = rest; is_begun = true; waiting = messages; broken_by = broken_by } → TakesIn e piece g
+    → Gives terminal before.framer piece messages broken_by rest → g ≡ record before { framer = rest; waiting = messages; broken_by = broken_by } → TakesIn e piece g
 taken_in e before g piece messages broken_by rest is gives after = subst (λ (x : PlainHostEndpoint). TakesIn x piece g) is (messages, broken_by, rest, gives, after)
 
 pub nothing_behind : (e k : PlainHostEndpoint) → GoesOn e (Ok tt) k → k.broken_by ≡ None

@@ -1,27 +1,104 @@
 -- What every run of a host end comes to.
-use Rattle.sam_endpoint.proofs.Common.{◌≡◌, refl, sym, ap, subst, ◌∙◌, inl, inr, ℕ, ◌+◌, ◌⊎◌, List, [], ◌∷◌, ◌++◌, flat_map, Option, Some, None, Result, Ok, Err, length, length-append, append_assoc, append-nil, arith, option_map, Tmesg, HFrame, host, terminal, Splits, stream_of, version_after, Held, stream_of-append, version_after-append, Splits-then, PlainHost, answer, HostStop, StreamFault, Gives, mesg_fault, PlainHostEndpoint, Answers, Feeds, FeedsAfter, GoesOn, IsIdle, Serves, TakesIn, Answer}
+use Rattle.sam_endpoint.proofs.Common.{◌≡◌, refl, sym, ap, subst, ◌∙◌, inl, inr, ℕ, ◌+◌, ◌≤◌, ◌⊎◌, List, [], ◌∷◌, ◌++◌, flat_map, Option, Some, None, Result, Ok, Err, length, length-append, append_assoc, append-nil, arith, option_map, map, chars, with_given, Tmesg, HFrame, host, terminal, Splits, stream_of, version_after, Held, stream_of-append, version_after-append, Splits-then, PlainHost, answer, HostStop, StreamFault, Gives, mesg_fault, PlainHostEndpoint, Answers, Feeds, FeedsAfter, GoesOn, IsIdle, Serves, TakesIn, Answer}
 use Rattle.sam_mesg.specs.declared.fault.MesgFault.{MesgFault}
 use Rattle.sam_frame.specs.Framing.{HasRoom}
 use Rattle.sam_frame.specs.Reading.{IsStream}
 use Rattle.sam_frame.proofs.Cuttings.{Splits-longer}
 use Rattle.sam_host.specs.declared.fault.HostFault.{HostFault}
+use Rattle.sam_host.proofs.SoundLaws.{answers_are_counted}
+use Rattle.sam_endpoint.specs.declared.fault.AddFault.{AddFault}
 use Rattle.sam_endpoint.specs.declared.fault.EndpointFault.TheVariants as fault
 use Rattle.sam_endpoint.specs.declared.fault.HostStop.TheVariants as stop
-use Rattle.sam_endpoint.specs.HostEndpoints.{FeedsIdle, IsDone}
+use Rattle.sam_endpoint.specs.HostEndpoints.{FeedsIdle, IsDone, Adds, Step, Answered, Joined}
 use Rattle.std.specs.Prelude.{drop, option_to_list, slice_get}
-use Rattle.sam_endpoint.specs.HostRuns.{Call, Feed, TakeOut, NextWritten, GoesOnAfter, HasServed, HasStopped, Runs, begun_with, came_in, went_out, handed_out}
+use Rattle.sam_endpoint.specs.HostRuns.{Call, Feed, AddFile, TakeOut, NextWritten, GoesOnAfter, HasServed, HasStopped, Runs, begun_with, came_in, went_out, handed_out, joined_by, messages_in, joined_after}
 use Rattle.sam_endpoint.proofs.HostEndpointGoing.{serves_more}
 
+abbrev pub Files : Type 0
+Files = List (ℕ × (List ℕ × List ℕ))
+
 -- what the run keeps: what it comes to, and the version and the place at this point of the stream
-pub record Kept (h : PlainHost) (stream out handed : List ℕ) (e : PlainHostEndpoint) : Type 0 where
-  pub served : HasServed h stream out handed e
-  pub version : e.framer.version ≡ version_after terminal 1 (served.answered ++ e.waiting)
+pub record Kept (h : PlainHost) (stream out handed : List ℕ) (joined : Files) (e : PlainHostEndpoint) : Type 0 where
+  pub served : HasServed h stream out handed joined e
+  pub version : e.framer.version ≡ version_after terminal 1 (messages_in served.steps ++ e.waiting)
   pub place : e.framer.offset + length e.framer.bytes ≡ length stream
+
+-- ## What was done
+
+-- messages that were answered after these steps
+messages_more : (steps : List Step) (ms : List Tmesg) → messages_in (steps ++ map Answered ms) ≡ messages_in steps ++ ms
+messages_more [] [] = refl
+messages_more [] (m ∷ ms) = ap (λ (l : List Tmesg). m ∷ l) (messages_more [] ms)
+messages_more (Answered m ∷ steps) ms = ap (λ (l : List Tmesg). m ∷ l) (messages_more steps ms)
+messages_more (Joined file ∷ steps) ms = messages_more steps ms
+
+joined_more : (count : ℕ) (steps : List Step) (ms : List Tmesg) → joined_after count (steps ++ map Answered ms) ≡ joined_after count steps
+joined_more count [] [] = refl
+joined_more count [] (m ∷ ms) = joined_more (count + 1) [] ms
+joined_more count (Answered m ∷ steps) ms = joined_more (count + 1) steps ms
+joined_more count (Joined file ∷ steps) ms = ap (λ (l : Files). (count, file) ∷ l) (joined_more count steps ms)
+
+-- a file that joined after these steps
+message_none : (steps : List Step) (file : List ℕ × List ℕ) → messages_in (steps ++ Joined file ∷ []) ≡ messages_in steps
+message_none [] file = refl
+message_none (Answered m ∷ steps) file = ap (λ (l : List Tmesg). m ∷ l) (message_none steps file)
+message_none (Joined first ∷ steps) file = message_none steps file
+
+joined_last : (count last : ℕ) (steps : List Step) (file : List ℕ × List ℕ) → last ≡ count + length (messages_in steps)
+    → joined_after count (steps ++ Joined file ∷ []) ≡ joined_after count steps ++ (last, file) ∷ []
+joined_last count last [] file is = grind arith
+joined_last count last (Answered m ∷ steps) file is = joined_last (count + 1) last steps file (omega (arith, is))
+joined_last count last (Joined first ∷ steps) file is = ap (λ (l : Files). (count, first) ∷ l) (joined_last count last steps file is)
+
+-- each answer is counted
+counted : (steps : List Step) (h k : PlainHost) (frames : List HFrame) (writes : List ℕ) → Serves h steps frames writes k → k.taken ≡ h.taken + length (messages_in steps)
+counted [] h k frames writes s = grind arith
+counted (Answered m ∷ steps) h k frames writes (j, first, rest, more, answered, is, noted, serves) =
+    let one = (answers_are_counted h j m first answered).0 in
+    let others = counted steps j k rest more serves in
+    omega (arith, one, others)
+counted (Joined file ∷ steps) h k frames writes s = counted steps (with_given h file) k frames writes s
+
+-- no file joined before counting began
+not_before : (count n : ℕ) (file : List ℕ × List ℕ) (rest : Files) (steps : List Step) → joined_after count steps ≡ (n, file) ∷ rest → count ≤ n
+not_before count n file rest [] is = absurd (cc)
+not_before count n file rest (Answered m ∷ steps) is = let later = not_before (count + 1) n file rest steps is in omega (arith, later)
+not_before count n file rest (Joined first ∷ steps) is = grind arith
+
+-- where no file joined, all steps are answers
+pub all_answered : (count : ℕ) (steps : List Step) → joined_after count steps ≡ [] → steps ≡ map Answered (messages_in steps)
+all_answered count [] none = refl
+all_answered count (Answered m ∷ steps) none = ap (λ (l : List Step). Answered m ∷ l) (all_answered (count + 1) steps none)
+all_answered count (Joined file ∷ steps) none = absurd (cc)
+
+-- where all files joined before the first answer, they come first
+pub joined_first : (count : ℕ) (files : List (List ℕ × List ℕ)) (steps : List Step) → joined_after count steps ≡ map (λ (file : List ℕ × List ℕ). (count, file)) files
+    → steps ≡ map Joined files ++ map Answered (messages_in steps)
+joined_first count [] steps are = all_answered count steps are
+joined_first count (file ∷ files) [] are = absurd (cc)
+joined_first count (file ∷ files) (Answered m ∷ steps) are =
+    let late = not_before (count + 1) count file (map (λ (file : List ℕ × List ℕ). (count, file)) files) steps are in absurd (omega (arith, late))
+joined_first count (file ∷ files) (Joined first ∷ steps) are = grind (arith, (joined_first count files steps))
 
 -- ## Steps
 
-kept_answers : (h : PlainHost) (stream out handed : List ℕ) (e g : PlainHostEndpoint) (ms : List Tmesg) → Answers e ms g → Kept h stream out handed e → Kept h stream out handed g
-kept_answers h stream out handed e g ms a kept = record { served = grind (arith, append_assoc, serves_more, bytes_on); version = grind (arith, append_assoc); place = grind arith }
+kept_answers : (h : PlainHost) (stream out handed : List ℕ) (joined : Files) (e g : PlainHostEndpoint) (ms : List Tmesg) → Answers e ms g → Kept h stream out handed joined e → Kept h stream out handed joined g
+kept_answers h stream out handed joined e g ms a kept =
+    let s = kept.served in
+    let whole : messages_in (s.steps ++ map Answered ms) ++ g.waiting ≡ messages_in s.steps ++ e.waiting = grind (arith, append_assoc, messages_more) in record {
+      served = record {
+        steps = s.steps ++ map Answered ms;
+        frames = s.frames ++ a.frames;
+        writes = s.writes ++ a.more;
+        serves = serves_more h s.steps s.frames s.writes e.host (map Answered ms) a.frames a.more g.host s.serves a.serves;
+        files = joined_more h.taken s.steps ms ∙ s.files;
+        reads = grind (arith, whole);
+        bytes = bytes_on out e g s.frames a.frames s.bytes a.bytes;
+        written = grind (arith, append_assoc);
+      };
+      version = grind (arith, whole);
+      place = grind arith;
+    }
   where
     bytes_on : (out : List ℕ) (e g : PlainHostEndpoint) (frames more : List HFrame) → (out ++ e.pending_bytes) ++ stream_of host e.unwritten ≡ stream_of host frames
         → g.pending_bytes ++ stream_of host g.unwritten ≡ e.pending_bytes ++ stream_of host (e.unwritten ++ more)
@@ -51,66 +128,68 @@ place_more : (h k : Held) (stream piece : List ℕ) (ms : List Tmesg) (broken_by
 place_more h k stream piece ms None place gives = place_after h k stream piece ms place gives.gave.offset_is gives.gave.splits.whole
 place_more h k stream piece ms (Some why) place gives = place_after h k stream piece ms place gives.1.gave.offset_is gives.1.gave.splits.whole
 
-kept_piece : (h : PlainHost) (stream out handed piece : List ℕ) (e k : PlainHostEndpoint) → e.waiting ≡ [] → TakesIn e piece k → Kept h stream out handed e → Kept h (stream ++ piece) out handed k
-kept_piece h stream out handed piece e k none (messages, broken_by, rest, gives, is) kept =
+kept_piece : (h : PlainHost) (stream out handed : List ℕ) (joined : Files) (piece : List ℕ) (e k : PlainHostEndpoint) → e.waiting ≡ [] → TakesIn e piece k → Kept h stream out handed joined e → Kept h (stream ++ piece) out handed joined k
+kept_piece h stream out handed joined piece e k none (messages, broken_by, rest, gives, is) kept =
     let s = kept.served in
-    let all : s.answered ++ e.waiting ≡ s.answered = ap (λ (x : List Tmesg). s.answered ++ x) none ∙ append-nil s.answered in
-    let splits : Splits terminal 1 stream s.answered e.framer.bytes =
+    let done : List Tmesg = messages_in s.steps in
+    let all : done ++ e.waiting ≡ done = ap (λ (x : List Tmesg). done ++ x) none ∙ append-nil done in
+    let splits : Splits terminal 1 stream done e.framer.bytes =
     subst (λ (x : List Tmesg). Splits terminal 1 stream x e.framer.bytes) all s.reads.splits in
-    let version : e.framer.version ≡ version_after terminal 1 s.answered = kept.version ∙ ap (λ (x : List Tmesg). version_after terminal 1 x) all in
-    let more = reads_more e.framer rest stream piece s.answered messages broken_by splits version gives in
-    subst (λ (x : PlainHostEndpoint). Kept h (stream ++ piece) out handed x) (sym is) (record {
-      served = record { answered = s.answered; frames = s.frames; writes = s.writes; serves = s.serves; reads = more.0; bytes = s.bytes; written = s.written };
+    let version : e.framer.version ≡ version_after terminal 1 done = kept.version ∙ ap (λ (x : List Tmesg). version_after terminal 1 x) all in
+    let more = reads_more e.framer rest stream piece done messages broken_by splits version gives in
+    subst (λ (x : PlainHostEndpoint). Kept h (stream ++ piece) out handed joined x) (sym is) (record {
+      served = record { steps = s.steps; frames = s.frames; writes = s.writes; serves = s.serves; files = s.files; reads = more.0; bytes = s.bytes; written = s.written };
       version = more.1;
       place = place_more e.framer rest stream piece messages broken_by kept.place gives;
     })
 
-kept_goes_on : (h : PlainHost) (stream out handed : List ℕ) (e g : PlainHostEndpoint) (result : Answer) → GoesOnAfter result → GoesOn e result g → Kept h stream out handed e → Kept h stream out handed g
-kept_goes_on h stream out handed e g (Ok done) goes on kept = kept_answers h stream out handed e g e.waiting on.0 kept
-kept_goes_on h stream out handed e g (Err fault.Unfinished) goes (ms, a, going, left) kept = kept_answers h stream out handed e g ms a kept
-kept_goes_on h stream out handed e g result u w q = grind arith
+kept_goes_on : (h : PlainHost) (stream out handed : List ℕ) (joined : Files) (e g : PlainHostEndpoint) (result : Answer) → GoesOnAfter result → GoesOn e result g → Kept h stream out handed joined e → Kept h stream out handed joined g
+kept_goes_on h stream out handed joined e g (Ok done) goes on kept = kept_answers h stream out handed joined e g e.waiting on.0 kept
+kept_goes_on h stream out handed joined e g (Err fault.Unfinished) goes (ms, a, going, left) kept = kept_answers h stream out handed joined e g ms a kept
+kept_goes_on h stream out handed joined e g result u w q = grind arith
 
-kept_same : (h : PlainHost) (stream out handed : List ℕ) (e g : PlainHostEndpoint) → g ≡ e → Kept h stream out handed e → Kept h (stream ++ []) out handed g
-kept_same h stream out handed e g is kept = grind (arith, append-nil)
+kept_same : (h : PlainHost) (stream out handed : List ℕ) (joined : Files) (e g : PlainHostEndpoint) → g ≡ e → Kept h stream out handed joined e → Kept h (stream ++ []) out handed joined g
+kept_same h stream out handed joined e g is kept = grind (arith, append-nil)
 
-kept_idle : (h : PlainHost) (stream out handed piece : List ℕ) (e g : PlainHostEndpoint) (result : Answer) → GoesOnAfter result → e.waiting ≡ [] → FeedsIdle e piece result g
-    → Kept h stream out handed e → Kept h (stream ++ came_in (Feed piece result)) out handed g
-kept_idle h stream out handed piece e g (Ok done) goes none (inl (k, takes, on)) kept =
-    kept_goes_on h (stream ++ piece) out handed k g (Ok done) goes on (kept_piece h stream out handed piece e k none takes kept)
-kept_idle h stream out handed piece e g (Err fault.Unfinished) goes none (inl (k, takes, on)) kept =
-    kept_goes_on h (stream ++ piece) out handed k g (Err fault.Unfinished) goes on (kept_piece h stream out handed piece e k none takes kept)
-kept_idle h stream out handed piece e g (Err fault.OutOfMemory) goes none fed kept = kept_same h stream out handed e g (grind arith) kept
-kept_idle h stream out handed piece e g (Err fault.CountFull) goes none fed kept = kept_same h stream out handed e g (grind arith) kept
-kept_idle h stream out handed piece e g (Err (fault.Stopped why)) goes none fed kept = absurd goes
-kept_idle h stream out handed piece e g (Ok done) goes none (inr fed) kept = absurd (grind arith)
-kept_idle h stream out handed piece e g (Err fault.Unfinished) goes none (inr fed) kept = absurd (grind arith)
+kept_idle : (h : PlainHost) (stream out handed : List ℕ) (joined : Files) (piece : List ℕ) (e g : PlainHostEndpoint) (result : Answer) → GoesOnAfter result → e.waiting ≡ [] → FeedsIdle e piece result g
+    → Kept h stream out handed joined e → Kept h (stream ++ came_in (Feed piece result)) out handed joined g
+kept_idle h stream out handed joined piece e g (Ok done) goes none (inl (k, takes, on)) kept =
+    kept_goes_on h (stream ++ piece) out handed joined k g (Ok done) goes on (kept_piece h stream out handed joined piece e k none takes kept)
+kept_idle h stream out handed joined piece e g (Err fault.Unfinished) goes none (inl (k, takes, on)) kept =
+    kept_goes_on h (stream ++ piece) out handed joined k g (Err fault.Unfinished) goes on (kept_piece h stream out handed joined piece e k none takes kept)
+kept_idle h stream out handed joined piece e g (Err fault.OutOfMemory) goes none fed kept = kept_same h stream out handed joined e g (grind arith) kept
+kept_idle h stream out handed joined piece e g (Err fault.CountFull) goes none fed kept = kept_same h stream out handed joined e g (grind arith) kept
+kept_idle h stream out handed joined piece e g (Err (fault.Stopped why)) goes none fed kept = absurd goes
+kept_idle h stream out handed joined piece e g (Ok done) goes none (inr fed) kept = absurd (grind arith)
+kept_idle h stream out handed joined piece e g (Err fault.Unfinished) goes none (inr fed) kept = absurd (grind arith)
 
 stopped_not : (result : Answer) (why : HostStop) → result ≡ Err (fault.Stopped why) → GoesOnAfter result → ⊥
 stopped_not result why is goes = subst GoesOnAfter is goes
 
-kept_after : (h : PlainHost) (stream out handed piece : List ℕ) (e k g : PlainHostEndpoint) (first result : Answer) → GoesOnAfter result → GoesOn e first k
-    → FeedsAfter first k piece result g → Kept h stream out handed e → Kept h (stream ++ came_in (Feed piece result)) out handed g
-kept_after h stream out handed piece e k g (Ok done) result goes on after kept =
-    kept_idle h stream out handed piece k g result goes on.1.waiting after (kept_goes_on h stream out handed e k (Ok done) tt on kept)
-kept_after h stream out handed piece e k g (Err fault.Unfinished) result goes on (is, same) kept =
-    grind (arith, (kept_same h stream out handed k g same (kept_goes_on h stream out handed e k (Err fault.Unfinished) tt on kept)))
-kept_after h stream out handed piece e k g first result u w q y = grind (arith, stopped_not)
+kept_after : (h : PlainHost) (stream out handed : List ℕ) (joined : Files) (piece : List ℕ) (e k g : PlainHostEndpoint) (first result : Answer) → GoesOnAfter result → GoesOn e first k
+    → FeedsAfter first k piece result g → Kept h stream out handed joined e → Kept h (stream ++ came_in (Feed piece result)) out handed joined g
+kept_after h stream out handed joined piece e k g (Ok done) result goes on after kept =
+    kept_idle h stream out handed joined piece k g result goes on.1.waiting after (kept_goes_on h stream out handed joined e k (Ok done) tt on kept)
+kept_after h stream out handed joined piece e k g (Err fault.Unfinished) result goes on (is, same) kept =
+    grind (arith, (kept_same h stream out handed joined k g same (kept_goes_on h stream out handed joined e k (Err fault.Unfinished) tt on kept)))
+kept_after h stream out handed joined piece e k g first result u w q y = grind (arith, stopped_not)
 
-pub kept_feed : (h : PlainHost) (stream out handed piece : List ℕ) (e g : PlainHostEndpoint) (result : Answer) → GoesOnAfter result → Feeds e piece result g → Kept h stream out handed e
-    → Kept h (stream ++ came_in (Feed piece result)) out handed g
-kept_feed h stream out handed piece e g result goes (inl (why, stops, is, same)) kept = absurd (stopped_not result why is goes)
-kept_feed h stream out handed piece e g result goes (inr (going, k, first, on, after)) kept = kept_after h stream out handed piece e k g first result goes on after kept
+pub kept_feed : (h : PlainHost) (stream out handed : List ℕ) (joined : Files) (piece : List ℕ) (e g : PlainHostEndpoint) (result : Answer) → GoesOnAfter result → Feeds e piece result g → Kept h stream out handed joined e
+    → Kept h (stream ++ came_in (Feed piece result)) out handed joined g
+kept_feed h stream out handed joined piece e g result goes (inl (why, stops, is, same)) kept = absurd (stopped_not result why is goes)
+kept_feed h stream out handed joined piece e g result goes (inr (going, k, first, on, after)) kept = kept_after h stream out handed joined piece e k g first result goes on after kept
 
-pub kept_out : (h : PlainHost) (stream out handed bytes rest : List ℕ) (e : PlainHostEndpoint) → e.pending_bytes ≡ bytes ++ rest → Kept h stream out handed e
-    → Kept h (stream ++ []) (out ++ bytes) handed (record e { pending_bytes = rest })
-kept_out h stream out handed bytes rest e is kept =
+pub kept_out : (h : PlainHost) (stream out handed : List ℕ) (joined : Files) (bytes rest : List ℕ) (e : PlainHostEndpoint) → e.pending_bytes ≡ bytes ++ rest → Kept h stream out handed joined e
+    → Kept h (stream ++ []) (out ++ bytes) handed joined (record e { pending_bytes = rest })
+kept_out h stream out handed joined bytes rest e is kept =
     let s = kept.served in
-    subst (λ (x : List ℕ). Kept h x (out ++ bytes) handed (record e { pending_bytes = rest })) (sym (append-nil stream)) (record {
+    subst (λ (x : List ℕ). Kept h x (out ++ bytes) handed joined (record e { pending_bytes = rest })) (sym (append-nil stream)) (record {
       served = record {
-        answered = s.answered;
+        steps = s.steps;
         frames = s.frames;
         writes = s.writes;
         serves = s.serves;
+        files = s.files;
         reads = s.reads;
         bytes = ap (λ (x : List ℕ). x ++ stream_of host e.unwritten) (append_assoc out bytes rest ∙ ap (λ (x : List ℕ). out ++ x) (sym is)) ∙ s.bytes;
         written = s.written;
@@ -124,16 +203,17 @@ first_out : (handed waiting told : List ℕ) → handed ++ waiting ≡ told → 
 first_out handed [] told is = grind (arith, append-nil)
 first_out handed (tag ∷ waiting) told is = append_assoc handed (tag ∷ []) waiting ∙ is
 
-kept_handed : (h : PlainHost) (stream out handed : List ℕ) (tag : Option ℕ) (e : PlainHostEndpoint) → tag ≡ slice_get e.writes 0 → Kept h stream out handed e
-    → Kept h stream out (handed ++ option_to_list tag) (record e { writes = drop 1 e.writes })
-kept_handed h stream out handed tag e is kept =
+kept_handed : (h : PlainHost) (stream out handed : List ℕ) (joined : Files) (tag : Option ℕ) (e : PlainHostEndpoint) → tag ≡ slice_get e.writes 0 → Kept h stream out handed joined e
+    → Kept h stream out (handed ++ option_to_list tag) joined (record e { writes = drop 1 e.writes })
+kept_handed h stream out handed joined tag e is kept =
     let s = kept.served in
-    subst (λ (x : Option ℕ). Kept h stream out (handed ++ option_to_list x) (record e { writes = drop 1 e.writes })) (sym is) (record {
+    subst (λ (x : Option ℕ). Kept h stream out (handed ++ option_to_list x) joined (record e { writes = drop 1 e.writes })) (sym is) (record {
       served = record {
-        answered = s.answered;
+        steps = s.steps;
         frames = s.frames;
         writes = s.writes;
         serves = s.serves;
+        files = s.files;
         reads = s.reads;
         bytes = s.bytes;
         written = first_out handed e.writes s.writes s.written;
@@ -142,12 +222,36 @@ kept_handed h stream out handed tag e is kept =
       place = kept.place;
     })
 
+-- a file joined, or was refused
+pub kept_added : (h : PlainHost) (stream out handed : List ℕ) (joined : Files) (count : ℕ) (name text : List ℕ) (result : Result ℕ AddFault) (e g : PlainHostEndpoint) → count ≡ e.host.taken
+    → Adds e name text result g → Kept h stream out handed joined e → Kept h stream out handed (joined ++ joined_by (AddFile count name text result)) g
+kept_added h stream out handed joined count name text (Ok tag) e g then (is, allowed, after) kept =
+    let s = kept.served in
+    let file : List ℕ × List ℕ = (chars name, chars text) in
+    let same : messages_in (s.steps ++ Joined file ∷ []) ≡ messages_in s.steps = message_none s.steps file in
+    let place : count ≡ h.taken + length (messages_in s.steps) = then ∙ counted s.steps h e.host s.frames s.writes s.serves in
+    subst (λ (x : PlainHostEndpoint). Kept h stream out handed (joined ++ (count, file) ∷ []) x) (sym after) (record {
+      served = record {
+        steps = s.steps ++ Joined file ∷ [];
+        frames = s.frames ++ [];
+        writes = s.writes ++ [];
+        serves = serves_more h s.steps s.frames s.writes e.host (Joined file ∷ []) [] [] (with_given e.host file) s.serves (refl, refl, refl);
+        files = joined_last h.taken count s.steps file place ∙ ap (λ (l : Files). l ++ (count, file) ∷ []) s.files;
+        reads = grind (arith, same);
+        bytes = s.bytes ∙ ap (stream_of host) (sym (append-nil s.frames));
+        written = s.written ∙ sym (append-nil s.writes);
+      };
+      version = grind (arith, same);
+      place = kept.place;
+    })
+kept_added h stream out handed joined count name text (Err why) e g then (is, after) kept = grind (arith, append-nil)
+
 -- ## Stops
 
 -- nothing was fed to an end of this host
-pub kept_begun : (h : PlainHost) → Kept h [] [] [] (begun_with h)
+pub kept_begun : (h : PlainHost) → Kept h [] [] [] [] (begun_with h)
 kept_begun h = record {
-  served = record { answered = []; frames = []; writes = []; serves = (refl, refl, refl); reads = record { splits = record { whole = refl; fit = tt }; ends = tt }; bytes = refl; written = refl };
+  served = record { steps = []; frames = []; writes = []; serves = (refl, refl, refl); files = refl; reads = record { splits = record { whole = refl; fit = tt }; ends = tt }; bytes = refl; written = refl };
   version = refl;
   place = refl;
 }
@@ -162,50 +266,52 @@ fed_done e g piece (inr (going, k, Err why, on, after)) = absurd (grind arith)
 feed_goes : (e g : PlainHostEndpoint) (piece : List ℕ) (result : Answer) → GoesOnAfter result → Feeds e piece result g → g.stop ≡ None
 feed_goes e g piece result goes feeds = grind arith
 
-run_goes : (e g : PlainHostEndpoint) (calls : List Call) → e.stop ≡ None → Runs e calls g → g.stop ≡ None
+pub run_goes : (e g : PlainHostEndpoint) (calls : List Call) → e.stop ≡ None → Runs e calls g → g.stop ≡ None
 run_goes e g [] goes is = grind arith
 run_goes e g (Feed piece answer ∷ calls) goes (k, feeds, goes_on, runs) = run_goes k g calls (feed_goes e k piece answer goes_on feeds) runs
+run_goes e g (AddFile count name text (Ok tag) ∷ calls) goes (k, then, adds, runs) = run_goes k g calls (ap (λ (x : PlainHostEndpoint). x.stop) adds.2 ∙ goes) runs
+run_goes e g (AddFile count name text (Err why) ∷ calls) goes (k, then, adds, runs) = run_goes k g calls (ap (λ (x : PlainHostEndpoint). x.stop) adds.1 ∙ goes) runs
 run_goes e g (TakeOut bytes ∷ calls) goes (rest, is, runs) = run_goes (record e { pending_bytes = rest }) g calls goes runs
 run_goes e g (NextWritten tag ∷ calls) goes (is, runs) = run_goes (record e { writes = drop 1 e.writes }) g calls goes runs
 
 -- going on stopped the end
-pub record KeptStop (h : PlainHost) (stream piece out handed : List ℕ) (why : HostStop) (g : PlainHostEndpoint) : Type 0 where
+pub record KeptStop (h : PlainHost) (stream piece out handed : List ℕ) (joined : Files) (why : HostStop) (g : PlainHostEndpoint) : Type 0 where
   pub taken : List ℕ
   pub whole : (taken ≡ piece) ⊎ (taken ≡ [])
-  pub kept : Kept h (stream ++ taken) out handed g
+  pub kept : Kept h (stream ++ taken) out handed joined g
   pub stops : HasStopped g why
   pub says : g.stop ≡ Some why
 
-went_on : (h : PlainHost) (stream out handed : List ℕ) (e g : PlainHostEndpoint) (why : HostStop) → GoesOn e (Err (fault.Stopped why)) g → Kept h stream out handed e
-    → Kept h stream out handed g × HasStopped g why × (g.stop ≡ Some why)
-went_on h stream out handed e g (stop.Stream why) (a, idle, broken_by, says) kept = (kept_answers h stream out handed e g e.waiting a kept, (idle, a.broken_by ∙ broken_by), says)
-went_on h stream out handed e g (stop.Refused why) (ms, m, rest, a, waits, refuses, written, says) kept = (kept_answers h stream out handed e g ms a kept, (m, rest, waits, refuses, written), says)
+went_on : (h : PlainHost) (stream out handed : List ℕ) (joined : Files) (e g : PlainHostEndpoint) (why : HostStop) → GoesOn e (Err (fault.Stopped why)) g → Kept h stream out handed joined e
+    → Kept h stream out handed joined g × HasStopped g why × (g.stop ≡ Some why)
+went_on h stream out handed joined e g (stop.Stream why) (a, idle, broken_by, says) kept = (kept_answers h stream out handed joined e g e.waiting a kept, (idle, a.broken_by ∙ broken_by), says)
+went_on h stream out handed joined e g (stop.Refused why) (ms, m, rest, a, waits, refuses, written, says) kept = (kept_answers h stream out handed joined e g ms a kept, (m, rest, waits, refuses, written), says)
 
-stopped_after : (h : PlainHost) (stream out handed piece : List ℕ) (e k g : PlainHostEndpoint) (first : Answer) (why : HostStop) → GoesOn e first k
-    → FeedsAfter first k piece (Err (fault.Stopped why)) g → Kept h stream out handed e → KeptStop h stream piece out handed why g
-stopped_after h stream out handed piece e k g (Ok done) why on (inl (m, takes, last)) kept =
-    let s = went_on h (stream ++ piece) out handed m g why last (kept_piece h stream out handed piece k m on.1.waiting takes (kept_goes_on h stream out handed e k (Ok done) tt on kept)) in
+stopped_after : (h : PlainHost) (stream out handed : List ℕ) (joined : Files) (piece : List ℕ) (e k g : PlainHostEndpoint) (first : Answer) (why : HostStop) → GoesOn e first k
+    → FeedsAfter first k piece (Err (fault.Stopped why)) g → Kept h stream out handed joined e → KeptStop h stream piece out handed joined why g
+stopped_after h stream out handed joined piece e k g (Ok done) why on (inl (m, takes, last)) kept =
+    let s = went_on h (stream ++ piece) out handed joined m g why last (kept_piece h stream out handed joined piece k m on.1.waiting takes (kept_goes_on h stream out handed joined e k (Ok done) tt on kept)) in
     record { taken = piece; whole = inl refl; kept = s.0; stops = s.1; says = s.2 }
-stopped_after h stream out handed piece e k g (Ok done) why on (inr fed) kept = absurd (grind arith)
-stopped_after h stream out handed piece e k g (Err fault.Unfinished) why on (is, same) kept = absurd (cc)
-stopped_after h stream out handed piece e k g (Err (fault.Stopped first)) why on (is, same) kept =
+stopped_after h stream out handed joined piece e k g (Ok done) why on (inr fed) kept = absurd (grind arith)
+stopped_after h stream out handed joined piece e k g (Err fault.Unfinished) why on (is, same) kept = absurd (cc)
+stopped_after h stream out handed joined piece e k g (Err (fault.Stopped first)) why on (is, same) kept =
     let one : first ≡ why = cc in
-    let s = went_on h stream out handed e k first on kept in
-    subst (λ (x : PlainHostEndpoint). KeptStop h stream piece out handed why x) (sym same) (subst (λ (w : HostStop). KeptStop h stream piece out handed w k) one (record {
+    let s = went_on h stream out handed joined e k first on kept in
+    subst (λ (x : PlainHostEndpoint). KeptStop h stream piece out handed joined why x) (sym same) (subst (λ (w : HostStop). KeptStop h stream piece out handed joined w k) one (record {
       taken = [];
       whole = inr refl;
-      kept = subst (λ (x : List ℕ). Kept h x out handed k) (sym (append-nil stream)) s.0;
+      kept = subst (λ (x : List ℕ). Kept h x out handed joined k) (sym (append-nil stream)) s.0;
       stops = s.1;
       says = s.2;
     }))
-stopped_after h stream out handed piece e k g (Err fault.OutOfMemory) why on after kept = absurd on
-stopped_after h stream out handed piece e k g (Err fault.CountFull) why on after kept = absurd on
+stopped_after h stream out handed joined piece e k g (Err fault.OutOfMemory) why on after kept = absurd on
+stopped_after h stream out handed joined piece e k g (Err fault.CountFull) why on after kept = absurd on
 
 -- a piece stopped an end that went on
-pub kept_stop : (h : PlainHost) (stream out handed piece : List ℕ) (e g : PlainHostEndpoint) (why : HostStop) → e.stop ≡ None → Feeds e piece (Err (fault.Stopped why)) g
-    → Kept h stream out handed e → KeptStop h stream piece out handed why g
-kept_stop h stream out handed piece e g why goes (inl (who, stops, is, same)) kept = absurd (cc)
-kept_stop h stream out handed piece e g why goes (inr (going, k, first, on, after)) kept = stopped_after h stream out handed piece e k g first why on after kept
+pub kept_stop : (h : PlainHost) (stream out handed : List ℕ) (joined : Files) (piece : List ℕ) (e g : PlainHostEndpoint) (why : HostStop) → e.stop ≡ None → Feeds e piece (Err (fault.Stopped why)) g
+    → Kept h stream out handed joined e → KeptStop h stream piece out handed joined why g
+kept_stop h stream out handed joined piece e g why goes (inl (who, stops, is, same)) kept = absurd (cc)
+kept_stop h stream out handed joined piece e g why goes (inr (going, k, first, on, after)) kept = stopped_after h stream out handed joined piece e k g first why on after kept
 
 -- a piece that can be counted is no reason to refuse it
 pub none_full : (e g : PlainHostEndpoint) (piece : List ℕ) → HasRoom e.framer piece → Feeds e piece (Err fault.CountFull) g → ⊥
@@ -220,34 +326,38 @@ none_full e g piece room (inr (going, k, Err fault.CountFull, on, after)) = on
 
 -- ## Runs
 
-kept_run : (h : PlainHost) (stream out handed : List ℕ) (calls : List Call) (e g : PlainHostEndpoint) → Runs e calls g → Kept h stream out handed e
-    → Kept h (stream ++ flat_map came_in calls) (out ++ flat_map went_out calls) (handed ++ flat_map handed_out calls) g
-kept_run h stream out handed [] e g is kept = grind (arith, append-nil)
-kept_run h stream out handed (Feed piece answer ∷ calls) e g (k, feeds, goes, runs) kept =
-    subst (λ (x : List ℕ). Kept h x (out ++ flat_map went_out calls) (handed ++ flat_map handed_out calls) g)
+pub kept_run : (h : PlainHost) (stream out handed : List ℕ) (joined : Files) (calls : List Call) (e g : PlainHostEndpoint) → Runs e calls g → Kept h stream out handed joined e
+    → Kept h (stream ++ flat_map came_in calls) (out ++ flat_map went_out calls) (handed ++ flat_map handed_out calls) (joined ++ flat_map joined_by calls) g
+kept_run h stream out handed joined [] e g is kept = grind (arith, append-nil)
+kept_run h stream out handed joined (Feed piece answer ∷ calls) e g (k, feeds, goes, runs) kept =
+    subst (λ (x : List ℕ). Kept h x (out ++ flat_map went_out calls) (handed ++ flat_map handed_out calls) (joined ++ flat_map joined_by calls) g)
     (append_assoc stream (came_in (Feed piece answer)) (flat_map came_in calls))
-    (kept_run h (stream ++ came_in (Feed piece answer)) out handed calls k g runs (kept_feed h stream out handed piece e k answer goes feeds kept))
-kept_run h stream out handed (TakeOut bytes ∷ calls) e g (rest, is, runs) kept =
-    subst (λ (x : List ℕ). Kept h x (out ++ (bytes ++ flat_map went_out calls)) (handed ++ flat_map handed_out calls) g)
+    (kept_run h (stream ++ came_in (Feed piece answer)) out handed joined calls k g runs (kept_feed h stream out handed joined piece e k answer goes feeds kept))
+kept_run h stream out handed joined (AddFile count name text result ∷ calls) e g (k, then, adds, runs) kept =
+    subst (λ (x : Files). Kept h (stream ++ flat_map came_in calls) (out ++ flat_map went_out calls) (handed ++ flat_map handed_out calls) x g)
+    (append_assoc joined (joined_by (AddFile count name text result)) (flat_map joined_by calls))
+    (kept_run h stream out handed (joined ++ joined_by (AddFile count name text result)) calls k g runs (kept_added h stream out handed joined count name text result e k then adds kept))
+kept_run h stream out handed joined (TakeOut bytes ∷ calls) e g (rest, is, runs) kept =
+    subst (λ (x : List ℕ). Kept h x (out ++ (bytes ++ flat_map went_out calls)) (handed ++ flat_map handed_out calls) (joined ++ flat_map joined_by calls) g)
     (append_assoc stream [] (flat_map came_in calls))
-    (subst (λ (x : List ℕ). Kept h ((stream ++ []) ++ flat_map came_in calls) x (handed ++ flat_map handed_out calls) g)
+    (subst (λ (x : List ℕ). Kept h ((stream ++ []) ++ flat_map came_in calls) x (handed ++ flat_map handed_out calls) (joined ++ flat_map joined_by calls) g)
     (append_assoc out bytes (flat_map went_out calls))
-    (kept_run h (stream ++ []) (out ++ bytes) handed calls (record e { pending_bytes = rest }) g runs (kept_out h stream out handed bytes rest e is kept)))
-kept_run h stream out handed (NextWritten tag ∷ calls) e g (is, runs) kept =
-    subst (λ (x : List ℕ). Kept h (stream ++ flat_map came_in calls) (out ++ flat_map went_out calls) x g)
+    (kept_run h (stream ++ []) (out ++ bytes) handed joined calls (record e { pending_bytes = rest }) g runs (kept_out h stream out handed joined bytes rest e is kept)))
+kept_run h stream out handed joined (NextWritten tag ∷ calls) e g (is, runs) kept =
+    subst (λ (x : List ℕ). Kept h (stream ++ flat_map came_in calls) (out ++ flat_map went_out calls) x (joined ++ flat_map joined_by calls) g)
     (append_assoc handed (option_to_list tag) (flat_map handed_out calls))
-    (kept_run h stream out (handed ++ option_to_list tag) calls (record e { writes = drop 1 e.writes }) g runs (kept_handed h stream out handed tag e is kept))
+    (kept_run h stream out (handed ++ option_to_list tag) joined calls (record e { writes = drop 1 e.writes }) g runs (kept_handed h stream out handed joined tag e is kept))
 
 pub runs_serve : (h : PlainHost) (calls : List Call) (g : PlainHostEndpoint) → Runs (begun_with h) calls g
-    → HasServed h (flat_map came_in calls) (flat_map went_out calls) (flat_map handed_out calls) g
-runs_serve h calls g runs = (kept_run h [] [] [] calls (begun_with h) g runs (kept_begun h)).served
+    → HasServed h (flat_map came_in calls) (flat_map went_out calls) (flat_map handed_out calls) (flat_map joined_by calls) g
+runs_serve h calls g runs = (kept_run h [] [] [] [] calls (begun_with h) g runs (kept_begun h)).served
 
 pub stops_serve : (h : PlainHost) (calls : List Call) (e g : PlainHostEndpoint) (piece : List ℕ) (why : HostStop) → Runs (begun_with h) calls e → Feeds e piece (Err (fault.Stopped why)) g
-    → (taken : List ℕ) × ((taken ≡ piece) ⊎ (taken ≡ [])) × HasServed h (flat_map came_in calls ++ taken) (flat_map went_out calls) (flat_map handed_out calls) g
+    → (taken : List ℕ) × ((taken ≡ piece) ⊎ (taken ≡ [])) × HasServed h (flat_map came_in calls ++ taken) (flat_map went_out calls) (flat_map handed_out calls) (flat_map joined_by calls) g
     × HasStopped g why × (g.stop ≡ Some why)
 stops_serve h calls e g piece why runs feeds =
-    let s = kept_stop h (flat_map came_in calls) (flat_map went_out calls) (flat_map handed_out calls) piece e g why (run_goes (begun_with h) e calls refl runs) feeds
-    (kept_run h [] [] [] calls (begun_with h) e runs (kept_begun h)) in
+    let s = kept_stop h (flat_map came_in calls) (flat_map went_out calls) (flat_map handed_out calls) (flat_map joined_by calls) piece e g why (run_goes (begun_with h) e calls refl runs) feeds
+    (kept_run h [] [] [] [] calls (begun_with h) e runs (kept_begun h)) in
     (s.taken, s.whole, s.kept.served, s.stops, s.says)
 
 -- ## One outcome
@@ -265,21 +375,36 @@ abbrev answered_frames : Result (PlainHost × List HFrame) HostFault → List HF
 answered_frames (Ok r) = r.1
 answered_frames (Err why) = []
 
-one_service : (h : PlainHost) (ms : List Tmesg) (a b : List HFrame) (v w : List ℕ) (g k : PlainHost) → Serves h ms a v g → Serves h ms b w k → (g ≡ k) × (a ≡ b) × (v ≡ w)
+one_service : (h : PlainHost) (steps : List Step) (a b : List HFrame) (v w : List ℕ) (g k : PlainHost) → Serves h steps a v g → Serves h steps b w k → (g ≡ k) × (a ≡ b) × (v ≡ w)
 one_service h [] a b v w g k p q = (p.2 ∙ sym q.2, p.0 ∙ sym q.0, p.1 ∙ sym q.1)
-one_service h (m ∷ ms) a b v w g k (h1, a1, a2, v2, ans1, af, vf, p) (k1, b1, b2, w2, ans2, bf, wf, q) = grind (arith, (one_service k1 ms a2 b2 v2 w2 g k))
+one_service h (Answered m ∷ steps) a b v w g k (h1, a1, a2, v2, ans1, af, vf, p) (k1, b1, b2, w2, ans2, bf, wf, q) = grind (arith, (one_service k1 steps a2 b2 v2 w2 g k))
+one_service h (Joined file ∷ steps) a b v w g k p q = one_service (with_given h file) steps a b v w g k p q
+
+-- the messages, and where files joined, decide the steps
+same_steps : (count : ℕ) (xs ys : List Step) → messages_in xs ≡ messages_in ys → joined_after count xs ≡ joined_after count ys → xs ≡ ys
+same_steps count [] [] p q = refl
+same_steps count [] (Answered m ∷ ys) p q = absurd (cc)
+same_steps count [] (Joined file ∷ ys) p q = absurd (cc)
+same_steps count (Answered m ∷ xs) [] p q = absurd (cc)
+same_steps count (Joined file ∷ xs) [] p q = absurd (cc)
+same_steps count (Answered m ∷ xs) (Answered n ∷ ys) p q = grind (arith, (same_steps (count + 1) xs ys))
+same_steps count (Joined file ∷ xs) (Joined other ∷ ys) p q = grind (arith, (same_steps count xs ys))
+same_steps count (Answered m ∷ xs) (Joined file ∷ ys) p q = let late = not_before (count + 1) count file (joined_after count ys) xs q in absurd (omega (arith, late))
+same_steps count (Joined file ∷ xs) (Answered m ∷ ys) p q = let late = not_before (count + 1) count file (joined_after count xs) ys (sym q) in absurd (omega (arith, late))
 
 same_behind : (o p : Option StreamFault) → option_map mesg_fault o ≡ option_map mesg_fault p → o ≡ p
 same_behind o p e = grind arith
 
-idle_reads : (h : PlainHost) (stream out handed : List ℕ) (e : PlainHostEndpoint) (s : HasServed h stream out handed e) → e.waiting ≡ []
-    → IsStream terminal 1 stream s.answered e.framer.bytes (option_map mesg_fault e.broken_by)
-idle_reads h stream out handed e s none = grind (arith, append-nil)
+idle_reads : (h : PlainHost) (stream out handed : List ℕ) (joined : Files) (e : PlainHostEndpoint) (s : HasServed h stream out handed joined e) → e.waiting ≡ []
+    → IsStream terminal 1 stream (messages_in s.steps) e.framer.bytes (option_map mesg_fault e.broken_by)
+idle_reads h stream out handed joined e s none = grind (arith, append-nil)
 
-pub one_outcome : Reads → (h : PlainHost) (stream a b v w : List ℕ) (e g : PlainHostEndpoint) → HasServed h stream a v e → HasServed h stream b w g → IsIdle e → IsIdle g
+pub one_outcome : Reads → (h : PlainHost) (stream a b v w : List ℕ) (joined : Files) (e g : PlainHostEndpoint) → HasServed h stream a v joined e → HasServed h stream b w joined g
+    → IsIdle e → IsIdle g
     → (e.host ≡ g.host) × (a ++ e.pending_bytes ≡ b ++ g.pending_bytes) × (v ++ e.writes ≡ w ++ g.writes) × (e.broken_by ≡ g.broken_by)
-one_outcome reads h stream a b v w e g s t i j =
-    let one = reads 1 stream s.answered t.answered e.framer.bytes g.framer.bytes (option_map mesg_fault e.broken_by) (option_map mesg_fault g.broken_by) (idle_reads h stream a v e s i.waiting)
-    (idle_reads h stream b w g t j.waiting) in
-    let same = one_service h t.answered s.frames t.frames s.writes t.writes e.host g.host (subst (λ (x : List Tmesg). Serves h x s.frames s.writes e.host) one.0 s.serves) t.serves in
+one_outcome reads h stream a b v w joined e g s t i j =
+    let one = reads 1 stream (messages_in s.steps) (messages_in t.steps) e.framer.bytes g.framer.bytes (option_map mesg_fault e.broken_by) (option_map mesg_fault g.broken_by)
+    (idle_reads h stream a v joined e s i.waiting) (idle_reads h stream b w joined g t j.waiting) in
+    let steps = same_steps h.taken s.steps t.steps one.0 (s.files ∙ sym t.files) in
+    let same = one_service h t.steps s.frames t.frames s.writes t.writes e.host g.host (subst (λ (l : List Step). Serves h l s.frames s.writes e.host) steps s.serves) t.serves in
     (same.0, grind (arith, append-nil), s.written ∙ same.2 ∙ sym t.written, same_behind e.broken_by g.broken_by one.2)

@@ -1,7 +1,7 @@
 -- A host at one end of a stream of bytes each way, and what feeding it does.
-use Rattle.std.specs.Prelude.{◌≡◌, ℕ, ◌+◌, ◌^◌, ◌<◌, ◌≤◌, ◌⊎◌, List, [], ◌∷◌, ◌++◌, length, Bool, true, false, not, ◌&&◌, ◌||◌, nat_lt, nat_le, if◌then◌else◌, Option, Some, None, Result, Ok, Err}
+use Rattle.std.specs.Prelude.{◌≡◌, ℕ, ◌+◌, ◌^◌, ◌<◌, ◌≤◌, ◌⊎◌, List, [], ◌∷◌, ◌++◌, length, map, not, ◌&&◌, ◌||◌, nat_lt, nat_le, if◌then◌else◌, Option, Some, None, Result, Ok, Err}
 use Rattle.std.specs.Str.{chars, is_utf8}
-use Rattle.sam_runes.specs.Checks.{Checks}
+use Rattle.sam_runes.specs.Checks.{Checks, first_of_checks}
 use Rattle.sam_runes.specs.Texts.{all_tags, max_runes, most_in_name}
 use Rattle.sam_mesg.specs.declared.tmesg.Tmesg.{Tmesg}
 use Rattle.sam_mesg.specs.declared.tmesg.Tmesg.TheVariants.{Twrite}
@@ -24,7 +24,6 @@ use Rattle.sam_endpoint.specs.Streams.{Gives}
 pub record PlainHostEndpoint : Type 0 where
   pub framer : Held  -- what came of the terminal's stream and is no whole frame yet
   pub host : PlainHost
-  pub is_begun : Bool  -- it was fed, so no file can be added any more
   pub waiting : List Tmesg  -- messages that came and are not answered yet, since memory was refused
   pub broken_by : Option StreamFault  -- what is wrong with the stream after them
   pub unwritten : List HFrame  -- frames that were answered and are not in the pending bytes yet, since memory was refused
@@ -37,7 +36,6 @@ new_host_endpoint =
     record {
       framer = fresh;
       host = new_host [];
-      is_begun = false;
       waiting = [];
       broken_by = None;
       unwritten = [];
@@ -51,23 +49,28 @@ abbrev pub writes_of : PlainHost → Tmesg → List ℕ
 writes_of h (Twrite f) = if h.is_done then [] else f ∷ []
 writes_of h m = []
 
--- the host answers the messages in order by these frames, and is told to write these tags
-abbrev pub Serves : PlainHost → List Tmesg → List HFrame → List ℕ → PlainHost → Type 0
+-- what a host does
+pub data Step : Type 0 where
+  Answered : Tmesg → Step  -- it answered this message
+  Joined : List ℕ × List ℕ → Step  -- a file of this name and text joined its files
+
+-- the host does these steps in order; its answers are these frames, and it is told to write these tags
+abbrev pub Serves : PlainHost → List Step → List HFrame → List ℕ → PlainHost → Type 0
 Serves h [] frames writes g = (frames ≡ []) × (writes ≡ []) × (g ≡ h)
-Serves h (m ∷ ms) frames writes g =
+Serves h (Answered m ∷ steps) frames writes g =
     (k : PlainHost) × (first : List HFrame) × (rest : List HFrame) × (more : List ℕ)
-    × (answer h m ≡ Ok (k, first)) × (frames ≡ first ++ rest) × (writes ≡ writes_of h m ++ more) × Serves k ms rest more g
+    × (answer h m ≡ Ok (k, first)) × (frames ≡ first ++ rest) × (writes ≡ writes_of h m ++ more) × Serves k steps rest more g
+Serves h (Joined file ∷ steps) frames writes g = Serves (with_given h file) steps frames writes g
 
 -- of the messages that waited these were answered, and what was answered is written or waits to be
 pub record Answers (e : PlainHostEndpoint) (messages : List Tmesg) (g : PlainHostEndpoint) : Type 0 where
   pub frames : List HFrame
   pub more : List ℕ
-  pub serves : Serves e.host messages frames more g.host
+  pub serves : Serves e.host (map Answered messages) frames more g.host
   pub waiting : e.waiting ≡ messages ++ g.waiting
   pub bytes : g.pending_bytes ++ stream_of host g.unwritten ≡ e.pending_bytes ++ stream_of host (e.unwritten ++ frames)
   pub writes : g.writes ≡ e.writes ++ more
   pub framer : g.framer ≡ e.framer
-  pub begun : g.is_begun ≡ e.is_begun
   pub broken_by : g.broken_by ≡ e.broken_by
 
 -- nothing is left to answer or to write
@@ -94,7 +97,7 @@ abbrev pub TakesIn : PlainHostEndpoint → List ℕ → PlainHostEndpoint → Ty
 TakesIn e piece k =
     (messages : List Tmesg) × (broken_by : Option StreamFault) × (rest : Held)
     × Gives terminal e.framer piece messages broken_by rest
-    × (k ≡ record e { framer = rest; is_begun = true; waiting = messages; broken_by = broken_by })
+    × (k ≡ record e { framer = rest; waiting = messages; broken_by = broken_by })
 
 -- what an end does with a piece, where nothing waits any more
 abbrev pub FeedsIdle : PlainHostEndpoint → List ℕ → Result (Unit {0}) (EndpointFault HostStop) → PlainHostEndpoint → Type 0
@@ -132,13 +135,12 @@ Finishes e (Err ending.Unfinished) = (e.stop ≡ None) × (IsDone e → ⊥)
 Finishes e (Err ending.Truncated) = (e.stop ≡ None) × IsDone e × (0 < length e.framer.bytes)
 Finishes e (Ok done) = (e.stop ≡ None) × IsDone e × (e.framer.bytes ≡ [])
 
--- ## Files that the host begins with
+-- ## Files that join
 
 -- what stands against a file of this name and text, in bytes
 abbrev pub add_checks : PlainHostEndpoint → List ℕ → List ℕ → Checks AddFault
 add_checks e name text =
-    (e.is_begun, refusal.Begun)
-    ∷ (not (is_utf8 name && is_utf8 text), refusal.NotText)
+    (not (is_utf8 name && is_utf8 text), refusal.NotText)
     ∷ (nat_lt most_in_name (length (chars name)) || nat_lt max_runes (length (chars text)), refusal.TooLong)
     ∷ (nat_le all_tags (length e.host.files.slots), refusal.NoTag)
     ∷ []
@@ -148,6 +150,13 @@ abbrev pub IsAddFault : Option AddFault → AddFault → Type 0
 IsAddFault None why = why ≡ refusal.OutOfMemory
 IsAddFault (Some fault) why = why ≡ fault
 
--- the end with one more file, of the runes that the bytes spell
+-- the end with one more file, of the runes that the bytes spell: it is there before all messages that are not answered yet
 abbrev pub with_file : PlainHostEndpoint → List ℕ → List ℕ → PlainHostEndpoint
 with_file e name text = record e { host = with_given e.host (chars name, chars text) }
+
+-- what adding a file answers, and how it leaves the end, whatever waits there and whether it goes on or has stopped: the file has joined
+-- under the next tag; or it is refused, and all is as it was
+abbrev pub Adds : PlainHostEndpoint → List ℕ → List ℕ → Result ℕ AddFault → PlainHostEndpoint → Type 0
+Adds e name text (Ok tag) g =
+    (tag ≡ length e.host.files.slots) × (first_of_checks (add_checks e name text) ≡ None) × (g ≡ with_file e name text)
+Adds e name text (Err why) g = IsAddFault (first_of_checks (add_checks e name text)) why × (g ≡ e)

@@ -10,13 +10,10 @@ use sam_mesg::MesgFault;
 use sam_term::TermFault;
 use thiserror::Error;
 
-/// Why a file is not added to a host, in the order of the tests. The host is then as it was. The C library reports `Begun`, `TooLong` and
-/// `NoTag` by their numbers, and has numbers of its own for the other two.
+/// Why a file is not added to a host, in the order of the tests. The host is then as it was. The C library reports `TooLong` and `NoTag` by
+/// their numbers, and has numbers of its own for the other two. Number 1 is not given again: it meant that the host was fed already.
 #[derive(Clone, Copy, Debug, PartialEq, Eq, Drop, Error)]
 pub enum AddFault {
-    /// The host endpoint has taken a piece before, be it an empty one. From then on its files are those that it began with.
-    #[error("the host has been fed")]
-    Begun = 1,
     /// The name or the text is not UTF-8 (RFC 3629).
     #[error("not UTF-8")]
     NotText = 2,

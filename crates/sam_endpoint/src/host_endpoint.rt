@@ -5,7 +5,7 @@ ghost use Rattle.std.specs.Str.{chars, is_utf8};
 ghost use Rattle.std.specs.VecDeque.{deque_len, deque_capacity};
 ghost use Rattle.sam_runes.specs.Checks.{first_of_checks};
 ghost use Rattle.sam_term.specs.Fitting.{FitsLast};
-ghost use Rattle.sam_endpoint.specs.HostEndpoints.{Feeds, Finishes, GoesOn, IsIdle, IsAddFault, new_host_endpoint, add_checks, with_file, writes_of};
+ghost use Rattle.sam_endpoint.specs.HostEndpoints.{Adds, Feeds, Finishes, GoesOn, IsIdle, new_host_endpoint, add_checks, writes_of};
 ghost use Rattle.sam_endpoint.specs.HostRuns.{begun_with};
 ghost use Rattle.sam_endpoint.specs.HostSteps.{Brings, Ends, Handles, HandlesNext, TakesSo, Writes};
 
@@ -101,8 +101,6 @@ pub struct HostEndpoint {
     framer: FramerT,
     /// The host, as the messages answered so far left it.
     host: Host,
-    /// Whether a piece was taken, be it an empty one. From then on no file is added.
-    begun: bool,
     /// The messages that came and are not answered yet, the oldest first. There are none after a call that returned `Ok`.
     pub(crate) waiting: VecDeque<Tmesg>,
     /// What is wrong with the stream after these messages; `None` if nothing is.
@@ -126,7 +124,6 @@ impl Model for HostEndpoint {
     ghost view = { λ a. record {
       framer = a.framer;
       host = a.host;
-      is_begun = a.begun;
       waiting = a.waiting.items;
       broken_by = a.broken_by;
       unwritten = a.unwritten.items;
@@ -138,7 +135,6 @@ impl Model for HostEndpoint {
     ghost invariant = { λ a. IsSound (record {
       framer = a.framer;
       host = a.host;
-      is_begun = a.begun;
       waiting = a.waiting.items;
       broken_by = a.broken_by;
       unwritten = a.unwritten.items;
@@ -167,7 +163,6 @@ impl HostEndpoint {
             alloc,
             framer: FramerT::new(alloc),
             host,
-            begun: false,
             waiting: VecDeque::new(alloc),
             broken_by: None,
             unwritten: Vec::new(alloc),
@@ -181,9 +176,6 @@ impl HostEndpoint {
     fn refusal(&self, name: &[u8], text: &[u8]) -> Option<AddFault>
         ensures { result ≡ first_of_checks (add_checks self.now name.now text.now) }
     {
-        if self.begun {
-            return Some(AddFault::Begun);
-        }
         let Some(name) = runes_in(name) else {
             return Some(AddFault::NotText);
         };
@@ -200,18 +192,17 @@ impl HostEndpoint {
     }
 
     /// Adds a file under the next tag, and returns the tag: 1 for the first file, 2 for the next, and so on. `name` and `text` are UTF-8
-    /// (RFC 3629). The file is clean and closed, and its name is not announced yet. The cost is that of the name and the text.
+    /// (RFC 3629). The file is clean and closed, and its name is not announced yet: the answer to the terminal's next Tversion has it.
     ///
-    /// Errors, in this order: `Begun` if a piece was taken before; `NotText` if the name or the text is not UTF-8; `TooLong` if the name
-    /// has more than `MOST_IN_NAME` runes or the text more than `MAX_RUNES`; `NoTag` if all tags were given; `OutOfMemory`. After an error
-    /// the endpoint is as it was.
+    /// It may be called at any time, also on an endpoint that has stopped, or whose terminal has exited. The host answers no message by it,
+    /// and no byte becomes pending. A message that came before and still waits, as after `Unfinished`, is answered after the file has
+    /// joined. The cost is that of the name and the text.
+    ///
+    /// Errors, in this order: `NotText` if the name or the text is not UTF-8; `TooLong` if the name has more than `MOST_IN_NAME` runes or
+    /// the text more than `MAX_RUNES`; `NoTag` if all tags were given; `OutOfMemory`. After an error the endpoint is as it was.
     #[tactic(auto, using(crate::proofs::HostEndpointFiles::adds_files))]
     pub fn add_file(&mut self, name: &[u8], text: &[u8]) -> Result<u16, AddFault>
-        ensures tag { IfOk result (λ tag. tag ≡ length self.old.host.files.slots) }
-        ensures added { OnOk result (self.new ≡ with_file self.old name.now text.now) }
-        ensures allowed { OnOk result (first_of_checks (add_checks self.old name.now text.now) ≡ None) }
-        ensures refused { IfErr result (IsAddFault (first_of_checks (add_checks self.old name.now text.now))) }
-        ensures unchanged { OnErr result (self.new ≡ self.old) }
+        ensures { Adds self.old name.now text.now result self.new }
     {
         if let Some(fault) = self.refusal(name, text) {
             return Err(fault);
@@ -440,7 +431,6 @@ impl HostEndpoint {
         ensures { Brings self.old piece.now result self.new }
     {
         let (messages, broken_by) = feed_framer(&mut self.framer, piece)?;
-        self.begun = true;
         self.waiting = VecDeque::from_vec(messages);
         self.broken_by = broken_by;
         Ok(())

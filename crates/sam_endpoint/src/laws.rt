@@ -8,9 +8,10 @@ ghost use Rattle.sam_endpoint.specs.TermStepping.{TermStepsFeed};
 
 use sam_frame::one_reading_t;
 
-/// States what every run of a host endpoint that does not stop comes to, whatever the pieces are and whenever memory is refused. The host
-/// has answered the first messages of the stream in order, and the others wait; the frames of its answers are what was taken out, what is
-/// pending, and what is not written yet; the tags that these messages had it write were handed out, each once, or wait to be.
+/// States what every run of a host endpoint that does not stop comes to, whatever the pieces are, whenever memory is refused and wherever
+/// files join. The host has answered the first messages of the stream in order, and the others wait; each file that was added joined
+/// between two answers, in order; the frames of its answers are what was taken out, what is pending, and what is not written yet; the tags
+/// that these messages had it write were handed out, each once, or wait to be.
 #[tactic(auto, using(crate::proofs::HostEndpointRuns::runs_serve))]
 pub fn host_runs_serve()
     ensures { RunsServe }
@@ -22,8 +23,9 @@ pub fn host_stops_serve()
     ensures { StopsServe }
 {}
 
-/// States that two host endpoints to which the same stream came have the same host, the same bytes for the terminal and the same tags to
-/// write, once nothing waits, whatever the pieces were and whenever memory was refused.
+/// States that two host endpoints to which the same stream came, and the same files, each after the same number of messages, have the same
+/// host, the same bytes for the terminal and the same tags to write, once nothing waits, whatever the pieces were and whenever memory was
+/// refused. So a program that keeps the stream, and where each file joined, can make the host again.
 pub fn host_one_outcome()
     ensures { OneOutcome }
 {

@@ -13,6 +13,7 @@ use Rattle.sam_term.specs.Term.{PlainTerminal, is_open, window_at}
 unfoldable use Rattle.sam_term.specs.Term.{flush_of}
 use Rattle.sam_term.specs.declared.event.UserEvent.{UserEvent}
 use Rattle.sam_endpoint.specs.HostEndpoints.{PlainHostEndpoint}
+use Rattle.sam_endpoint.specs.HostRuns.{messages_in}
 use Rattle.sam_endpoint.specs.TermEndpoints.{PlainTermEndpoint, IsQuiet}
 use Rattle.sam_endpoint.specs.TermRuns.{frames_in}
 use Rattle.sam_endpoint.specs.Streams.{mesg_fault}
@@ -21,7 +22,7 @@ use Rattle.std.proofs.Common.{option_map}
 use Rattle.sam_crossing.proofs.OrderLaws.{reached_in_order, quiet_means_agreement}
 use Rattle.sam_crossing.specs.RunOrder.{IsInOrder}
 use Rattle.sam_crossing.specs.World.{PlainWorld, WasReached, is_locked, is_quiet, step_of}
-use Rattle.sam_crossing.specs.declared.event.Event.TheVariants.{User, Act, Flush, HostTake, TermTake}
+use Rattle.sam_crossing.specs.declared.event.Event.TheVariants.{User, Add, Act, Flush, HostTake, TermTake}
 use Rattle.sam_local.proofs.Runs.{runs_are_as_if_local}
 use Rattle.sam_local.specs.Local.{PlainEditor, at_rest, carried_all}
 use Rattle.sam_local.specs.Worlds.{IsAsIfLocal, ShowsFile}
@@ -73,6 +74,7 @@ flush_keeps w next none s = grind (arith, same_Some, (nothing-flushed w none))
 
 stuck_both : (e : PlainHostEndpoint) (g : PlainTermEndpoint) → g.term.unsent ≡ None → IsQuiet g.term → IsStuck (both e g)
 stuck_both e g none quiet (User event) next a = absurd (true≢false a.own)
+stuck_both e g none quiet (Add name text) next a = absurd (true≢false a.own)
 stuck_both e g none quiet Act next a = a.changes (act_keeps (both e g) next quiet a.stepped)
 stuck_both e g none quiet Flush next a = a.changes (flush_keeps (both e g) next none a.stepped)
 stuck_both e g none quiet HostTake next a = absurd (grind (arith, a.stepped))
@@ -86,29 +88,29 @@ module _ (given : List (List ℕ × List ℕ)) (said : List UserEvent) (up down 
   abbrev entries : List TermLog
   entries = map entry_of c.did.steps
 
-  abbrev two : Joined given entries e.host g.term c.did.composed c.served.answered c.served.frames (frames_in c.did.steps)
+  abbrev two : Joined given entries e.host g.term c.did.composed (messages_in c.served.steps) c.served.frames (frames_in c.did.steps)
   two = joined given said up down e g c x
 
   in_order : IsInOrder run.world
   in_order = reached_in_order given run.world c.given_fit (run.events, run.run)
 
   local : IsAsIfLocal given said run.world
-  local = subst (λ (events : List UserEvent). IsAsIfLocal given events run.world) run.users (runs_are_as_if_local given run.events run.world c.given_fit run.run)
+  local = subst (λ (events : List UserEvent). IsAsIfLocal given events run.world) run.users (runs_are_as_if_local given run.events run.world c.given_fit run.run run.none_join)
 
   -- ## All is carried
 
   module _ (all : IsAllCarried up down e g) where
-    whole_up : stream_of terminal c.did.composed ≡ stream_of terminal (c.served.answered ++ e.waiting) ++ e.framer.bytes
-    whole_up = all_came _ (stream_of terminal (c.served.answered ++ e.waiting)) e.framer.bytes up (stream_of terminal g.unwritten)
+    whole_up : stream_of terminal c.did.composed ≡ stream_of terminal (messages_in c.served.steps ++ e.waiting) ++ e.framer.bytes
+    whole_up = all_came _ (stream_of terminal (messages_in c.served.steps ++ e.waiting)) e.framer.bytes up (stream_of terminal g.unwritten)
         (up_read given said up down e g c x) all.none_up (ap (λ (ms : List Tmesg). stream_of terminal ms) all.term_idle.unwritten)
 
     whole_down : stream_of host c.served.frames ≡ stream_of host (frames_in c.did.steps ++ g.waiting) ++ g.framer.bytes
     whole_down = all_came _ (stream_of host (frames_in c.did.steps ++ g.waiting)) g.framer.bytes down (stream_of host e.unwritten)
         (down_read given said up down e g c x) all.none_down (ap (λ (frames : List HFrame). stream_of host frames) all.host_idle.unwritten)
 
-    read_up : c.served.answered ++ e.waiting ≡ c.did.composed
-    read_up = all_read terminal up_sound c.did.composed (c.served.answered ++ e.waiting) e.framer.bytes two.composed_in_turn c.served.reads.splits.fit whole_up
-        (subst (λ (o : Option StreamFault). Ends terminal (version_after terminal 1 (c.served.answered ++ e.waiting)) e.framer.bytes (option_map mesg_fault o))
+    read_up : messages_in c.served.steps ++ e.waiting ≡ c.did.composed
+    read_up = all_read terminal up_sound c.did.composed (messages_in c.served.steps ++ e.waiting) e.framer.bytes two.composed_in_turn c.served.reads.splits.fit whole_up
+        (subst (λ (o : Option StreamFault). Ends terminal (version_after terminal 1 (messages_in c.served.steps ++ e.waiting)) e.framer.bytes (option_map mesg_fault o))
         (host_reads given said up down e g c x) c.served.reads.ends)
 
     read_down : frames_in c.did.steps ++ g.waiting ≡ c.served.frames
@@ -118,7 +120,7 @@ module _ (given : List (List ℕ × List ℕ)) (said : List UserEvent) (up down 
 
     world_is : run.world ≡ both e g
     world_is = same_world run.world (both e g) run.host_is run.term_is
-        (ap (λ (w : PlainWorld). w.up) (one_world given said up down e g c x) ∙ none_left c.did.composed (c.served.answered ++ e.waiting) c.served.answered e.waiting two.world.up refl all.host_idle.waiting read_up two.upwards)
+        (ap (λ (w : PlainWorld). w.up) (one_world given said up down e g c x) ∙ none_left c.did.composed (messages_in c.served.steps ++ e.waiting) (messages_in c.served.steps) e.waiting two.world.up refl all.host_idle.waiting read_up two.upwards)
         (ap (λ (w : PlainWorld). w.down) (one_world given said up down e g c x) ∙ none_left c.served.frames (frames_in c.did.steps ++ g.waiting) (frames_in c.did.steps) g.waiting two.world.down refl all.term_idle.waiting read_down two.downwards)
 
     half_up : e.framer.bytes ≡ []

@@ -14,8 +14,9 @@ use Rattle.sam_term.specs.Term.{new_terminal, take_of}
 use Rattle.sam_term.specs.declared.event.UserEvent.{UserEvent}
 use Rattle.sam_term.specs.declared.fault.TermFault.{TermFault}
 use Rattle.sam_term.specs.declared.fault.TermFault.TheVariants as term_fault
-use Rattle.sam_endpoint.specs.HostEndpoints.{PlainHostEndpoint}
-use Rattle.sam_endpoint.specs.HostRuns.{HasStopped as HostHasStopped}
+use Rattle.sam_endpoint.specs.HostEndpoints.{PlainHostEndpoint, Serves, Step}
+use Rattle.sam_endpoint.specs.HostRuns.{HasStopped as HostHasStopped, messages_in}
+use Rattle.sam_endpoint.proofs.HostEndpointRuns.{all_answered}
 use Rattle.sam_endpoint.specs.Streams.{mesg_fault}
 use Rattle.sam_endpoint.specs.TermEndpoints.{PlainTermEndpoint}
 use Rattle.sam_endpoint.specs.TermRuns.{HasStopped as TermHasStopped, frames_in}
@@ -52,7 +53,7 @@ module _ (given : List (List ℕ × List ℕ)) (said : List UserEvent) (up down 
   entries = map entry_of c.did.steps
 
   abbrev handled : List Tmesg
-  handled = c.served.answered
+  handled = messages_in c.served.steps
 
   abbrev taken : List HFrame
   taken = frames_in c.did.steps
@@ -87,7 +88,8 @@ module _ (given : List (List ℕ × List ℕ)) (said : List UserEvent) (up down 
   apart : Apart given entries e.host g.term c.did.composed handled c.served.frames passed taken
   apart = record {
     given_fit = c.given_fit;
-    host_runs = serves_runs handled (new_host given) e.host c.served.frames c.served.writes c.served.serves;
+    host_runs = serves_runs handled (new_host given) e.host c.served.frames c.served.writes
+        (subst (λ (steps : List Step). Serves (new_host given) steps c.served.frames c.served.writes e.host) (all_answered 0 c.served.steps c.served.files) c.served.serves);
     term_runs = leads_runs c.did.steps new_terminal g.term c.did.composed c.did.leads;
     composed_fit = x.messages;
     answers_fit = x.frames;
@@ -110,6 +112,7 @@ module _ (given : List (List ℕ × List ℕ)) (said : List UserEvent) (up down 
     world = joined.world;
     run = joined.run;
     users = joined.users_are ∙ (users_logged c.did.steps ∙ c.did.given);
+    none_join = joined.none_join;
     host_is = joined.host_is;
     term_is = joined.term_is;
     upwards = rest_of terminal c.did.composed handled joined.world.up rest_up joined.upwards up_is;

@@ -14,7 +14,7 @@ use Rattle.sam_term.specs.declared.event.Acted.{Acted}
 use Rattle.sam_term.specs.declared.event.Acted.TheVariants.{Idle, Locked, Done, Refused}
 use Rattle.sam_term.specs.declared.event.UserEvent.{UserEvent}
 use Rattle.sam_term.specs.declared.fault.TermFault.{TermFault}
-use Rattle.sam_endpoint.specs.HostEndpoints.{Serves}
+use Rattle.sam_endpoint.specs.HostEndpoints.{Answered, Serves}
 use Rattle.sam_endpoint.specs.TermRuns.{Step, Received, Held, Decided, Sent, Leads, events_in, frames_in}
 use Rattle.sam_sides.specs.Logs.{logged_users}
 use Rattle.sam_sides.specs.RealSides.{acted, composed_by, sides, unless_refused}
@@ -25,7 +25,7 @@ use Rattle.sam_sides.specs.declared.log.TermLog.TheVariants as log
 -- ## What each side did
 
 -- a host that serves messages handles them
-pub serves_runs : (ms : List Tmesg) (h k : PlainHost) (frames : List HFrame) (writes : List ℕ) → Serves h ms frames writes k → HostRuns sides h ms frames k
+pub serves_runs : (ms : List Tmesg) (h k : PlainHost) (frames : List HFrame) (writes : List ℕ) → Serves h (map Answered ms) frames writes k → HostRuns sides h ms frames k
 serves_runs [] h k frames writes s = (s.0, s.2)
 serves_runs (m ∷ ms) h k frames writes s =
     (s.0, s.1, s.2, ap (λ (r : Result (PlainHost × List HFrame) HostFault). unless_refused r) s.4, s.5, serves_runs ms s.0 k s.2 s.3 s.7)

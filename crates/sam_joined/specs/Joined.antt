@@ -20,7 +20,7 @@ use Rattle.sam_endpoint.specs.declared.fault.HostStop.TheVariants as host_stop
 use Rattle.sam_endpoint.specs.declared.fault.TermStop.{TermStop}
 use Rattle.sam_endpoint.specs.declared.fault.TermStop.TheVariants as term_stop
 use Rattle.sam_sides.specs.Sides.{Each}
-use Rattle.sam_crossing.specs.World.{PlainWorld, SidesAgree, is_locked, new_world, run_of, user_events}
+use Rattle.sam_crossing.specs.World.{PlainWorld, SidesAgree, is_locked, new_world, run_of, user_events, joined_files}
 use Rattle.sam_crossing.specs.declared.event.Event.{Event}
 use Rattle.sam_local.specs.Local.{at_rest, carried_all}
 use Rattle.sam_local.specs.Worlds.{ShowsFile}
@@ -28,10 +28,10 @@ use Rattle.sam_rest.specs.Rest.{HasRoom, IsDone}
 
 -- ## What is joined
 
--- A host endpoint that began with these files took in the bytes `came_up` and handed out `went_down`. A terminal endpoint, at which the
--- user did all of `said`, took in `came_down` and handed out `went_up`. All that the terminal endpoint handed out, or has pending, is what
--- the host endpoint took in, and then what is on its way up; and likewise down. What is pending is counted, since a program may show it to
--- the other endpoint before it takes it out
+-- A host endpoint that had these files when it answered its first message, and which no file joined later, took in the bytes `came_up`
+-- and handed out `went_down`. A terminal endpoint, at which the user did all of `said`, took in `came_down` and handed out `went_up`. All
+-- that the terminal endpoint handed out, or has pending, is what the host endpoint took in, and then what is on its way up; and likewise
+-- down. What is pending is counted, since a program may show it to the other endpoint before it takes it out
 pub record AreCarried (given : List (List ℕ × List ℕ)) (said : List UserEvent) (up down : List ℕ)
     (e : PlainHostEndpoint) (g : PlainTermEndpoint) : Type 0 where
   pub came_up : List ℕ
@@ -41,7 +41,7 @@ pub record AreCarried (given : List (List ℕ × List ℕ)) (said : List UserEve
   pub written : List ℕ
   pub refused : List (ℕ × Refusal)
   pub given_fit : AreGiven given
-  pub served : HasServed (new_host given) came_up went_down written e
+  pub served : HasServed (new_host given) came_up went_down written [] e
   pub did : HasDone came_down said went_up refused g
   pub upwards : went_up ++ g.pending_bytes ≡ came_up ++ up
   pub downwards : went_down ++ e.pending_bytes ≡ came_down ++ down
@@ -67,7 +67,7 @@ pub record IsAllCarried (up down : List ℕ) (e : PlainHostEndpoint) (g : PlainT
 
 -- ## What follows
 
--- A run of one world of these files, in which the user did all of `said`, leads to the very host and the very terminal. What is under way
+-- A run of one world of these files, in which the user did all of `said` and no file joined, leads to the very host and the very terminal. What is under way
 -- between them is, in bytes: what waits at the one, the front of a frame that its framer holds, what is on its way, and what the other has
 -- not written yet
 pub record AreOneRun (given : List (List ℕ × List ℕ)) (said : List UserEvent) (up down : List ℕ)
@@ -76,6 +76,7 @@ pub record AreOneRun (given : List (List ℕ × List ℕ)) (said : List UserEven
   pub world : PlainWorld
   pub run : run_of (new_world given) events ≡ Some world
   pub users : user_events events ≡ said
+  pub none_join : joined_files events ≡ []
   pub host_is : world.host ≡ e.host
   pub term_is : world.term ≡ g.term
   pub upwards : stream_of terminal world.up ≡ ((stream_of terminal e.waiting ++ e.framer.bytes) ++ up) ++ stream_of terminal g.unwritten

@@ -1,6 +1,5 @@
 -- No packet begins another, so a front of a stream of packets has a front of its packets.
 use Rattle.std.proofs.Common.{◌≡◌, ℕ, ◌<◌, ◌^◌, List, [], ◌++◌, None, true, length, w64, refl, sym, ap, ◌∙◌, append_assoc, append-nil, arith}
-use Rattle.std.proofs.lemmas.List.Concat.{flat_map-append}
 use Rattle.std.proofs.lemmas.Nat.{from_be_bytes-to_be_bytes_8}
 use Rattle.std.specs.Int.{from_be_bytes}
 use Rattle.sam_mesg.specs.Bounds.{may_be}
@@ -10,13 +9,9 @@ use Rattle.sam_frame.specs.Direction.{frame_of}
 use Rattle.sam_frame.specs.Reading.{IsSound}
 use Rattle.sam_frame.specs.Stream.{FitInTurn, Splits, stream_of}
 use Rattle.sam_frame.proofs.Unique.{reads_on}
-use Rattle.sam_link.specs.Carrying.{Carries, IsPut}
-use Rattle.sam_link.specs.Inbox.{item_of, items_of}
 use Rattle.sam_link.specs.Packets.{IsPacket, body_of, bounds, kind_of, packets}
-use Rattle.sam_link.specs.Ways.{Step, after_all, first}
 use Rattle.sam_link.specs.declared.packet.Packet.{Packet}
 use Rattle.sam_link.specs.declared.packet.Packet.TheVariants.{Data, Note, Acknowledge, Ask}
-use Rattle.sam_link.proofs.Ways.{always_delivers}
 
 allowed : (p : Packet) → IsPacket p → may_be (bounds (kind_of p)) (length (body_of p)) ≡ true
 allowed (Data bytes) good = grind arith
@@ -46,7 +41,7 @@ one_packet p q a b good fine e =
     let same = same_frame bounds (kind_of p) (kind_of q) (body_of p) (body_of q) a b (allowed p good) (short p good) (allowed q fine) (short q fine) e in
     (same_packet p q good fine same.0 same.1, same.2)
 
-packets_sound : IsSound packets
+pub packets_sound : IsSound packets
 packets_sound =
     record {
       says = λ version p rest good. header_of_frame bounds (kind_of p) (body_of p) rest (allowed p good) (short p good);
@@ -54,14 +49,8 @@ packets_sound =
     }
 
 -- what is read of a front of a stream of packets
-front_read : (ps qs : List Packet) (came rest held : List ℕ) → FitInTurn packets 1 ps → stream_of packets ps ≡ came ++ rest → Splits packets 1 came qs held → (more : List Packet) × (ps ≡ qs ++ more)
+pub front_read : (ps qs : List Packet) (came rest held : List ℕ) → FitInTurn packets 1 ps → stream_of packets ps ≡ came ++ rest → Splits packets 1 came qs held → (more : List Packet) × (ps ≡ qs ++ more)
 front_read ps qs came rest held fit whole splits =
     reads_on packets packets_sound 1 (stream_of packets ps) qs ps (held ++ rest) [] None
     (record { whole = whole ∙ ap (λ b. b ++ rest) splits.whole ∙ append_assoc (stream_of packets qs) held rest; fit = splits.fit })
     (record { whole = sym (append-nil (stream_of packets ps)); fit = fit }) tt
-
-pub packets_carry : (steps : List Step) (ps qs : List Packet) (held : List ℕ) → IsPut (after_all first steps) ps → Splits packets 1 (after_all first steps).came qs held → Carries ps qs
-packets_carry steps ps qs held put splits =
-    let delivers = always_delivers steps in
-    let front = front_read ps qs (after_all first steps).came delivers.rest held put.1 (sym put.0 ∙ delivers.whole) splits in
-    (front.0, front.1, ap items_of front.1 ∙ flat_map-append item_of qs front.0)

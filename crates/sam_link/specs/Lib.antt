@@ -1,4 +1,4 @@
-pub mod Carrying
+pub mod Calls
 pub mod End
 pub mod Feeding
 pub mod Hellos
@@ -7,4 +7,4 @@ pub mod Keeping
 pub mod Meeting
 pub mod Packets
 pub mod Putting
-pub mod Ways
+pub mod Sessions

@@ -1,37 +1,78 @@
--- When two ends take each other's hellos.
-use Rattle.std.specs.Prelude.{◌≡◌, ◌+◌, ◌≤◌, List, length, drop, Bool, true, None}
-use Rattle.sam_link.specs.End.{End, answered, called, first_word, refusal_of, welcome_fault}
-use Rattle.sam_link.specs.Ways.{Step, Way, after_all, first}
-use Rattle.sam_link.specs.declared.hello.Hello.{Hello}
-use Rattle.sam_link.specs.declared.hello.What.TheVariants.{Welcome}
+-- What two ends of one session may answer each other, and what is there once all was carried.
+use Rattle.std.specs.Prelude.{◌≡◌, ◌<◌, List, [], ◌++◌, length, drop, true, Err}
+use Rattle.std.specs.List.{flat_map}
+use Rattle.sam_frame.specs.Stream.{stream_of}
+use Rattle.sam_link.specs.Calls.{Call, Does, fed, handed, items_in, out, put, waits}
+use Rattle.sam_link.specs.Calls.Call.{Answer, Feed, Welcome}
+use Rattle.sam_link.specs.End.{End}
+use Rattle.sam_link.specs.Feeding.{has_room, is_open}
+use Rattle.sam_link.specs.Keeping.{MayHave}
+use Rattle.sam_link.specs.Packets.{packets}
+use Rattle.sam_link.specs.Sessions.{IsId, Leads, Session, Step, WasCarried, new_session}
+use Rattle.sam_link.specs.declared.fault.AnswerFault.TheVariants as answers
+use Rattle.sam_link.specs.declared.fault.FeedFault.TheVariants as feeds
+use Rattle.sam_link.specs.declared.fault.WelcomeFault.TheVariants as welcomes
+use Rattle.sam_link.specs.declared.hello.Id.{Id}
+use Rattle.sam_link.specs.declared.hello.Refusal.TheVariants.{OldAttempt}
+use Rattle.sam_link.specs.declared.packet.Packet.{Packet}
 
--- what one end keeps, and what the other counts, are those of this way
-pub record Stands (a b : End) (w : Way) : Type 0 where
-  pub base_is : a.keeps.base ≡ w.base
-  pub kept_is : a.keeps.kept ≡ drop w.base w.put
-  pub came_is : b.received ≡ length w.came
+-- ## What is refused
 
--- a terminal and a host of one session, between connections
-pub record Joined (t h : End) (up down : List Step) : Type 0 where
-  pub up_stands : Stands t h (after_all first up)
-  pub down_stands : Stands h t (after_all first down)
-  pub id_is : t.id ≡ h.id
-  pub newer : h.attempt ≤ t.attempt
-  pub known : t.is_known ≡ true → h.is_known ≡ true
-  pub begins : t.attempt ≡ 0 → h.received ≡ 0
+-- The end finds no fault in what the other end sent: it takes a hello, or the connection is an old one; and no piece is wrong, or
+-- acknowledges what did not go
+abbrev pub FindsNoFault : Call → Type 0
+FindsNoFault (Answer hello (Err (answers.Refused why))) = why ≡ OldAttempt
+FindsNoFault (Welcome hello (Err (welcomes.Here why))) = why ≡ OldAttempt
+FindsNoFault (Welcome hello (Err (welcomes.ByHost why))) = ⊥
+FindsNoFault (Feed attempt piece (Err (feeds.Wrong fault))) = ⊥
+FindsNoFault (Feed attempt piece (Err feeds.AckAhead)) = ⊥
+FindsNoFault _ = Unit {0}
 
-abbrev pub call_hello : End → Bool → Hello
-call_hello t take_over =
-    record { what = first_word t.is_known take_over; id = t.id; attempt = t.attempt + 1; received = t.received }
-
-abbrev pub welcome_hello : End → Hello
-welcome_hello h = record { what = Welcome; id = h.id; attempt = h.attempt; received = h.received }
-
--- the host takes the terminal's next call, and the terminal its welcome
-abbrev pub Meets : End → End → Bool → Type 0
-Meets t h take_over =
-    (refusal_of h (call_hello t take_over) ≡ None)
-    × (welcome_fault (called t take_over) (welcome_hello (answered h (call_hello t take_over))) ≡ None)
-
+-- after any calls, the next call of either end, where what it brings was carried
 abbrev pub HonestMeet : Type 0
-HonestMeet = (t h : End) (up down : List Step) (take_over : Bool) → Joined t h up down → Meets t h take_over
+HonestMeet =
+    (id : Id) (steps : List Step) (s : Session) (call : Call) (next : End) → IsId id → Leads (new_session id) steps s
+    → (Does s.terminal call next → WasCarried s.terminal_calls s.host_calls call → FindsNoFault call)
+    × (Does s.host call next → WasCarried s.host_calls s.terminal_calls call → FindsNoFault call)
+
+-- ## What is kept
+
+-- what an end keeps is the stream of packets whose data and notes are what was put, from the acknowledged count on
+pub record KeepsTheRest (e : End) (calls : List Call) : Type 0 where
+  pub all : List Packet
+  pub put_are : put calls ≡ flat_map items_in all
+  pub kept_is : e.keeps.kept ≡ drop e.keeps.base (stream_of packets all)
+
+-- at any moment that is all that the other has not received, or more
+pub record KeepsWhatLacks (s : Session) : Type 0 where
+  pub terminal_keeps : KeepsTheRest s.terminal s.terminal_calls
+  pub host_keeps : KeepsTheRest s.host s.host_calls
+  pub up : MayHave s.terminal.keeps s.host.received
+  pub down : MayHave s.host.keeps s.terminal.received
+
+abbrev pub LacksAreKept : Type 0
+LacksAreKept = (id : Id) (steps : List Step) (s : Session) → IsId id → Leads (new_session id) steps s → KeepsWhatLacks s
+
+-- nothing is left to go on this connection
+pub record IsSpent (e : End) : Type 0 where
+  pub is_open : is_open e.phase ≡ true
+  pub no_hello : e.hello ≡ []
+  pub none_kept_back : e.keeps.sent ≡ length e.keeps.kept
+
+-- a connection has carried all: nothing is left to go, and all that went has come
+pub record IsAllCarried (s : Session) : Type 0 where
+  pub terminal_spent : IsSpent s.terminal
+  pub host_spent : IsSpent s.host
+  pub up : fed s.host.attempt s.host_calls ≡ drop 42 (out s.host.attempt s.terminal_calls)
+  pub down : fed s.terminal.attempt s.terminal_calls ≡ drop 42 (out s.terminal.attempt s.host_calls)
+
+-- All that was put came out, or waits there in its order. And each end keeps less than what is acknowledged unasked, unless the other's
+-- stream has no room for an acknowledgement
+pub record AllCame (s : Session) : Type 0 where
+  pub up : put s.terminal_calls ≡ handed s.host_calls ++ waits s.host.waiting
+  pub down : put s.host_calls ≡ handed s.terminal_calls ++ waits s.terminal.waiting
+  pub kept_up : has_room s.host.keeps 11 ≡ true → length s.terminal.keeps.kept < 16384
+  pub kept_down : has_room s.terminal.keeps 11 ≡ true → length s.host.keeps.kept < 16384
+
+abbrev pub CarriedIsAll : Type 0
+CarriedIsAll = (id : Id) (steps : List Step) (s : Session) → IsId id → Leads (new_session id) steps s → IsAllCarried s → AllCame s

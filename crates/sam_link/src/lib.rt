@@ -15,13 +15,14 @@ mod link;
 mod packet;
 mod phase;
 mod reading;
+mod steps;
 mod writing;
 
 pub use fault::{AnswerFault, CallFault, FeedFault, NotOpen, NoteFault, WelcomeFault};
 pub use hello::{HELLO_BYTES, Hello, Id, Refusal, What, read_hello};
 pub use inbox::Inbox;
 pub use keeping::{Kept, PutFault};
-pub use laws::{honest_meet, one_hello, packets_carry, ways_deliver};
+pub use laws::{carried_is_all, honest_meet, links_carry, one_hello};
 pub use link::Link;
 pub use packet::{Bytes, MOST_BODY, Packet};
 pub use phase::{Phase, Role};

@@ -1,5 +1,5 @@
 -- Every editor that events lead to stands as both sides do where nothing is under way, and what an event does to it, by its messages.
-use Rattle.sam_crossing.proofs.Common.{◌≡◌, ℕ, ◌+◌, ◌≤◌, Bool, true, false, List, [], ◌∷◌, ◌++◌, length, map, Option, Some, None, is_some, unwrap_or, refl, sym, ap, ◌∙◌, subst, true≢false, arith, same_Some, option_map, not-false, ltb-false, append-nil, length-map, length-append, length-drop, length-take-le, slot, slot-map, slot-free_same, slot-free_other, Agrees, PartialText, load_cells, first_of_checks, Checks, PlainFiles, file_at, Tmesg, Hmesg, PlainHost, Reply, counted, reply_to, answers, reply_of, replied_then, Window, KnownFile, UserEvent, PlainTerminal, known_at, window_at, is_open, put_window, TermFault, frame_checks, event_checks, event_outcome, blank_window, Lens, Open, Fits_slot, HFile, Absent, Hidden, Named, Opened, Gone, IsSynced, InOrder, AllComeToSync, AreTidy, IsTidyWindow, at_file, action, run, effect, view, views, file_in, slot_of_window, took_bindname, took_data, took_grow, took_growdata, took_cut, took_unlockfile, took_close, took_exit}
+use Rattle.sam_crossing.proofs.Common.{◌≡◌, ℕ, ◌+◌, ◌<◌, ◌≤◌, max_runes, Slots, PlainFile, given_slots, unsent_message, Bool, true, false, List, [], ◌∷◌, ◌++◌, length, map, Option, Some, None, is_some, unwrap_or, refl, sym, ap, ◌∙◌, subst, true≢false, arith, same_Some, option_map, not-false, ltb-false, append-nil, length-map, length-append, length-drop, length-take-le, slot, slot-map, slot-free_same, slot-free_other, Agrees, PartialText, load_cells, first_of_checks, Checks, PlainFiles, file_at, Tmesg, Hmesg, PlainHost, Reply, counted, reply_to, answers, reply_of, replied_then, Window, KnownFile, UserEvent, PlainTerminal, known_at, window_at, is_open, put_window, TermFault, frame_checks, event_checks, event_outcome, blank_window, Lens, Open, Fits_slot, HFile, Absent, Hidden, Named, Opened, Gone, IsSynced, InOrder, AllComeToSync, AreTidy, IsTidyWindow, at_file, action, run, effect, view, views, file_in, slot_of_window, took_bindname, took_data, took_grow, took_growdata, took_cut, took_unlockfile, took_close, took_exit}
 use Rattle.sam_runes.proofs.CheckLaws.{none_holds}
 use Rattle.sam_term.specs.Term.{past_end}
 use Rattle.sam_term.specs.declared.event.UserEvent.TheVariants.{Typed, View, Load}
@@ -13,8 +13,14 @@ use Rattle.sam_crossing.proofs.Passing.{Passed, passed}
 use Rattle.sam_crossing.proofs.Runs.{stepped}
 use Rattle.sam_crossing.proofs.Starting.{starts}
 use Rattle.sam_crossing.proofs.Views.{tidy-put, tidy-window}
-use Rattle.sam_local.specs.Local.{PlainEditor, whole_window, whole_file, at_rest, all_taken, answered_with, carried_unless, carried, carried_on, new_editor}
+use Rattle.sam_local.specs.Local.{PlainEditor, whole_window, whole_file, at_rest, all_taken, answered_with, carried_unless, carried, Doing, Did, Joined, joined, done_on, files_in, new_editor}
 use Rattle.sam_local.specs.Editing.{IsReached}
+use Rattle.sam_runes.specs.Texts.{most_in_name}
+use Rattle.sam_host.specs.Host.{with_given}
+use Rattle.sam_host.specs.Laws.{AreGiven}
+use Rattle.sam_crossing.specs.Joining.{with_more}
+use Rattle.sam_crossing.proofs.MoreFiles.{nothing_more, one_more, order_more}
+use Rattle.sam_local.proofs.Doings.{rest-more, opened_there}
 use Rattle.sam_local.proofs.Sights.{sight-rest, rests}
 use Rattle.sam_local.proofs.Ahead.{term_ahead, synced-ahead, come-to-is, window-put}
 use Rattle.sam_local.proofs.Checks.{slot-whole, rest-window, agreed-length}
@@ -137,12 +143,40 @@ stands-carried editor e s = by (first_of_checks (event_checks editor.term e)) re
         subst Stands (sym (come-to-is editor.host made.0 made.1 [] n))
         (record { order = order-rest editor.host made.0 made.1 [] n; whole = rests n.kept.ahead (at_rest n.kept.ahead z).term z (sight-rest n.kept.ahead z) })
 
-stands-on : (es : List UserEvent) (editor : PlainEditor) → Stands editor → Stands (carried_on editor es)
-stands-on [] editor s = s
-stands-on (e ∷ es) editor s = stands-on es (carried editor e) (stands-carried editor e s)
+-- so they are with a file that joins
+stands-joined : (editor : PlainEditor) (file : List ℕ × List ℕ) → length file.0 ≤ most_in_name → length file.1 ≤ max_runes → Stands editor → Stands (joined editor file)
+stands-joined editor file short long s =
+    subst (λ (x : PlainEditor). Stands x) (ap (λ (h : PlainHost). record editor { host = h }) (sym (one_more editor.host file []) ∙ nothing_more (with_given editor.host file)))
+    (record { order = order_more h t [] [] (file ∷ []) (short, long, tt) s.order (ap (answers (with_more h us)) none ∙ ap (λ (r : Reply). Some (with_more r.0 us, r.1)) same); whole = rest-more h t us given ∙ ap (λ (x : PlainEditor). record x { host = with_more x.host us }) s.whole })
+  where
+    h : PlainHost
+    h = editor.host
+
+    t : PlainTerminal
+    t = editor.term
+
+    us : Slots PlainFile
+    us = given_slots (file ∷ [])
+
+    -- the terminal of an editor at rest has nothing unsent
+    none : unsent_message t.unsent ≡ []
+    none = ap (λ (x : PlainEditor). unsent_message x.term.unsent) (sym s.whole)
+
+    same : ◌≡◌ {A = Reply} (h, []) (s.order.kept.ahead, s.order.kept.frames)
+    same = same_Some _ _ (ap (answers h) (sym none) ∙ s.order.kept.folds)
+
+    given : (f : ℕ) → is_open t f ≡ true → f < length h.files.slots
+    given f e =
+        opened_there h.files f (slot t.files f) e
+        (subst (λ (r : Reply). IsSynced (view f (all_taken t r.1)) r.0.is_done r.0.version (file_in r.0.files.slots f)) (sym same) (synced-ahead h t [] [] s.order f)).3
+
+stands-on : (ds : List Doing) (editor : PlainEditor) → AreGiven (files_in ds) → Stands editor → Stands (done_on editor ds)
+stands-on [] editor few s = s
+stands-on (Did e ∷ ds) editor few s = stands-on ds (carried editor e) few (stands-carried editor e s)
+stands-on (Joined file ∷ ds) editor few s = stands-on ds (joined editor file) few.2 (stands-joined editor file few.0 few.1 s)
 
 pub reached-stands : (editor : PlainEditor) → IsReached editor → Stands editor
-reached-stands editor r = subst Stands (sym r.is) (stands-on r.events (new_editor r.given) (record { order = starts r.given r.limits; whole = refl }))
+reached-stands editor r = subst Stands (sym r.is) (stands-on r.doings (new_editor r.given) r.joins (record { order = starts r.given r.limits; whole = refl }))
 
 -- ## What an event does, by its messages
 

@@ -12,6 +12,7 @@ pub mod Events
 pub mod Checks
 pub mod Acts
 pub mod Held
+pub mod Doings
 pub mod Runs
 pub mod Editors
 pub mod Editing

@@ -1,9 +1,9 @@
 -- What each event of the user does to the editor without a network, over its texts and dots.
-use Rattle.std.specs.Prelude.{◌≡◌, ℕ, ◌+◌, ◌-◌, ◌≤◌, true, false, ◌==◌, ◌&&◌, ◌||◌, if◌then◌else◌, nat_le, nat_lt, List, [], ◌++◌, take, drop, length, map, Some, None, unwrap_or}
+use Rattle.std.specs.Prelude.{◌≡◌, ℕ, ◌+◌, ◌-◌, ◌≤◌, true, false, ◌==◌, ◌&&◌, ◌||◌, if◌then◌else◌, nat_le, nat_lt, List, [], ◌∷◌, ◌++◌, take, drop, length, map, Some, None, unwrap_or}
 use Rattle.sam_runes.specs.Texts.{Range, part, is_empty, max_runes, all_tags, common_version, searched, word_at, as_lines, last_line, lines_before, prefix_in_bytes, snarf_limit}
 use Rattle.sam_runes.specs.Checks.{first_of_checks}
 use Rattle.sam_rasp.specs.Rasp.{place_after_ins, place_after_del}
-use Rattle.sam_text.specs.Files.{PlainFiles, file_at, has_file, put_file, cut_file, typed_file, committed, after_print, has_room, may_look, searched_for, new_file}
+use Rattle.sam_text.specs.Files.{PlainFiles, blank_file, file_at, has_file, put_file, cut_file, typed_file, committed, after_print, has_room, may_look, searched_for, new_file}
 use Rattle.sam_text.specs.Meaning.{meaning}
 use Rattle.sam_host.specs.Host.{PlainHost, line_to}
 use Rattle.sam_host.specs.Laws.{AreGiven}
@@ -13,16 +13,17 @@ use Rattle.sam_term.specs.declared.event.Verdict.{Verdict}
 use Rattle.sam_term.specs.Events.{is_command_line}
 use Rattle.sam_term.specs.declared.records.Window.{Window}
 use Rattle.sam_term.specs.Term.{event_checks, known_at, window_at}
-use Rattle.sam_local.specs.Local.{PlainEditor, carried, carried_all}
+use Rattle.sam_local.specs.Local.{PlainEditor, Doing, carried, carried_through, files_in, joined}
 
 -- ## What is looked at
 
--- an editor to which events have led, from files within the limits
+-- an editor to which events have led, from files within the limits, with other such files that joined among them
 pub record IsReached (editor : PlainEditor) : Type 0 where
   pub given : List (List ℕ × List ℕ)
-  pub events : List UserEvent
+  pub doings : List Doing
   pub limits : AreGiven given
-  pub is : editor ≡ carried_all given events
+  pub joins : AreGiven (files_in doings)
+  pub is : editor ≡ carried_through given doings
 
 abbrev pub text_in : PlainEditor → ℕ → List ℕ
 text_in editor f = (file_at editor.host.files f).text
@@ -287,3 +288,12 @@ GetSnarfFetches =
     (editor : PlainEditor) → IsReached editor → May editor event.GetSnarf
     → ((carried editor event.GetSnarf).term.snarf ≡ prefix_in_bytes (snarf_in editor) (snarf_limit editor.host.version))
     × ((carried editor event.GetSnarf).host ≡ editor.host)
+
+-- a file that joins is there under the next tag, clean and closed, and nothing else changes
+abbrev pub FileJoins : Type 0
+FileJoins =
+    (editor : PlainEditor) (name text : List ℕ)
+    → let h = editor.host in
+    let fs = h.files in
+    joined editor (name, text)
+    ≡ record editor { host = record h { files = record fs { slots = fs.slots ++ Some (record blank_file { name = name; text = text }) ∷ [] } } }

@@ -3,7 +3,7 @@ use Rattle.std.specs.Prelude.{ℕ, suc, false, List, [], ◌∷◌, ◌++◌, ma
 use Rattle.sam_runes.specs.Slots.{Slots}
 use Rattle.sam_runes.specs.Checks.{first_of_checks}
 use Rattle.sam_text.specs.Files.{PlainFiles, file_at}
-use Rattle.sam_host.specs.Host.{PlainHost, Reply, new_host}
+use Rattle.sam_host.specs.Host.{PlainHost, Reply, new_host, with_given}
 use Rattle.sam_mesg.specs.declared.tmesg.Tmesg.{Tmesg}
 use Rattle.sam_mesg.specs.declared.hmesg.Hmesg.{Hmesg}
 use Rattle.sam_term.specs.declared.records.Window.{Window}
@@ -82,3 +82,39 @@ new_editor given = at_rest (new_host given) new_terminal
 -- the editor with files of these names and texts, after these events
 abbrev pub carried_all : List (List ℕ × List ℕ) → List UserEvent → PlainEditor
 carried_all given es = carried_on (new_editor given) es
+
+-- ## Files that join
+
+-- one file more, under the next tag: clean, not open, and its name not announced
+abbrev pub joined : PlainEditor → List ℕ × List ℕ → PlainEditor
+joined editor file = record editor { host = with_given editor.host file }
+
+-- what is done to the editor: an event of the user, or a file of this name and text that joins
+pub data Doing : Type 0 where
+  Did : (event : UserEvent) → Doing
+  Joined : (file : List ℕ × List ℕ) → Doing
+
+abbrev pub after_doing : PlainEditor → Doing → PlainEditor
+after_doing editor (Did e) = carried editor e
+after_doing editor (Joined file) = joined editor file
+
+-- after doings one after another
+abbrev pub done_on : PlainEditor → List Doing → PlainEditor
+done_on editor [] = editor
+done_on editor (d ∷ ds) = done_on (after_doing editor d) ds
+
+-- the editor with files of these names and texts, after these doings
+abbrev pub carried_through : List (List ℕ × List ℕ) → List Doing → PlainEditor
+carried_through given ds = done_on (new_editor given) ds
+
+-- the events among doings, in order
+abbrev pub events_in : List Doing → List UserEvent
+events_in [] = []
+events_in (Did e ∷ ds) = e ∷ events_in ds
+events_in (Joined file ∷ ds) = events_in ds
+
+-- the files that join among them, in order
+abbrev pub files_in : List Doing → List (List ℕ × List ℕ)
+files_in [] = []
+files_in (Did e ∷ ds) = files_in ds
+files_in (Joined file ∷ ds) = file ∷ files_in ds

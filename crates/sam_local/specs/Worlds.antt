@@ -1,14 +1,18 @@
 -- Runs of the world beside the editor without a network.
-use Rattle.std.specs.Prelude.{◌≡◌, ℕ, true, false, ◌&&◌, Bool, List, ◌++◌, Some}
+use Rattle.std.specs.Prelude.{◌≡◌, ℕ, ◌-◌, true, false, ◌&&◌, Bool, if◌then◌else◌, List, [], ◌∷◌, ◌++◌, length, map, take, Some, option_map, unwrap_or}
 use Rattle.sam_runes.specs.Texts.{is_empty}
 use Rattle.sam_rasp.specs.Rasp.{Agrees}
 use Rattle.sam_text.specs.Files.{file_at}
 use Rattle.sam_host.specs.Laws.{AreGiven}
 use Rattle.sam_term.specs.declared.event.UserEvent.{UserEvent}
 use Rattle.sam_term.specs.Term.{is_open, window_at}
+use Rattle.sam_mesg.specs.declared.tmesg.Tmesg.{Tmesg}
+use Rattle.sam_host.specs.Host.{PlainHost}
 use Rattle.sam_crossing.specs.declared.event.Event.{Event}
-use Rattle.sam_crossing.specs.World.{PlainWorld, WasReached, new_world, run_of, is_quiet, is_locked, mesgs, user_events}
-use Rattle.sam_local.specs.Local.{PlainEditor, at_rest, come_to, carried_all}
+use Rattle.sam_crossing.specs.declared.event.Event.TheVariants.{User, Add, Act, Flush, HostTake, TermTake}
+use Rattle.sam_crossing.specs.Joining.{is_heard}
+use Rattle.sam_crossing.specs.World.{PlainWorld, WasReached, new_world, step_of, run_of, is_quiet, is_locked, mesgs, user_events, joined_files}
+use Rattle.sam_local.specs.Local.{PlainEditor, Doing, Did, Joined, at_rest, come_to, carried_all, carried_through, events_in, files_in}
 
 -- what the world comes to where nothing new is begun
 abbrev pub outlook : PlainWorld → PlainEditor
@@ -26,9 +30,59 @@ pub record ShowsFile (w : PlainWorld) (editor : PlainEditor) (f : ℕ) : Type 0 
   pub view_start : (window_at w.term f).view_start ≡ (window_at editor.term f).view_start
   pub view_length : (window_at w.term f).view_length ≡ (window_at editor.term f).view_length
 
--- The user has done all of `said` on the way from these files to w. What has acted of it or was refused, all but what is still held, has
--- done to what w comes to just what it does, in the same order, to the editor without a network. Where nothing is unsent or under way,
--- that is what both sides are, but for runes that are not loaded and for counts. And an open file that is not locked is shown as there
+-- ## The order of what was done
+
+-- Where the files that join come among the events. `settled` is what the host has told the place of; `since` are the events that have
+-- acted or were refused after that. A file joins between the two: before each event whose message the host has still to take, and after
+-- each whose answer could tell which files there are
+pub record Order : Type 0 where
+  pub settled : List Doing
+  pub since : List UserEvent
+
+abbrev pub in_order : Order → List Doing
+in_order o = o.settled ++ map Did o.since
+
+-- the events that were held and are so no longer
+abbrev pub let_go : PlainWorld → PlainWorld → List UserEvent
+let_go w next = take (length w.term.held - length next.term.held) w.term.held
+
+-- the host, which is not done, takes a Tversion or a Tstartnewfile
+abbrev pub hears_first : PlainHost → List Tmesg → Bool
+hears_first h [] = false
+hears_first h (m ∷ ms) = is_heard h m
+
+-- the order once an event has led from w to next
+abbrev pub order_after : PlainWorld → Event → PlainWorld → Order → Order
+order_after w (User e) next o = o
+order_after w (Add name text) next o = record o { settled = o.settled ++ Joined (name, text) ∷ [] }
+order_after w Act next o = record o { since = o.since ++ let_go w next }
+order_after w Flush next o = o
+order_after w HostTake next o = if hears_first w.host w.up then record { settled = in_order o; since = [] } else o
+order_after w TermTake next o = o
+
+abbrev pub order_on : PlainWorld → List Event → Order → Order
+order_on w [] o = o
+order_on w (e ∷ es) o = unwrap_or (option_map (λ next. order_on next es (order_after w e next o)) (step_of w e)) o
+
+-- all that was done in a run from these files, in its order: the events that have acted or were refused, and the files that joined
+abbrev pub doings_of : List (List ℕ × List ℕ) → List Event → List Doing
+doings_of given es = in_order (order_on (new_world given) es (record { settled = []; since = [] }))
+
+-- ## Where the world comes to
+
+-- These events led from these files to w. What w comes to is just where its doings, in their order, lead the editor without a network.
+-- They are all files that joined, and all that the user did but what is still held; an event that is refused does nothing there, too.
+-- Where nothing is unsent or under way, both sides are that, but for runes that are not loaded and for counts. And an open file that is
+-- not locked is shown as there
+pub record ComesInOrder (given : List (List ℕ × List ℕ)) (es : List Event) (w : PlainWorld) : Type 0 where
+  pub events : user_events es ≡ events_in (doings_of given es) ++ w.term.held
+  pub files : joined_files es ≡ files_in (doings_of given es)
+  pub comes : outlook w ≡ carried_through given (doings_of given es)
+  pub quiet : is_quiet w ≡ true → at_rest w.host w.term ≡ carried_through given (doings_of given es)
+  pub shows : (f : ℕ) → is_locked w.term f ≡ false → is_open w.term f ≡ true → ShowsFile w (carried_through given (doings_of given es)) f
+
+-- So it is where no file joins: the user has done all of `said` on the way from these files to w, and what has acted of it or was refused,
+-- all but what is still held, has done to what w comes to just what it does to the editor without a network
 pub record IsAsIfLocal (given : List (List ℕ × List ℕ)) (said : List UserEvent) (w : PlainWorld) : Type 0 where
   pub acted : List UserEvent
   pub are : said ≡ acted ++ w.term.held
@@ -38,52 +92,62 @@ pub record IsAsIfLocal (given : List (List ℕ × List ℕ)) (said : List UserEv
 
 -- ## One world
 
--- a run from files within the limits led to w, and `acted` is all that the user did in it but what is still held
-pub record HasLed (given : List (List ℕ × List ℕ)) (es : List Event) (acted : List UserEvent) (w : PlainWorld) : Type 0 where
+-- a run from files within the limits led to w
+pub record HasLed (given : List (List ℕ × List ℕ)) (es : List Event) (w : PlainWorld) : Type 0 where
   pub limits : AreGiven given
   pub run : run_of (new_world given) es ≡ Some w
-  pub are : user_events es ≡ acted ++ w.term.held
 
--- whichever run led to w, both sides are where the events that have acted in it lead the editor without a network, but for runes that are
--- not loaded and for counts
+-- whichever run led to w, both sides are where what was done in it leads the editor without a network, but for runes that are not loaded
+-- and for counts
 abbrev pub EndsAsIfLocal : PlainWorld → Type 0
 EndsAsIfLocal w =
-    (given : List (List ℕ × List ℕ)) (es : List Event) (acted : List UserEvent) → HasLed given es acted w
-    → at_rest w.host w.term ≡ carried_all given acted
+    (given : List (List ℕ × List ℕ)) (es : List Event) → HasLed given es w → at_rest w.host w.term ≡ carried_through given (doings_of given es)
 
--- whichever run led to w, an open file that is not locked is shown as the events that have acted in it leave it in the editor without a
--- network
+-- whichever run led to w, an open file that is not locked is shown as what was done in it leaves it in the editor without a network
 abbrev pub ShowsAsIfLocal : PlainWorld → ℕ → Type 0
 ShowsAsIfLocal w f =
     is_locked w.term f ≡ false → is_open w.term f ≡ true
-    → (given : List (List ℕ × List ℕ)) (es : List Event) (acted : List UserEvent) → HasLed given es acted w
-    → ShowsFile w (carried_all given acted) f
+    → (given : List (List ℕ × List ℕ)) (es : List Event) → HasLed given es w
+    → ShowsFile w (carried_through given (doings_of given es)) f
 
 -- some run from files within the limits led to w, and whichever it was, w is as if there were no network
 pub record WasAsIfLocal (w : PlainWorld) : Type 0 where
   pub reached : WasReached w
-  pub is : (given : List (List ℕ × List ℕ)) (es : List Event) → AreGiven given → run_of (new_world given) es ≡ Some w
-      → IsAsIfLocal given (user_events es) w
+  pub is : (given : List (List ℕ × List ℕ)) (es : List Event) → HasLed given es w → ComesInOrder given es w
 
 -- ## The laws
 
 -- at every moment of every run
+abbrev pub RunsComeInOrder : Type 0
+RunsComeInOrder =
+    (given : List (List ℕ × List ℕ)) (es : List Event) (w : PlainWorld) → AreGiven given → run_of (new_world given) es ≡ Some w
+    → ComesInOrder given es w
+
+-- at every moment of every run in which no file joins
 abbrev pub RunsAreAsIfLocal : Type 0
 RunsAreAsIfLocal =
     (given : List (List ℕ × List ℕ)) (es : List Event) (w : PlainWorld) → AreGiven given → run_of (new_world given) es ≡ Some w
+    → joined_files es ≡ []
     → IsAsIfLocal given (user_events es) w
 
--- at rest both sides are where the same events without a network end, but for runes that are not loaded and for counts
+-- at rest both sides are where the same doings without a network end, but for runes that are not loaded and for counts, and these have
+-- all events of the user
 abbrev pub RestIsAsIfLocal : Type 0
 RestIsAsIfLocal =
     (given : List (List ℕ × List ℕ)) (es : List Event) (w : PlainWorld) → AreGiven given → run_of (new_world given) es ≡ Some w
     → is_at_rest w ≡ true
-    → at_rest w.host w.term ≡ carried_all given (user_events es)
+    → (at_rest w.host w.term ≡ carried_through given (doings_of given es)) × (events_in (doings_of given es) ≡ user_events es)
 
--- so two runs of the same events of the user, at rest, differ in nothing else
+-- so two runs in which the same was done in the same order, at rest, differ in nothing else
 abbrev pub OneRestForAll : Type 0
 OneRestForAll =
     (given : List (List ℕ × List ℕ)) (es fs : List Event) (w v : PlainWorld) → AreGiven given
-    → run_of (new_world given) es ≡ Some w → run_of (new_world given) fs ≡ Some v → user_events es ≡ user_events fs
+    → run_of (new_world given) es ≡ Some w → run_of (new_world given) fs ≡ Some v → doings_of given es ≡ doings_of given fs
     → is_at_rest w ≡ true → is_at_rest v ≡ true
     → at_rest w.host w.term ≡ at_rest v.host v.term
+
+-- where no file joins, this is the order of the user's events
+abbrev pub AloneInOrder : Type 0
+AloneInOrder =
+    (given : List (List ℕ × List ℕ)) (es : List Event) (w : PlainWorld) → AreGiven given → run_of (new_world given) es ≡ Some w
+    → joined_files es ≡ [] → is_at_rest w ≡ true → doings_of given es ≡ map Did (user_events es)

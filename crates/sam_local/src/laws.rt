@@ -3,23 +3,26 @@
 //! First those of runs: every run of a world comes to what its events do to the editor without a network. Then what each of the 25 events
 //! of the user does to that editor, over its texts and dots alone. These hold of every editor to which events have led from files within
 //! the limits (`IsReached`), where nothing stands against the event (`May`); one that something stands against does nothing.
-ghost use Rattle.sam_local.specs.Worlds.{RunsAreAsIfLocal, RestIsAsIfLocal, OneRestForAll};
-ghost use Rattle.sam_local.specs.Editing.{RefusedDoesNothing, TypingReplaces, LineRuns, SelectSets, CutMoves, PasteReplaces, PasteOfNothingCuts, EditReplaces, EditOfNothingKeeps, SnarfCopies, SetSnarfSets, GetSnarfFetches, EmptyDotKeeps, LookSelects, LookKeeps, SearchSelects, SendRuns, DclickSelects, ScrollShows, ViewShows, LoadShows, CheckAndFlushKeep, OpenOpens, CloseDrops, WriteSaves, WorkSets, CommandFileOpens, NewMakes, ExitEnds, VersionAgrees};
+ghost use Rattle.sam_local.specs.Worlds.{RunsComeInOrder, RunsAreAsIfLocal, RestIsAsIfLocal, OneRestForAll, AloneInOrder};
+ghost use Rattle.sam_local.specs.Editing.{RefusedDoesNothing, TypingReplaces, LineRuns, SelectSets, CutMoves, PasteReplaces, PasteOfNothingCuts, EditReplaces, EditOfNothingKeeps, SnarfCopies, SetSnarfSets, GetSnarfFetches, EmptyDotKeeps, LookSelects, LookKeeps, SearchSelects, SendRuns, DclickSelects, ScrollShows, ViewShows, LoadShows, CheckAndFlushKeep, OpenOpens, CloseDrops, WriteSaves, WorkSets, CommandFileOpens, NewMakes, ExitEnds, VersionAgrees, FileJoins};
 
-/// Says that wherever a run stands, what the world comes to with no new event of the user is what the events that have acted so far, in
-/// their order, do to the editor without a network. These are all events of the run but those that are still held; an event that is
-/// refused does nothing there, too. An open file that is not locked is shown as that editor has it: its dot and its view, and its runes
-/// as far as they are loaded.
+/// Says that wherever a run stands, what the world comes to with nothing new done is what its doings, in their order, lead the editor
+/// without a network to. The doings are all files that joined, and all events of the user but those that are still held; an event that
+/// is refused does nothing there, too. A file stands among them just before the first event whose message had not reached the host when
+/// it joined, as far as any answer can tell: it is there for that event and all later ones, and for none that was answered. An open file
+/// that is not locked is shown as that editor has it: its dot and its view, and its runes as far as they are loaded.
 ///
-/// At rest, where nothing is unsent, under way or held, both sides are where all events of the run lead that editor, but for runes that
+/// At rest, where nothing is unsent, under way or held, both sides are where all doings of the run lead that editor, but for runes that
 /// are not loaded and for counts of messages: the texts, names, marks, saved copies, dots, snarf buffer, pattern, work file, version and
 /// end of the host, and the names, marks, dots, views, current file, pattern and snarfed text of the terminal. So two runs from the same
-/// files in which the user did the same, in the same order, differ in nothing else where they are at rest.
-#[tactic(auto, using(crate::proofs::Runs::run_facts))]
+/// files in which the same was done, in the same order, differ in nothing else where they are at rest. Where no file joins, that order is
+/// the one in which the user did it.
 pub fn runs_are_as_if_local()
+    ensures order { RunsComeInOrder }
     ensures run { RunsAreAsIfLocal }
     ensures rest { RestIsAsIfLocal }
     ensures one { OneRestForAll }
+    ensures alone { AloneInOrder }
 {}
 
 /// Says that an event that something stands against changes nothing.
@@ -146,6 +149,12 @@ pub fn work_sets()
 #[tactic(auto, using(crate::proofs::Editing::exit_ends))]
 pub fn exit_ends()
     ensures { ExitEnds }
+{}
+
+/// Says that a file that joins is there under the next tag, clean and closed, and that nothing else changes.
+#[tactic(auto, using(crate::proofs::Doings::file_joins))]
+pub fn file_joins()
+    ensures { FileJoins }
 {}
 
 /// Says that a version that is offered is agreed on, as far as there is one.

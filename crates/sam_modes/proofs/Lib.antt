@@ -3,4 +3,4 @@ pub mod Serving
 pub mod Playing
 pub mod Unique
 pub mod Numbers
-pub mod Scripts
+pub mod Telling

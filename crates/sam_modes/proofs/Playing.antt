@@ -7,10 +7,10 @@ use Rattle.sam_frame.specs.Stream.{stream_of}
 use Rattle.sam_frame.proofs.Cuttings.{Splits-longer, Shows-longer}
 use Rattle.sam_endpoint.specs.declared.fault.HostStop.{HostStop}
 use Rattle.sam_endpoint.specs.declared.fault.HostStop.TheVariants as reason
-use Rattle.sam_endpoint.specs.HostEndpoints.{PlainHostEndpoint, IsDone}
-use Rattle.sam_endpoint.specs.HostRuns.{HasServed, HasStopped, begun_with}
+use Rattle.sam_endpoint.specs.HostEndpoints.{PlainHostEndpoint, Step, IsDone, Serves}
+use Rattle.sam_endpoint.specs.HostRuns.{HasServed, HasStopped, begun_with, messages_in}
 use Rattle.sam_endpoint.specs.Streams.{mesg_fault}
-use Rattle.sam_endpoint.proofs.HostEndpointRuns.{Kept, KeptStop, fed_done, kept_begun, kept_feed, kept_out, kept_stop}
+use Rattle.sam_endpoint.proofs.HostEndpointRuns.{Kept, KeptStop, all_answered, fed_done, kept_begun, kept_feed, kept_out, kept_stop}
 use Rattle.sam_modes.specs.Limits.{most_input}
 use Rattle.sam_modes.proofs.Serving.{served_then}
 
@@ -20,7 +20,7 @@ pub record Progress (h : PlainHost) (first now before after : Option (List ℕ))
   pub wrote : List ℕ
   pub read : Consumes first now got
   pub count : length got + left ≡ most_input
-  pub kept : Kept h got wrote [] e
+  pub kept : Kept h got wrote [] [] e
   pub done : IsDone e
   pub goes : e.stop ≡ None
   pub written : Appends before after wrote
@@ -52,13 +52,13 @@ module _ {W : Type 0} (contents : W → Option (List ℕ)) where
       → Answers contents e g w x piece (Ok tt) → Progress h first later before (contents x) g (left - count)
   goes_on h piece first now later before w x e g left count p reads size most (fed, feeds, wrote, is) =
       let ready = fed_done e fed piece feeds in
-      let kept = kept_out h (p.got ++ piece) p.wrote [] fed.pending_bytes [] fed (sym (append-nil fed.pending_bytes)) (kept_feed h p.got p.wrote [] piece e fed (Ok tt) tt feeds p.kept) in
+      let kept = kept_out h (p.got ++ piece) p.wrote [] [] fed.pending_bytes [] fed (sym (append-nil fed.pending_bytes)) (kept_feed h p.got p.wrote [] [] piece e fed (Ok tt) tt feeds p.kept) in
       subst (λ (y : PlainHostEndpoint). Progress h first later before (contents x) y (left - count)) (sym is) (record {
         got = p.got ++ piece;
         wrote = p.wrote ++ fed.pending_bytes;
         read = Consumes-trans first now later p.got piece p.read reads;
         count = simp length-append (omega (arith, p.count));
-        kept = subst (λ (b : List ℕ). Kept h b (p.wrote ++ fed.pending_bytes) [] (record fed { pending_bytes = [] })) (append-nil (p.got ++ piece)) kept;
+        kept = subst (λ (b : List ℕ). Kept h b (p.wrote ++ fed.pending_bytes) [] [] (record fed { pending_bytes = [] })) (append-nil (p.got ++ piece)) kept;
         done = (record { waiting = ready.0.0.waiting; unwritten = ready.0.0.unwritten }, ready.0.1);
         goes = ready.1;
         written = Appends-trans before (contents w) (contents x) _ _ p.written wrote;
@@ -68,18 +68,19 @@ module _ {W : Type 0} (contents : W → Option (List ℕ)) where
 -- ---- what an end has served, the program plays
 
 -- the bytes of the answers, where none is left to write
-bytes_out : (h : PlainHost) (stream out : List ℕ) (e : PlainHostEndpoint) (s : HasServed h stream out [] e) → e.unwritten ≡ [] → out ++ e.pending_bytes ≡ stream_of host s.frames
+bytes_out : (h : PlainHost) (stream out : List ℕ) (e : PlainHostEndpoint) (s : HasServed h stream out [] [] e) → e.unwritten ≡ [] → out ++ e.pending_bytes ≡ stream_of host s.frames
 bytes_out h stream out e s none = sym (append-nil (out ++ e.pending_bytes)) ∙ ap (λ fs. (out ++ e.pending_bytes) ++ stream_of host fs) (sym none) ∙ s.bytes
 
 -- the messages that were answered and those that wait
-served_all : (h : PlainHost) (stream out : List ℕ) (e : PlainHostEndpoint) (s : HasServed h stream out [] e) → serve h (s.answered ++ e.waiting) ≡ after_output (stream_of host s.frames) (serve e.host e.waiting)
-served_all h stream out e s = served_then h e.host s.answered e.waiting s.frames s.writes s.serves
+served_all : (h : PlainHost) (stream out : List ℕ) (e : PlainHostEndpoint) (s : HasServed h stream out [] [] e) → serve h (messages_in s.steps ++ e.waiting) ≡ after_output (stream_of host s.frames) (serve e.host e.waiting)
+served_all h stream out e s = served_then h e.host (messages_in s.steps) e.waiting s.frames s.writes
+    (subst (λ (steps : List Step). Serves h steps s.frames s.writes e.host) (all_answered h.taken s.steps s.files) s.serves)
 
 -- all were answered
-all_served : (h : PlainHost) (stream out : List ℕ) (e : PlainHostEndpoint) (s : HasServed h stream out [] e) → e.waiting ≡ [] → e.unwritten ≡ []
-    → (out ++ e.pending_bytes ≡ (serve h (s.answered ++ e.waiting)).written) × ((serve h (s.answered ++ e.waiting)).end ≡ Ok e.host)
+all_served : (h : PlainHost) (stream out : List ℕ) (e : PlainHostEndpoint) (s : HasServed h stream out [] [] e) → e.waiting ≡ [] → e.unwritten ≡ []
+    → (out ++ e.pending_bytes ≡ (serve h (messages_in s.steps ++ e.waiting)).written) × ((serve h (messages_in s.steps ++ e.waiting)).end ≡ Ok e.host)
 all_served h stream out e s none written =
-    let all : serve h (s.answered ++ e.waiting) ≡ after_output (stream_of host s.frames) (serve e.host []) =
+    let all : serve h (messages_in s.steps ++ e.waiting) ≡ after_output (stream_of host s.frames) (serve e.host []) =
     served_all h stream out e s ∙ ap (λ ms. after_output (stream_of host s.frames) (serve e.host ms)) none in
     (bytes_out h stream out e s written ∙ sym (append-nil (stream_of host s.frames)) ∙ sym (ap (λ (r : Served). r.written) all), ap (λ (r : Served). r.end) all)
 
@@ -87,20 +88,20 @@ refused_on : (r : Answer) (why : HostFault) (ms : List Tmesg) → r ≡ Err why 
 refused_on r why ms is = ap (λ (a : Answer). served_on a (λ next. serve next ms)) is
 
 -- the next is refused
-next_refused : (h : PlainHost) (stream out : List ℕ) (e : PlainHostEndpoint) (s : HasServed h stream out [] e) (m : Tmesg) (rest : List Tmesg) (why : HostFault) → e.waiting ≡ m ∷ rest
-    → answer e.host m ≡ Err why → e.unwritten ≡ [] → (out ++ e.pending_bytes ≡ (serve h (s.answered ++ e.waiting)).written) × ((serve h (s.answered ++ e.waiting)).end ≡ Err why)
+next_refused : (h : PlainHost) (stream out : List ℕ) (e : PlainHostEndpoint) (s : HasServed h stream out [] [] e) (m : Tmesg) (rest : List Tmesg) (why : HostFault) → e.waiting ≡ m ∷ rest
+    → answer e.host m ≡ Err why → e.unwritten ≡ [] → (out ++ e.pending_bytes ≡ (serve h (messages_in s.steps ++ e.waiting)).written) × ((serve h (messages_in s.steps ++ e.waiting)).end ≡ Err why)
 next_refused h stream out e s m rest why waits refuses written =
-    let all : serve h (s.answered ++ e.waiting) ≡ after_output (stream_of host s.frames) (record { written = []; end = Err why }) =
+    let all : serve h (messages_in s.steps ++ e.waiting) ≡ after_output (stream_of host s.frames) (record { written = []; end = Err why }) =
     served_all h stream out e s ∙ ap (λ ms. after_output (stream_of host s.frames) (serve e.host ms)) waits ∙ ap (after_output (stream_of host s.frames)) (refused_on (answer e.host m) why rest refuses) in
     (bytes_out h stream out e s written ∙ sym (append-nil (stream_of host s.frames)) ∙ sym (ap (λ (r : Served). r.written) all), ap (λ (r : Served). r.end) all)
 
 -- a stream at whose end all is answered
-plays_end : (h : PlainHost) (stream out : List ℕ) (e : PlainHostEndpoint) → HasServed h stream out [] e → IsDone e → Plays h stream (out ++ e.pending_bytes) (stop_at None e.framer.bytes)
+plays_end : (h : PlainHost) (stream out : List ℕ) (e : PlainHostEndpoint) → HasServed h stream out [] [] e → IsDone e → Plays h stream (out ++ e.pending_bytes) (stop_at None e.framer.bytes)
 plays_end h stream out e s (idle, none) =
     let all = all_served h stream out e s idle.waiting idle.unwritten in
-    let version : ℕ = version_after terminal 1 (s.answered ++ e.waiting) in
+    let version : ℕ = version_after terminal 1 (messages_in s.steps ++ e.waiting) in
     let open_end : Ends terminal version e.framer.bytes None = rw none at s.reads.ends in record {
-      messages = s.answered ++ e.waiting;
+      messages = messages_in s.steps ++ e.waiting;
       rest = e.framer.bytes;
       splits = s.reads.splits;
       output = all.0;
@@ -108,15 +109,15 @@ plays_end h stream out e s (idle, none) =
     }
 
 -- a stream that stopped the end, whatever comes after it
-plays_stop : (h : PlainHost) (stream out more : List ℕ) (e : PlainHostEndpoint) (why : HostStop) → HasServed h stream out [] e → HasStopped e why
+plays_stop : (h : PlainHost) (stream out more : List ℕ) (e : PlainHostEndpoint) (why : HostStop) → HasServed h stream out [] [] e → HasStopped e why
     → Plays h (stream ++ more) (out ++ e.pending_bytes) (Some (of_host_stop why))
 plays_stop h stream out more e (reason.Stream why) s (idle, shown) =
     let all = all_served h stream out e s idle.waiting idle.unwritten in
-    let version : ℕ = version_after terminal 1 (s.answered ++ e.waiting) in
+    let version : ℕ = version_after terminal 1 (messages_in s.steps ++ e.waiting) in
     let shows : Ends terminal version e.framer.bytes (Some (mesg_fault why)) = rw shown at s.reads.ends in record {
-      messages = s.answered ++ e.waiting;
+      messages = messages_in s.steps ++ e.waiting;
       rest = e.framer.bytes ++ more;
-      splits = Splits-longer terminal 1 stream (s.answered ++ e.waiting) e.framer.bytes more s.reads.splits;
+      splits = Splits-longer terminal 1 stream (messages_in s.steps ++ e.waiting) e.framer.bytes more s.reads.splits;
       output = all.0;
       stops =
           subst (λ r. Stops r version (e.framer.bytes ++ more) (Some (of_host_stop (reason.Stream why)))) (sym all.1)
@@ -124,10 +125,10 @@ plays_stop h stream out more e (reason.Stream why) s (idle, shown) =
     }
 plays_stop h stream out more e (reason.Refused why) s (m, rest, waits, refuses, written) =
     let all = next_refused h stream out e s m rest why waits refuses written in
-    let version : ℕ = version_after terminal 1 (s.answered ++ e.waiting) in record {
-      messages = s.answered ++ e.waiting;
+    let version : ℕ = version_after terminal 1 (messages_in s.steps ++ e.waiting) in record {
+      messages = messages_in s.steps ++ e.waiting;
       rest = e.framer.bytes ++ more;
-      splits = Splits-longer terminal 1 stream (s.answered ++ e.waiting) e.framer.bytes more s.reads.splits;
+      splits = Splits-longer terminal 1 stream (messages_in s.steps ++ e.waiting) e.framer.bytes more s.reads.splits;
       output = all.0;
       stops = subst (λ r. Stops r version (e.framer.bytes ++ more) (Some (of_host_stop (reason.Refused why)))) (sym all.1) refl;
     }
@@ -137,7 +138,7 @@ known : (first now : Option (List ℕ)) (got : List ℕ) (P : List ℕ → Type 
 known first now got P e u = grind arith
 
 -- of the piece that stopped the end all was taken in or nothing
-stopped_in : (h : PlainHost) (got piece wrote unread : List ℕ) (e : PlainHostEndpoint) (why : HostStop) → KeptStop h got piece wrote [] why e
+stopped_in : (h : PlainHost) (got piece wrote unread : List ℕ) (e : PlainHostEndpoint) (why : HostStop) → KeptStop h got piece wrote [] [] why e
     → Plays h ((got ++ piece) ++ unread) (wrote ++ e.pending_bytes) (Some (of_host_stop why))
 stopped_in h got piece wrote unread e why k = elim k.whole [
   | inl all ↦
@@ -155,7 +156,7 @@ module _ {W : Type 0} (contents : W → Option (List ℕ)) where
       → Progress h first now before (contents w) e left → Consumes now later piece → StopsAt contents e g w x piece s
       → Written first before (contents x) (λ input written. Plays h input written (Some s))
   stops h piece first now later before w x e g left s p reads (why, is, (fed, feeds, wrote, same)) =
-      let k = kept_stop h p.got p.wrote [] piece e fed why p.goes feeds p.kept in
+      let k = kept_stop h p.got p.wrote [] [] piece e fed why p.goes feeds p.kept in
       known first later (p.got ++ piece) (λ input. (written : List ℕ) × Appends before (contents x) written × Plays h input written (Some s))
       (Consumes-trans first now later p.got piece p.read reads)
       (λ unread. (

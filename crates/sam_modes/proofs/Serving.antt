@@ -3,10 +3,11 @@ use Rattle.sam_modes.proofs.Common.{◌≡◌, ℕ, List, [], ◌∷◌, ◌++�
 use Rattle.sam_frame.specs.Direction.{host}
 use Rattle.sam_frame.specs.Stream.{stream_of}
 use Rattle.sam_frame.proofs.Fronts.{stream_of-append}
-use Rattle.sam_endpoint.specs.HostEndpoints.{Serves}
+use Rattle.std.specs.Prelude.{map}
+use Rattle.sam_endpoint.specs.HostEndpoints.{Serves, Answered}
 
 -- a host that answered the first messages goes on to the others
-pub served_then : (h g : PlainHost) (ms ns : List Tmesg) (frames : List HFrame) (writes : List ℕ) → Serves h ms frames writes g
+pub served_then : (h g : PlainHost) (ms ns : List Tmesg) (frames : List HFrame) (writes : List ℕ) → Serves h (map Answered ms) frames writes g
     → serve h (ms ++ ns) ≡ after_output (stream_of host frames) (serve g ns)
 served_then h g [] ns frames writes (none, noted, is) = grind arith
 served_then h g (m ∷ ms) ns frames writes (k, first, rest, more, answered, is, noted, serves) =

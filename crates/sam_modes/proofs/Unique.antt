@@ -2,7 +2,7 @@
 use Rattle.sam_modes.proofs.Common.{◌≡◌, ◌∙◌, ℕ, List, inl, inr, Option, None, Some, Result, Ok, Err, refl, sym, ap, ap₂, terminal, version_after, PlainHost, HostFault, Served, serve, Plays, Stops, stop_at, host_fault_number, Stop}
 use Rattle.sam_frame.specs.Reading.{IsSound}
 use Rattle.sam_frame.proofs.Unique.{one_split, reads_on, two_fronts}
-use Rattle.sam_workers.specs.declared.stop.Stop.TheVariants.{Host}
+use Rattle.sam_ends.specs.declared.stop.Stop.TheVariants.{Host}
 use Rattle.sam_modes.proofs.Serving.{serve-refused}
 
 -- the stop of a refusal

@@ -1,7 +1,7 @@
 -- What stops a session, of all its stops.
 use Rattle.std.specs.Prelude.{List, [], ◌∷◌, Option, Some, None}
-use Rattle.sam_workers.specs.declared.stop.Stop.{Stop}
-use Rattle.sam_workers.specs.declared.stop.Stop.TheVariants as stop
+use Rattle.sam_ends.specs.declared.stop.Stop.{Stop}
+use Rattle.sam_ends.specs.declared.stop.Stop.TheVariants as stop
 use Rattle.sam_modes.specs.declared.fault.PlayFault.{PlayFault}
 use Rattle.sam_modes.specs.declared.fault.PlayFault.TheVariants.{Side, Threads, OutOfMemory}
 

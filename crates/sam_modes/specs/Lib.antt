@@ -5,5 +5,4 @@ pub mod Outcome
 pub mod Pieces
 pub mod Status
 pub mod Words
-pub mod Replaying
 pub mod Causes

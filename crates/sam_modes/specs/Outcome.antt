@@ -13,9 +13,9 @@ use Rattle.sam_frame.specs.Direction.{terminal}
 use Rattle.sam_frame.specs.Stream.{Splits, version_after}
 use Rattle.sam_frame.specs.Splitting.{Ends}
 use Rattle.sam_modes.specs.Serving.{serve}
-use Rattle.sam_workers.specs.declared.stop.Stop.{Stop}
-use Rattle.sam_workers.specs.declared.stop.Stop.TheVariants.{Frame}
-use Rattle.sam_workers.specs.declared.stop.Stop.TheVariants.{Host}
+use Rattle.sam_ends.specs.declared.stop.Stop.{Stop}
+use Rattle.sam_ends.specs.declared.stop.Stop.TheVariants.{Frame}
+use Rattle.sam_ends.specs.declared.stop.Stop.TheVariants.{Host}
 use Rattle.sam_modes.specs.declared.fault.PlayFault.{PlayFault}
 use Rattle.sam_modes.specs.declared.fault.PlayFault.TheVariants.{Script, Side, Threads}
 

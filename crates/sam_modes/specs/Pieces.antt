@@ -10,8 +10,8 @@ use Rattle.sam_endpoint.specs.declared.fault.HostStop.TheVariants.{Stream, Refus
 use Rattle.sam_endpoint.specs.Streams.{mesg_fault}
 use Rattle.sam_endpoint.specs.HostEndpoints.{PlainHostEndpoint, Feeds}
 use Rattle.sam_endpoint.specs.HostSteps.{Answer}
-use Rattle.sam_workers.specs.declared.stop.Stop.{Stop}
-use Rattle.sam_workers.specs.declared.stop.Stop.TheVariants.{Frame, Host}
+use Rattle.sam_ends.specs.declared.stop.Stop.{Stop}
+use Rattle.sam_ends.specs.declared.stop.Stop.TheVariants.{Frame, Host}
 use Rattle.sam_modes.specs.declared.fault.PlayFault.{PlayFault}
 use Rattle.sam_modes.specs.declared.fault.PlayFault.TheVariants.{Side}
 

@@ -15,8 +15,8 @@ use crate::fault::PlayFault;
 use crate::reading::{MOST_INPUT, PIECE, read_piece};
 use crate::start::host_of_text;
 use sam_endpoint::{EndpointFault, HostEndpoint, HostStop};
+use sam_ends::Stop;
 use sam_frame::FeedFault;
-use sam_workers::Stop;
 use std::alloc::Global;
 use std::io::{Read, Write};
 

@@ -3,7 +3,7 @@
 ghost use Rattle.std.specs.Prelude.{◌≡◌};
 ghost use Rattle.sam_modes.specs.Status.{status};
 
-use sam_workers::Stop;
+use sam_ends::Stop;
 use thiserror::Error;
 
 /// Why the program did not come to its end. Modes `replay` and `threads` write a line that names the fault, and `status_of` gives the exit

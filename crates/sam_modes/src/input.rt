@@ -13,7 +13,7 @@ use std::io::{Read, Write};
 
 /// Reads all that the reader has. Errors: `Read` if a read fails or the input has more than `MOST_INPUT` bytes, and `OutOfMemory`,
 /// whichever comes first in the input.
-pub(crate) fn read_all<R: Read>(alloc: Global, reader: &mut R) -> Result<Vec<u8>, PlayFault>
+pub fn read_all<R: Read>(alloc: Global, reader: &mut R) -> Result<Vec<u8>, PlayFault>
     ensures ok { IfOk result (λ bytes. (length bytes.items ≤ most_input)
         × IfSome (R.remaining reader.old) (λ input. bytes.items ≡ input)) }
     ensures fault { IfErr result (λ e. (e ≡ PlayFault.Read) ⊎ (e ≡ PlayFault.OutOfMemory)) }
@@ -65,7 +65,7 @@ fn tell_write<W: Write>(writer: &mut W) -> Result<(), PlayFault>
 }
 
 /// Writes the line of a fault, and returns the fault; `Write` if the line can't be written.
-#[tactic(auto, using(crate::proofs::Scripts::told))]
+#[tactic(auto, using(crate::proofs::Telling::told))]
 fn tell<W: Write>(writer: &mut W, fault: PlayFault) -> Result<(), PlayFault>
     ensures stops { IsErr result }
     ensures fault { IfErr result (λ why. (why ≡ PlayFault.Write) ⊎ (why ≡ fault)) }

@@ -3,7 +3,7 @@
 ghost use Rattle.std.specs.Prelude.{◌≡◌, ℕ, List, Option};
 ghost use Rattle.sam_host.specs.Host.{PlainHost};
 ghost use Rattle.sam_modes.specs.Outcome.{Plays};
-ghost use Rattle.sam_workers.specs.declared.stop.Stop.{Stop};
+ghost use Rattle.sam_ends.specs.declared.stop.Stop.{Stop};
 
 use sam_mesg::{frame_says_t, one_frame_t};
 

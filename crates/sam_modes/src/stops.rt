@@ -4,7 +4,7 @@ ghost use Rattle.std.specs.Prelude.{◌≡◌};
 ghost use Rattle.sam_modes.specs.Causes.{of_stops};
 
 use crate::fault::PlayFault;
-use sam_workers::Stop;
+use sam_ends::Stop;
 
 /// Returns the fault of a session with these stops, or `None` if there are none: that of the first stop other than `PeerGone`, and
 /// `Side(Stop::PeerGone)` if there is no other.

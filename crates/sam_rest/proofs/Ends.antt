@@ -5,13 +5,28 @@ use Rattle.sam_term.specs.Term.{unsent_message, all_composed}
 use Rattle.sam_term.specs.declared.records.Unsent.{Unsent}
 use Rattle.sam_term.proofs.Edits.{flushed-held}
 use Rattle.sam_crossing.specs.declared.event.Event.{Event}
-use Rattle.sam_crossing.specs.declared.event.Event.TheVariants.{User, Act, Flush, HostTake, TermTake}
+use Rattle.sam_crossing.specs.declared.event.Event.TheVariants.{User, Add, Act, Flush, HostTake, TermTake}
 use Rattle.sam_crossing.proofs.RunLaws.{run_keeps}
-use Rattle.sam_crossing.proofs.OrderLaws.{starts_in_order, steps_in_order}
+use Rattle.std.proofs.Common.{Bool, true}
+use Rattle.sam_runes.specs.Slots.{Slots}
+use Rattle.sam_text.specs.Files.{PlainFile}
+use Rattle.sam_host.specs.Host.{PlainHost, Reply, given_slots, with_given}
+use Rattle.sam_host.specs.Laws.{AreGiven}
+use Rattle.sam_mesg.specs.declared.hmesg.Hmesg.{Hmesg}
+use Rattle.sam_term.specs.Term.{window_at}
+use Rattle.sam_crossing.proofs.Common.{append_assoc, answers, at_file, view, run, Action}
+use Rattle.sam_crossing.specs.Joining.{with_more, is_heard}
+use Rattle.sam_crossing.proofs.Guards.{at_file-append}
+use Rattle.sam_crossing.proofs.MoreFiles.{Split, split, nothing_more, one_more, given_both, given_kept, deaf_reply, unheard_is, heard_frees, frees-behind, answers_after}
+use Rattle.sam_local.proofs.Folds.{Parted}
+use Rattle.sam_rest.proofs.Actions.{AwaitsAll}
+use Rattle.sam_rest.proofs.Kept.{frames_of, coming_to, answers-up}
+use Rattle.sam_rest.proofs.Joined.{with_joined, both-more, order-joined, joined-step}
+use Rattle.sam_crossing.proofs.OrderLaws.{joins_step, starts_in_order, steps_in_order}
 use Rattle.sam_crossing.specs.Order.{InOrder}
 use Rattle.sam_crossing.proofs.Passing.{passed, held_passed}
 use Rattle.sam_local.proofs.Held.{event-held, frame-held}
-use Rattle.sam_rest.specs.Rest.{Applies, LeadsOn, StepsEnd, is_user}
+use Rattle.sam_rest.specs.Rest.{Applies, LeadsOn, StepsEnd, is_from_outside}
 use Rattle.sam_rest.proofs.Taking.{HostTakes, host-takes, TermTakes, term-takes, Flushes, flush-takes, Idles, Acts, act-takes}
 use Rattle.sam_rest.proofs.Kept.{AreAwaited}
 use Rattle.sam_rest.proofs.Steps.{awaited-host, awaited-flush, awaited-frame, awaited-event}
@@ -21,9 +36,11 @@ use Rattle.sam_rest.proofs.Work.{work-host, work-flush, work-frame}
 
 -- ## What is kept
 
+-- also where files join now, however many
 pub record IsKept (w : PlainWorld) : Type 0 where
   pub order : IsInOrder w
   pub awaited : AreAwaited w.host w.term w.up (mesgs w.down)
+  pub joined : (more : List (List ℕ × List ℕ)) → AreGiven more → AreAwaited (with_more w.host (given_slots more)) w.term w.up (mesgs w.down)
 
 -- how much is left to do in w, but for what the held events will do
 abbrev pub left_in : PlainWorld → ℕ
@@ -101,8 +118,17 @@ after-act w next k n s = by s.did
 
 -- ## Every step, and every run
 
-pub keeps-step : (w : PlainWorld) (e : Event) (next : PlainWorld) → IsKept w → step_of w e ≡ Some next → IsKept next
-keeps-step w e next k s = record { order = n; awaited = by e refl }
+-- no file joins in the step
+abbrev is_add : Event → Bool
+is_add (User e) = false
+is_add (Add name text) = true
+is_add Act = false
+is_add Flush = false
+is_add HostTake = false
+is_add TermTake = false
+
+awaits-step : (w : PlainWorld) (e : Event) (next : PlainWorld) → IsKept w → is_add e ≡ false → step_of w e ≡ Some next → AreAwaited next.host next.term next.up (mesgs next.down)
+awaits-step w e next k none s = by e refl
   where
     n : IsInOrder next
     n = steps_in_order w next e k.order s
@@ -118,14 +144,102 @@ keeps-step w e next k s = record { order = n; awaited = by e refl }
     by (User x) q =
         let is : record w { term = record w.term { held = w.term.held ++ x ∷ [] } } ≡ next = same_Some _ _ (ap (step_of w) (sym q) ∙ s) in
         subst (λ (v : PlainWorld). AreAwaited v.host v.term v.up (mesgs v.down)) is k.awaited
+    by (Add name text) q = absurd (true≢false (ap is_add (sym q) ∙ none))
     by Act q = acted (act-takes w next (ap (step_of w) (sym q) ∙ s))
     by Flush q = flushed-kept (flush-takes w next (ap (step_of w) (sym q) ∙ s))
     by HostTake q = (after-host w next k n (host-takes w next k.order (ap (step_of w) (sym q) ∙ s))).awaited
     by TermTake q = (after-term w next k n (term-takes w next (ap (step_of w) (sym q) ∙ s))).awaited
 
+-- a world with files that join is kept, too
+kept-joined : (w : PlainWorld) (more : List (List ℕ × List ℕ)) → AreGiven more → IsKept w → IsKept (with_joined w more)
+kept-joined w more few k = record {
+  order = order-joined w more few k.order;
+  awaited = k.joined more few;
+  joined = λ others fit. subst (λ (h : PlainHost). AreAwaited h w.term w.up (mesgs w.down)) (sym (both-more w.host more others)) (k.joined (more ++ others) (given_both more others few fit));
+}
+
+-- the host's answer, with files that join
+module _ (w next : PlainWorld) (k : IsKept w) (n : IsInOrder next) (t : HostTakes w next) (more : List (List ℕ × List ℕ)) (few : AreGiven more) where
+  abbrev us : Slots PlainFile
+  us = given_slots more
+
+  abbrev after : List Hmesg
+  after = mesgs w.down ++ t.reply.1
+
+  next-order : InOrder t.reply.0 w.term t.rest (mesgs w.down ++ t.reply.1)
+  next-order = grind (arith, n.ordered)
+
+  next-joined : InOrder (with_more t.reply.0 (given_slots more)) w.term t.rest (mesgs w.down ++ t.reply.1)
+  next-joined =
+      subst (λ (d : List Hmesg). InOrder (with_more t.reply.0 us) w.term t.rest d) t.down
+      (subst (λ (u : List Tmesg). InOrder (with_more t.reply.0 us) w.term u (mesgs next.down)) t.up
+      (subst (λ (z : PlainTerminal). InOrder (with_more t.reply.0 us) z next.up (mesgs next.down)) t.term
+      (subst (λ (h : PlainHost). InOrder (with_more h us) next.term next.up (mesgs next.down)) t.host (n.joined more few))))
+
+  host-deaf : is_heard w.host t.first ≡ false → AreAwaited (with_more t.reply.0 (given_slots more)) w.term t.rest (mesgs w.down ++ t.reply.1)
+  host-deaf e =
+      awaited-host (with_more w.host us) w.term t.first t.rest (mesgs w.down) (with_more t.reply.0 us, t.reply.1)
+      (deaf_reply w.host t.first us t.reply k.order.given (unheard_is w.host t.first e) t.replies) next-joined
+      (subst (λ (l : List Tmesg). AreAwaited (with_more w.host us) w.term l (mesgs w.down)) t.was (k.joined more few))
+
+  host-heard : is_heard w.host t.first ≡ true → AreAwaited (with_more t.reply.0 (given_slots more)) w.term t.rest (mesgs w.down ++ t.reply.1)
+  host-heard e f = subst (AwaitsAll (window_at w.term f).awaited) (sym same) (now f)
+    where
+      now : AreAwaited t.reply.0 w.term t.rest (mesgs w.down ++ t.reply.1)
+      now = awaited-host w.host w.term t.first t.rest (mesgs w.down) t.reply t.replies next-order (subst (λ (l : List Tmesg). AreAwaited w.host w.term l (mesgs w.down)) t.was k.awaited)
+
+      p : Parted t.reply.0 t.rest (unsent_message w.term.unsent) (next-order.kept.ahead, next-order.kept.frames)
+      p = answers-up t.reply.0 w.term t.rest after next-order
+
+      -- what has come with the answers to what is up
+      lens_run : Split (at_file 0 (after ++ p.first.1)) (at_file 0 p.last.1) (view 0 w.term) (next-order.kept.each 0).final
+      lens_run = split (at_file 0 (after ++ p.first.1)) (at_file 0 p.last.1) (view 0 w.term) (next-order.kept.each 0).final
+          (subst (λ (s : List Action). run s (view 0 w.term) ≡ Some (next-order.kept.each 0).final)
+          (ap (λ (r : Reply). at_file 0 (after ++ r.1)) p.whole ∙ ap (at_file 0) (sym (append_assoc after p.first.1 p.last.1)) ∙ at_file-append 0 (after ++ p.first.1) p.last.1)
+          (next-order.kept.each 0).runs)
+
+      wide : answers (with_more t.reply.0 us) t.rest ≡ Some (with_more p.first.0 us, p.first.1)
+      wide = answers_after t.reply.0 t.rest after p.first (view 0 w.term) lens_run.mid us (given_kept w.host t.first t.reply k.order.given t.replies)
+          (frees-behind (mesgs w.down) t.reply.1 (heard_frees w.host t.first t.reply t.replies e)) p.now lens_run.first
+
+      same : coming_to f (with_more t.reply.0 us) t.rest after ≡ coming_to f t.reply.0 t.rest after
+      same = ap (λ (o : Option Reply). at_file f (after ++ frames_of o)) wide ∙ sym (ap (λ (o : Option Reply). at_file f (after ++ frames_of o)) p.now)
+
+  host-joined : AreAwaited (with_more next.host (given_slots more)) next.term next.up (mesgs next.down)
+  host-joined =
+      subst (λ (h : PlainHost). AreAwaited (with_more h us) next.term next.up (mesgs next.down)) (sym t.host)
+      (subst (λ (z : PlainTerminal). AreAwaited (with_more t.reply.0 us) z next.up (mesgs next.down)) (sym t.term)
+      (subst (λ (u : List Tmesg). AreAwaited (with_more t.reply.0 us) w.term u (mesgs next.down)) (sym t.up)
+      (subst (AreAwaited (with_more t.reply.0 us) w.term t.rest) (sym t.down) (by (is_heard w.host t.first) refl))))
+    where
+      by : (b : Bool) → is_heard w.host t.first ≡ b → AreAwaited (with_more t.reply.0 us) w.term t.rest after
+      by true e = host-heard e
+      by false e = host-deaf e
+
+pub keeps-step : (w : PlainWorld) (e : Event) (next : PlainWorld) → IsKept w → step_of w e ≡ Some next → IsKept next
+keeps-step w (Add name text) next k s =
+    let j = joins_step w next name text s in
+    let one : List ℕ × List ℕ = (name, text) in
+    subst IsKept (sym j.is)
+    (record {
+      order = subst IsInOrder j.is (steps_in_order w next (Add name text) k.order s);
+      awaited = subst (λ (h : PlainHost). AreAwaited h w.term w.up (mesgs w.down)) (sym (one_more w.host one []) ∙ nothing_more (with_given w.host one)) (k.joined (one ∷ []) (j.short.0, j.short.1, tt));
+      joined = λ more few. subst (λ (h : PlainHost). AreAwaited h w.term w.up (mesgs w.down)) (sym (one_more w.host one (given_slots more))) (k.joined (one ∷ more) (j.short.0, j.short.1, few));
+    })
+keeps-step w HostTake next k s = record {
+  order = steps_in_order w next HostTake k.order s;
+  awaited = awaits-step w HostTake next k refl s;
+  joined = host-joined w next k (steps_in_order w next HostTake k.order s) (host-takes w next k.order s);
+}
+keeps-step w e next k s = record {
+  order = steps_in_order w next e k.order s;
+  awaited = awaits-step w e next k refl s;
+  joined = λ more few. awaits-step (with_joined w more) e (with_joined next more) (kept-joined w more few k) refl (joined-step w next e more refl s);
+}
+
 pub kept-of : (w : PlainWorld) → WasReached w → IsKept w
 kept-of w r =
-    run_keeps IsKept keeps-step (new_world r.given) r.reached.0 w (record { order = starts_in_order r.given r.limits; awaited = λ f. refl }) r.reached.1
+    run_keeps IsKept keeps-step (new_world r.given) r.reached.0 w (record { order = starts_in_order r.given r.limits; awaited = λ f. refl; joined = λ more few f. refl }) r.reached.1
 
 pub kept-on : (w : PlainWorld) (e : Event) (next : PlainWorld) → IsKept w → Applies w e next → IsKept next
 kept-on w e next k a = keeps-step w e next k a.stepped
@@ -142,7 +256,7 @@ nothing-flushed w e =
     ap (λ (n : Option Unsent). record w { term = all_composed (record w.term { unsent = None }) (unsent_message n); up = w.up ++ unsent_message n }) e
     ∙ (λ i. record w { term = record w.term { unsent = sym e i }; up = append-nil w.up i })
 
-pub falls : (w : PlainWorld) (e : Event) (next : PlainWorld) → IsKept w → is_user e ≡ false → step_of w e ≡ Some next → (next ≡ w) ⊎ Lowers w next
+pub falls : (w : PlainWorld) (e : Event) (next : PlainWorld) → IsKept w → is_from_outside e ≡ false → step_of w e ≡ Some next → (next ≡ w) ⊎ Lowers w next
 falls w e next k own s = by e refl
   where
     n : IsInOrder next
@@ -160,7 +274,8 @@ falls w e next k own s = by e refl
     act (inr acts) = inr (inl (omega (arith, (after-act w next k n acts).one)))
 
     by : (x : Event) → e ≡ x → (next ≡ w) ⊎ Lowers w next
-    by (User x) q = absurd (true≢false (ap is_user (sym q) ∙ own))
+    by (User x) q = absurd (true≢false (ap is_from_outside (sym q) ∙ own))
+    by (Add name text) q = absurd (true≢false (ap is_from_outside (sym q) ∙ own))
     by Act q = act (act-takes w next (ap (step_of w) (sym q) ∙ s))
     by Flush q = flush w.term.unsent refl (flush-takes w next (ap (step_of w) (sym q) ∙ s))
     by HostTake q = less (after-host w next k n (host-takes w next k.order (ap (step_of w) (sym q) ∙ s)))
@@ -180,7 +295,7 @@ record IsBoundedBy (w : PlainWorld) (e : Event) : Type 0 where
   most : ℕ
   bound : (next : PlainWorld) → Applies w e next → (es : List Event) (v : PlainWorld) → LeadsOn next es v → length es ≤ most
 
-bounded-by : (w : PlainWorld) (e : Event) → IsKept w → is_user e ≡ false → After w → IsBoundedBy w e
+bounded-by : (w : PlainWorld) (e : Event) → IsKept w → is_from_outside e ≡ false → After w → IsBoundedBy w e
 bounded-by w e k own after = by (step_of w e) refl
   where
     to : (u : PlainWorld) → step_of w e ≡ Some u → (u ≡ w) ⊎ Lowers w u → IsBoundedBy w e
@@ -217,6 +332,7 @@ bounded-all w k after = record { most = 1 + (act.most + flush.most + host.most +
     bound : (es : List Event) (v : PlainWorld) → LeadsOn w es v → length es ≤ 1 + (act.most + flush.most + host.most + term.most)
     bound [] v l = omega arith
     bound (User x ∷ es) v l = absurd (true≢false l.1.own)
+    bound (Add name text ∷ es) v l = absurd (true≢false l.1.own)
     bound (Act ∷ es) v l = omega (arith, act.bound l.0 l.1 es v l.2)
     bound (Flush ∷ es) v l = omega (arith, flush.bound l.0 l.1 es v l.2)
     bound (HostTake ∷ es) v l = omega (arith, host.bound l.0 l.1 es v l.2)

@@ -7,6 +7,7 @@ pub mod Kept
 pub mod Quiet
 pub mod Steps
 pub mod Work
+pub mod Joined
 pub mod Ends
 pub mod Done
 pub mod Rule

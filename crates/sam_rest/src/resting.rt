@@ -11,12 +11,12 @@ use sam_world::{StepFault, World};
 /// say that this ends.
 pub trait Rest {
     /// Makes events happen until none applies, without a limit, each of them the one that `World::drain` would make happen next. It ends
-    /// in every world, however much is under way. The user does nothing in them. At `Ok` all is done: nothing is unsent, under way, held
+    /// in every world, however much is under way. The user does nothing in them, and no file joins. At `Ok` all is done: nothing is unsent, under way, held
     /// or locked, and no request awaits its data. Where all is done already, it returns `Ok` and changes nothing.
     ///
     /// Errors: `CountFull` comes only if the next event would take a count of messages past 2^64-1. `OutOfMemory` may come at any event,
-    /// before `CountFull` too, and also once none applies any more. `NothingThere` never comes. After an error the events before it have
-    /// happened, and the next one has not.
+    /// before `CountFull` too, and also once none applies any more. `NothingThere` and `NotAdded` never come. After an error the events
+    /// before it have happened, and the next one has not.
     fn rest(&mut self) -> Result<(), StepFault>;
 }
 
@@ -29,6 +29,7 @@ impl Rest for World {
         ensures still { is_at_rest self.old ≡ true → self.new ≡ self.old }
         ensures stopped { IfErr result (λ why. IsNextFault self.new why) }
         ensures something { (result ≡ Err StepFault.NothingThere) → ⊥ }
+        ensures no_file { (result ≡ Err StepFault.NotAdded) → ⊥ }
     {
         'drains: while !is_resting(self) {
             self.drain()?;

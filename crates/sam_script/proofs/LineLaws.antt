@@ -1,7 +1,8 @@
 -- What is read of a line is what it says, and each line says one thing.
 use Rattle.sam_script.proofs.Common.{◌≡◌, ◌<◌, ◌≤◌, ◌∙◌, refl, sym, ap, subst, ℕ, List, [], ◌∷◌, ◌++◌, length, true, Some, Result, IfOk, IfErr, codes, flat_map, encode_utf8, arith, chars, encode_utf8_all, IsUtf8, le-leb, eqb-true, AllByRecursion, eqb_tells, same_Some, chars_from_encodes, encodes-chars, max_runes, most_in_name, Said, SpellsParts, IsWord, SpellsFile, SpellsLine, SaysNothing, SaysSo, Says, Rest, fitting_name, fitting_text, file_text_at, file_at, bare, line_readers, is_silent, line_at, IsUnsaid, ◌>>=◌, word_of, behind_word, word_at, Gives}
 use Rattle.sam_script.specs.declared.line.Line.{Line}
-use Rattle.sam_script.specs.declared.line.Line.TheVariants.{Key, Mouse}
+use Rattle.sam_script.specs.declared.line.Line.TheVariants.{Key, Mouse, Add, Act, Flush, Host, Term, Drain, Show}
+use Rattle.sam_script.specs.Reading.{bare_readers, event_at}
 use Rattle.sam_script.specs.declared.fault.LineFault.{LineFault}
 use Rattle.sam_script.specs.declared.line.Said.TheVariants as said
 use Rattle.sam_world.specs.Given.{IsFile}
@@ -27,7 +28,8 @@ file_text_read : (bytes text : List ℕ) → IsUtf8 bytes → SpellsParts (Rest 
 unfolding file_text_at
 file_text_read bytes text u h short = ap (λ o. o >>= fitting_text) (text_read bytes text u h.0) ∙ rw (le-leb (length text) max_runes short) refl
 
-file_says : (bytes : List ℕ) (x : List ℕ × List ℕ) → IsUtf8 bytes → file_at bytes ≡ Some x → SpellsFile x.0 x.1 (codes "file" ++ bytes)
+-- a file is named after a space
+file_says : (bytes : List ℕ) (x : List ℕ × List ℕ) → IsUtf8 bytes → file_at bytes ≡ Some x → SpellsFile (codes " ") x.0 x.1 bytes
 unfolding file_at
 file_says bytes x u h =
     let a = bind_some (word_at bytes) (λ w. fitting_name (chars w.0) >>= λ name. file_text_at w.1 >>= λ text. Some (name, text)) x h in
@@ -37,8 +39,8 @@ file_says bytes x u h =
     let v = word_utf8 bytes a.0 u a.1 in
     let n = name_says a.0.0 b.0 v.0 b.1 in
     let t = file_text_says a.0.1 d.0 v.1 d.1 in
-    subst (λ (y : List ℕ × List ℕ). SpellsFile y.0 y.1 (codes "file" ++ bytes)) (same_Some (b.0, d.0) x d.2)
-    (a.0.1, ap (λ xs. codes "file" ++ xs) w.0 ∙ ap (λ xs. codes "file " ++ xs ++ a.0.1) n.0, subst IsWord n.0 w.1, (n.1, n.2, t.1), t.0)
+    subst (λ (y : List ℕ × List ℕ). SpellsFile (codes " ") y.0 y.1 bytes) (same_Some (b.0, d.0) x d.2)
+    (a.0.1, w.0 ∙ ap (λ xs. codes " " ++ xs ++ a.0.1) n.0, subst IsWord n.0 w.1, (n.1, n.2, t.1), t.0)
 
 file_read : (bytes name text rest : List ℕ) → IsUtf8 bytes → bytes ≡ codes " " ++ flat_map encode_utf8 name ++ rest → IsWord (flat_map encode_utf8 name) → IsFile (name, text)
     → SpellsParts (Rest text ∷ []) rest → file_at bytes ≡ Some (name, text)
@@ -61,13 +63,49 @@ abbrev IsSaidBy : List ℕ → Said → List ℕ → Type 0
 IsSaidBy word it bytes = SaysSo it (word ++ bytes)
 
 file_row : ReadsAs IsSaidBy (codes "file", λ bytes. file_at bytes >>= λ x. Some (said.File x.0 x.1))
-file_row bytes it u h = grind (arith, file_says)
+file_row bytes it u h =
+    let a = bind_some (file_at bytes) (λ x. Some (said.File x.0 x.1)) it h in
+    let s = file_says bytes a.0 u a.1 in
+    subst (λ (x : Said). SaysSo x (codes "file" ++ bytes)) (same_Some (said.File a.0.0 a.0.1) it a.2) (s.0, ap (λ xs. codes "file" ++ xs) s.1, s.2, s.3, s.4)
+
+add_row : ReadsAs IsSaidBy (codes "add", λ bytes. file_at bytes >>= λ x. Some (said.Line (Add x.0 x.1)))
+add_row bytes it u h =
+    let a = bind_some (file_at bytes) (λ x. Some (said.Line (Add x.0 x.1))) it h in
+    let s = file_says bytes a.0 u a.1 in
+    subst (λ (x : Said). SaysSo x (codes "add" ++ bytes)) (same_Some (said.Line (Add a.0.0 a.0.1)) it a.2) (s.0, ap (λ xs. codes "add" ++ xs) s.1, s.2, s.3, s.4)
 
 bare_row : (line : Line) (word : List ℕ) → ((bytes : List ℕ) → bytes ≡ [] → SpellsLine line (word ++ bytes)) → ReadsAs IsSaidBy (word, bare line)
 bare_row line word spells bytes it u h = grind arith
 
+key_row : ReadsAs IsSaidBy (codes "k", λ bytes. event_at bytes >>= λ e. Some (said.Line (Key e)))
+key_row bytes it u h = grind (arith, event_says)
+
+mouse_row : ReadsAs IsSaidBy (codes "m", λ bytes. event_at bytes >>= λ e. Some (said.Line (Mouse e)))
+mouse_row bytes it u h = grind (arith, event_says)
+
+bare_rows : AllByRecursion (ReadsAs IsSaidBy) bare_readers
+bare_rows = (
+  bare_row Act (codes "act") (λ bytes e. ap (λ xs. codes "act" ++ xs) e),
+  (
+    bare_row Flush (codes "flush") (λ bytes e. ap (λ xs. codes "flush" ++ xs) e),
+    (
+      bare_row Host (codes "host") (λ bytes e. ap (λ xs. codes "host" ++ xs) e),
+      (
+        bare_row Term (codes "term") (λ bytes e. ap (λ xs. codes "term" ++ xs) e),
+        (
+          bare_row Drain (codes "drain") (λ bytes e. ap (λ xs. codes "drain" ++ xs) e),
+          (
+            bare_row Show (codes "show") (λ bytes e. ap (λ xs. codes "show" ++ xs) e),
+            tt,
+          ),
+        ),
+      ),
+    ),
+  ),
+)
+
 line_readers_say : AllByRecursion (ReadsAs IsSaidBy) line_readers
-line_readers_say = grind (arith, file_row, event_says)
+line_readers_say = (file_row, (add_row, (key_row, (mouse_row, bare_rows))))
 
 silent_says : (bytes : List ℕ) → is_silent bytes ≡ true → SaysNothing bytes
 silent_says bytes e = grind (arith, eqb_tells, eqb-true)
@@ -90,6 +128,11 @@ line_read bytes (said.File name text) (u, (rest, is, plain, fits, parts)) = grin
   arith,
   (file_read (codes " " ++ flat_map encode_utf8 name ++ rest) name text rest
       (utf8_rear (codes "file") (codes " " ++ flat_map encode_utf8 name ++ rest) (subst IsUtf8 is u) refl) refl plain fits parts),
+)
+line_read bytes (said.Line (Add name text)) (u, (rest, is, plain, fits, parts)) = grind (
+  arith,
+  (file_read (codes " " ++ flat_map encode_utf8 name ++ rest) name text rest
+      (utf8_rear (codes "add") (codes " " ++ flat_map encode_utf8 name ++ rest) (subst IsUtf8 is u) refl) refl plain fits parts),
 )
 line_read bytes (said.Line (Key e)) (u, (event, is, spells)) =
     ap line_at is ∙ ap (λ o. o >>= λ d. Some (said.Line (Key d)))

@@ -4,7 +4,7 @@ use Rattle.std.specs.Char.{IsScalar}
 use lib.Utf8.{scalar}
 use Rattle.std.proofs.lemmas.Fmt.{decimal_is_IsNumeral, digits_decimal}
 use Rattle.sam_runes.specs.Reading.{AreRunes}
-use Rattle.sam_crossing.specs.declared.event.Event.TheVariants.{User, Act, Flush, HostTake, TermTake}
+use Rattle.sam_crossing.specs.declared.event.Event.TheVariants.{User, Add, Act, Flush, HostTake, TermTake}
 use Rattle.sam_script.specs.declared.line.Line.TheVariants as line
 use Rattle.sam_script.specs.declared.line.Said.TheVariants as said
 use Rattle.sam_script.proofs.ScriptLaws.{spells_one}
@@ -114,6 +114,7 @@ parts_good parts e u = grind (arith, good_nil)
 
 abbrev event_bytes : Event → List ℕ
 event_bytes (User e) = codes "k " ++ spelling (form e)
+event_bytes (Add name text) = codes "add " ++ flat_map encode_utf8 name ++ codes " " ++ text_shown text
 event_bytes Act = codes "act"
 event_bytes Flush = codes "flush"
 event_bytes HostTake = codes "host"
@@ -128,19 +129,25 @@ file_bytes file = codes "file " ++ flat_map encode_utf8 file.0 ++ codes " " ++ t
 abbrev said_file : List ℕ × List ℕ → Said
 said_file file = said.File file.0 file.1
 
+-- a word, and the name and the text of a file
+named_good : (word : List ℕ) (file : List ℕ × List ℕ) → Good word → CanBeNamed file → Good (word ++ flat_map encode_utf8 file.0 ++ codes " " ++ text_shown file.1)
+named_good word file good can =
+    good_append (word ++ flat_map encode_utf8 file.0 ++ codes " ") (text_shown file.1)
+    (good_append (word ++ flat_map encode_utf8 file.0) (codes " ") (good_append word (flat_map encode_utf8 file.0) good (good_name file.0 can.1 can.3)) (good_plain (codes " ") refl))
+    (good_text file.1 can.2)
+
 event_good : (e : Event) → CanBeWritten e → Good (event_bytes e)
+event_good (Add name text) can = named_good (codes "add ") (name, text) (good_plain (codes "add ") refl) can
 event_good (User e) fit = good_append (codes "k ") (spelling (form e)) (good_plain (codes "k ") refl)
     (good_append (form e).0 (flat_map part_shown (form e).1) (good_plain (form e).0 (form_plain e)) (parts_good (form e).1 (form_sane e) fit))
 event_good e fit = good_plain (event_bytes e) refl
 
 event_said : (e : Event) → CanBeWritten e → SaysSo (said_event e) (event_bytes e)
+event_said (Add name text) can = grind (arith, (append_assoc (codes "add " ++ flat_map encode_utf8 name) (codes " ") (text_shown text)), (name_word name can.3))
 event_said e u = grind (arith, flat_map, parts_spelled, form_sane)
 
 file_good : (file : List ℕ × List ℕ) → CanBeNamed file → Good (file_bytes file)
-file_good file can =
-    good_append (codes "file " ++ flat_map encode_utf8 file.0 ++ codes " ") (text_shown file.1)
-    (good_append (codes "file " ++ flat_map encode_utf8 file.0) (codes " ") (good_append (codes "file ") (flat_map encode_utf8 file.0)
-    (good_plain (codes "file ") refl) (good_name file.0 can.1 can.3)) (good_plain (codes " ") refl)) (good_text file.1 can.2)
+file_good file can = named_good (codes "file ") file (good_plain (codes "file ") refl) can
 
 file_is_said : (file : List ℕ × List ℕ) → CanBeNamed file → SaysSo (said_file file) (file_bytes file)
 file_is_said file can = grind (arith, (append_assoc (codes "file " ++ flat_map encode_utf8 file.0) (codes " ") (text_shown file.1)), (name_word file.0 can.3))

@@ -4,7 +4,7 @@ use Rattle.std.specs.Prelude.{◌||◌, if◌then◌else◌, bytes_eq, chars}
 use Rattle.sam_runes.specs.Texts.{max_runes, most_files, most_in_name}
 use Rattle.sam_term.specs.declared.event.UserEvent.{UserEvent}
 use Rattle.sam_script.specs.declared.line.Line.{Line}
-use Rattle.sam_script.specs.declared.line.Line.TheVariants.{Key, Mouse, Act, Flush, Host, Term, Drain, Show}
+use Rattle.sam_script.specs.declared.line.Line.TheVariants.{Key, Mouse, Add, Act, Flush, Host, Term, Drain, Show}
 use Rattle.sam_script.specs.declared.line.Said.{Said}
 use Rattle.sam_script.specs.declared.line.Said.TheVariants as said
 use Rattle.sam_script.specs.Script.{PlainScript}
@@ -46,6 +46,7 @@ bare_readers =
 abbrev pub line_readers : List (List ℕ × Reader Said)
 line_readers =
     (codes "file", λ bytes. file_at bytes >>= λ x. Some (said.File x.0 x.1))
+    ∷ (codes "add", λ bytes. file_at bytes >>= λ x. Some (said.Line (Add x.0 x.1)))
     ∷ (codes "k", λ bytes. event_at bytes >>= λ e. Some (said.Line (Key e)))
     ∷ (codes "m", λ bytes. event_at bytes >>= λ e. Some (said.Line (Mouse e))) ∷ bare_readers
 

@@ -1,9 +1,9 @@
 -- What replaying a script prints, and the script that bytes spell.
-use Rattle.std.specs.Prelude.{◌≡◌, ◌⊎◌, ℕ, if◌then◌else◌, List, [], ◌∷◌, ◌++◌, Option, Some, None, Result, Ok, Err}
+use Rattle.std.specs.Prelude.{◌≡◌, ◌⊎◌, ℕ, ◌||◌, if◌then◌else◌, List, [], ◌∷◌, ◌++◌, Option, Some, None, Result, Ok, Err}
 use Rattle.sam_term.specs.declared.event.UserEvent.{UserEvent}
-use Rattle.sam_crossing.specs.World.{PlainWorld, new_world, step_of}
-use Rattle.sam_local.specs.Worlds.{IsAsIfLocal}
-use Rattle.sam_world.specs.Faults.{is_empty_take}
+use Rattle.sam_crossing.specs.World.{PlainWorld, new_world, step_of, run_of, user_events, joined_files}
+use Rattle.sam_local.specs.Worlds.{ComesInOrder, IsAsIfLocal}
+use Rattle.sam_world.specs.Faults.{is_barred, is_empty_take}
 use Rattle.sam_world.specs.Drain.{drained, drain_limit}
 use Rattle.sam_crossing.specs.declared.event.Event.{Event}
 use Rattle.sam_crossing.specs.declared.event.Event.TheVariants as event
@@ -11,24 +11,25 @@ use Rattle.sam_script.specs.Script.{PlainScript}
 use Rattle.sam_script.specs.Show.{show_lines}
 use Rattle.sam_script.specs.Spelling.{Spells, IsWrongLine}
 use Rattle.sam_script.specs.declared.line.Line.{Line}
-use Rattle.sam_script.specs.declared.line.Line.TheVariants.{Key, Mouse, Act, Flush, Host, Term, Drain, Show}
+use Rattle.sam_script.specs.declared.line.Line.TheVariants.{Key, Mouse, Add, Act, Flush, Host, Term, Drain, Show}
 use Rattle.sam_script.specs.declared.line.Numbered.{Numbered}
 use Rattle.sam_script.specs.declared.fault.ScriptFault.{ScriptFault}
 use Rattle.sam_script.specs.declared.fault.ScriptFault.TheVariants as fault
 
--- a step that is none, though it takes nothing from an empty list, would pass a count
+-- a step that is none, though it takes nothing from an empty list and adds no file that may not join, would pass a count
 abbrev pub or_full : Option PlainWorld → Result PlainWorld ScriptFault
 or_full None = Err fault.CountFull
 or_full (Some v) = Ok v
 
 -- the world after the event of a line with this number
 abbrev pub stepped : ℕ → PlainWorld → Event → Result PlainWorld ScriptFault
-stepped number w e = if is_empty_take w e then Err (fault.Line number) else or_full (step_of w e)
+stepped number w e = if is_barred w e || is_empty_take w e then Err (fault.Line number) else or_full (step_of w e)
 
 -- the world after a line
 abbrev pub after_line : ℕ → PlainWorld → Line → Result PlainWorld ScriptFault
 after_line number w (Key e) = stepped number w (event.User e)
 after_line number w (Mouse e) = stepped number w (event.User e)
+after_line number w (Add name text) = stepped number w (event.Add name text)
 after_line number w Act = stepped number w event.Act
 after_line number w Flush = stepped number w event.Flush
 after_line number w Host = stepped number w event.HostTake
@@ -71,6 +72,7 @@ after_lines w (numbered ∷ more) = and_on (after_line numbered.number w numbere
 abbrev pub user_of : Line → List UserEvent
 user_of (Key e) = e ∷ []
 user_of (Mouse e) = e ∷ []
+user_of (Add name text) = []
 user_of Act = []
 user_of Flush = []
 user_of Host = []
@@ -82,12 +84,38 @@ abbrev pub users_of : List Numbered → List UserEvent
 users_of [] = []
 users_of (numbered ∷ more) = user_of numbered.line ++ users_of more
 
--- Wherever the replay stands, what the user did by the lines that are done has done what it does without a network. So it is in each world
--- that a `show` prints
+-- the files that join by a line, and by lines
+abbrev pub added_by : Line → List (List ℕ × List ℕ)
+added_by (Key e) = []
+added_by (Mouse e) = []
+added_by (Add name text) = (name, text) ∷ []
+added_by Act = []
+added_by Flush = []
+added_by Host = []
+added_by Term = []
+added_by Drain = []
+added_by Show = []
+
+abbrev pub all_added : List Numbered → List (List ℕ × List ℕ)
+all_added [] = []
+all_added (numbered ∷ more) = added_by numbered.line ++ all_added more
+
+-- The lines are a run in which the user did this and these files joined, and w is where what was done in it, in its order, leads the
+-- editor without a network. Where no file joined, that is the order of the user's events
+pub record WasReplayed (script : PlainScript) (done : List Numbered) (w : PlainWorld) : Type 0 where
+  pub events : List Event
+  pub leads : run_of (new_world script.files) events ≡ Some w
+  pub users : user_events events ≡ users_of done
+  pub added : joined_files events ≡ all_added done
+  pub order : ComesInOrder script.files events w
+  pub alone : all_added done ≡ [] → IsAsIfLocal script.files (users_of done) w
+
+-- Wherever the replay stands, what was done by the lines above has done what it does without a network. So it is in each world that a
+-- `show` prints
 abbrev pub ReplaysAsIfLocal : PlainScript → Type 0
 ReplaysAsIfLocal script =
     (done more : List Numbered) (w : PlainWorld) → script.lines ≡ done ++ more → after_lines (new_world script.files) done ≡ Ok w
-    → IsAsIfLocal script.files (users_of done) w
+    → WasReplayed script done w
 
 -- ## What stops it
 

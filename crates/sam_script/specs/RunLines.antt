@@ -4,7 +4,7 @@ use Rattle.std.specs.List.{AllByRecursion}
 use Rattle.sam_runes.specs.Reading.{AreRunes}
 use Rattle.sam_world.specs.Given.{IsFile}
 use Rattle.sam_crossing.specs.declared.event.Event.{Event}
-use Rattle.sam_crossing.specs.declared.event.Event.TheVariants.{User, Act, Flush, HostTake, TermTake}
+use Rattle.sam_crossing.specs.declared.event.Event.TheVariants.{User, Add, Act, Flush, HostTake, TermTake}
 use Rattle.sam_script.specs.Show.{text_shown}
 use Rattle.sam_script.specs.Script.{PlainScript}
 use Rattle.sam_script.specs.Spelling.{spelling}
@@ -14,17 +14,22 @@ use Rattle.sam_script.specs.declared.line.Line.{Line}
 use Rattle.sam_script.specs.declared.line.Line.TheVariants as line
 use Rattle.sam_script.specs.declared.line.Numbered.{Numbered}
 
+-- a word, and the name and the text of a file
+abbrev pub named_line : List ℕ → List ℕ × List ℕ → List ℕ
+named_line word file = word ++ flat_map encode_utf8 file.0 ++ codes " " ++ text_shown file.1 ++ codes "\n"
+
 -- an event of the run
 abbrev pub event_line : Event → List ℕ
 event_line (User e) = codes "k " ++ spelling (form e) ++ codes "\n"
+event_line (Add name text) = named_line (codes "add ") (name, text)
 event_line Act = codes "act\n"
 event_line Flush = codes "flush\n"
 event_line HostTake = codes "host\n"
 event_line TermTake = codes "term\n"
 
--- the name and the text of a file
+-- a file that the run begins with
 abbrev pub file_line : List ℕ × List ℕ → List ℕ
-file_line file = codes "file " ++ flat_map encode_utf8 file.0 ++ codes " " ++ text_shown file.1 ++ codes "\n"
+file_line file = named_line (codes "file ") file
 
 -- the files, the events, and a line that shows the world after them
 abbrev pub run_lines_of : List (List ℕ × List ℕ) → List Event → List ℕ
@@ -35,6 +40,7 @@ run_lines_of files events = flat_map file_line files ++ flat_map event_line even
 -- what a line of the run asks for
 abbrev pub line_of : Event → Line
 line_of (User e) = line.Key e
+line_of (Add name text) = line.Add name text
 line_of Act = line.Act
 line_of Flush = line.Flush
 line_of HostTake = line.Host
@@ -61,4 +67,8 @@ IsFitting (Rest s) = AreRunes s
 
 abbrev pub CanBeWritten : Event → Type 0
 CanBeWritten (User e) = AllByRecursion IsFitting (form e).1
-CanBeWritten other = Unit {0}
+CanBeWritten (Add name text) = CanBeNamed (name, text)
+CanBeWritten Act = Unit {0}
+CanBeWritten Flush = Unit {0}
+CanBeWritten HostTake = Unit {0}
+CanBeWritten TermTake = Unit {0}

@@ -13,7 +13,7 @@ use Rattle.sam_script.specs.Show.{text_shown}
 use Rattle.sam_script.specs.Events.{Part, form}
 use Rattle.sam_script.specs.Events.Part.{Number, Rest}
 use Rattle.sam_script.specs.declared.line.Line.{Line}
-use Rattle.sam_script.specs.declared.line.Line.TheVariants.{Key, Mouse, Act, Flush, Host, Term, Drain, Show}
+use Rattle.sam_script.specs.declared.line.Line.TheVariants.{Key, Mouse, Add, Act, Flush, Host, Term, Drain, Show}
 use Rattle.sam_script.specs.declared.line.Said.{Said}
 use Rattle.sam_script.specs.declared.line.Said.TheVariants as said
 use Rattle.sam_script.specs.declared.line.Numbered.{Numbered}
@@ -51,16 +51,17 @@ SpellsEvent e bytes = (rest : List ℕ) × (bytes ≡ (form e).0 ++ rest) × Spe
 abbrev pub IsWord : List ℕ → Type 0
 IsWord word = AllByRecursion (λ b. (b == 32) ≡ false) word
 
--- `file`, a name without spaces, and a text
-abbrev pub SpellsFile : List ℕ → List ℕ → List ℕ → Type 0
-SpellsFile name text bytes =
-    (rest : List ℕ) × (bytes ≡ codes "file " ++ flat_map encode_utf8 name ++ rest) × IsWord (flat_map encode_utf8 name)
+-- `file ` or `add `, a name without spaces, and a text
+abbrev pub SpellsFile : List ℕ → List ℕ → List ℕ → List ℕ → Type 0
+SpellsFile word name text bytes =
+    (rest : List ℕ) × (bytes ≡ word ++ flat_map encode_utf8 name ++ rest) × IsWord (flat_map encode_utf8 name)
     × IsFile (name, text) × SpellsParts (Rest text ∷ []) rest
 
 -- what a line asks for, `file` lines left out
 abbrev pub SpellsLine : Line → List ℕ → Type 0
 SpellsLine (Key e) bytes = (event : List ℕ) × (bytes ≡ codes "k " ++ event) × SpellsEvent e event
 SpellsLine (Mouse e) bytes = (event : List ℕ) × (bytes ≡ codes "m " ++ event) × SpellsEvent e event
+SpellsLine (Add name text) bytes = SpellsFile (codes "add ") name text bytes
 SpellsLine Act bytes = bytes ≡ codes "act"
 SpellsLine Flush bytes = bytes ≡ codes "flush"
 SpellsLine Host bytes = bytes ≡ codes "host"
@@ -75,7 +76,7 @@ SaysNothing (byte ∷ bytes) = (byte ≡ 35) ⊎ (byte ≡ 61)
 
 abbrev pub SaysSo : Said → List ℕ → Type 0
 SaysSo said.Nothing bytes = SaysNothing bytes
-SaysSo (said.File name text) bytes = SpellsFile name text bytes
+SaysSo (said.File name text) bytes = SpellsFile (codes "file ") name text bytes
 SaysSo (said.Line line) bytes = SpellsLine line bytes
 
 -- a line of UTF-8 says this

@@ -14,7 +14,7 @@ use sam_term::event::UserEvent;
 use std::alloc::{AllocError, Global};
 use std::str;
 
-/// What a line of a script asks for: an event of the user, or a step. `file` lines and lines that say nothing are not among them.
+/// What a line of a script asks for: an event of the user, a file that joins, or another step. `file` lines and lines that say nothing are not among them.
 /// [`replay`](crate::replay) does one after another. A session of threads takes the events of the user alone.
 #[derive(Drop)]
 pub enum Line {
@@ -22,6 +22,8 @@ pub enum Line {
     Key(UserEvent),
     /// `m`: the user does this with the mouse. A replay treats it as `Key`; in a session it has a thread of its own.
     Mouse(UserEvent),
+    /// `add`: a file of this name and text joins the session, both within the limits of a `file` line.
+    Add(Runes, Runes),
     /// `act`: the terminal tries its oldest held event, if it holds one.
     Act,
     /// `flush`: the terminal composes its unsent runes, if there are any.
@@ -74,6 +76,7 @@ impl Line {
         Ok(match self {
             Line::Key(event) => Line::Key(event.copy(alloc)?),
             Line::Mouse(event) => Line::Mouse(event.copy(alloc)?),
+            Line::Add(name, text) => Line::Add(name.copy(alloc)?, text.copy(alloc)?),
             Line::Act => Line::Act,
             Line::Flush => Line::Flush,
             Line::Host => Line::Host,
@@ -120,6 +123,10 @@ fn read_line(alloc: Global, text: &str) -> Result<Said, LineFault>
             let (name, text) = file_at(alloc, rest)?;
             Ok(Said::File(name, text))
         }
+        "add" => {
+            let (name, text) = file_at(alloc, rest)?;
+            Ok(Said::Line(Line::Add(name, text)))
+        }
         "k" => Ok(Said::Line(Line::Key(event_at(alloc, rest)?))),
         "m" => Ok(Said::Line(Line::Mouse(event_at(alloc, rest)?))),
         _ => bare_line(word, rest),
@@ -141,7 +148,7 @@ fn bare_line(word: &str, rest: &str) -> Result<Said, LineFault>
     }
 }
 
-/// Reads the name and the text of a `file` line, which stand after its first word.
+/// Reads the name and the text of a `file` or an `add` line, which stand after its first word.
 #[tactic(auto, unfolding(crate::specs::Reading::file_at))]
 fn file_at(alloc: Global, text: &str) -> Result<(Runes, Runes), LineFault>
     ensures { Gives (λ x. (x.0, x.1)) result (file_at text.now) }

@@ -1,7 +1,7 @@
 //! Writes the script that makes the events of a run happen again.
 
 ghost use Rattle.std.specs.Prelude.{◌≡◌, ◌++◌, IfOk, OnOk, IfErr, string_bytes, flat_map, encode_utf8};
-ghost use Rattle.sam_script.specs.RunLines.{event_line, file_line, run_lines_of};
+ghost use Rattle.sam_script.specs.RunLines.{event_line, file_line, named_line, run_lines_of};
 
 use crate::event::push_user;
 use crate::fault::ScriptFault;
@@ -16,7 +16,7 @@ use std::alloc::{AllocError, Global};
 const EVENT_LINE: usize = 8;
 
 /// Returns the script that makes just these events happen, as bytes: a `file` line for each file of `script`, a line for each event,
-/// and a line `show`. Each event of the user is a `k` line, also where it was the mouse's. If the events are a run from these files, a
+/// and a line `show`. Each event of the user is a `k` line, also where it was the mouse's, and a file that joins is an `add` line. If the events are a run from these files, a
 /// replay of the bytes shows the world to which they lead. The only error is `OutOfMemory`.
 pub fn run_lines(alloc: Global, script: &Script, events: &[Event]) -> Result<Vec<u8>, ScriptFault>
     ensures lines { IfOk result (λ out. out.items ≡ run_lines_of script.now.files events.now) }
@@ -45,16 +45,17 @@ fn push_files(out: &mut String, files: &[(Runes, Runes)]) -> Result<(), AllocErr
     ensures { OnOk result (string_bytes out.new ≡ string_bytes out.old ++ flat_map file_line files.now) }
 {
     for file in files {
-        push_file(out, file.0.as_slice(), file.1.as_slice())?;
+        push_file(out, "file ", file.0.as_slice(), file.1.as_slice())?;
     }
     Ok(())
 }
 
-/// Appends the line of a file. Its name needs no escapes, since a script's names have no spaces and no newlines.
-fn push_file(out: &mut String, name: &[char], text: &[char]) -> Result<(), AllocError>
-    ensures { OnOk result (string_bytes out.new ≡ string_bytes out.old ++ file_line (name.now, text.now)) }
+/// Appends the line of a file after this word and its space. Its name needs no escapes, since a script's names have no spaces and no
+/// newlines.
+fn push_file(out: &mut String, word: &str, name: &[char], text: &[char]) -> Result<(), AllocError>
+    ensures { OnOk result (string_bytes out.new ≡ string_bytes out.old ++ named_line word.now (name.now, text.now)) }
 {
-    push(out, "file ")?;
+    push(out, word)?;
     push_plain(out, name)?;
     push(out, " ")?;
     push_text(out, text)?;
@@ -87,6 +88,7 @@ fn push_event(out: &mut String, event: &Event) -> Result<(), AllocError>
 {
     match event {
         Event::User(event) => push_user_line(out, event),
+        Event::Add(name, text) => push_file(out, "add ", name.as_slice(), text.as_slice()),
         Event::Act => push(out, "act\n"),
         Event::Flush => push(out, "flush\n"),
         Event::HostTake => push(out, "host\n"),

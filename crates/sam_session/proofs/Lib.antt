@@ -1,2 +1,4 @@
 pub mod Common
 pub mod Sessions
+pub mod SessionLaws
+pub mod Scripts

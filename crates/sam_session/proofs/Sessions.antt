@@ -13,19 +13,19 @@ use Rattle.sam_script.specs.Show.{show_lines}
 use Rattle.sam_queue.specs.declared.rule.Entry.{Entry}
 use Rattle.sam_queue.specs.History.{items_of}
 use Rattle.sam_queue.specs.Views.{LineView, PostView}
-use Rattle.sam_workers.specs.Inputs.{users_in, user_of_load}
-use Rattle.sam_spawn.specs.Session.{IsSession}
+use Rattle.sam_ends.specs.Inputs.{users_in, user_of_load}
+use Rattle.sam_session.specs.Session.{IsSession}
 use Rattle.sam_settle.specs.Settled.{stops_of}
-use Rattle.sam_workers.specs.WorkerEnds.{IsOwnExit}
-use Rattle.sam_workers.specs.declared.ends.Ends.{Ends}
-use Rattle.sam_workers.specs.declared.input.Input.{Input}
+use Rattle.sam_ends.specs.WorkerEnds.{IsOwnExit}
+use Rattle.sam_ends.specs.declared.ends.Ends.{Ends}
+use Rattle.sam_ends.specs.declared.input.Input.{Input}
 use Rattle.sam_settle.specs.declared.settled.Settled.{Settled}
-use Rattle.sam_workers.specs.declared.stop.Stop.TheVariants as stop
+use Rattle.sam_ends.specs.declared.stop.Stop.TheVariants as stop
 use Rattle.sam_spawn.specs.declared.run.RunFault.{RunFault}
 use Rattle.sam_session.specs.Threading.{of_run}
 use Rattle.sam_settle.proofs.SettlingLists.{loaded, items_mine, items_other, nothing_joined, split_map, parts_of, senders_within}
 use Rattle.sam_settle.proofs.SettlingClauses.{stop_none}
-use Rattle.sam_modes.proofs.Scripts.{weaker}
+use Rattle.sam_session.proofs.Scripts.{weaker}
 use Rattle.sam_modes.specs.Limits.{most_input}
 
 -- ---- the events of keyboard and mouse are woven

@@ -10,12 +10,12 @@ use Rattle.sam_term.specs.declared.event.UserEvent.TheVariants.{Exit}
 use Rattle.sam_crossing.specs.World.{user_events, PlainWorld, new_world, run_of, SidesAgree}
 use Rattle.sam_crossing.specs.declared.event.Event.{Event}
 use Rattle.sam_local.specs.Local.{at_rest, carried_all}
-use Rattle.sam_spawn.specs.Session.{IsSession}
+use Rattle.sam_session.specs.Session.{IsSession}
 use Rattle.sam_settle.specs.declared.settled.Settled.{Settled}
 use Rattle.sam_spawn.specs.declared.run.RunFault.{RunFault}
 use Rattle.sam_spawn.specs.declared.run.RunFault.TheVariants as run
 use Rattle.sam_modes.specs.Causes.{of_stops}
-use Rattle.sam_modes.specs.Replaying.{IsShort}
+use Rattle.sam_session.specs.Replaying.{IsShort}
 use Rattle.sam_modes.specs.declared.fault.PlayFault.{PlayFault}
 use Rattle.sam_modes.specs.declared.fault.PlayFault.TheVariants.{Script, Read, Write, Side, Threads, OutOfMemory}
 

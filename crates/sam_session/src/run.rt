@@ -7,11 +7,12 @@ ghost use Rattle.sam_modes.specs.Outcome.{OnSide, IsOfBytes, Plays, Written};
 ghost use Rattle.sam_modes.specs.Start.{host_of};
 ghost use Rattle.sam_modes.specs.Status.{IsTold};
 ghost use Rattle.sam_modes.specs.Words.{OnBytes, OnReplay, OnThreads};
-ghost use Rattle.sam_modes.specs.Replaying.{IsReplay, IsReplayFault};
+ghost use Rattle.sam_session.specs.Replaying.{IsReplay, IsReplayFault};
 ghost use Rattle.sam_session.specs.Threading.{IsThreaded, IsThreadsFault};
 
+use crate::replaying::play_replay;
 use crate::threading::play_threads;
-use sam_modes::{Mode, PlayFault, play_bytes, play_replay};
+use sam_modes::{Mode, PlayFault, play_bytes};
 use std::alloc::Global;
 use std::io::{Read, Write};
 use std::sync::Wait;

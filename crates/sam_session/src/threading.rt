@@ -8,11 +8,13 @@ ghost use Rattle.sam_modes.specs.Outcome.{Written};
 ghost use Rattle.sam_modes.specs.Status.{IsTold};
 ghost use Rattle.sam_session.specs.Threading.{of_run, IsThreaded, IsThreadsFault, IsSessionFault, PrintsSession};
 
-use sam_modes::{PlayFault, fault_of, script_in, write_or_tell};
+use crate::script::script_in;
+use crate::session::run_threads_once;
+use sam_ends::OpenGate;
+use sam_modes::{PlayFault, fault_of, write_or_tell};
 use sam_script::{Script, run_lines, show};
 use sam_settle::Settled;
-use sam_spawn::{RunFault, run_threads_once};
-use sam_workers::OpenGate;
+use sam_spawn::RunFault;
 use std::alloc::Global;
 use std::io::{Read, Write};
 use std::sync::Wait;
@@ -20,7 +22,7 @@ use std::thread::Threads;
 
 /// Runs the session of the script that the reader gives on five threads, and writes what it came to, or in place of all that the line of
 /// the fault. The faults and their order stand at [`play`](crate::play).
-#[tactic(auto, using(sam_modes::proofs::Scripts::written, sam_modes::proofs::Scripts::faulted))]
+#[tactic(auto, using(crate::proofs::Scripts::written, crate::proofs::Scripts::faulted))]
 pub(crate) fn play_threads<T: Threads + Wait + Sync, R: Read, W: Write>(
     rt: &T,
     alloc: Global,

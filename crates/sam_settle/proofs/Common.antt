@@ -24,11 +24,11 @@ pub use Rattle.sam_settle.specs.declared.settled.Settled.{Settled}
 pub use Rattle.sam_term.specs.Term.{new_terminal}
 pub use Rattle.sam_term.specs.declared.event.UserEvent.{UserEvent}
 pub use Rattle.sam_apart.proofs.ApartTurns.{each_h}
-pub use Rattle.sam_workers.specs.Inputs.{bytes_of, frame_of_load, frames_in}
-pub use Rattle.sam_workers.specs.WorkerEnds.{AreEnds, HostStopped, IsForeign, IsFullUp, ReaderStopped, RefusesFrame, TermStopped, Told}
-pub use Rattle.sam_workers.specs.declared.ends.Ends.{Ends}
-pub use Rattle.sam_workers.specs.declared.input.Input.{Input}
-pub use Rattle.sam_workers.specs.declared.input.Input.TheVariants.{Host, User}
+pub use Rattle.sam_ends.specs.Inputs.{bytes_of, frame_of_load, frames_in}
+pub use Rattle.sam_ends.specs.WorkerEnds.{AreEnds, HostStopped, IsForeign, IsFullUp, ReaderStopped, RefusesFrame, TermStopped, Told}
+pub use Rattle.sam_ends.specs.declared.ends.Ends.{Ends}
+pub use Rattle.sam_ends.specs.declared.input.Input.{Input}
+pub use Rattle.sam_ends.specs.declared.input.Input.TheVariants.{Host, User}
 pub use Rattle.sam_crossing.proofs.OrderLaws.{quiet_means_agreement, reached_in_order}
 pub use Rattle.sam_world.proofs.ComesToSync.{each_append, each_front}
 pub use Rattle.sam_crossing.specs.World.{PlainWorld, new_world, run_of, step_of}

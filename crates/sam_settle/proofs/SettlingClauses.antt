@@ -4,13 +4,14 @@ use Rattle.std.proofs.lemmas.Grind.{flat_map-append}
 use Rattle.std.proofs.lemmas.List.Elements.{All-nil}
 use Rattle.sam_host.specs.declared.fault.HostFault.TheVariants as refusal
 use Rattle.sam_world.specs.Given.{IsFile}
-use Rattle.sam_crossing.specs.World.{is_quiet, user_events}
+use Rattle.sam_crossing.specs.World.{is_quiet, user_events, joined_files}
+use Rattle.sam_world.proofs.Runs.{files_then}
 use Rattle.sam_local.specs.Worlds.{IsAsIfLocal}
 use Rattle.sam_local.proofs.Runs.{runs_are_as_if_local, rests}
 use Rattle.sam_queue.proofs.Sorts.{items_of-append}
 use Rattle.sam_term.specs.Faults.{term_fault_number}
-use Rattle.sam_workers.specs.declared.stop.Stop.{Stop}
-use Rattle.sam_workers.specs.declared.stop.Stop.TheVariants as stop
+use Rattle.sam_ends.specs.declared.stop.Stop.{Stop}
+use Rattle.sam_ends.specs.declared.stop.Stop.TheVariants as stop
 use Rattle.sam_apart.proofs.RealLaws.{each_of_all, works}
 use Rattle.sam_settle.proofs.SettlingLists.{Parts, parts_of, senders_within, nothing_joined, split_map, frames_taken, all_before_mark, none_left, items_mine}
 use Rattle.sam_apart.proofs.ApartLaws.{joins, understood}
@@ -21,6 +22,11 @@ use Rattle.std.proofs.lemmas.List.Sums.{sum_by-cons}
 given_of_files : (files : List (List ℕ × List ℕ)) → Each IsFile files → AreGiven files
 given_of_files [] a = tt
 given_of_files (f ∷ fs) a = (a.0.1, a.0.2, given_of_files fs a.1)
+
+-- where two lists one after the other are empty, the first is
+first_none : {X : Type 0} (xs ys : List X) → xs ++ ys ≡ [] → xs ≡ []
+first_none [] ys e = refl
+first_none (x ∷ xs) ys e = absurd (grind (arith, e))
 
 pub stop_none : (o : Option Stop) → as_list o ≡ [] → o ≡ None
 stop_none o e = grind arith
@@ -266,6 +272,13 @@ module _ (e : Ends) (ends : AreEnds e) (given : LinesGive e) where
     pub states : (s.world.host ≡ e.host.host) × (s.world.term ≡ e.term.term)
     states = grind (arith, joined, world_is)
 
+    -- no file joins in the schedule
+    none_joins : joined_files s.schedule.items ≡ []
+    none_joins = grind (arith, joined)
+
+    none_in : (done more : List Event) → s.schedule.items ≡ done ++ more → joined_files done ≡ []
+    none_in done more parts = first_none (joined_files done) (joined_files more) (sym (files_then done more) ∙ ap joined_files (sym parts) ∙ none_joins)
+
     pub headline : Headline e s
     headline = record {
       up = given.up;
@@ -275,7 +288,7 @@ module _ (e : Ends) (ends : AreEnds e) (given : LinesGive e) where
       host = states.0;
       term = states.1;
       quiet = λ done more w parts reached. quiet_means_agreement w (reached_in_order e.host.files.items w apart.given_fit (done, reached));
-      local = λ done more w parts reached. runs_are_as_if_local e.host.files.items done w apart.given_fit reached;
+      local = λ done more w parts reached. runs_are_as_if_local e.host.files.items done w apart.given_fit reached (none_in done more parts);
     }
 
     pub has_streams : HasStreams e s
@@ -305,7 +318,7 @@ module _ (e : Ends) (ends : AreEnds e) (given : LinesGive e) where
     is_whole none =
         let end = at_its_end none in
         let files = e.host.files.items in
-        let local : IsAsIfLocal files (user_events s.schedule.items) s.world = runs_are_as_if_local files s.schedule.items s.world apart.given_fit headline.run in
+        let local : IsAsIfLocal files (user_events s.schedule.items) s.world = runs_are_as_if_local files s.schedule.items s.world apart.given_fit headline.run none_joins in
         record {
           events = grind (arith, joined, handled_all);
           exited = end.exited;

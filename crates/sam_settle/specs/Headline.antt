@@ -9,7 +9,7 @@ use Rattle.sam_queue.specs.Audits.{AllAccounted, HasHistory}
 use Rattle.sam_crossing.specs.declared.event.Event.{Event}
 use Rattle.sam_crossing.specs.World.{PlainWorld, new_world, run_of, user_events, SidesAgreeWhereQuiet}
 use Rattle.sam_local.specs.Worlds.{IsAsIfLocal}
-use Rattle.sam_workers.specs.declared.ends.Ends.{Ends}
+use Rattle.sam_ends.specs.declared.ends.Ends.{Ends}
 use Rattle.sam_settle.specs.declared.settled.Settled.{Settled}
 
 -- one history of all that was put into the line: what was taken and then the rest, of each sender what that one put, in order, and then its

@@ -15,13 +15,13 @@ use Rattle.sam_local.specs.Local.{at_rest, carried_all}
 use Rattle.sam_world.specs.Sides.{Each, HostRuns, TermRuns}
 use Rattle.sam_world.specs.Prefixes.{Begins}
 use Rattle.sam_sides.specs.RealSides.{at_work, sides}
-use Rattle.sam_workers.specs.Inputs.{bytes_of, users_in}
-use Rattle.sam_workers.specs.WorkerEnds.{IsOwnExit}
-use Rattle.sam_workers.specs.declared.input.Input.{Input}
-use Rattle.sam_workers.specs.declared.stop.Stop.{Stop}
-use Rattle.sam_workers.specs.declared.ends.Ends.{Ends}
-use Rattle.sam_workers.specs.declared.input.Input.TheVariants.{Host}
-use Rattle.sam_workers.specs.declared.stop.Stop.TheVariants as stop
+use Rattle.sam_ends.specs.Inputs.{bytes_of, users_in}
+use Rattle.sam_ends.specs.WorkerEnds.{IsOwnExit}
+use Rattle.sam_ends.specs.declared.input.Input.{Input}
+use Rattle.sam_ends.specs.declared.stop.Stop.{Stop}
+use Rattle.sam_ends.specs.declared.ends.Ends.{Ends}
+use Rattle.sam_ends.specs.declared.input.Input.TheVariants.{Host}
+use Rattle.sam_ends.specs.declared.stop.Stop.TheVariants as stop
 use Rattle.sam_settle.specs.declared.settled.Settled.{Settled}
 
 -- ## What is left

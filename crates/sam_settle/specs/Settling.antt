@@ -10,8 +10,8 @@ use Rattle.sam_world.specs.Merging.{merged, is_bad_log, IsRoomForMerge}
 use Rattle.sam_world.specs.Reached.{IsSoundWorld}
 use Rattle.sam_settle.specs.Headline.{Gives}
 use Rattle.sam_settle.specs.Settled.{counts_left, stops_of}
-use Rattle.sam_workers.specs.declared.ends.Ends.{Ends}
-use Rattle.sam_workers.specs.declared.stop.Stop.{Stop}
+use Rattle.sam_ends.specs.declared.ends.Ends.{Ends}
+use Rattle.sam_ends.specs.declared.stop.Stop.{Stop}
 use Rattle.sam_settle.specs.declared.settled.Settled.{Settled}
 use Rattle.sam_settle.specs.declared.settling.LineRoom.{LineRoom}
 use Rattle.sam_settle.specs.declared.settling.Prepared.{Prepared}

@@ -2,14 +2,14 @@
 
 ghost use Rattle.std.specs.Prelude.{◌≡◌};
 
+use sam_ends::{Ends, Stop};
 use sam_host::host::Host;
 use sam_term::term::Terminal;
-use sam_workers::{Ends, Stop};
 use sam_world::event::Event;
 use sam_world::world::World;
 
 /// What a session of five threads came to: its two sides as one world, and the one run that leads to it. `settle` makes it of the five
-/// ends, and `run_threads` of sam_spawn hands it out. The schedule can be run again:
+/// ends, and `run_threads` of sam_session hands it out. The schedule can be run again:
 ///
 /// ```rust
 /// let mut world = first_world(alloc, script.files())?;

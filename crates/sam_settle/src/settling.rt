@@ -4,17 +4,17 @@ ghost use Rattle.sam_runes.specs.Texts.{most_files};
 ghost use Rattle.sam_world.specs.Given.{IsFile};
 ghost use Rattle.sam_crossing.specs.World.{new_world, run_of};
 ghost use Rattle.sam_world.specs.Merging.{merged};
-ghost use Rattle.sam_workers.specs.WorkerEnds.{AreEnds};
+ghost use Rattle.sam_ends.specs.WorkerEnds.{AreEnds};
 ghost use Rattle.sam_settle.specs.Headline.{Gives, Headline};
 ghost use Rattle.sam_settle.specs.Settled.{left_in, counts_left, as_list, stops_of, AreFull, HasStreams, HasUsers, IsDrained, IsWhole, MissesHost};
 ghost use Rattle.sam_settle.specs.Settling.{IsRoomFor, IsScheduled, IsPrepared, IsReady, ComesTo, schedule_from, world_from};
 
 use crate::settled::{SettleFault, Settled};
+use sam_ends::{Ends, Input, Stop};
 use sam_host::host::Host;
 use sam_queue::{AuditRoom, Post, Take, audit_within};
 use sam_runes::Runes;
 use sam_term::term::Terminal;
-use sam_workers::{Ends, Input, Stop};
 use sam_world::event::{Event, StepFault, TermLog};
 use sam_world::world::World;
 use sam_world::{MergeFault, MergeRoom, first_world, merge, merge_within};
@@ -61,7 +61,7 @@ struct Prepared<'q> {
 ///
 /// The messages that the host handled are the first of those that the terminal composed, and the frames that the terminal handled are the
 /// first of those that the host answered. Of the keyboard and of the mouse the terminal handled the first events that each put. The ends
-/// are those of one set of lines, as `run_ends` of sam_spawn returns them.
+/// are those of one set of lines, as `run_ends` of sam_session returns them.
 ///
 /// It costs by the length of the schedule where no worker stopped; else the whole run is made once more.
 ///

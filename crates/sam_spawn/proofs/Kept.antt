@@ -1,16 +1,16 @@
 -- What the five joins hand on, of one gate, one script and one set of lines.
 use Rattle.std.proofs.Common.{◌≡◌, refl, subst, ℕ, List, Option, Some, None, Result, arith, IfSome, IsSomeAnd, IfOk}
 use Rattle.sam_term.specs.declared.event.UserEvent.{UserEvent}
-use Rattle.sam_workers.specs.Lines.{LinesView}
-use Rattle.sam_workers.specs.Gates.{GatesLetIn}
-use Rattle.sam_workers.specs.WorkerEnds.{AllPassed, RefusesSome}
-use Rattle.sam_workers.specs.declared.ends.Ends.{Ends}
+use Rattle.sam_ends.specs.Lines.{LinesView}
+use Rattle.sam_ends.specs.Gates.{GatesLetIn}
+use Rattle.sam_ends.specs.WorkerEnds.{AllPassed, RefusesSome}
+use Rattle.sam_ends.specs.declared.ends.Ends.{Ends}
 use Rattle.sam_spawn.specs.Promised.{AllKept, AreOfKinds, KeepPromises, Keeps, Promises, SomeRefused, TasksKept, TasksPromised}
-use Rattle.sam_spawn.specs.Tasks.{AreReady}
+use Rattle.sam_ends.specs.Tasks.{AreReady}
 use Rattle.sam_spawn.specs.declared.run.RunFault.{RunFault}
 use Rattle.sam_spawn.specs.declared.spawning.Handles.{Handles}
 use Rattle.sam_spawn.specs.declared.spawning.TaskPromise.{TaskPromise}
-use Rattle.sam_spawn.specs.declared.tasks.Tasks.{Tasks}
+use Rattle.sam_ends.specs.declared.tasks.Tasks.{Tasks}
 use Rattle.sam_spawn.specs.declared.work.Task.{Task}
 use Rattle.sam_spawn.specs.declared.work.Task.TheVariants as task
 use Rattle.sam_spawn.specs.declared.work.End.{End}

@@ -1,2 +1,1 @@
-pub mod SessionLaws
 pub mod Kept

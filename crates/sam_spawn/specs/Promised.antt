@@ -3,22 +3,22 @@
 use Rattle.std.specs.Prelude.{◌≡◌, ℕ, ◌<◌, List, length, Bool, true, false, Option, Some, None, ◌⊎◌}
 use Rattle.sam_term.specs.declared.event.UserEvent.{UserEvent}
 use Rattle.sam_queue.specs.Views.{LineView}
-use Rattle.sam_workers.specs.Lines.{LinesView}
-use Rattle.sam_workers.specs.Gates.{LetOn, TermLetOn}
-use Rattle.sam_workers.specs.WorkerEnds.{UserTold, HostTold, ReaderTold, TermTold}
-use Rattle.sam_workers.specs.declared.stop.Stop.{Stop}
-use Rattle.sam_workers.specs.declared.ends.UserEnd.{UserEnd}
-use Rattle.sam_workers.specs.declared.ends.HostEnd.{HostEnd}
-use Rattle.sam_workers.specs.declared.ends.ReaderEnd.{ReaderEnd}
-use Rattle.sam_workers.specs.declared.ends.TermEnd.{TermEnd}
-use Rattle.sam_workers.specs.declared.ends.Ends.{Ends}
-use Rattle.sam_workers.specs.declared.stop.Stop.TheVariants as stop
-use Rattle.sam_spawn.specs.declared.tasks.UserTask.{UserTask}
-use Rattle.sam_workers.specs.declared.host_side.HostTask.{HostTask}
-use Rattle.sam_spawn.specs.declared.tasks.ReaderTask.{ReaderTask}
-use Rattle.sam_spawn.specs.declared.tasks.TermTask.{TermTask}
-use Rattle.sam_spawn.specs.declared.tasks.Tasks.{Tasks}
-use Rattle.sam_spawn.specs.Tasks.{IsUserTask, IsHostTask, IsReaderTask, IsTermTask}
+use Rattle.sam_ends.specs.Lines.{LinesView}
+use Rattle.sam_ends.specs.Gates.{LetOn, TermLetOn}
+use Rattle.sam_ends.specs.WorkerEnds.{UserTold, HostTold, ReaderTold, TermTold}
+use Rattle.sam_ends.specs.declared.stop.Stop.{Stop}
+use Rattle.sam_ends.specs.declared.ends.UserEnd.{UserEnd}
+use Rattle.sam_ends.specs.declared.ends.HostEnd.{HostEnd}
+use Rattle.sam_ends.specs.declared.ends.ReaderEnd.{ReaderEnd}
+use Rattle.sam_ends.specs.declared.ends.TermEnd.{TermEnd}
+use Rattle.sam_ends.specs.declared.ends.Ends.{Ends}
+use Rattle.sam_ends.specs.declared.stop.Stop.TheVariants as stop
+use Rattle.sam_ends.specs.declared.tasks.UserTask.{UserTask}
+use Rattle.sam_ends.specs.declared.tasks.HostTask.{HostTask}
+use Rattle.sam_ends.specs.declared.tasks.ReaderTask.{ReaderTask}
+use Rattle.sam_ends.specs.declared.tasks.TermTask.{TermTask}
+use Rattle.sam_ends.specs.declared.tasks.Tasks.{Tasks}
+use Rattle.sam_ends.specs.Tasks.{IsUserTask, IsHostTask, IsReaderTask, IsTermTask}
 use Rattle.sam_spawn.specs.declared.run.RunFault.{RunFault}
 use Rattle.sam_spawn.specs.declared.run.RunFault.TheVariants as fault
 use Rattle.sam_spawn.specs.declared.work.Task.{Task}

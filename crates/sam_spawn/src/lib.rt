@@ -1,12 +1,8 @@
-//! A session of five threads: the workers are started and joined, and their ends are settled.
+//! Five threads: the workers are started, and joined.
 #![tactic(auto)]
 
 mod run;
-mod session;
 mod spawning;
-mod tasks;
-mod users;
 mod work;
 
-pub use run::{Plan, RunFault, run_ends};
-pub use session::{run_threads, run_threads_once};
+pub use run::{RunFault, run_tasks};

@@ -1,17 +1,14 @@
 //! Running the five workers: none begins before all are started.
 ghost use Rattle.std.specs.Prelude.{◌≡◌, ◌<◌, true, false, IfOk, IfErr, IfSome, IsSomeAnd, IsTrue, IsFalse, Some, Err};
-ghost use Rattle.sam_script.specs.Script.{keys_of, mouse_of};
 ghost use Rattle.sam_spawn.specs.Promised.{AreOfKinds, KeepPromises, TasksKept, SomeRefused, fault_of};
-ghost use Rattle.sam_spawn.specs.Tasks.{AreReady};
-ghost use Rattle.sam_workers.specs.Gates.{GatesLetIn, GatesLetOn};
-ghost use Rattle.sam_workers.specs.WorkerEnds.{Told, AllPassed, GatesTold, RefusesSome};
+ghost use Rattle.sam_ends.specs.Tasks.{AreReady};
+ghost use Rattle.sam_ends.specs.Gates.{GatesLetIn, GatesLetOn};
+ghost use Rattle.sam_ends.specs.WorkerEnds.{Told, AllPassed, GatesTold, RefusesSome};
 ghost use Rattle.sam_spawn.specs.declared.run.RunFault.TheVariants.{GateTimedOut};
 
 use crate::spawning::{Handles, join_all, spawn_all};
-use crate::tasks::{Tasks, ready_tasks};
 use crate::work::Shared;
-use sam_script::Script;
-use sam_workers::{Ends, Gate, Lines, Starts};
+use sam_ends::{Ends, Gate, Tasks};
 use std::alloc::Global;
 use std::sync::{OnceLock, Wait};
 use std::thread;
@@ -32,57 +29,12 @@ pub enum RunFault {
     OutOfMemory = 3,
 }
 
-/// What the workers of a session are to play, in pieces of which size, and at which gate.
-pub struct Plan<'s, G> {
-    /// What the user does at the keyboard and with the mouse, and the files with which the host begins.
-    pub script: &'s Script,
-    /// The most bytes of a piece on the lines: at least 1.
-    pub piece: usize,
-    /// Each worker asks it as it begins and before each step.
-    pub gate: &'s G,
-}
-
-impl<'s, G> Drop for Plan<'s, G> {
-    fn drop(self) {
-        let Plan {
-            script: _,
-            piece: _,
-            gate: _,
-        } = self;
-    }
-}
-
-/// Runs the five workers of a session over its lines, and returns their ends. `starts` came with `lines`, and is spent.
+/// Runs the five workers that begin with these tasks in pieces of at most `piece` bytes, and returns their ends.
 ///
-/// No worker begins before all five are started, and all memory that they begin with is had before. The call waits for its threads, which
-/// may never end.
+/// No worker begins before all five are started. The call waits for its threads, which may never end.
 ///
-/// Errors, in this order: `OutOfMemory` if there is no memory for what the workers begin with; `NoThread` if a thread could not be
-/// started; `GateTimedOut` if the gate did not let a worker begin. A worker that stops on its way is no error: its end says why.
-pub fn run_ends<'q, R: Threads + Wait + Sync, G: Gate>(
-    rt: &R,
-    alloc: Global,
-    lines: &'q Lines,
-    starts: Starts,
-    plan: &Plan<'_, G>,
-) -> Result<Ends<'q>, RunFault>
-    requires together { starts ≡ lines.now }
-    requires piece { 0 < plan.now.piece }
-    ensures ends { IfOk result (Told (keys_of plan.now.script.now.lines) (mouse_of plan.now.script.now.lines) lines.now) }
-    ensures files { IfOk result (λ e. e.host.files.items ≡ plan.now.script.now.files) }
-    ensures begun { IfOk result AllPassed }
-    ensures gates { IfOk result (GatesTold (G.may_refuse plan.now.gate.now)) }
-    ensures let_in { IfOk result (λ _. GatesLetIn (G.must_refuse plan.now.gate.now)) }
-    ensures let_on { IfOk result (GatesLetOn (G.must_refuse plan.now.gate.now)) }
-    ensures timed { result ≡ Err RunFault.GateTimedOut → RefusesSome (G.may_refuse plan.now.gate.now) }
-{
-    let Ok(tasks) = ready_tasks(alloc, lines, starts, plan.script) else {
-        return Err(RunFault::OutOfMemory);
-    };
-    run_tasks(rt, alloc, tasks, plan.piece, plan.gate)
-}
-
-/// Runs the five workers that begin with these tasks, and returns their ends. The errors are those of [`run_ends`], but for the first.
+/// Errors, in this order: `NoThread` if a thread could not be started; `GateTimedOut` if the gate did not let a worker begin. A worker that
+/// stops on its way is no error: its end says why.
 #[tactic(auto, using(crate::proofs::Kept::kept_let_in))]
 pub fn run_tasks<'q, R: Threads + Wait + Sync, G: Gate>(
     rt: &R,

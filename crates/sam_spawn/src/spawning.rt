@@ -2,11 +2,10 @@
 ghost use Rattle.std.specs.Prelude.{◌≡◌, ◌<◌, IfSome, Some};
 ghost use Rattle.sam_spawn.specs.Promised.{AreOfKinds, IsNew, IsOfHost, IsOfReader, IsOfTerm, IsOfUser, KeepPromises, Keeps};
 ghost use Rattle.sam_spawn.specs.Promised.{KeepsHost, KeepsReader, KeepsTerm, KeepsUser, Promises, TasksPromised};
-ghost use Rattle.sam_spawn.specs.Tasks.{AreReady};
+ghost use Rattle.sam_ends.specs.Tasks.{AreReady};
 
-use crate::tasks::Tasks;
 use crate::work::{End, Shared, Task, begin};
-use sam_workers::{Ends, Gate, HostEnd, ReaderEnd, TermEnd, UserEnd};
+use sam_ends::{Ends, Gate, HostEnd, ReaderEnd, Tasks, TermEnd, UserEnd};
 use std::snapshot::Snapshot;
 use std::sync::Wait;
 use std::thread::{Promise, PromisedHandle, Scope, Threads};

@@ -2,11 +2,11 @@
 ghost use Rattle.std.specs.Prelude.{◌≡◌, ◌<◌, IfSome};
 ghost use Rattle.sam_spawn.specs.Promised.{IsNew, Keeps};
 
-use crate::tasks::{ReaderTask, TermTask, UserTask};
-use sam_workers::{
-    Gate, HostEnd, HostTask, ReaderEnd, TermEnd, UserEnd, pass_frames, run_terminal, send_events,
-    serve_host,
+use sam_ends::{
+    Gate, HostEnd, HostTask, ReaderEnd, ReaderTask, TermEnd, TermTask, UserEnd, UserTask,
 };
+use sam_term_worker::run_terminal;
+use sam_workers::{pass_frames, send_events, serve_host};
 use std::alloc::Global;
 use std::sync::{OnceLock, Wait};
 

@@ -1,11 +1,10 @@
 //! Gates of a session of five threads: whom they let begin and go on, and what a session comes to that one of them stops.
 ghost use Rattle.std.specs.Prelude.{◌≡◌};
 
+use sam_ends::{FlagGate, Gate, OpenGate, Stop};
 use sam_script::{Script, ScriptFault, show};
-use sam_settle::Settled;
-use sam_spawn::{RunFault, run_threads, run_threads_once};
+use sam_session::{RunFault, Settled, run_threads, run_threads_once};
 use sam_test_support::{lent, told_of};
-use sam_workers::{FlagGate, Gate, OpenGate, Stop};
 use sam_world::{Event, World, first_world};
 use std::alloc::{AllocError, Global};
 use std::sync::Wait;

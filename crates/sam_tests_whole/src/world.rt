@@ -20,6 +20,7 @@ fn world_of(alloc: Global, text: &str) -> Result<World, Fail> {
 fn letter(event: &Event) -> char {
     match event {
         Event::User(_) => 'u',
+        Event::Add(_, _) => 'j',
         Event::Act => 'a',
         Event::Flush => 'f',
         Event::HostTake => 'h',

@@ -1,5 +1,5 @@
 -- What the proofs of this crate cite most from its definitions and from the crates below.
-pub use Rattle.std.proofs.Common.{All, Bool, Err, IsTrue, List, MatchBool, None, Ok, Option, Result, Some, [], ap, append-nil, append_assoc, arith, drop, false, inl, inr, is_some, length, length-append, map, option_map, refl, rules, subst, sym, take, true, ℕ, ◌++◌, ◌+◌, ◌∙◌, ◌∷◌, ◌≡◌, ◌≤◌, ◌⊎◌}
+pub use Rattle.std.proofs.Common.{All, Bool, Err, IsTrue, List, None, Ok, Option, Result, Some, [], ap, append-nil, append_assoc, arith, drop, false, inl, inr, length, length-append, map, option_map, refl, rules, subst, sym, ℕ, ◌++◌, ◌+◌, ◌∙◌, ◌∷◌, ◌≡◌, ◌≤◌, ◌⊎◌}
 pub use Rattle.std.proofs.lemmas.List.{map-append}
 pub use Rattle.std.proofs.lemmas.List.Concat.{flat_map-append}
 pub use Rattle.std.proofs.lemmas.List.Elements.{All-cons, All-nil, All-tail}
@@ -11,36 +11,32 @@ pub use Rattle.sam_frame.proofs.Pieces.{gave_of}
 pub use Rattle.sam_frame.specs.Direction.{Direction, frame_of, host, terminal}
 pub use Rattle.sam_frame.specs.Faults.{fault_of}
 pub use Rattle.sam_frame.specs.Framing.{Feeds, GaveUpTo, Held, fresh}
-pub use Rattle.sam_frame.specs.Stream.{CanEncode, FitInTurn, Splits, stream_of, version_after}
+pub use Rattle.sam_frame.specs.Stream.{CanEncode, FitInTurn, Splits, stream_of}
 pub use Rattle.sam_frame.specs.declared.fault.FeedRefusal.{FeedRefusal}
 pub use Rattle.sam_host.specs.Host.{PlainHost, answer, new_host}
 pub use Rattle.sam_mesg.specs.Faults.{mesg_fault_number}
 pub use Rattle.sam_mesg.specs.HostKinds.{FitsH, IsHFrame, after_h, fits_h}
-pub use Rattle.sam_mesg.specs.TerminalKinds.{FitsT, after_t, fits_t}
+pub use Rattle.sam_mesg.specs.TerminalKinds.{FitsT, after_t}
 pub use Rattle.sam_mesg.specs.declared.fault.MesgFault.{MesgFault}
 pub use Rattle.sam_mesg.specs.declared.hmesg.HFrame.{HFrame}
 pub use Rattle.sam_mesg.specs.declared.tmesg.Tmesg.{Tmesg}
-pub use Rattle.sam_mesg.specs.declared.tmesg.Tmesg.TheVariants.{Tack, Tsetsnarf}
+pub use Rattle.sam_mesg.specs.declared.tmesg.Tmesg.TheVariants.{Tack}
 pub use Rattle.sam_queue.proofs.Sorts.{items_of-append}
-pub use Rattle.sam_queue.specs.History.{IsEnded, StartsWith, has_left, has_mark, items_of, loads}
-pub use Rattle.sam_queue.specs.Views.{Answers, CanBeFull, LineView, PostView, TakeView, TakesNext, closed_post, new_post, new_take, with_item}
+pub use Rattle.sam_queue.specs.History.{IsEnded, StartsWith, items_of}
+pub use Rattle.sam_queue.specs.Views.{LineView, PostView, TakeView, TakesNext, closed_post, new_post, new_take, with_item}
 pub use Rattle.sam_queue.specs.declared.rule.Entry.{Entry}
-pub use Rattle.sam_term.specs.Term.{Made, PlainTerminal, flush_of, frame_outcome, made_unless, new_terminal, sends, sends_if, unchanged}
-unfoldable pub use Rattle.sam_term.specs.Term.{act_of, flushed, requested, take_of}
-pub use Rattle.sam_term.specs.declared.event.UserEvent.{UserEvent}
-pub use Rattle.sam_term.specs.declared.event.UserEvent.TheVariants.{Exit}
+pub use Rattle.sam_term.specs.Term.{Made, PlainTerminal, frame_outcome, made_unless, sends, sends_if, unchanged}
+unfoldable pub use Rattle.sam_term.specs.Term.{flushed, requested, take_of}
 pub use Rattle.sam_term.specs.declared.fault.TermFault.{TermFault}
-pub use Rattle.sam_workers.specs.Cutting.{IsPiece, PutSome}
+pub use Rattle.sam_ends.specs.Cutting.{PutSome}
 pub use Rattle.sam_workers.specs.Feeding.{FeedsTerminal, Gives, TakesAll, TakesOne, TakesUpTo}
 pub use Rattle.sam_workers.specs.Handling.{Ends, StopsAtRest, Handled, HandledFront, HandledSome, Leaves, Serves, TakesPiece}
-pub use Rattle.sam_workers.specs.Inputs.{bytes_of, frame_of_load, frames_in, user_of_load, users_in}
-pub use Rattle.sam_workers.specs.Numbers.{of_fault, of_refusal, of_unfed}
+pub use Rattle.sam_ends.specs.Inputs.{bytes_of}
+pub use Rattle.sam_ends.specs.Numbers.{of_fault, of_refusal, of_unfed}
 pub use Rattle.sam_workers.specs.Passing.{Passes, PassesPiece, Sends, sent_on}
-pub use Rattle.sam_sides.specs.RealSides.{at_work, sides}
-pub use Rattle.sam_workers.specs.TermMoments.{Did, Goes, IsDone, IsFound, IsOfUser, IsQuiet, LoggedView, MayExit, Ran, SideView, SoFar, WasNotHandled}
-pub use Rattle.sam_workers.specs.WorkerEnds.{HostStopped, HostTold, ReaderTold, TermTold}
-pub use Rattle.sam_workers.specs.declared.input.Input.{Input}
-pub use Rattle.sam_workers.specs.declared.stop.Stop.{Stop}
-pub use Rattle.sam_sides.proofs.Growing.{each_append, host_more, term_more}
-pub use Rattle.sam_sides.specs.Sides.{Each, TermRuns}
-pub use Rattle.sam_sides.specs.declared.log.TermLog.{TermLog}
+pub use Rattle.sam_sides.specs.RealSides.{sides}
+pub use Rattle.sam_ends.specs.WorkerEnds.{HostStopped, HostTold, ReaderTold}
+pub use Rattle.sam_ends.specs.declared.input.Input.{Input}
+pub use Rattle.sam_ends.specs.declared.stop.Stop.{Stop}
+pub use Rattle.sam_sides.proofs.Growing.{each_append, host_more}
+pub use Rattle.sam_sides.specs.Sides.{Each}

@@ -2,7 +2,7 @@
 use Rattle.sam_workers.proofs.Common.{◌≡◌, ℕ, ◌≤◌, option_map, List, [], ◌∷◌, ◌++◌, length, Option, None, Some, Ok, Err, append-nil, append_assoc, length-append, arith, All, IsTrue, All-nil, Tmesg, Tack, MesgFault, fits_h, HFrame, host, FitInTurn, Feeds, FeedRefusal, GaveUpTo, Held, fault_of, PlainTerminal, Made, flushed, sends, sends_if, unchanged, requested, frame_outcome, made_unless, take_of, TermFault, TakesAll, Gives, FeedsTerminal, TakesOne, TakesUpTo, mesg_fault_number, of_fault, of_unfed, Stop}
 use Rattle.sam_mesg.specs.declared.fault.MesgFault.TheVariants as wrong
 use Rattle.sam_mesg.specs.declared.hmesg.Hmesg.{Hmesg}
-use Rattle.sam_workers.specs.declared.stop.Stop.TheVariants as stop
+use Rattle.sam_ends.specs.declared.stop.Stop.TheVariants as stop
 
 -- ---- what fits at its place fits in version 2
 

@@ -4,7 +4,7 @@ use Rattle.std.specs.Result.{IsErrAnd}
 use Rattle.sam_host.specs.Laws.{FitInPlace}
 use Rattle.sam_host.specs.declared.fault.HostFault.{HostFault}
 use Rattle.sam_host.specs.declared.fault.HostFault.TheVariants as refusal
-use Rattle.sam_workers.specs.declared.stop.Stop.TheVariants as stop
+use Rattle.sam_ends.specs.declared.stop.Stop.TheVariants as stop
 use Rattle.sam_workers.proofs.ApartTurns.{each_t, front_fits}
 
 -- ## Messages that fit

@@ -2,8 +2,8 @@
 use Rattle.sam_workers.proofs.Common.{flat_map-append, ◌≡◌, ℕ, ◌+◌, ◌≤◌, List, [], ◌++◌, length, All, Option, Some, None, Ok, append_assoc, append-nil, length-append, arith, Vec, Tmesg, HFrame, terminal, host, frame_of, stream_of, Held, fresh, version_after-append, Came, comes_more, splits_more, PlainHost, new_host, Entry, items_of, IsEnded, LineView, PostView, TakeView, TakesNext, new_post, closed_post, items_of-append, bytes_of, HostStopped, HostTold, Handled, HandledFront, TakesPiece, Serves, Ends, Stop}
 use Rattle.sam_runes.specs.Texts.{most_files}
 use Rattle.sam_sides.specs.Given.{IsFile}
-use Rattle.sam_workers.specs.declared.ends.HostEnd.{HostEnd}
-use Rattle.sam_workers.specs.declared.stop.Stop.TheVariants as stop
+use Rattle.sam_ends.specs.declared.ends.HostEnd.{HostEnd}
+use Rattle.sam_ends.specs.declared.stop.Stop.TheVariants as stop
 use Rattle.sam_workers.proofs.Passes.{bytes_taken, came_is}
 use Rattle.sam_workers.proofs.HostSide.{handled_nothing, handled_on}
 

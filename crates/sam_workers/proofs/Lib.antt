@@ -1,11 +1,7 @@
 pub mod Common
-pub mod TermSteps
-pub mod PiecesUp
-pub mod TermKeeping
-pub mod TermTaking
 pub mod HostWhole
 pub mod Passes
 pub mod Feeds
 pub mod ApartTurns
 pub mod HostSide
-pub mod GateLaws
+pub mod HostCounts

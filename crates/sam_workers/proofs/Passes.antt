@@ -1,7 +1,7 @@
 -- Where the host reader stands between two pieces.
 use Rattle.sam_workers.proofs.Common.{◌≡◌, ◌∙◌, ℕ, ◌+◌, List, ◌++◌, length, Err, Option, None, Some, option_map, Bool, false, append-nil, append_assoc, length-append, arith, Vec, map-append, flat_map-append, HFrame, MesgFault, Direction, host, Splits, stream_of, Feeds, FeedRefusal, Held, GaveUpTo, fresh, gave_of, fault_of, version_after-append, stream_of-append, Came, splits_more, comes_more, items_of, IsEnded, StartsWith, LineView, PostView, TakeView, TakesNext, new_post, new_take, closed_post, items_of-append, bytes_of, of_fault, of_unfed, sent_on, Sends, PassesPiece, Passes, ReaderTold, Input, Stop}
 use Rattle.std.specs.Option.{option_or}
-use Rattle.sam_workers.specs.declared.ends.ReaderEnd.{ReaderEnd}
+use Rattle.sam_ends.specs.declared.ends.ReaderEnd.{ReaderEnd}
 use Rattle.sam_workers.proofs.ApartTurns.{front_fits}
 
 -- ---- what is sent on

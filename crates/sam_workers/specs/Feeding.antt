@@ -9,8 +9,8 @@ use Rattle.sam_term.specs.Term.{PlainTerminal, take_of}
 use Rattle.sam_term.specs.declared.fault.TermFault.{TermFault}
 use Rattle.sam_mesg.specs.Faults.{mesg_fault_number}
 use Rattle.sam_term.specs.Faults.{term_fault_number}
-use Rattle.sam_workers.specs.declared.stop.Stop.{Stop}
-use Rattle.sam_workers.specs.declared.stop.Stop.TheVariants as stop
+use Rattle.sam_ends.specs.declared.stop.Stop.{Stop}
+use Rattle.sam_ends.specs.declared.stop.Stop.TheVariants as stop
 
 -- the terminal took the frames in order, and composed these messages
 abbrev pub TakesAll : PlainTerminal → List HFrame → List Tmesg → PlainTerminal → Type 0

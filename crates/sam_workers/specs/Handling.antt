@@ -15,11 +15,11 @@ use Rattle.sam_queue.specs.History.{items_of, IsEnded}
 use Rattle.sam_queue.specs.Views.{PostView}
 use Rattle.sam_sides.specs.Sides.{Each, HostRuns}
 use Rattle.sam_sides.specs.RealSides.{sides}
-use Rattle.sam_workers.specs.Numbers.{StopsWith}
-use Rattle.sam_workers.specs.Inputs.{bytes_of}
-use Rattle.sam_workers.specs.WorkerEnds.{RefusesNext}
-use Rattle.sam_workers.specs.declared.stop.Stop.{Stop}
-use Rattle.sam_workers.specs.declared.stop.Stop.TheVariants as stop
+use Rattle.sam_ends.specs.Numbers.{StopsWith}
+use Rattle.sam_ends.specs.Inputs.{bytes_of}
+use Rattle.sam_ends.specs.WorkerEnds.{RefusesNext}
+use Rattle.sam_ends.specs.declared.stop.Stop.{Stop}
+use Rattle.sam_ends.specs.declared.stop.Stop.TheVariants as stop
 
 -- the host handled these messages in order and answered the frames, whose bytes the post has put, all but the last of them
 pub record Handled (h k : PlainHost) (before after : PostView (Vec ℕ))

@@ -1,11 +1,3 @@
-pub mod Lines
-pub mod Numbers
-pub mod Inputs
-pub mod WorkerEnds
-pub mod Gates
-pub mod PiecesUp
-pub mod TermMoments
-pub mod Cutting
 pub mod Feeding
 pub mod Handling
 pub mod Passing

@@ -8,12 +8,12 @@ use Rattle.sam_frame.specs.Framing.{Held, GaveAll}
 use Rattle.sam_queue.specs.declared.rule.Entry.{Entry}
 use Rattle.sam_queue.specs.History.{items_of, IsEnded}
 use Rattle.sam_queue.specs.Views.{PostView, TakeView}
-use Rattle.sam_workers.specs.Inputs.{bytes_of}
-use Rattle.sam_workers.specs.Numbers.{StopsWith}
-use Rattle.sam_workers.specs.declared.input.Input.{Input}
-use Rattle.sam_workers.specs.declared.input.Input.TheVariants.{Host}
-use Rattle.sam_workers.specs.declared.stop.Stop.{Stop}
-use Rattle.sam_workers.specs.declared.stop.Stop.TheVariants as stop
+use Rattle.sam_ends.specs.Inputs.{bytes_of}
+use Rattle.sam_ends.specs.Numbers.{StopsWith}
+use Rattle.sam_ends.specs.declared.input.Input.{Input}
+use Rattle.sam_ends.specs.declared.input.Input.TheVariants.{Host}
+use Rattle.sam_ends.specs.declared.stop.Stop.{Stop}
+use Rattle.sam_ends.specs.declared.stop.Stop.TheVariants as stop
 
 -- the post once these frames were sent on
 abbrev pub sent_on : PostView Input → List HFrame → PostView Input

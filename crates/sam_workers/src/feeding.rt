@@ -4,7 +4,7 @@ ghost use Rattle.std.specs.Prelude.{IsTrue, All};
 ghost use Rattle.sam_mesg.specs.HostKinds.{fits_h};
 ghost use Rattle.sam_workers.specs.Feeding.{FeedsTerminal, TakesOne, TakesUpTo};
 
-use crate::stop::{Stop, stop_for};
+use sam_ends::{Stop, stop_for};
 use sam_frame::FramerH;
 use sam_mesg::{HFrame, Tmesg};
 use sam_term::term::Terminal;

@@ -14,25 +14,20 @@ ghost use Rattle.sam_queue.specs.History.{IsEnded};
 ghost use Rattle.sam_queue.specs.Views.{new_take, new_post};
 ghost use Rattle.sam_sides.specs.Given.{IsFile};
 ghost use Rattle.sam_sides.specs.Sides.{Each};
-ghost use Rattle.sam_workers.specs.Cutting.{Puts};
-ghost use Rattle.sam_workers.specs.Gates.{LetOn};
+ghost use Rattle.sam_ends.specs.Cutting.{Puts};
+ghost use Rattle.sam_ends.specs.Gates.{LetOn};
 ghost use Rattle.sam_workers.specs.Handling.{HandlesAll, TakesPiece, Serves};
-ghost use Rattle.sam_workers.specs.WorkerEnds.{HostTold};
-ghost use Rattle.sam_workers.specs.declared.stop.Stop.TheVariants.{Gate as GateStop};
+ghost use Rattle.sam_ends.specs.WorkerEnds.{HostTold};
+ghost use Rattle.sam_ends.specs.declared.stop.Stop.TheVariants.{Gate as GateStop};
 
 use crate::drain::drop_rest;
-use crate::ends::HostEnd;
-use crate::gate::{Gate, HOST};
 use crate::pieces::send_pieces;
-use crate::session_lines::Lines;
-use crate::stop::Stop;
+use sam_ends::{Gate, HOST, HostEnd, HostTask, Stop};
 use sam_frame::{FramerT, encode_all};
 use sam_host::host::Host;
 use sam_mesg::{HFrame, Tmesg};
 use sam_queue::{Got, Post, Take};
-use sam_runes::Runes;
 use std::alloc::{AllocError, Global};
-use std::marker::PhantomData;
 use std::sync::Wait;
 
 /// Reads off each frame what is known of it: that it is a value of its type. It does nothing else.
@@ -63,7 +58,7 @@ struct HostSide<'q> {
 impl HostSide<'_> {
     /// Puts the bytes of the frames into the line down, and waits while it is full. Its only error is out of memory; the first of the
     /// bytes may then have been put.
-    #[tactic(auto, using(crate::proofs::HostSide::can_encode, crate::proofs::PiecesUp::put_none))]
+    #[tactic(auto, using(crate::proofs::HostSide::can_encode, sam_ends::proofs::Cutting::put_none))]
     fn send<R: Wait>(&mut self, rt: &R, frames: &[HFrame]) -> Result<(), AllocError>
         requires piece { 0 < self.old.piece }
         requires open { self.old.post.closed ≡ false }
@@ -105,7 +100,7 @@ impl HostSide<'_> {
     }
 
     /// Handles the messages in order, up to the first at which something stops it, which is the error.
-    #[tactic(auto, using(crate::proofs::GateLaws::let_on_none))]
+    #[tactic(auto, using(sam_ends::proofs::GateLaws::let_on_none))]
     fn answer_all<R: Wait, G: Gate>(
         &mut self,
         rt: &R,
@@ -134,7 +129,7 @@ impl HostSide<'_> {
     }
 
     /// Handles the messages that are whole with this piece, also those before a fault of the stream.
-    #[tactic(auto, using(crate::proofs::GateLaws::let_on_none))]
+    #[tactic(auto, using(sam_ends::proofs::GateLaws::let_on_none))]
     fn take_piece<R: Wait, G: Gate>(&mut self, rt: &R, gate: &G, piece: &[u8]) -> Result<(), Stop>
         requires piece { 0 < self.old.piece }
         requires open { self.old.post.closed ≡ false }
@@ -153,7 +148,7 @@ impl HostSide<'_> {
     }
 
     /// Handles what comes until the end mark. Returns what stopped it before that.
-    #[tactic(auto, using(sam_queue::proofs::Laws::items_of_mark, crate::proofs::GateLaws::let_on_none))]
+    #[tactic(auto, using(sam_queue::proofs::Laws::items_of_mark, sam_ends::proofs::GateLaws::let_on_none))]
     fn serve<R: Wait, G: Gate>(
         &mut self,
         rt: &R,
@@ -184,7 +179,7 @@ impl HostSide<'_> {
     }
 
     /// Serves if the gate lets the worker begin. Returns whether it did, and what stopped it.
-    #[tactic(auto, using(crate::proofs::HostWhole::serves_nothing, crate::proofs::GateLaws::let_on_none))]
+    #[tactic(auto, using(crate::proofs::HostWhole::serves_nothing, sam_ends::proofs::GateLaws::let_on_none))]
     fn run<R: Wait, G: Gate>(
         &mut self,
         rt: &R,
@@ -207,21 +202,6 @@ impl HostSide<'_> {
         }
         (true, self.serve(rt, gate, take))
     }
-}
-
-/// What the host's worker begins with. Nothing is put, taken or handled yet.
-#[derive(Drop)]
-pub struct HostTask<'q> {
-    /// The take of the line up.
-    pub take: Take<'q, Vec<u8>>,
-    /// The post to the line down.
-    pub post: Post<'q, Vec<u8>>,
-    /// The names and texts of the host's files, by tags from 1: at most `MOST_FILES`.
-    pub files: Vec<(Runes, Runes)>,
-    /// A new host of these files.
-    pub host: Host,
-    /// Ties the task to its lines. It holds nothing: with it a thread's closure that captures the task keeps its contract.
-    pub held: PhantomData<&'q Lines>,
 }
 
 /// Takes and drops the rest if something stopped the worker. If nothing did, the end mark was taken already.

@@ -2,7 +2,7 @@
 
 ghost use Rattle.std.specs.Prelude.{◌≡◌, ◌<◌, false};
 ghost use Rattle.sam_queue.specs.Views.{with_item};
-ghost use Rattle.sam_workers.specs.Cutting.{Puts};
+ghost use Rattle.sam_ends.specs.Cutting.{Puts};
 
 use sam_queue::Post;
 use std::alloc::{AllocError, Global};

@@ -2,15 +2,12 @@
 
 ghost use Rattle.std.specs.Prelude.{◌≡◌, true, false, length, None, Some};
 ghost use Rattle.sam_queue.specs.Views.{new_post, new_take};
-ghost use Rattle.sam_workers.specs.Gates.{IsCount, LetOn};
+ghost use Rattle.sam_ends.specs.Gates.{IsCount, LetOn};
 ghost use Rattle.sam_workers.specs.Passing.{Sends, PassesPiece, Passes};
-ghost use Rattle.sam_workers.specs.WorkerEnds.{ReaderTold};
+ghost use Rattle.sam_ends.specs.WorkerEnds.{ReaderTold};
 
 use crate::drain::drop_rest;
-use crate::ends::ReaderEnd;
-use crate::gate::{Gate, READER};
-use crate::input::Input;
-use crate::stop::{Stop, stop_for};
+use sam_ends::{Gate, Input, READER, ReaderEnd, Stop, stop_for};
 use sam_frame::FramerH;
 use sam_mesg::HFrame;
 use sam_queue::{Got, Post, Take};

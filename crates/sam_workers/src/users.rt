@@ -2,14 +2,11 @@
 
 ghost use Rattle.std.specs.Prelude.{◌≡◌, ℕ, ◌<◌, true, false, length, map, take, MatchBool, None, Some};
 ghost use Rattle.sam_queue.specs.Views.{new_post};
-ghost use Rattle.sam_workers.specs.Gates.{LetOn};
-ghost use Rattle.sam_workers.specs.WorkerEnds.{UserTold};
-ghost use Rattle.sam_workers.specs.declared.input.Input.TheVariants.{User};
+ghost use Rattle.sam_ends.specs.Gates.{LetOn};
+ghost use Rattle.sam_ends.specs.WorkerEnds.{UserTold};
+ghost use Rattle.sam_ends.specs.declared.input.Input.TheVariants.{User};
 
-use crate::ends::UserEnd;
-use crate::gate::Gate;
-use crate::input::Input;
-use crate::stop::Stop;
+use sam_ends::{Gate, Input, Stop, UserEnd};
 use sam_queue::Post;
 use sam_term::event::UserEvent;
 use std::sync::Wait;

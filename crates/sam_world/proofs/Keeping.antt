@@ -1,9 +1,14 @@
 -- What is kept of every world, step by step.
-use Rattle.sam_world.proofs.Common.{◌≡◌, refl, ap, ◌∙◌, ℕ, suc, true, List, [], ◌∷◌, ◌++◌, drop, Some, Ok, arith, append-nil, All, IsTrue, All-append, same_Some, PlainHost, answer, AreGiven, PlainTerminal, act_of, flush_of, take_of, UserEvent, Acted, Done, Tmesg, fits_h, HFrame, PlainWorld, new_world, composed_by, after_act, after_compose, after_answer, host_takes, term_takes, is_quiet, head, IsSoundWorld, User, Act, Flush, HostTake, TermTake}
+use Rattle.sam_world.proofs.Common.{◌≡◌, refl, ap, ◌∙◌, ℕ, suc, Bool, true, if◌then◌else◌, None, List, [], ◌∷◌, ◌++◌, drop, Some, Ok, arith, append-nil, All, IsTrue, All-append, same_Some, PlainHost, answer, AreGiven, PlainTerminal, act_of, flush_of, take_of, UserEvent, Acted, Done, Tmesg, fits_h, HFrame, PlainWorld, new_world, composed_by, after_act, after_compose, after_answer, host_takes, term_takes, is_quiet, head, IsSoundWorld, User, Add, Act, Flush, HostTake, TermTake}
 use Rattle.sam_term.specs.Sound.{IsSound}
 use Rattle.sam_mesg.specs.TerminalKinds.{fits_t}
 use Rattle.sam_term.proofs.Fits.{act_fits, flushed_fits, taken_fits}
 use Rattle.sam_crossing.proofs.OrderLaws.{refused_act}
+use Rattle.std.specs.Prelude.{Result, Err, OnOk, OnErr}
+use Rattle.sam_text.specs.declared.fault.FilesFault.{FilesFault}
+use Rattle.sam_host.specs.Host.{with_given}
+use Rattle.sam_crossing.specs.Joining.{may_join}
+use Rattle.sam_crossing.specs.World.{joined_by}
 use Rattle.sam_world.proofs.Within.{reached_step, answered_fits}
 
 fit_rest : {X : Type 0} (P : X → Type 0) (xs : List X) → All P xs → All P (drop 1 xs)
@@ -16,6 +21,18 @@ kept_start given limits = grind arith
 pub kept_user : (w : PlainWorld) (e : UserEvent) (t : PlainTerminal)
     → IsSoundWorld w → t ≡ record w.term { held = w.term.held ++ e ∷ [] } → IsSoundWorld (record { host = w.host; term = t; up = w.up; down = w.down })
 kept_user w e t k same = grind (arith, (reached_step w _ (User e) k.reached refl))
+
+-- a file that joins, where it may
+pub kept_added : (w : PlainWorld) (name text name2 text2 : List ℕ) (h : PlainHost) → IsSoundWorld w → may_join w.host name text ≡ true → name2 ≡ name → text2 ≡ text
+    → h ≡ with_given w.host (name2, text2) → IsSoundWorld (record { host = h; term = w.term; up = w.up; down = w.down })
+kept_added w name text name2 text2 h k may first second same =
+    rw (same, first, second) (record { reached = reached_step w _ (Add name text) k.reached (ap (λ (b : Bool). if b then Some (joined_by w name text) else None) may); up = k.up; down = k.down })
+
+-- so it is where the host may have refused it, and stayed as it was
+pub kept_tried : (w : PlainWorld) (name text name2 text2 : List ℕ) (h : PlainHost) (result : Result ℕ FilesFault) → IsSoundWorld w → may_join w.host name text ≡ true → name2 ≡ name → text2 ≡ text
+    → OnOk result (h ≡ with_given w.host (name2, text2)) → OnErr result (h ≡ w.host) → IsSoundWorld (record { host = h; term = w.term; up = w.up; down = w.down })
+kept_tried w name text name2 text2 h (Ok tag) k may first second done kept = kept_added w name text name2 text2 h k may first second done
+kept_tried w name text name2 text2 h (Err why) k may first second done kept = rw kept (record { reached = k.reached; up = k.up; down = k.down })
 
 pub kept_done : (w : PlainWorld) (t : PlainTerminal) (ms up : List Tmesg)
     → IsSoundWorld w → IsSound w.term → act_of w.term ≡ Ok (t, Done ms) → up ≡ w.up ++ ms → IsSoundWorld (record { host = w.host; term = t; up = up; down = w.down })

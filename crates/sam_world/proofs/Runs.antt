@@ -1,6 +1,6 @@
 -- Runs, step by step, and what a drain has done.
-use Rattle.sam_world.proofs.Common.{◌≡◌, ◌⊎◌, inl, inr, refl, ap, ◌∙◌, ◌<◌, ◌+◌, ◌-◌, ℕ, zero, suc, true, List, [], ◌∷◌, ◌++◌, take, length, Option, Some, None, arith, option_and_then, slice_index_or, is_empty, PlainWorld, step_of, run_of, next_event, drained, Advances, HasMade, IsDrainedUpTo, IsFaultOf, IsNextFault, Event, Act, NothingThere, OutOfMemory, CountFull}
-use Rattle.sam_crossing.specs.World.{user_events}
+use Rattle.sam_world.proofs.Common.{◌≡◌, ◌⊎◌, inl, inr, refl, ap, ◌∙◌, ◌<◌, ◌+◌, ◌-◌, ℕ, zero, suc, true, List, [], ◌∷◌, ◌++◌, take, length, Option, Some, None, arith, option_and_then, slice_index_or, is_empty, PlainWorld, step_of, run_of, next_event, drained, Advances, HasMade, IsDrainedUpTo, IsFaultOf, IsNextFault, Event, Act, NothingThere, NotAdded, OutOfMemory, CountFull}
+use Rattle.sam_crossing.specs.World.{user_events, joined_files}
 use Rattle.sam_world.specs.declared.event.StepFault.{StepFault}
 use Rattle.sam_world.proofs.Stopping.{passing_stops}
 
@@ -54,11 +54,12 @@ drained_stops (suc n) w v d = go (next_event w) (λ u r. drained_stops n u v r) 
 
 -- ## A drain is a run
 
--- events lead from w to v, and the user does nothing in them
+-- events lead from w to v, the user does nothing in them, and no file joins
 pub record DoesSilently (w v : PlainWorld) : Type 0 where
   pub events : List Event
   pub leads : run_of w events ≡ Some v
   pub none : user_events events ≡ []
+  pub no_file : joined_files events ≡ []
 
 no_user : (w : PlainWorld) (e : Event) → next_event w ≡ Some e → user_events (e ∷ []) ≡ []
 no_user w e next = grind arith
@@ -66,8 +67,14 @@ no_user w e next = grind arith
 still_none : (e : Event) (es : List Event) → user_events (e ∷ []) ≡ [] → user_events es ≡ [] → user_events (e ∷ es) ≡ []
 still_none e es one rest = grind arith
 
+no_join : (w : PlainWorld) (e : Event) → next_event w ≡ Some e → joined_files (e ∷ []) ≡ []
+no_join w e next = grind arith
+
+still_no_file : (e : Event) (es : List Event) → joined_files (e ∷ []) ≡ [] → joined_files es ≡ [] → joined_files (e ∷ es) ≡ []
+still_no_file e es one rest = grind arith
+
 pub drained_runs : (n : ℕ) (w v : PlainWorld) → drained n w ≡ Some v → DoesSilently w v
-drained_runs zero w v d = record { events = []; leads = d; none = refl }
+drained_runs zero w v d = record { events = []; leads = d; none = refl; no_file = refl }
 drained_runs (suc n) w v d = go (next_event w) (λ u r. drained_runs n u v r) refl d
   where
     past : (x : Event) (o : Option PlainWorld) → next_event w ≡ Some x → step_of w x ≡ o → ((u : PlainWorld) → drained n u ≡ Some v → DoesSilently u v)
@@ -75,11 +82,11 @@ drained_runs (suc n) w v d = go (next_event w) (λ u r. drained_runs n u v r) re
     past x None next e more y = absurd (grind arith)
     past x (Some u) next e more y =
         let rest = more u y in
-        record { events = x ∷ rest.events; leads = rw e rest.leads; none = still_none x rest.events (no_user w x next) rest.none }
+        record { events = x ∷ rest.events; leads = rw e rest.leads; none = still_none x rest.events (no_user w x next) rest.none; no_file = still_no_file x rest.events (no_join w x next) rest.no_file }
 
     go : (o : Option Event) → ((u : PlainWorld) → drained n u ≡ Some v → DoesSilently u v)
         → next_event w ≡ o → elim o [ None ↦ Some w | Some e ↦ option_and_then (drained n) (step_of w e) ] ≡ Some v → DoesSilently w v
-    go None more next q = record { events = []; leads = q; none = refl }
+    go None more next q = record { events = []; leads = q; none = refl; no_file = refl }
     go (Some x) more next q = past x (step_of w x) next refl more q
 
 -- ## Runs one after another
@@ -92,6 +99,10 @@ pub users_then : (es fs : List Event) → user_events (es ++ fs) ≡ user_events
 users_then [] fs = refl
 users_then (e ∷ es) fs = grind (arith, (users_then es fs))
 
+pub files_then : (es fs : List Event) → joined_files (es ++ fs) ≡ joined_files es ++ joined_files fs
+files_then [] fs = refl
+files_then (e ∷ es) fs = grind (arith, (files_then es fs))
+
 -- ## Where it meets a fault
 
 full_differs : ◌≡◌ {A = StepFault} CountFull OutOfMemory → ⊥
@@ -100,6 +111,10 @@ full_differs e = cc
 -- something is always there
 pub never_nothing : (n : ℕ) (w v : PlainWorld) → IsDrainedUpTo n w v NothingThere → ⊥
 never_nothing n w v d = grind arith
+
+-- nor is a file added
+pub never_barred : (n : ℕ) (w v : PlainWorld) → IsDrainedUpTo n w v NotAdded → ⊥
+never_barred n w v d = grind arith
 
 -- a full count leads nowhere
 pub full_is_none : (n : ℕ) (w v : PlainWorld) → IsDrainedUpTo n w v CountFull → drained n w ≡ None

@@ -41,4 +41,4 @@ answers_keep_work_open h g m frames e w =
 -- so it is open in every world
 pub work_of : (w : PlainWorld) → WasReached w → IsWorkOpen w.host.files
 work_of w r =
-    run_keeps (λ v. IsWorkOpen v.host.files) (host_step (λ h. IsWorkOpen h.files) answers_keep_work_open) (new_world r.given) r.reached.0 w tt r.reached.1
+    run_keeps (λ v. IsWorkOpen v.host.files) (host_step (λ h. IsWorkOpen h.files) answers_keep_work_open (λ h name text short long w. added_files_keep_work_open h (name, text) w)) (new_world r.given) r.reached.0 w tt r.reached.1

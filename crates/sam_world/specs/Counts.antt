@@ -10,7 +10,7 @@ use Rattle.sam_term.specs.declared.fault.TermFault.{TermFault}
 use Rattle.sam_term.specs.declared.fault.TermFault.TheVariants as term
 use Rattle.sam_crossing.specs.World.{PlainWorld, step_of}
 use Rattle.sam_crossing.specs.declared.event.Event.{Event}
-use Rattle.sam_crossing.specs.declared.event.Event.TheVariants.{User, Act, Flush, HostTake, TermTake}
+use Rattle.sam_crossing.specs.declared.event.Event.TheVariants.{User, Add, Act, Flush, HostTake, TermTake}
 
 -- the terminal would compose more messages than can be counted
 abbrev pub is_term_full : {A : Type 0} → Result A TermFault → Bool
@@ -35,6 +35,7 @@ composes_past t (frame ∷ frames) = is_term_full (take_of t frame)
 -- the event would take a count past 2^64-1
 abbrev pub passes_count : PlainWorld → Event → Bool
 passes_count w (User e) = false
+passes_count w (Add name text) = false
 passes_count w Act = is_term_full (act_of w.term)
 passes_count w Flush = is_term_full (flush_of w.term)
 passes_count w HostTake = passes_at w.host w.up

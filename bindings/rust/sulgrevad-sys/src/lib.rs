@@ -16,7 +16,6 @@ pub const SAM_MADE: sam_status = 5;
 pub const SAM_NOT_TEXT: sam_status = 6;
 pub const SAM_NONE: sam_status = 7;
 pub const SAM_WAITING: sam_status = 8;
-pub const SAM_ADD_BEGUN: sam_status = 17;
 pub const SAM_ADD_TOO_LONG: sam_status = 19;
 pub const SAM_ADD_NO_TAG: sam_status = 20;
 pub const SAM_BAD_KIND: sam_status = 33;
@@ -48,6 +47,37 @@ pub const SAM_REFUSAL_COMMAND_FILE: sam_status = 135;
 pub const SAM_REFUSAL_BAD_VERSION: sam_status = 136;
 pub const SAM_SCRIPT_LINE: sam_status = 161;
 pub const SAM_SCRIPT_COUNT_FULL: sam_status = 162;
+pub const SAM_LINK_NOT_A_LINK: sam_status = 193;
+pub const SAM_LINK_OTHER_VERSION: sam_status = 194;
+pub const SAM_LINK_BAD_HELLO: sam_status = 195;
+pub const SAM_LINK_NO_SESSION: sam_status = 196;
+pub const SAM_LINK_OTHER_SESSION: sam_status = 197;
+pub const SAM_LINK_OLD_ATTEMPT: sam_status = 198;
+pub const SAM_LINK_WRONG_COUNT: sam_status = 199;
+pub const SAM_LINK_WRONG_ROLE: sam_status = 200;
+pub const SAM_LINK_NOT_OPEN: sam_status = 201;
+pub const SAM_LINK_TOO_LONG: sam_status = 202;
+pub const SAM_LINK_BAD_KIND: sam_status = 203;
+pub const SAM_LINK_BAD_LENGTH: sam_status = 204;
+pub const SAM_LINK_ACK_AHEAD: sam_status = 205;
+pub const SAM_LINK_NO_ROOM: sam_status = 206;
+
+/// The sides of a link, and how a connection stands.
+pub const SAM_LINK_TERMINAL: u32 = 0;
+pub const SAM_LINK_HOST: u32 = 1;
+pub const SAM_LINK_DOWN: u32 = 0;
+pub const SAM_LINK_ASKING: u32 = 1;
+pub const SAM_LINK_OPEN: u32 = 2;
+
+/// What the hello of a link says, but for the refusals, which are 17 to 23.
+pub const SAM_LINK_BEGIN: u32 = 1;
+pub const SAM_LINK_RESUME: u32 = 2;
+pub const SAM_LINK_TAKE_OVER: u32 = 3;
+pub const SAM_LINK_WELCOME: u32 = 4;
+
+pub const SAM_LINK_ID_BYTES: usize = 16;
+pub const SAM_LINK_HELLO_BYTES: usize = 42;
+pub const SAM_LINK_MOST_NOTE: usize = 4096;
 
 /// What a step did: one of the numbers below, or one that this crate doesn't know.
 pub type sam_step = u32;
@@ -95,6 +125,14 @@ pub struct sam_term {
     pub made: u64,
 }
 
+/// The handle of a link's end. It is empty where all its bytes are zero.
+#[derive(Debug)]
+#[repr(C)]
+pub struct sam_link {
+    pub at: *mut c_void,
+    pub made: u64,
+}
+
 impl sam_host {
     /// An empty handle: SAM_HOST_INIT.
     pub const INIT: sam_host = sam_host {
@@ -106,6 +144,14 @@ impl sam_host {
 impl sam_term {
     /// An empty handle: SAM_TERM_INIT.
     pub const INIT: sam_term = sam_term {
+        at: std::ptr::null_mut(),
+        made: 0,
+    };
+}
+
+impl sam_link {
+    /// An empty handle: SAM_LINK_INIT.
+    pub const INIT: sam_link = sam_link {
         at: std::ptr::null_mut(),
         made: 0,
     };
@@ -235,6 +281,28 @@ extern "C" {
     pub fn sam_term_snarf_len(term: *mut sam_term, runes: *mut u32) -> sam_status;
     pub fn sam_term_exited(term: *mut sam_term, exited: *mut bool) -> sam_status;
     pub fn sam_term_version(term: *mut sam_term, version: *mut u16) -> sam_status;
+
+    pub fn sam_link_new(link: *mut sam_link, role: u32, id: *const u8) -> sam_status;
+    pub fn sam_link_free(link: *mut sam_link) -> sam_status;
+    pub fn sam_link_read_hello(bytes: *const u8, len: usize, what: *mut u32, id: *mut u8, attempt: *mut u64) -> sam_status;
+    pub fn sam_link_write_refusal(why: u32, bytes: *const u8, len: usize, into: *mut u8) -> sam_status;
+    pub fn sam_link_call(link: *mut sam_link, take_over: bool, attempt: *mut u64) -> sam_status;
+    pub fn sam_link_welcomed(link: *mut sam_link, bytes: *const u8, len: usize) -> sam_status;
+    pub fn sam_link_answer(link: *mut sam_link, bytes: *const u8, len: usize) -> sam_status;
+    pub fn sam_link_broken(link: *mut sam_link, attempt: u64) -> sam_status;
+    pub fn sam_link_put(link: *mut sam_link, bytes: *const u8, len: usize) -> sam_status;
+    pub fn sam_link_put_note(link: *mut sam_link, bytes: *const u8, len: usize) -> sam_status;
+    pub fn sam_link_ask(link: *mut sam_link) -> sam_status;
+    pub fn sam_link_acknowledge(link: *mut sam_link) -> sam_status;
+    pub fn sam_link_take_out(link: *mut sam_link, attempt: u64, into: *mut u8, room: usize, count: *mut usize) -> sam_status;
+    pub fn sam_link_feed(link: *mut sam_link, attempt: u64, bytes: *const u8, len: usize) -> sam_status;
+    pub fn sam_link_take_in(link: *mut sam_link, into: *mut u8, room: usize, count: *mut usize) -> sam_status;
+    pub fn sam_link_next_note(link: *mut sam_link, into: *mut u8, room: usize, len: *mut usize) -> sam_status;
+    pub fn sam_link_phase(link: *mut sam_link, phase: *mut u32) -> sam_status;
+    pub fn sam_link_attempt(link: *mut sam_link, attempt: *mut u64) -> sam_status;
+    pub fn sam_link_put_count(link: *mut sam_link, count: *mut u64) -> sam_status;
+    pub fn sam_link_acknowledged(link: *mut sam_link, count: *mut u64) -> sam_status;
+    pub fn sam_link_received(link: *mut sam_link, count: *mut u64) -> sam_status;
 
     pub fn sam_replay(
         script: *const u8,

@@ -113,6 +113,38 @@ family! {
     }
 }
 
+family! {
+    /// Why a call of a link was refused. The first seven also go over the line.
+    LinkFault {
+        /// The bytes are no hello.
+        NotALink = SAM_LINK_NOT_A_LINK,
+        /// A hello of another version.
+        OtherVersion = SAM_LINK_OTHER_VERSION,
+        /// A hello that says nothing which this side takes.
+        BadHello = SAM_LINK_BAD_HELLO,
+        /// The terminal resumes a session that the host doesn't have.
+        NoSession = SAM_LINK_NO_SESSION,
+        /// The id is another.
+        OtherSession = SAM_LINK_OTHER_SESSION,
+        /// The connection isn't the newest.
+        OldAttempt = SAM_LINK_OLD_ATTEMPT,
+        /// Bytes are counted that can't have come.
+        WrongCount = SAM_LINK_WRONG_COUNT,
+        /// The call is one of the other side.
+        WrongRole = SAM_LINK_WRONG_ROLE,
+        /// The connection is over, isn't the newest, or has no hello yet.
+        NotOpen = SAM_LINK_NOT_OPEN,
+        /// A note of more than 4,096 bytes.
+        TooLong = SAM_LINK_TOO_LONG,
+        /// A packet of an unknown kind came, and the connection is over.
+        BadKind = SAM_LINK_BAD_KIND,
+        /// A packet came with a length that its kind can't have, and the connection is over.
+        BadLength = SAM_LINK_BAD_LENGTH,
+        /// Bytes are acknowledged that did not go, and the connection is over.
+        AckAhead = SAM_LINK_ACK_AHEAD,
+    }
+}
+
 /// Why a call did not do what it was asked. Each has its number in sulgrevad.h.
 #[derive(Clone, Copy, Debug, PartialEq, Eq)]
 #[non_exhaustive]
@@ -122,14 +154,12 @@ pub enum Error {
     /// Out of memory, but what the call brought was taken: don't bring it again. The next feed, event or `flush_now` goes on with what
     /// waits, and feeding no bytes does just that. It returns `NoMemory` while memory is still short.
     Unfinished,
-    /// A stream of 2^64 bytes, or 2^64 events.
+    /// A stream of 2^64 bytes, or 2^64 events or connections.
     CountFull,
     /// Some of what came before waits, so make steps first; what was brought was not taken.
     Waiting,
     /// Bytes that are not UTF-8.
     NotText,
-    /// A host that was fed takes no more files.
-    Begun,
     /// A name above 64 runes, or a text above 1,000,000.
     TooLong,
     /// All 65,536 tags were given.
@@ -140,6 +170,8 @@ pub enum Error {
     HostRefused(HostFault),
     /// The terminal refused a frame, and has stopped.
     TermRefused(TermFault),
+    /// A call of a link was refused. The link goes on.
+    Link(LinkFault),
     /// The first wrong line of a script, counted from 1; or if none is wrong the line at which nothing is there to take.
     ScriptLine(usize),
     /// A line of a script would count more than 2^64-1 messages.
@@ -157,7 +189,6 @@ impl Error {
             sys::SAM_COUNT_FULL => Error::CountFull,
             sys::SAM_WAITING => Error::Waiting,
             sys::SAM_NOT_TEXT => Error::NotText,
-            sys::SAM_ADD_BEGUN => Error::Begun,
             sys::SAM_ADD_TOO_LONG => Error::TooLong,
             sys::SAM_ADD_NO_TAG => Error::NoTag,
             sys::SAM_SCRIPT_COUNT_FULL => Error::ScriptCountFull,
@@ -165,6 +196,7 @@ impl Error {
                 .map(Error::Stream)
                 .or_else(|| HostFault::of(status).map(Error::HostRefused))
                 .or_else(|| TermFault::of(status).map(Error::TermRefused))
+                .or_else(|| LinkFault::of(status).map(Error::Link))
                 .unwrap_or(Error::Unknown(status)),
         }
     }
@@ -177,12 +209,12 @@ impl Error {
             Error::CountFull => sys::SAM_COUNT_FULL,
             Error::Waiting => sys::SAM_WAITING,
             Error::NotText => sys::SAM_NOT_TEXT,
-            Error::Begun => sys::SAM_ADD_BEGUN,
             Error::TooLong => sys::SAM_ADD_TOO_LONG,
             Error::NoTag => sys::SAM_ADD_NO_TAG,
             Error::Stream(why) => why.status(),
             Error::HostRefused(why) => why.status(),
             Error::TermRefused(why) => why.status(),
+            Error::Link(why) => why.status(),
             Error::ScriptLine(_) => sys::SAM_SCRIPT_LINE,
             Error::ScriptCountFull => sys::SAM_SCRIPT_COUNT_FULL,
             Error::Unknown(status) => status,
@@ -213,13 +245,12 @@ mod tests {
     use super::*;
 
     /// The numbers of sulgrevad.h, with the errors that they are.
-    const ERRORS: [(u32, Error); 28] = [
+    const ERRORS: [(u32, Error); 40] = [
         (1, Error::NoMemory),
         (2, Error::Unfinished),
         (3, Error::CountFull),
         (6, Error::NotText),
         (8, Error::Waiting),
-        (17, Error::Begun),
         (19, Error::TooLong),
         (20, Error::NoTag),
         (33, Error::Stream(StreamFault::BadKind)),
@@ -242,6 +273,19 @@ mod tests {
         (103, Error::TermRefused(TermFault::LockNotHeld)),
         (104, Error::TermRefused(TermFault::CountFull)),
         (162, Error::ScriptCountFull),
+        (193, Error::Link(LinkFault::NotALink)),
+        (194, Error::Link(LinkFault::OtherVersion)),
+        (195, Error::Link(LinkFault::BadHello)),
+        (196, Error::Link(LinkFault::NoSession)),
+        (197, Error::Link(LinkFault::OtherSession)),
+        (198, Error::Link(LinkFault::OldAttempt)),
+        (199, Error::Link(LinkFault::WrongCount)),
+        (200, Error::Link(LinkFault::WrongRole)),
+        (201, Error::Link(LinkFault::NotOpen)),
+        (202, Error::Link(LinkFault::TooLong)),
+        (203, Error::Link(LinkFault::BadKind)),
+        (204, Error::Link(LinkFault::BadLength)),
+        (205, Error::Link(LinkFault::AckAhead)),
     ];
 
     const REFUSALS: [(u32, Refusal); 8] = [
@@ -255,8 +299,9 @@ mod tests {
         (136, Refusal::BadVersion),
     ];
 
-    /// Those that no safe call hands on: SAM_OK, SAM_NO_HANDLE, SAM_MADE, SAM_NONE, and SAM_SCRIPT_LINE, which `replay` gives its line.
-    const OTHERS: [u32; 5] = [0, 4, 5, 7, 161];
+    /// Those that no safe call hands on: SAM_OK, SAM_NO_HANDLE, SAM_MADE, SAM_NONE, SAM_LINK_NO_ROOM, and SAM_SCRIPT_LINE, which `replay`
+    /// gives its line.
+    const OTHERS: [u32; 6] = [0, 4, 5, 7, 161, 206];
 
     #[test]
     fn each_number_is_its_error() {
@@ -266,8 +311,8 @@ mod tests {
         for (status, why) in REFUSALS {
             assert_eq!((Refusal::of(status), why.status()), (Some(why), status));
         }
-        assert_eq!((Error::ScriptLine(9).status(), Error::Unknown(200).status()), (161, 200));
-        assert_eq!((Error::of(200), Refusal::of(128)), (Error::Unknown(200), None));
+        assert_eq!((Error::ScriptLine(9).status(), Error::Unknown(250).status()), (161, 250));
+        assert_eq!((Error::of(250), Refusal::of(128)), (Error::Unknown(250), None));
     }
 
     #[test]

@@ -37,8 +37,8 @@ impl Host {
         self.handle.get()
     }
 
-    /// Adds a file and returns its tag: 1 for the first. Errors in order: `Begun`, `TooLong`, `NoTag`, `NoMemory`; the host is then as
-    /// it was.
+    /// Adds a file, clean and closed, and returns its tag: 1 for the first. It may be called at any time: the answer to the terminal's
+    /// next Tversion has the name. Errors in order: `TooLong`, `NoTag`, `NoMemory`; the host is then as it was.
     pub fn add_file(&mut self, name: &str, text: &str) -> Result<u16, Error> {
         let mut tag = 0;
         done(unsafe { sys::sam_host_add_file(self.at(), name.as_ptr(), name.len(), text.as_ptr(), text.len(), &mut tag) })?;

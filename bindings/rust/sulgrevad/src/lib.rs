@@ -1,4 +1,5 @@
 //! A proved host and a proved terminal for editors whose screen and text live apart, after Rob Pike's sam: safe Rust over the C library.
+//! A [`Link`] carries the bytes of both over connections that may break.
 //! `sulgrevad.h` and the page EMBEDDING of the repository have the whole story, and `sulgrevad-sys` says how the library is found.
 //!
 //! Where the library is out of memory, a call says so ([`Error::NoMemory`], [`Error::Unfinished`]). Where Rust has none for a `Vec` or a
@@ -36,12 +37,14 @@
 
 mod error;
 mod host;
+mod link;
 mod script;
 mod step;
 mod terminal;
 
-pub use error::{Error, HostFault, Refusal, StreamFault, TermFault};
+pub use error::{Error, HostFault, LinkFault, Refusal, StreamFault, TermFault};
 pub use host::Host;
+pub use link::{read_hello, write_refusal, Hello, Link, Phase, Role, What, HELLO_BYTES, MOST_NOTE};
 pub use script::replay;
 pub use step::{HostStep, TermStep};
 pub use terminal::{Change, Terminal};

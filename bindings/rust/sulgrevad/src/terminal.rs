@@ -183,7 +183,8 @@ impl Terminal {
     }
 
     /// Offers a version of the protocol, and asks for the names of all files. Before it the terminal knows none of them, and refuses each
-    /// event on one; events after it wait for the answer. Version 2 allows longer snarfed texts.
+    /// event on one; events after it wait for the answer. Offer it again to learn of files that joined the host since. Version 2 allows
+    /// longer snarfed texts.
     pub fn offer_version(&mut self, version: u16) -> Result<(), Error> {
         done(unsafe { sys::sam_term_offer_version(self.at(), version) })
     }

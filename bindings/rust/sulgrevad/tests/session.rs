@@ -200,19 +200,39 @@ fn a_stream_ends_between_two_messages() -> Result<(), Error> {
 }
 
 #[test]
+fn a_file_joins_a_running_session() -> Result<(), Error> {
+    let (mut host, mut term, _) = opened("one\n")?;
+    let late = host.add_file("late", "two\n")?;
+    carry(&mut term, &mut host)?;
+    assert_eq!((late, host.pending(), term.is_known(late)), (2, 0, false));
+    term.offer_version(2)?;
+    carry(&mut term, &mut host)?;
+    assert_eq!(term.name(late).as_deref(), Some("late"));
+    term.open(late)?;
+    term.view(late, 0, 80)?;
+    carry(&mut term, &mut host)?;
+    assert_eq!(term.text(late, 0).as_deref(), Some("two\n"));
+    Ok(())
+}
+
+#[test]
 fn refusals_and_faults_have_names() -> Result<(), Error> {
     let (mut host, mut term, _) = opened("one\n")?;
     term.cut(9)?;
     assert_eq!(term.refusals().collect::<Vec<_>>(), vec![(3, Ok(Refusal::NoFile))]);
     assert_eq!(Refusal::NoFile.to_string(), "the event was refused: no file has its tag");
     assert_eq!(host.feed(&[23]), Err(Error::Stream(StreamFault::BadKind)));
-    assert_eq!(host.add_file("a", "b"), Err(Error::Begun));
-    assert_eq!(Error::Begun.status(), 17);
-    assert_eq!(Error::Begun.to_string(), "the host was fed already, and takes no more files");
+    assert_eq!(host.add_file(&"n".repeat(65), "b"), Err(Error::TooLong));
+    assert_eq!(Error::TooLong.status(), 19);
     assert_eq!(
-        sulgrevad::status_text(17),
-        "SAM_ADD_BEGUN: the host was fed already, and takes no more files"
+        Error::TooLong.to_string(),
+        "the name has more than 64 runes, or the text more than 1,000,000"
     );
+    assert_eq!(
+        sulgrevad::status_text(19),
+        "SAM_ADD_TOO_LONG: the name has more than 64 runes, or the text more than 1,000,000"
+    );
+    assert_eq!(sulgrevad::status_text(17), "unknown status");
     assert_eq!(sulgrevad::library_version(), (0, 1, 0));
     Ok(())
 }

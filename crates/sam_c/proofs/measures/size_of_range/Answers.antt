@@ -1,4 +1,4 @@
-use Rattle.std.proofs.Common.{◌≡◌, ◌<◌, [], arith, length, inl, inr}
+use Rattle.std.proofs.Common.{◌≡◌, ◌<◌, ◌∙◌, ap, slice_get, [], arith, length, inl, inr}
 use Rattle.std.specs.Prelude.{slice_range}
 use Rattle.sam_c.proofs.Measuring.{bytes-step, gaps-step, range-past}
 use Rattle.sam_c.proofs.measures.size_of_range.Goals as goal
@@ -7,8 +7,8 @@ pub loop-place-preserved : goal.loop-place-preserved
 loop-place-preserved c =
     grind (
       arith,
-      (bytes-step c.args.rasp.now c.loop-place.place c.args.end c.loaded.result c.loaded.ensures),
-      (gaps-step c.args.rasp.now c.loop-place.place c.args.end c.loaded.result c.loaded.ensures),
+      (bytes-step c.args.rasp.now c.loop-place.place c.args.end c.at.result (c.at.ensures.member ∙ ap (λ r. slice_get r c.loop-place.place) c.loop-place.invariant.same)),
+      (gaps-step c.args.rasp.now c.loop-place.place c.args.end c.at.result (c.at.ensures.member ∙ ap (λ r. slice_get r c.loop-place.place) c.loop-place.invariant.same)),
     )
 
 pub returns : goal.returns

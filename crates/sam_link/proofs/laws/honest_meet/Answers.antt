@@ -1,4 +1,4 @@
-use Rattle.sam_link.proofs.MeetLaws.{honest_meet}
+use Rattle.sam_link.proofs.Meeting.{honest_meet}
 use Rattle.sam_link.proofs.laws.honest_meet.Goals as goal
 
 pub returns : goal.returns

@@ -1,5 +1,5 @@
 use Rattle.sam_workers.proofs.Common.{◌∙◌, ℕ, ap, subst, IsEnded, LineView}
-use Rattle.sam_workers.proofs.GateLaws.{let_on_new}
+use Rattle.sam_workers.proofs.HostCounts.{let_on_new}
 use Rattle.sam_workers.proofs.HostWhole.{told_of, gate_refuses}
 use Rattle.sam_workers.proofs.host_side.serve_host.Goals as goal
 

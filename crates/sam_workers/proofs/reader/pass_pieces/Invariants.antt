@@ -1,5 +1,5 @@
 use Rattle.sam_workers.proofs.Common.{length}
-use Rattle.sam_workers.specs.Gates.{IsCount, LetOn}
+use Rattle.sam_ends.specs.Gates.{IsCount, LetOn}
 use Rattle.sam_workers.proofs.Passes.{SoFar}
 use Rattle.sam_workers.proofs.reader.pass_pieces.Given as goal
 

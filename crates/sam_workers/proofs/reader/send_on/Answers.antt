@@ -1,6 +1,6 @@
 use Rattle.sam_workers.proofs.Common.{rules, ◌≡◌, ◌∷◌, ◌++◌, ◌+◌, [], List, length, length-append, map-append, arith, append_assoc, with_item, sent_on, PostView, HFrame, Input}
-use Rattle.sam_workers.proofs.GateLaws.{let_on_one}
-use Rattle.sam_workers.specs.declared.input.Input.TheVariants.{Host}
+use Rattle.sam_ends.proofs.GateLaws.{let_on_one}
+use Rattle.sam_ends.specs.declared.input.Input.TheVariants.{Host}
 use Rattle.sam_workers.proofs.reader.send_on.Goals as goal
 
 -- a frame more

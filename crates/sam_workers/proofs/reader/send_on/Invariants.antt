@@ -1,5 +1,5 @@
 use Rattle.sam_workers.proofs.Common.{◌≡◌, ◌++◌, length, into_iter_items, sent_on}
-use Rattle.sam_workers.specs.Gates.{IsCount, LetOn}
+use Rattle.sam_ends.specs.Gates.{IsCount, LetOn}
 use Rattle.sam_workers.proofs.reader.send_on.Given as goal
 
 abbrev pub invariant-loop-frame : goal.invariant-loop-frame

@@ -1,6 +1,6 @@
 use Rattle.sam_workers.proofs.Common.{◌≡◌, ◌++◌, length, map, into_iter_items}
-use Rattle.sam_workers.specs.Gates.{IsCount, LetOn}
-use Rattle.sam_workers.specs.declared.input.Input.TheVariants.{User}
+use Rattle.sam_ends.specs.Gates.{IsCount, LetOn}
+use Rattle.sam_ends.specs.declared.input.Input.TheVariants.{User}
 use Rattle.sam_workers.proofs.users.put_events.Given as goal
 
 abbrev pub invariant-loop-event : goal.invariant-loop-event

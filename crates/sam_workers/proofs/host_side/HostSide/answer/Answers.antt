@@ -1,5 +1,5 @@
 use Rattle.sam_workers.proofs.HostSide.{one_all, one_cut}
-use Rattle.sam_workers.proofs.GateLaws.{counted_by}
+use Rattle.sam_workers.proofs.HostCounts.{counted_by}
 use Rattle.sam_workers.proofs.host_side.HostSide.answer.Goals as goal
 
 pub returns-in-Ok-send-clause-handles : goal.returns-in-Ok-send-clause-handles

@@ -1,5 +1,5 @@
 use Rattle.sam_workers.proofs.Common.{rules, ◌≡◌, ◌∷◌, arith, into_iter_items}
-use Rattle.sam_workers.proofs.GateLaws.{let_on_at}
+use Rattle.sam_ends.proofs.GateLaws.{let_on_at}
 use Rattle.sam_workers.proofs.HostSide.{so_far_more, so_far_stops}
 use Rattle.sam_workers.proofs.host_side.HostSide.answer_all.Goals as goal
 

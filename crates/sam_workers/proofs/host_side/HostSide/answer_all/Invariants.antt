@@ -1,5 +1,5 @@
 use Rattle.sam_workers.proofs.Common.{◌≡◌, into_iter_items}
-use Rattle.sam_workers.specs.Gates.{LetOn}
+use Rattle.sam_ends.specs.Gates.{LetOn}
 use Rattle.sam_workers.proofs.HostSide.{SoFar}
 use Rattle.sam_workers.proofs.host_side.HostSide.answer_all.Given as goal
 

@@ -1,5 +1,5 @@
 use Rattle.sam_workers.proofs.Common.{◌∙◌, ap, arith, LineView}
-use Rattle.sam_workers.proofs.GateLaws.{let_on_more}
+use Rattle.sam_ends.proofs.GateLaws.{let_on_more}
 use Rattle.sam_workers.proofs.HostWhole.{going_item, going_stops}
 use Rattle.sam_workers.proofs.host_side.HostSide.serve.Goals as goal
 

@@ -1,5 +1,5 @@
 use Rattle.std.proofs.Common.{◌≡◌}
-use Rattle.sam_workers.specs.Gates.{LetOn}
+use Rattle.sam_ends.specs.Gates.{LetOn}
 use Rattle.sam_workers.proofs.HostWhole.{Going}
 use Rattle.sam_workers.proofs.host_side.HostSide.serve.Given as goal
 

@@ -1,0 +1,255 @@
+//! One end of a link, which carries bytes and notes over connections that may break, and hellos.
+
+use crate::{done, tells, Error, LinkFault};
+use std::cell::UnsafeCell;
+use sulgrevad_sys::{self as sys, sam_link};
+
+/// How many bytes a hello has.
+pub const HELLO_BYTES: usize = sys::SAM_LINK_HELLO_BYTES;
+
+/// The most bytes that a note has.
+pub const MOST_NOTE: usize = sys::SAM_LINK_MOST_NOTE;
+
+/// A side of a link.
+#[derive(Clone, Copy, Debug, PartialEq, Eq)]
+#[repr(u32)]
+pub enum Role {
+    /// It opens connections.
+    Terminal = sys::SAM_LINK_TERMINAL,
+    /// It takes them.
+    Host = sys::SAM_LINK_HOST,
+}
+
+/// How the newest connection stands.
+#[derive(Clone, Copy, Debug, PartialEq, Eq)]
+pub enum Phase {
+    /// There is none, or it is over.
+    Down,
+    /// The terminal has called, and no welcome has come.
+    Asking,
+    /// Both sides have said hello.
+    Open,
+}
+
+/// What a hello says: the first three a terminal, the others a host.
+#[derive(Clone, Copy, Debug, PartialEq, Eq)]
+pub enum What {
+    /// No welcome has come as yet.
+    Begin,
+    /// A welcome has come.
+    Resume,
+    /// No welcome has come as yet, and the session is to begin with the texts of another.
+    TakeOver,
+    /// The host takes the connection.
+    Welcome,
+    /// The host refuses it.
+    Refused(LinkFault),
+}
+
+impl What {
+    fn of(number: u32) -> What {
+        match number {
+            sys::SAM_LINK_BEGIN => What::Begin,
+            sys::SAM_LINK_RESUME => What::Resume,
+            sys::SAM_LINK_TAKE_OVER => What::TakeOver,
+            sys::SAM_LINK_WELCOME => What::Welcome,
+            refusal => {
+                What::Refused(LinkFault::of(refusal + (sys::SAM_LINK_NOT_A_LINK - 17)).expect("the library reads such hellos alone"))
+            }
+        }
+    }
+}
+
+/// A hello.
+#[derive(Clone, Copy, Debug, PartialEq, Eq)]
+pub struct Hello {
+    /// What it says.
+    pub what: What,
+    /// The name of the session.
+    pub id: [u8; sys::SAM_LINK_ID_BYTES],
+    /// The number of the connection.
+    pub attempt: u64,
+}
+
+/// The hello with which the bytes begin; `None` if nothing is wrong so far, and there are fewer than 42. Errors: `Link` with `NotALink` as
+/// soon as the bytes differ from the mark, `OtherVersion` with the ninth byte, `BadHello` with the tenth.
+pub fn read_hello(bytes: &[u8]) -> Result<Option<Hello>, Error> {
+    let (mut what, mut id, mut attempt) = (0, [0; sys::SAM_LINK_ID_BYTES], 0);
+    match unsafe { sys::sam_link_read_hello(bytes.as_ptr(), bytes.len(), &mut what, id.as_mut_ptr(), &mut attempt) } {
+        sys::SAM_NONE => Ok(None),
+        status => done(status).map(|()| {
+            Some(Hello {
+                what: What::of(what),
+                id,
+                attempt,
+            })
+        }),
+    }
+}
+
+/// The hello by which a host refuses a connection whose first bytes these are; `None` for a reason that isn't one of the first seven, which
+/// never goes over the line. It names the session and the connection of the hello that came; if `read_hello` reads none, all zeros.
+pub fn write_refusal(why: LinkFault, bytes: &[u8]) -> Option<[u8; HELLO_BYTES]> {
+    let mut into = [0; HELLO_BYTES];
+    let status = unsafe { sys::sam_link_write_refusal(why.status(), bytes.as_ptr(), bytes.len(), into.as_mut_ptr()) };
+    (status == sys::SAM_OK).then_some(into)
+}
+
+/// One end of a link: each byte and each note comes out at the other side once and in order, over connections that may break at any byte.
+/// It opens no connection and knows no clock. A put, a note, a piece and a hello are taken whole or not at all.
+///
+/// ```
+/// use sulgrevad::{Link, Role};
+///
+/// let mut terminal = Link::new(Role::Terminal, [7; 16])?;
+/// let mut host = Link::new(Role::Host, [7; 16])?;
+/// terminal.put(b"hello")?;
+/// let attempt = terminal.call(false)?;
+/// let mut line = [0; 100]; // what a connection carries
+/// let count = terminal.take_out(attempt, &mut line)?;
+/// host.answer(line[..42].try_into().expect("a hello is first"))?;
+/// host.feed(attempt, &line[42..count])?;
+/// let mut text = [0; 100];
+/// assert_eq!(host.take_in(&mut text), 5);
+/// assert_eq!(&text[..5], b"hello");
+/// # Ok::<(), sulgrevad::Error>(())
+/// ```
+#[derive(Debug)]
+pub struct Link {
+    // Each call writes to the handle, those that only read included.
+    handle: Box<UnsafeCell<sam_link>>,
+}
+
+// A handle shares nothing with another, and each call has it alone.
+unsafe impl Send for Link {}
+
+impl Link {
+    /// The end of this side, before its first connection. The id is the session's name, 16 bytes that the terminal chose at random: no
+    /// secret. Its only error is `NoMemory`.
+    pub fn new(role: Role, id: [u8; sys::SAM_LINK_ID_BYTES]) -> Result<Link, Error> {
+        let handle = Box::new(UnsafeCell::new(sam_link::INIT));
+        done(unsafe { sys::sam_link_new(handle.get(), role as u32, id.as_ptr()) })?;
+        Ok(Link { handle })
+    }
+
+    fn at(&self) -> *mut sam_link {
+        self.handle.get()
+    }
+
+    /// At the terminal's end: another connection was opened, and the one before is over. It has this number, counted from 1. With
+    /// `take_over`, as long as no host has welcomed this end, the session is to begin with the texts of another. Errors in order:
+    /// `Link(WrongRole)`, `CountFull`.
+    pub fn call(&mut self, take_over: bool) -> Result<u64, Error> {
+        let mut attempt = 0;
+        done(unsafe { sys::sam_link_call(self.at(), take_over, &mut attempt) })?;
+        Ok(attempt)
+    }
+
+    /// The terminal's end takes the first bytes that the host sent on the newest connection. Errors of [`read_hello`]; then `Link` with, in
+    /// this order, `WrongRole`, `NotOpen` if no call waits for a welcome, the host's reason if it refuses, `BadHello`, `OtherSession`,
+    /// `OldAttempt`, `WrongCount`. Nothing has changed then.
+    pub fn welcomed(&mut self, hello: &[u8; HELLO_BYTES]) -> Result<(), Error> {
+        done(unsafe { sys::sam_link_welcomed(self.at(), hello.as_ptr(), hello.len()) })
+    }
+
+    /// The host's end takes the connection whose first bytes these are, and the one before is over. Errors of [`read_hello`]; then `Link`
+    /// with, in this order, `WrongRole`, `BadHello`, `NoSession`, `OtherSession`, `OldAttempt`, `WrongCount`. Nothing has changed then.
+    pub fn answer(&mut self, hello: &[u8; HELLO_BYTES]) -> Result<(), Error> {
+        done(unsafe { sys::sam_link_answer(self.at(), hello.as_ptr(), hello.len()) })
+    }
+
+    /// A connection has ended, or is given up. If it isn't the newest nothing is changed.
+    pub fn broken(&mut self, attempt: u64) {
+        unsafe { sys::sam_link_broken(self.at(), attempt) };
+    }
+
+    /// Puts bytes for the other side's program, all or none, whether a connection is there or not. Errors in order: `CountFull`,
+    /// `NoMemory`.
+    pub fn put(&mut self, bytes: &[u8]) -> Result<(), Error> {
+        done(unsafe { sys::sam_link_put(self.at(), bytes.as_ptr(), bytes.len()) })
+    }
+
+    /// Puts a note, behind all that was put: it comes out after these bytes and before later ones. Errors in order: `Link(TooLong)` for
+    /// more than 4,096 bytes, `CountFull`, `NoMemory`.
+    pub fn put_note(&mut self, bytes: &[u8]) -> Result<(), Error> {
+        done(unsafe { sys::sam_link_put_note(self.at(), bytes.as_ptr(), bytes.len()) })
+    }
+
+    /// Asks the other side to acknowledge now: if no byte comes, the line is broken. Errors in order: `CountFull`, `NoMemory`.
+    pub fn ask(&mut self) -> Result<(), Error> {
+        done(unsafe { sys::sam_link_ask(self.at()) })
+    }
+
+    /// Acknowledges all bytes that have come, as the end does by itself when it is asked and after each 16,384 bytes. Errors in order:
+    /// `CountFull`, `NoMemory`.
+    pub fn acknowledge(&mut self) -> Result<(), Error> {
+        done(unsafe { sys::sam_link_acknowledge(self.at()) })
+    }
+
+    /// Moves the next bytes for a connection into the buffer, and returns how many: first the hello, and then the stream from where this
+    /// connection goes on, at a terminal's end after the welcome, but on the first connection. The error is `Link(NotOpen)` if the
+    /// connection is over or isn't the newest.
+    pub fn take_out(&mut self, attempt: u64, into: &mut [u8]) -> Result<usize, Error> {
+        let mut count = 0;
+        done(unsafe { sys::sam_link_take_out(self.at(), attempt, into.as_mut_ptr(), into.len(), &mut count) })?;
+        Ok(count)
+    }
+
+    /// Takes bytes that came on a connection after the hello, in whatever pieces, all or none. Errors: `Link(NotOpen)`, then `CountFull`;
+    /// then `NoMemory`, and the piece may be fed again; or `Link` with `BadKind` or `BadLength`, and else `AckAhead`: the connection is
+    /// then over.
+    pub fn feed(&mut self, attempt: u64, bytes: &[u8]) -> Result<(), Error> {
+        done(unsafe { sys::sam_link_feed(self.at(), attempt, bytes.as_ptr(), bytes.len()) })
+    }
+
+    /// Moves the next bytes of the other side's program into the buffer, those of one packet at most, and returns how many: 0 where a note is
+    /// next, or nothing.
+    pub fn take_in(&mut self, into: &mut [u8]) -> usize {
+        tells(|count| unsafe { sys::sam_link_take_in(self.at(), into.as_mut_ptr(), into.len(), count) })
+    }
+
+    /// The note that is next; `None` if bytes before it are not taken in yet, or none has come.
+    pub fn next_note(&mut self) -> Option<Vec<u8>> {
+        let mut note = vec![0; MOST_NOTE];
+        let mut len = 0;
+        let status = unsafe { sys::sam_link_next_note(self.at(), note.as_mut_ptr(), note.len(), &mut len) };
+        note.truncate(len);
+        (status == sys::SAM_OK).then_some(note)
+    }
+
+    /// How the newest connection stands.
+    pub fn phase(&self) -> Phase {
+        match tells(|phase| unsafe { sys::sam_link_phase(self.at(), phase) }) {
+            sys::SAM_LINK_DOWN => Phase::Down,
+            sys::SAM_LINK_ASKING => Phase::Asking,
+            _ => Phase::Open,
+        }
+    }
+
+    /// The number of the newest connection; 0 before the first.
+    pub fn attempt(&self) -> u64 {
+        tells(|attempt| unsafe { sys::sam_link_attempt(self.at(), attempt) })
+    }
+
+    /// How many bytes this side's stream has, heads of packets included.
+    pub fn put_count(&self) -> u64 {
+        tells(|count| unsafe { sys::sam_link_put_count(self.at(), count) })
+    }
+
+    /// How many of them the other side has acknowledged: all that was put at one time has come once this is at least what `put_count` was
+    /// then.
+    pub fn acknowledged(&self) -> u64 {
+        tells(|count| unsafe { sys::sam_link_acknowledged(self.at(), count) })
+    }
+
+    /// How many bytes of the other side's stream have come.
+    pub fn received(&self) -> u64 {
+        tells(|count| unsafe { sys::sam_link_received(self.at(), count) })
+    }
+}
+
+impl Drop for Link {
+    fn drop(&mut self) {
+        unsafe { sys::sam_link_free(self.at()) };
+    }
+}

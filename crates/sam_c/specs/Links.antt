@@ -1,0 +1,185 @@
+-- What the calls of a link do.
+use Rattle.std.specs.Prelude.{◌≡◌, ◌⊎◌, ◌<◌, ◌^◌, ℕ, List, ◌++◌, length, Bool, true, false, nat_lt, Option, Some, None, Result, Ok, Err}
+use Rattle.sam_mesg.specs.Bounds.{entry}
+use Rattle.sam_mesg.specs.Spelling.{eight, frame}
+use Rattle.sam_link.specs.End.{Answers, Calls, End, TakesOut, Welcomes, broken, fresh}
+use Rattle.sam_link.specs.Feeding.{Feeds, PutsNote}
+use Rattle.sam_link.specs.Hellos.{ReadsHello, spelled, what_number}
+use Rattle.sam_link.specs.Inbox.{GivesNote, ready}
+use Rattle.sam_link.specs.Keeping.{Keeps, Puts, may_have}
+use Rattle.sam_link.specs.declared.fault.AnswerFault.{AnswerFault}
+use Rattle.sam_link.specs.declared.fault.CallFault.{CallFault}
+use Rattle.sam_link.specs.declared.fault.FeedFault.{FeedFault}
+use Rattle.sam_link.specs.declared.fault.NotOpen.{NotOpen}
+use Rattle.sam_link.specs.declared.fault.NoteFault.{NoteFault}
+use Rattle.sam_link.specs.declared.fault.WelcomeFault.{WelcomeFault}
+use Rattle.sam_link.specs.declared.hello.Hello.{Hello}
+use Rattle.sam_link.specs.declared.hello.Id.{Id}
+use Rattle.sam_link.specs.declared.hello.Refusal.{Refusal}
+use Rattle.sam_link.specs.declared.hello.What.TheVariants.{Refused}
+use Rattle.sam_link.specs.declared.keeping.PutFault.{PutFault}
+use Rattle.sam_link.specs.declared.phase.Role.{Role}
+use Rattle.sam_c.specs.Calls.{AtHandle}
+use Rattle.sam_c.specs.Hosts.{Takes}
+use Rattle.sam_c.specs.LinkStatus.{answer_status, call_status, feed_status, link_refusal, link_refusals, no_room, note_status, out_status, put_status, role_of, welcome_status, wrong_role}
+use Rattle.sam_c.specs.Status.{ok, no_memory, is_made, no_handle, nothing}
+
+-- the 16 bytes of an id
+abbrev pub id_bytes : Id → List ℕ
+id_bytes id = eight id.first ++ eight id.last
+
+-- a new end of this side and with this id, or why there is none and the handle is as before
+abbrev pub MakesLink : Option Role → List ℕ → ℕ → Option End → Type 0
+MakesLink None bytes status after = (status ≡ wrong_role) × (after ≡ None)
+MakesLink (Some role) bytes status after =
+    ((id : Id) × (id_bytes id ≡ bytes) × (status ≡ ok) × (after ≡ Some (fresh role id))) ⊎ ((status ≡ no_memory) × (after ≡ None))
+
+abbrev pub LinkMade : Option End → ℕ → List ℕ → ℕ → Option End → Type 0
+LinkMade None role bytes status after = MakesLink (role_of role) bytes status after
+LinkMade (Some e) role bytes status after = (status ≡ is_made) × (after ≡ Some e)
+
+-- ## Hellos without a handle
+
+-- what is handed out of a hello: its word, its id and its connection
+pub record Told : Type 0 where
+  pub what : ℕ
+  pub id : List ℕ
+  pub attempt : ℕ
+
+abbrev pub told : ℕ → List ℕ → ℕ → Told
+told what id attempt = record { what = what; id = id; attempt = attempt }
+
+abbrev pub TellsHello : Result (Option Hello) Refusal → ℕ → Told → Told → Type 0
+TellsHello (Ok (Some h)) status before after = (status ≡ ok) × (after ≡ told (what_number h.what) (id_bytes h.id) h.attempt)
+TellsHello (Ok None) status before after = (status ≡ nothing) × (after ≡ before)
+TellsHello (Err why) status before after = (status ≡ link_refusal why) × (after ≡ before)
+
+abbrev pub HelloTold : List ℕ → ℕ → Told → Told → Type 0
+HelloTold bytes status before after = (read : Result (Option Hello) Refusal) × ReadsHello bytes read × TellsHello read status before after
+
+abbrev pub no_id : Id
+no_id = record { first = 0; last = 0 }
+
+-- a refusal names the session and the connection of what was read
+abbrev pub refusing : Refusal → Result (Option Hello) Refusal → Hello
+refusing why (Ok (Some h)) = record { what = Refused why; id = h.id; attempt = h.attempt; received = 0 }
+refusing why (Ok None) = record { what = Refused why; id = no_id; attempt = 0; received = 0 }
+refusing why (Err fault) = record { what = Refused why; id = no_id; attempt = 0; received = 0 }
+
+abbrev pub WritesRefusal : Option Refusal → List ℕ → ℕ → List ℕ → List ℕ → Type 0
+WritesRefusal None bytes status before after = (status ≡ nothing) × (after ≡ before)
+WritesRefusal (Some why) bytes status before after =
+    (read : Result (Option Hello) Refusal) × ReadsHello bytes read × (status ≡ ok) × (after ≡ spelled (refusing why read))
+
+abbrev pub RefusalWritten : ℕ → List ℕ → ℕ → List ℕ → List ℕ → Type 0
+RefusalWritten why bytes status before after = WritesRefusal (entry 193 link_refusals why) bytes status before after
+
+-- ## Connections
+
+-- a number that was handed out, or what stood there before
+abbrev pub handed_or : {F : Type 0} → ℕ → Result ℕ F → ℕ
+handed_or before (Ok number) = number
+handed_or before (Err why) = before
+
+abbrev pub LinkCalled : Option End → Bool → ℕ → ℕ → ℕ → Option End → Type 0
+LinkCalled None take_over old status new after = (status ≡ no_handle) × (new ≡ old) × (after ≡ None)
+LinkCalled (Some e) take_over old status new after =
+    (g : End) × (result : Result ℕ CallFault) × (after ≡ Some g) × Calls e take_over result g
+    × (status ≡ call_status result) × (new ≡ handed_or old result)
+
+-- what is done with the hello that was read, or why there is none and the end is as before
+abbrev pub WithHello : Result (Option Hello) Refusal → End → ℕ → End → (Hello → Type 0) → Type 0
+WithHello (Ok (Some h)) e status g Does = Does h
+WithHello (Ok None) e status g Does = (status ≡ nothing) × (g ≡ e)
+WithHello (Err why) e status g Does = (status ≡ link_refusal why) × (g ≡ e)
+
+abbrev pub TakesWelcome : End → List ℕ → ℕ → End → Type 0
+TakesWelcome e bytes status g =
+    (read : Result (Option Hello) Refusal) × ReadsHello bytes read × WithHello read e status g
+    (λ h. (result : Result (Unit {0}) WelcomeFault) × Welcomes e h result g × (status ≡ welcome_status result))
+
+abbrev pub TakesAnswer : End → List ℕ → ℕ → End → Type 0
+TakesAnswer e bytes status g =
+    (read : Result (Option Hello) Refusal) × ReadsHello bytes read × WithHello read e status g
+    (λ h. (result : Result (Unit {0}) AnswerFault) × Answers e h result g × (status ≡ answer_status result))
+
+abbrev pub LinkWelcomed : Option End → List ℕ → ℕ → Option End → Type 0
+LinkWelcomed before bytes status after = AtHandle before status after (λ e status g. TakesWelcome e bytes status g)
+
+abbrev pub LinkAnswered : Option End → List ℕ → ℕ → Option End → Type 0
+LinkAnswered before bytes status after = AtHandle before status after (λ e status g. TakesAnswer e bytes status g)
+
+abbrev pub LinkBroken : Option End → ℕ → ℕ → Option End → Type 0
+LinkBroken before attempt status after = AtHandle before status after (λ e status g. (status ≡ ok) × (g ≡ broken e attempt))
+
+-- ## What is put
+
+-- bytes are put, all or none, and all else is as before
+abbrev pub LinkPut : Option End → List ℕ → ℕ → Option End → Type 0
+LinkPut before bytes status after =
+    AtHandle before status after
+    (λ e status g. (result : Result (Unit {0}) PutFault) × Puts e.keeps bytes result g.keeps × (g ≡ record e { keeps = g.keeps })
+    × (status ≡ put_status result))
+
+abbrev pub LinkNotePut : Option End → List ℕ → ℕ → Option End → Type 0
+LinkNotePut before bytes status after =
+    AtHandle before status after
+    (λ e status g. (result : Result (Unit {0}) NoteFault) × PutsNote e.keeps bytes result g.keeps × (g ≡ record e { keeps = g.keeps })
+    × (status ≡ note_status result))
+
+-- the other side is told how many of its bytes have come
+abbrev pub after_told : End → Keeps → Result (Unit {0}) PutFault → End
+after_told e keeps (Ok done) = record e { keeps = keeps; told = e.received }
+after_told e keeps (Err why) = e
+
+abbrev pub LinkAcknowledges : Option End → ℕ → Option End → Type 0
+LinkAcknowledges before status after =
+    AtHandle before status after
+    (λ e status g. (result : Result (Unit {0}) PutFault) × Puts e.keeps (frame 3 (eight e.received)) result g.keeps
+    × (g ≡ after_told e g.keeps result) × (status ≡ put_status result))
+
+-- ## Bytes out and in
+
+abbrev pub LinkTakenOut : Option End → ℕ → List ℕ → List ℕ → ℕ → ℕ → ℕ → Option End → Type 0
+LinkTakenOut None attempt before after old status new g = (status ≡ no_handle) × (after ≡ before) × (new ≡ old) × (g ≡ None)
+LinkTakenOut (Some e) attempt before after old status new g =
+    (n : End) × (result : Result ℕ NotOpen) × (g ≡ Some n) × TakesOut e attempt before result after n
+    × (status ≡ out_status result) × (new ≡ handed_or old result)
+
+abbrev pub LinkFed : Option End → ℕ → List ℕ → ℕ → Option End → Type 0
+LinkFed before attempt piece status after =
+    AtHandle before status after
+    (λ e status g. (result : Result (Unit {0}) FeedFault) × Feeds e attempt piece result g × (status ≡ feed_status result))
+
+abbrev pub LinkTakenIn : Option End → List ℕ → List ℕ → ℕ → ℕ → ℕ → Option End → Type 0
+LinkTakenIn None before after old status new g = (status ≡ no_handle) × (after ≡ before) × (new ≡ old) × (g ≡ None)
+LinkTakenIn (Some e) before after old status new g =
+    (left : List ℕ) × (status ≡ ok) × Takes (ready e.waiting).part before after new left
+    × (g ≡ Some (record e { waiting = record { part = left; packets = (ready e.waiting).packets } }))
+
+-- the note that was next stands in the buffer: no note is longer than the room that the call wants
+abbrev pub HandsNote : Option (List ℕ) → List ℕ → List ℕ → ℕ → ℕ → ℕ → Type 0
+HandsNote None before after old status new = (status ≡ nothing) × (after ≡ before) × (new ≡ old)
+HandsNote (Some note) before after old status new = (left : List ℕ) × (status ≡ ok) × Takes note before after new left
+
+abbrev pub NextNote : End → Bool → List ℕ → List ℕ → ℕ → ℕ → ℕ → End → Type 0
+NextNote e true before after old status new n = (status ≡ no_room) × (after ≡ before) × (new ≡ old) × (n ≡ e)
+NextNote e false before after old status new n =
+    (note : Option (List ℕ)) × GivesNote e.waiting note n.waiting × (n ≡ record e { waiting = n.waiting })
+    × HandsNote note before after old status new
+
+abbrev pub LinkNextNote : Option End → List ℕ → List ℕ → ℕ → ℕ → ℕ → Option End → Type 0
+LinkNextNote None before after old status new g = (status ≡ no_handle) × (after ≡ before) × (new ≡ old) × (g ≡ None)
+LinkNextNote (Some e) before after old status new g =
+    (n : End) × (g ≡ Some n) × NextNote e (nat_lt (length before) 4096) before after old status new n
+
+-- ## Readers
+
+-- the greatest count that the other side may have: how many bytes were put
+pub record IsPutCount (e : End) (count : ℕ) : Type 0 where
+  pub there : may_have e.keeps count ≡ true
+  pub most : (more : ℕ) → count < more → more < 2 ^ 64 → may_have e.keeps more ≡ false
+
+abbrev pub LinkPutCount : Option End → ℕ → ℕ → ℕ → Type 0
+LinkPutCount None old status new = (status ≡ no_handle) × (new ≡ old)
+LinkPutCount (Some e) old status new = (status ≡ ok) × IsPutCount e new

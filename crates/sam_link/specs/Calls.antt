@@ -1,0 +1,122 @@
+-- A call of an end with its answer, and what it brought.
+use Rattle.std.specs.Prelude.{◌≡◌, ℕ, List, [], ◌∷◌, ◌++◌, length, take, drop, map, min, flat_map, Bool, ◌==◌, if◌then◌else◌, Option, Some, Result, Ok, Err}
+use Rattle.sam_mesg.specs.Spelling.{eight, frame}
+use Rattle.sam_link.specs.End.{Answers, Calls, End, TakesOut, Welcomes, broken}
+use Rattle.sam_link.specs.Feeding.{Feeds, PutsNote}
+use Rattle.sam_link.specs.Inbox.{GivesNote, Waiting, ready}
+use Rattle.sam_link.specs.Keeping.{Puts}
+use Rattle.sam_link.specs.Putting.{data_stream}
+use Rattle.sam_link.specs.declared.fault.AnswerFault.{AnswerFault}
+use Rattle.sam_link.specs.declared.fault.CallFault.{CallFault}
+use Rattle.sam_link.specs.declared.fault.FeedFault.{FeedFault}
+use Rattle.sam_link.specs.declared.fault.NotOpen.{NotOpen}
+use Rattle.sam_link.specs.declared.fault.NoteFault.{NoteFault}
+use Rattle.sam_link.specs.declared.fault.WelcomeFault.{WelcomeFault}
+use Rattle.sam_link.specs.declared.hello.Hello.{Hello}
+use Rattle.sam_link.specs.declared.keeping.PutFault.{PutFault}
+use Rattle.sam_link.specs.declared.packet.Packet.{Packet}
+use Rattle.sam_link.specs.declared.packet.Packet.TheVariants as packet
+
+-- what was given, and what came of it
+pub data Call : Type 0 where
+  Dial : Bool → Result ℕ CallFault → Call  -- `call`: the terminal makes another connection
+  Answer : Hello → Result (Unit {0}) AnswerFault → Call  -- `answer`: the host takes a connection by its hello
+  Welcome : Hello → Result (Unit {0}) WelcomeFault → Call  -- `welcomed`: the terminal takes the host's hello
+  Break : ℕ → Call  -- `broken`: this connection is over
+  Put : List ℕ → Result (Unit {0}) PutFault → Call
+  PutNote : List ℕ → Result (Unit {0}) NoteFault → Call
+  Ask : Result (Unit {0}) PutFault → Call
+  Acknowledge : Result (Unit {0}) PutFault → Call
+  TakeOut : ℕ → List ℕ → Result ℕ NotOpen → List ℕ → Call  -- of this connection into these bytes, which then were those
+  Feed : ℕ → List ℕ → Result (Unit {0}) FeedFault → Call  -- this connection brought this piece
+  TakeIn : List ℕ → ℕ → List ℕ → Call  -- into these bytes so many came, and then they were those
+  NextNote : Option (List ℕ) → Call
+
+-- an end that has acknowledged knows that it told so much
+abbrev pub Acknowledges : End → Result (Unit {0}) PutFault → End → Type 0
+Acknowledges e (Ok done) n = n ≡ record e { keeps = n.keeps; told = e.received }
+Acknowledges e (Err why) n = n ≡ e
+
+-- taking in leaves this behind: of the data that was first, what did not come along, and the packets after it
+abbrev pub left_of : Waiting → ℕ → Waiting
+left_of w count = record { part = drop count (ready w).part; packets = (ready w).packets }
+
+-- the call leads from one end to the other: these are the clauses of the calls
+abbrev pub Does : End → Call → End → Type 0
+Does e (Dial take_over answer) n = Calls e take_over answer n
+Does e (Answer hello answer) n = Answers e hello answer n
+Does e (Welcome hello answer) n = Welcomes e hello answer n
+Does e (Break attempt) n = n ≡ broken e attempt
+Does e (Put bytes answer) n = Puts e.keeps (data_stream bytes) answer n.keeps × (n ≡ record e { keeps = n.keeps })
+Does e (PutNote bytes answer) n = PutsNote e.keeps bytes answer n.keeps × (n ≡ record e { keeps = n.keeps })
+Does e (Ask answer) n = Puts e.keeps (frame 4 []) answer n.keeps × (n ≡ record e { keeps = n.keeps })
+Does e (Acknowledge answer) n = Puts e.keeps (frame 3 (eight e.received)) answer n.keeps × Acknowledges e answer n
+Does e (TakeOut attempt old answer new) n = TakesOut e attempt old answer new n
+Does e (Feed attempt piece answer) n = Feeds e attempt piece answer n
+Does e (TakeIn old count new) n =
+    (count ≡ min (length (ready e.waiting).part) (length old)) × (new ≡ take count (ready e.waiting).part ++ drop count old)
+    × (n ≡ record e { waiting = left_of e.waiting count })
+Does e (NextNote answer) n = GivesNote e.waiting answer n.waiting × (n ≡ record e { waiting = n.waiting })
+
+-- ## What crosses a link
+
+pub data Item : Type 0 where
+  Byte : ℕ → Item
+  Note : List ℕ → Item
+
+-- what of a packet is for the program
+abbrev pub items_in : Packet → List Item
+items_in (packet.Data bytes) = map Byte bytes
+items_in (packet.Note bytes) = Note bytes ∷ []
+items_in (packet.Acknowledge count) = []
+items_in packet.Ask = []
+
+-- what waits for the program
+abbrev pub waits : Waiting → List Item
+waits w = map Byte w.part ++ flat_map items_in w.packets
+
+-- what the call put for the other program
+abbrev pub put_by : Call → List Item
+put_by (Put bytes (Ok done)) = map Byte bytes
+put_by (PutNote bytes (Ok done)) = Note bytes ∷ []
+put_by _ = []
+
+-- what the call handed to this program
+abbrev pub handed_by : Call → List Item
+handed_by (TakeIn old count new) = map Byte (take count new)
+handed_by (NextNote (Some bytes)) = Note bytes ∷ []
+handed_by _ = []
+
+abbrev pub put : List Call → List Item
+put calls = flat_map put_by calls
+
+abbrev pub handed : List Call → List Item
+handed calls = flat_map handed_by calls
+
+-- the bytes among these items
+abbrev pub byte_of : Item → List ℕ
+byte_of (Byte byte) = byte ∷ []
+byte_of (Note bytes) = []
+
+abbrev pub bytes_of : List Item → List ℕ
+bytes_of items = flat_map byte_of items
+
+-- ## What crosses a connection
+
+-- on which connection the call took bytes out, and which
+abbrev pub out_by : ℕ → Call → List ℕ
+out_by attempt (TakeOut n old (Ok count) new) = if n == attempt then take count new else []
+out_by attempt _ = []
+
+-- the piece of the connection that the call took; one that is refused may be fed again
+abbrev pub fed_by : ℕ → Call → List ℕ
+fed_by attempt (Feed n piece (Ok done)) = if n == attempt then piece else []
+fed_by attempt _ = []
+
+-- all that was taken out on a connection: a hello, and the stream behind it
+abbrev pub out : ℕ → List Call → List ℕ
+out attempt calls = flat_map (out_by attempt) calls
+
+-- all that came behind the hello of a connection
+abbrev pub fed : ℕ → List Call → List ℕ
+fed attempt calls = flat_map (fed_by attempt) calls

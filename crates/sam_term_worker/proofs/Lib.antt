@@ -1,0 +1,4 @@
+pub mod Common
+pub mod TermSteps
+pub mod TermKeeping
+pub mod TermTaking

@@ -1,0 +1,2 @@
+pub mod PiecesUp
+pub mod TermMoments

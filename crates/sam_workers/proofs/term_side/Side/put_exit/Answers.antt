@@ -1,9 +1,0 @@
-use Rattle.sam_workers.proofs.Common.{rules, MayExit}
-use Rattle.sam_workers.proofs.TermKeeping.{kept_exit}
-use Rattle.sam_workers.proofs.term_side.Side.put_exit.Goals as goal
-
-pub invariant_of-self : goal.invariant_of-self
-invariant_of-self c =
-    let known : MayExit c.args.self.now = search rules in
-    let may = rw (← c.self.view_is) at known in
-    kept_exit _ _ c.self.invariant may.running c.in-Ok.ensures.held may.none_put may.keyboard may.mouse

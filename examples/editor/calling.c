@@ -1,0 +1,317 @@
+/* calling.c: takes connections, and reads what they say first: the hello of a terminal's link, or what another samhost asks for.
+ *
+ * Who connects has to be the user. The system says so, and the folder lets nobody else in.
+ */
+#define _GNU_SOURCE
+#include <errno.h>
+#include <stdio.h>
+#include <stdlib.h>
+#include <string.h>
+#include <sys/socket.h>
+#include <unistd.h>
+
+#include "samhost.h"
+
+enum { LONGEST_HELLO = 10000 }; /* milliseconds that a connection may take for what it says first */
+
+void name_machine(char machine[MACHINE_ROOM])
+{
+    if (gethostname(machine, MACHINE_ROOM) != 0)
+        machine[0] = '\0';
+    machine[MACHINE_ROOM - 1] = '\0';
+}
+
+/* ---- Connections ---- */
+
+static void drop_caller(struct caller *caller)
+{
+    if (caller->socket >= 0)
+        close(caller->socket);
+    caller->socket = -1;
+    caller->len = 0;
+}
+
+void accept_callers(struct stay *stay)
+{
+    for (int at = 0; at < MOST_CALLERS; at++) {
+        struct caller *caller = &stay->callers[at];
+        if (caller->socket >= 0)
+            continue;
+        int socket = accept4(stay->listener, NULL, NULL, SOCK_NONBLOCK | SOCK_CLOEXEC);
+        if (socket < 0)
+            return;
+        caller->socket = socket;
+        caller->since = now();
+        caller->len = 0;
+        if (!is_ours(socket, NULL))
+            drop_caller(caller);
+    }
+}
+
+int64_t drop_callers(struct stay *stay)
+{
+    int64_t next = -1;
+
+    for (int at = 0; at < MOST_CALLERS; at++) {
+        struct caller *caller = &stay->callers[at];
+        int64_t left = caller->since + LONGEST_HELLO - now();
+        if (caller->socket >= 0 && left <= 0)
+            drop_caller(caller);
+        else if (caller->socket >= 0 && (next < 0 || left < next))
+            next = left;
+    }
+    return next;
+}
+
+/* ---- Hellos ---- */
+
+void name_of_id(const uint8_t id[SAM_LINK_ID_BYTES], char name[NAME_DIGITS + 1])
+{
+    for (int at = 0; at < NAME_DIGITS / 2; at++)
+        snprintf(name + 2 * at, 3, "%02x", id[at]);
+}
+
+bool say_first(struct session *session)
+{
+    struct stay *stay = session->stay;
+    struct note *others = stay->notes;
+    char machine[MACHINE_ROOM], name[NAME_DIGITS + 1];
+
+    name_machine(machine);
+    name_of_id(stay->id, name);
+    stay->notes = NULL;
+    bool is_said = say_note(session, "session %s %s", name, machine);
+    if (is_said)
+        stay->notes->next = others;
+    else
+        stay->notes = others;
+    return is_said;
+}
+
+/* Makes the link and the first note, at the first hello, which says how the session is named in full. */
+static uint32_t make_link(struct session *session, const uint8_t *id)
+{
+    struct stay *stay = session->stay;
+    char name[NAME_DIGITS + 1];
+
+    name_of_id(id, name);
+    if (strcmp(name, stay->home.name) != 0)
+        return SAM_LINK_OTHER_SESSION;
+    uint32_t code = sam_link_new(&stay->link, SAM_LINK_HOST, id);
+    if (code != SAM_OK)
+        return code;
+    memcpy(stay->id, id, SAM_LINK_ID_BYTES);
+    return say_first(session) ? SAM_OK : SAM_NO_MEMORY;
+}
+
+/* Takes the link and its first note back. */
+static void drop_link(struct stay *stay)
+{
+    struct note *first = stay->notes;
+
+    stay->notes = first->next;
+    free(first->words);
+    free(first);
+    (void)sam_link_free(&stay->link);
+}
+
+/* Has the link take a connection. What it refuses changes nothing. */
+static uint32_t answer(struct session *session, const struct caller *caller, const uint8_t *id, uint64_t attempt)
+{
+    struct stay *stay = session->stay;
+    bool is_first = stay->attempt == 0;
+    uint32_t code = is_first ? make_link(session, id) : SAM_OK;
+
+    if (code != SAM_OK) {
+        (void)sam_link_free(&stay->link);
+        return code;
+    }
+    code = sam_link_answer(&stay->link, caller->bytes, caller->len);
+    if (code == SAM_OK) {
+        stay->attempt = attempt;
+        add_record(session, STEP_HELLO, caller->bytes, caller->len);
+        stay->journal.is_awaited = true; /* the answer says what has come */
+    } else if (is_first) {
+        drop_link(stay);
+    }
+    return code;
+}
+
+/* Takes a connection whose hello is whole, in the place of the one before, or refuses it. */
+static void take_hello(struct session *session, struct caller *caller)
+{
+    struct stay *stay = session->stay;
+    uint8_t id[SAM_LINK_ID_BYTES], refusal[SAM_LINK_HELLO_BYTES];
+    uint64_t attempt = 0;
+    uint32_t what, code = sam_link_read_hello(caller->bytes, caller->len, &what, id, &attempt);
+
+    if (code == SAM_NONE)
+        return; /* more is to come */
+    bool takes_over = code == SAM_OK && what == SAM_LINK_TAKE_OVER && (stay->attempt == 0 || memcmp(id, stay->id, sizeof id) != 0);
+    if (takes_over)
+        code = take_over(session, caller, id, attempt);
+    else if (code == SAM_OK)
+        code = answer(session, caller, id, attempt);
+    if (takes_over && code == SAM_OK)
+        return; /* the connection is the heir's */
+    if (code == SAM_OK) {
+        int line = caller->socket;
+        caller->socket = -1;
+        if (stay->line >= 0)
+            close(stay->line);
+        stay->in.len = stay->out.len = stay->out.sent = 0;
+        stay->line = line;
+        put_notes(session);
+    } else if (sam_link_write_refusal(code, caller->bytes, caller->len, refusal) == SAM_OK) {
+        (void)send(caller->socket, refusal, sizeof refusal, MSG_NOSIGNAL | MSG_DONTWAIT); /* where it doesn't go, nobody is there */
+    }
+    drop_caller(caller);
+}
+
+/* ---- What another samhost asks for ---- */
+
+/* Whether bytes begin as a question does: its mark differs from that of a hello. */
+static bool is_question(const struct caller *caller)
+{
+    return caller->len >= QUESTION_MARK_LEN && memcmp(caller->bytes, QUESTION_MARK, QUESTION_MARK_LEN) == 0;
+}
+
+/* How many bytes of a question, or of a hello, are wanted in all, as far as what has come says. Behind a hello all is the link's. */
+static size_t wanted_len(const struct caller *caller)
+{
+    const uint8_t *bytes = caller->bytes;
+
+    if (!is_question(caller))
+        return caller->len < QUESTION_MARK_LEN ? QUESTION_MARK_LEN : SAM_LINK_HELLO_BYTES;
+    return caller->len < QUESTION_HEAD ? QUESTION_HEAD : QUESTION_HEAD + ((size_t)bytes[QUESTION_HEAD - 2] << 8 | bytes[QUESTION_HEAD - 1]);
+}
+
+/* Says one line to who has asked. */
+static void answer_line(int socket, const char *line)
+{
+    (void)send(socket, line, strlen(line), MSG_NOSIGNAL | MSG_DONTWAIT); /* where it doesn't go, nobody is there */
+}
+
+static int count_unsaved(struct session *session)
+{
+    size_t tags = count_tags(session);
+    int count = 0;
+
+    for (size_t tag = 1; tag < tags; tag++) {
+        bool is_dirty = false;
+        if (tag != session->vault && sam_host_is_dirty(&session->host, (uint16_t)tag, &is_dirty) == SAM_OK)
+            count += is_dirty || session->documents[tag].is_unsaved;
+    }
+    return count;
+}
+
+/* Says how a session is: for how many seconds it has run, for how many nobody was there, and how many files are not written. */
+static void answer_list(struct session *session, const struct caller *caller)
+{
+    struct stay *stay = session->stay;
+    int64_t time = now(), alone = stay->line >= 0 ? -1 : (time - stay->alone_since) / 1000;
+    char line[ANSWER_ROOM];
+
+    snprintf(line, sizeof line, "%lld %lld %d\n", (long long)(time - stay->begun) / 1000, (long long)alone, count_unsaved(session));
+    answer_line(caller->socket, line);
+}
+
+/* A place for one more who waits; NULL where there is none. Who has gone meanwhile no longer waits. */
+static struct waiter *free_waiter(struct stay *stay)
+{
+    uint8_t byte;
+
+    for (int at = 0; at < MOST_WAITERS; at++) {
+        struct waiter *waiter = &stay->waiters[at];
+        if (waiter->socket >= 0 && recv(waiter->socket, &byte, 1, MSG_PEEK | MSG_DONTWAIT) == 0) {
+            close(waiter->socket);
+            waiter->socket = -1;
+        }
+        if (waiter->socket < 0)
+            return waiter;
+    }
+    return NULL;
+}
+
+/* A path as seen from the folder of the session, where it leads into that. */
+static const char *seen_from_here(const char *path, const char *folder)
+{
+    size_t len = folder == NULL ? 0 : strlen(folder);
+
+    return len > 1 && strncmp(path, folder, len) == 0 && path[len] == '/' && path[len + 1] != '\0' ? path + len + 1 : path;
+}
+
+/* Has the terminal show a file: a path, a line, and whether who asks waits until it is closed. Where memory is out nothing has changed. */
+static void answer_open(struct session *session, struct caller *caller, const char *path, const char *line, bool waits)
+{
+    struct stay *stay = session->stay;
+    uint16_t tag = 0;
+    bool is_short = session->wire.is_short || stay->has_note;
+    char answer[ANSWER_ROOM], *folder = getcwd(NULL, 0);
+
+    path = seen_from_here(path, folder);
+    const char *why = is_short ? cause(ENOMEM) : is_folder(path) ? cause(EISDIR) : join_file(session, path, &tag, &is_short);
+
+    if (why == NULL && !say_note(session, "wish %u %s", (unsigned)tag, *line == '\0' ? "0" : line))
+        why = cause(ENOMEM);
+    free(folder);
+    snprintf(answer, sizeof answer, why == NULL ? "opened\n" : "refused %s\n", why);
+    answer_line(caller->socket, answer);
+    struct waiter *waiter = why == NULL && waits ? free_waiter(stay) : NULL;
+    if (waiter != NULL) {
+        *waiter = (struct waiter){.socket = caller->socket, .tag = tag};
+        caller->socket = -1;
+    }
+}
+
+void note_closing(struct session *session, uint16_t tag)
+{
+    bool is_dirty = true;
+
+    if (session->stay == NULL)
+        return;
+    bool is_written = sam_host_is_dirty(&session->host, tag, &is_dirty) == SAM_OK && !is_dirty && !session->documents[tag].is_unsaved;
+    for (int at = 0; at < MOST_WAITERS; at++) {
+        struct waiter *waiter = &session->stay->waiters[at];
+        if (waiter->socket < 0 || waiter->tag != tag)
+            continue;
+        answer_line(waiter->socket, is_written ? "written\n" : "closed\n");
+        close(waiter->socket);
+        waiter->socket = -1;
+    }
+}
+
+/* Takes a question that is whole: up to four words. */
+static void take_question(struct session *session, struct caller *caller)
+{
+    const char *words[4] = {"", "", "", ""};
+    const char *at = (const char *)caller->bytes + QUESTION_HEAD, *end = (const char *)caller->bytes + caller->len;
+
+    if (end[-1] == '\0') {
+        for (int word = 0; word < 4 && at < end; word++, at += strlen(at) + 1)
+            words[word] = at;
+    }
+    if (strcmp(words[0], "list") == 0)
+        answer_list(session, caller);
+    else if (strcmp(words[0], "open") == 0)
+        answer_open(session, caller, words[1], words[2], *words[3] != '\0');
+    drop_caller(caller);
+}
+
+/* ---- What is said first ---- */
+
+void hear_caller(struct session *session, struct caller *caller)
+{
+    size_t wanted = wanted_len(caller);
+    ssize_t count = wanted > CALLER_ROOM ? 0 : read(caller->socket, caller->bytes + caller->len, wanted - caller->len);
+
+    if (count == 0 || (count < 0 && errno != EAGAIN && errno != EINTR)) {
+        drop_caller(caller);
+        return;
+    }
+    caller->len += count > 0 ? (size_t)count : 0;
+    if (!is_question(caller))
+        take_hello(session, caller);
+    else if (caller->len > QUESTION_HEAD && caller->len == wanted_len(caller))
+        take_question(session, caller);
+}

@@ -1,0 +1,224 @@
+/* homes.c: the folders of sessions that stay: one for each, with its socket, its lock and its journal.
+ *
+ * They lie in the user's own folder. Nobody else may read or write them, whatever the umask; one that is a symbolic link, another user's or
+ * open to others is refused. The lock is held by the samhost that lives, as long as it lives.
+ */
+#define _GNU_SOURCE
+#include <dirent.h>
+#include <errno.h>
+#include <fcntl.h>
+#include <stdio.h>
+#include <stdlib.h>
+#include <string.h>
+#include <sys/file.h>
+#include <sys/socket.h>
+#include <sys/stat.h>
+#include <sys/un.h>
+#include <unistd.h>
+
+#include "samhost.h"
+
+enum { MOST_WAITING = 16 }; /* connections that wait to be accepted */
+
+#define SOCKET "socket"
+#define LOCK "lock"
+
+bool is_home_name(const char *word)
+{
+    return strlen(word) == NAME_DIGITS && strspn(word, "0123456789abcdef") == NAME_DIGITS;
+}
+
+/* ---- Folders ---- */
+
+/* Opens a folder that is the user's alone. */
+static int open_alone(int above, const char *name, int *folder)
+{
+    struct stat status;
+
+    *folder = openat(above, name, O_RDONLY | O_DIRECTORY | O_NOFOLLOW | O_CLOEXEC);
+    if (*folder < 0)
+        return errno == ENOTDIR || errno == ELOOP ? EPERM : errno;
+    if (fstat(*folder, &status) == 0 && status.st_uid == geteuid() && (status.st_mode & 0777) == 0700)
+        return 0;
+    close(*folder);
+    *folder = -1;
+    return EPERM;
+}
+
+/* Opens the folder in which all of them lie. */
+static int open_all(bool makes, int *folder)
+{
+    char *path;
+    int error = own_folder(0, makes, &path);
+
+    *folder = -1;
+    if (error == 0)
+        error = open_alone(AT_FDCWD, path, folder);
+    free(path);
+    return error;
+}
+
+int open_home(const char *name, bool makes, struct home *home)
+{
+    mode_t mask = umask(077);
+    int all, error = open_all(makes, &all);
+
+    *home = (struct home){.all = all, .folder = -1, .lock = -1};
+    snprintf(home->name, sizeof home->name, "%s", name);
+    if (error == 0 && makes && mkdirat(all, name, 0700) != 0 && errno != EEXIST)
+        error = errno;
+    if (error == 0)
+        error = open_alone(all, name, &home->folder);
+    umask(mask);
+    if (error != 0)
+        close_home(home);
+    return error;
+}
+
+void close_home(struct home *home)
+{
+    const int files[] = {home->all, home->folder, home->lock};
+
+    for (size_t at = 0; at < sizeof files / sizeof files[0]; at++) {
+        if (files[at] >= 0)
+            close(files[at]);
+    }
+    home->all = home->folder = home->lock = -1;
+}
+
+void remove_home(struct home *home)
+{
+    const char *const names[] = {JOURNAL, SOCKET, ABOUT, LOCK};
+
+    for (size_t at = 0; at < sizeof names / sizeof names[0]; at++)
+        (void)unlinkat(home->folder, names[at], 0);
+    (void)unlinkat(home->all, home->name, AT_REMOVEDIR);
+}
+
+int make_in_home(const struct home *home, const char *name, int flags, int *file)
+{
+    mode_t mask = umask(077);
+
+    *file = openat(home->folder, name, flags | O_CREAT | O_NOFOLLOW | O_CLOEXEC, 0600);
+    umask(mask);
+    return *file < 0 ? errno : 0;
+}
+
+/* ---- The lock ---- */
+
+/* Whether the file that is locked is the one that stands there: a session that ended removes it. */
+static bool is_current(const struct home *home)
+{
+    struct stat locked, there;
+
+    return fstat(home->lock, &locked) == 0 && fstatat(home->folder, LOCK, &there, AT_SYMLINK_NOFOLLOW) == 0 &&
+           locked.st_ino == there.st_ino && locked.st_dev == there.st_dev;
+}
+
+int lock_home(struct home *home)
+{
+    int error = make_in_home(home, LOCK, O_RDWR, &home->lock);
+
+    if (error != 0)
+        return error;
+    if (flock(home->lock, LOCK_EX | LOCK_NB) != 0)
+        error = errno;
+    else if (!is_current(home))
+        error = ENOENT;
+    if (error != 0) {
+        close(home->lock);
+        home->lock = -1;
+    }
+    return error;
+}
+
+void note_owner(const struct home *home)
+{
+    char words[32];
+    int len = snprintf(words, sizeof words, "%ld\n", (long)getpid());
+
+    if (ftruncate(home->lock, 0) == 0)
+        (void)!pwrite(home->lock, words, (size_t)len, 0); /* it is for people to read */
+}
+
+/* ---- The socket ---- */
+
+/* The address of the socket, by the folder that is open, so that it is short, and is that folder's whatever was put into its place. */
+static struct sockaddr_un address_of(const struct home *home)
+{
+    struct sockaddr_un address = {.sun_family = AF_UNIX};
+
+    snprintf(address.sun_path, sizeof address.sun_path, "/proc/self/fd/%d/" SOCKET, home->folder);
+    return address;
+}
+
+int bind_home(const struct home *home, int *listener)
+{
+    struct sockaddr_un address = address_of(home);
+    mode_t mask = umask(0177);
+    int error = 0;
+
+    (void)unlinkat(home->folder, SOCKET, 0); /* one that was killed has left it */
+    *listener = socket(AF_UNIX, SOCK_STREAM | SOCK_CLOEXEC | SOCK_NONBLOCK, 0);
+    if (*listener < 0 || bind(*listener, (struct sockaddr *)&address, sizeof address) != 0)
+        error = errno;
+    umask(mask);
+    if (error != 0 && *listener >= 0)
+        close(*listener);
+    return error;
+}
+
+int listen_at(int listener)
+{
+    return listen(listener, MOST_WAITING) == 0 ? 0 : errno;
+}
+
+bool is_ours(int socket, pid_t *process)
+{
+    struct ucred other;
+    socklen_t len = sizeof other;
+
+    if (getsockopt(socket, SOL_SOCKET, SO_PEERCRED, &other, &len) != 0 || other.uid != geteuid())
+        return false;
+    if (process != NULL)
+        *process = other.pid;
+    return true;
+}
+
+int connect_home(const struct home *home, int *line)
+{
+    struct sockaddr_un address = address_of(home);
+    int error = 0;
+
+    *line = socket(AF_UNIX, SOCK_STREAM | SOCK_CLOEXEC, 0);
+    if (*line < 0 || connect(*line, (struct sockaddr *)&address, sizeof address) != 0)
+        error = errno;
+    else if (!is_ours(*line, NULL))
+        error = EPERM;
+    if (error != 0 && *line >= 0)
+        close(*line);
+    return error;
+}
+
+/* ---- All of them ---- */
+
+int each_home(int (*visit)(struct home *home, void *at), void *at)
+{
+    int all, error = open_all(false, &all);
+    DIR *entries = error == 0 ? fdopendir(all) : NULL;
+
+    if (error == 0 && entries == NULL) {
+        error = errno;
+        close(all);
+    }
+    for (struct dirent *entry; error == 0 && (entry = readdir(entries)) != NULL;) {
+        struct home home;
+        if (!is_home_name(entry->d_name) || open_home(entry->d_name, false, &home) != 0)
+            continue;
+        error = visit(&home, at);
+        close_home(&home);
+    }
+    if (entries != NULL)
+        closedir(entries);
+    return error == ENOENT ? 0 : error;
+}

@@ -1,0 +1,191 @@
+"""Files that join a running session: the user opens one by its path, or a program at the host wishes one shown."""
+from collections import deque
+from typing import Deque, List, NamedTuple, Optional, Tuple
+
+from keys import Input, Key, Text
+from menus import Menu
+from staying import Note
+
+QUIET = 1.0  # seconds after the last key from which on a file may come up that the user did not ask for
+VERSION = 2  # of the protocol; with its offer come the names of files that have joined
+
+
+class Wished(NamedTuple):
+    """A file that is to be shown, and the line to go to; 0 where none is named."""
+
+    tag: int
+    line: int
+
+
+class Joining:
+    """What was asked of the host, and what it has answered."""
+
+    def __init__(self, editor):
+        self.editor, self.terminal = editor, editor.terminal
+        self._number = 0  # of the last question
+        self._names_of = 0  # of the last one for names
+        self._path: Optional[str] = None  # the path that is being opened
+        self._opened: Optional[int] = None  # the file of the path, once the host has told it
+        self._wishes: Deque[Wished] = deque()
+        self._goes_to: Optional[Wished] = None  # a file that is shown, until the line is gone to
+
+    @property
+    def is_there(self) -> bool:
+        """Whether the host takes paths."""
+        return self.editor.way.line is not None
+
+    def ask_names(self, path: str) -> None:
+        """Asks for names that complete a path. The answer to the last question counts."""
+        self._number += 1
+        self._names_of = self._number
+        self.editor.way.line.put_note("names", str(self._number), path)
+
+    def open(self, path: str) -> bool:
+        """Has the host open a file. Returns whether that is asked; else the key acts again, or can't act."""
+        editor = self.editor
+        if editor.way.is_late:
+            editor.message = f"{path} can be opened when the line is back"
+            return False
+        if editor.is_lock_held:
+            editor.act_again("waits for the host")
+            return False
+        self._number += 1
+        self._path, self._opened = path, None
+        editor.way.line.put_note("open", str(self._number), path)
+        self.terminal.offer_version(VERSION)
+        editor.await_file()
+        return True
+
+    def meet(self, note: Note) -> None:
+        """A note of the host."""
+        word, _, rest = note.rest.partition(" ")
+        number = int(word) if word.isdecimal() else 0
+        if note.verb == "names" and number == self._names_of and isinstance(self.editor.menu, Files):
+            more, _, names = rest.partition(" ")
+            self.editor.menu.meet_names(names_of(names), more == "1")
+        elif note.verb == "wish":
+            self._wishes.append(Wished(number, int(rest) if rest.isdecimal() else 0))
+        elif self._path is None:
+            return
+        elif note.verb == "opened" and rest.isdecimal():
+            self._opened = int(rest)
+        elif note.verb == "refused":
+            self.editor.give_back_typed(f"{self._path} is not opened: {rest}")
+            self._path = None
+        elif note.verb == "folder":
+            path, self._path = self._path, None
+            self.editor.do_menu()
+            if isinstance(self.editor.menu, Files):
+                self.editor.menu.go_into(path)
+
+    def go_on(self) -> None:
+        """Shows what has joined."""
+        editor = self.editor
+        if self._opened is not None and not self.terminal.command_locked and self.terminal.is_known(self._opened):
+            tag, self._opened, self._path = self._opened, None, None
+            editor.show(tag)
+        if self._wishes and editor.quiet_for >= QUIET and not editor.is_lock_held and not editor.way.is_late and editor.menu is None:
+            if self.terminal.is_known(self._wishes[0].tag):
+                self._goes_to = self._wishes.popleft()
+                editor.show(self._goes_to.tag)
+            else:
+                self.terminal.offer_version(VERSION)
+        if self._goes_to is not None and editor.window_of(self._goes_to.tag).is_settled and not editor.is_lock_held:
+            wished, self._goes_to = self._goes_to, None
+            if wished.line > 0 and editor.active.tag == wished.tag:
+                editor.run_aside(str(wished.line))
+
+    @property
+    def seconds(self) -> Optional[float]:
+        """How long until a file may come up."""
+        return max(0.0, QUIET - self.editor.quiet_for) if self._wishes else None
+
+
+def names_of(names: str) -> List[str]:
+    """The names of a note, which stand between slashes; those of folders end in a slash."""
+    found: List[str] = []
+    for name in names.split("/") if names else []:
+        if name:
+            found.append(name)
+        elif found:
+            found[-1] += "/"
+    return found
+
+
+class Files(Menu):
+    """The menu of files: those of the session, and what the host has whose path begins as it is typed."""
+
+    def __init__(self, joining: Joining, entries: List[Tuple[str, str]], chosen: int, choose):
+        self.joining, self.names, self.has_more, self.is_answered = joining, [], False, False
+        super().__init__("Files; a path opens another", entries, chosen, choose)
+
+    @property
+    def _folder(self) -> str:
+        """The folder of the path that is typed, up to its slash."""
+        return self.typed[: self.typed.rindex("/") + 1] if "/" in self.typed else ""
+
+    @property
+    def _paths(self) -> List[str]:
+        """The paths that may be opened. One that isn't there comes last, unless it names a folder."""
+        known = {name for _, name in self.entries}
+        paths = [path for path in (self._folder + name for name in self.names) if path.startswith(self.typed) and path not in known]
+        if self.typed and not self.typed.endswith("/") and self.typed not in known and self.typed not in paths:
+            paths.append(self.typed)
+        return paths
+
+    @property
+    def _count(self) -> int:
+        return len(self.shown) + len(self._paths)
+
+    def lines(self, height: int):
+        paths = self._paths
+        texts = ["".join(self.entries[at]) for at in self.shown]
+        texts += [f"+ {path}{self._remark(path)}" for path in paths]
+        if self.has_more:
+            texts.append("  .. and more")
+        self.chosen = max(0, min(self.chosen, self._count - 1))
+        first = max(0, min(self.chosen - height // 2, len(texts) - height))
+        shown = [(text, at == self.chosen) for at, text in enumerate(texts)][first : first + height]
+        return shown + [("", False)] * (min(height, max(len(self.entries), len(texts))) - len(shown))
+
+    def _remark(self, path: str) -> str:
+        is_new = self.is_answered and path == self.typed and path[len(self._folder) :] not in self.names
+        return "  (a new file)" if is_new else ""
+
+    def take(self, key: Input) -> bool:
+        paths = self._paths
+        if isinstance(key, Text) and key.runes in ("\n", "\t"):
+            if self.chosen < len(self.shown):
+                if key.runes == "\n":
+                    return super().take(key)
+            elif self.chosen - len(self.shown) < len(paths):
+                self._take_path(paths[self.chosen - len(self.shown)], key.runes == "\n")
+            return False
+        if isinstance(key, Key) and key.name in ("Up", "Down"):
+            self.chosen = max(0, min(self.chosen + (1 if key.name == "Down" else -1), self._count - 1))
+            return False
+        return super().take(key)
+
+    def _take_path(self, path: str, opens: bool) -> None:
+        if path.endswith("/") or not opens:
+            self._narrow(path)
+        else:
+            self.is_over = self.joining.open(path)
+
+    def go_into(self, folder: str) -> None:
+        self._narrow(folder.rstrip("/") + "/")
+
+    def _narrow(self, typed: str) -> None:
+        folder = self._folder
+        super()._narrow(typed)
+        if self._folder != folder:
+            self.names = []
+        self.has_more = self.is_answered = False
+        if typed:
+            self.joining.ask_names(typed)
+
+    def meet_names(self, names: List[str], has_more: bool) -> None:
+        """The host has told names that complete the path."""
+        self.names, self.has_more, self.is_answered = names, has_more, True
+        if self.typed in self._paths and self.typed[len(self._folder) :] in names:
+            self.chosen = len(self.shown) + self._paths.index(self.typed)

@@ -1,0 +1,353 @@
+/* parting.c: begins a session that stays in a process of its own, or finds it again; the present process relays to it.
+ *
+ * The files are read before that process begins, so what is wrong with them is said where samhost was called.
+ */
+#define _GNU_SOURCE
+#include <errno.h>
+#include <fcntl.h>
+#include <stdio.h>
+#include <stdlib.h>
+#include <string.h>
+#include <sys/socket.h>
+#include <time.h>
+#include <unistd.h>
+
+#include "samhost.h"
+
+enum {
+    LONGEST_START = 10000, /* milliseconds that a session may take until it listens */
+    NAP = 20000000         /* nanoseconds between two attempts */
+};
+
+/* ---- Errors ---- */
+
+/* Says why the folder of a session can't be used. Returns the exit status. */
+static int say_home(const char *name, int error)
+{
+    if (error == EPERM)
+        say("the folder of session %s is not yours alone", name);
+    else if (error == ENOENT)
+        say("there is no folder for session %s: $HOME or $XDG_STATE_HOME has to name one", name);
+    else
+        say("session %s: %s", name, cause(error));
+    return STATUS_UNREADABLE;
+}
+
+/* ---- A process of its own ---- */
+
+struct session *make_staying(const struct home *home, int64_t longest_alone)
+{
+    struct session *session = calloc(1, sizeof *session);
+    struct stay *stay = session == NULL ? NULL : calloc(1, sizeof *stay);
+
+    if (stay == NULL) {
+        free(session);
+        return NULL;
+    }
+    stay->home = *home;
+    stay->listener = stay->line = stay->journal.file = -1;
+    stay->longest_alone = longest_alone;
+    for (int at = 0; at < MOST_CALLERS; at++)
+        stay->callers[at].socket = -1;
+    for (int at = 0; at < MOST_WAITERS; at++)
+        stay->waiters[at].socket = -1;
+    session->stay = stay;
+    return session;
+}
+
+void free_staying(struct session *session)
+{
+    struct stay *stay = session->stay;
+
+    set_listener(NULL, NULL);
+    for (struct note *note = stay->notes, *next; note != NULL; note = next) {
+        next = note->next;
+        free(note->words);
+        free(note);
+    }
+    if (stay->journal.file >= 0)
+        close(stay->journal.file);
+    for (int at = 0; at < MOST_CALLERS; at++) {
+        if (stay->callers[at].socket >= 0)
+            close(stay->callers[at].socket);
+    }
+    for (int at = 0; at < MOST_WAITERS; at++) {
+        if (stay->waiters[at].socket >= 0)
+            close(stay->waiters[at].socket);
+    }
+    if (stay->listener >= 0)
+        close(stay->listener);
+    close_home(&stay->home);
+    (void)sam_link_free(&stay->link);
+    free_session(session);
+    free(stay);
+}
+
+/* Leaves the terminal and the standard streams of the process that called. */
+static void go_alone(void)
+{
+    int nowhere = open("/dev/null", O_RDWR);
+
+    (void)setsid();
+    for (int file = STDIN_FILENO; nowhere >= 0 && file <= STDERR_FILENO; file++)
+        (void)dup2(nowhere, file);
+    if (nowhere > STDERR_FILENO)
+        close(nowhere);
+}
+
+/* Serves the session, in the process that was begun for it, and says so by a byte. Returns the exit status. */
+static int serve_alone(struct session *session, int begun)
+{
+    struct stay *stay = session->stay;
+    int status = STATUS_BROKEN;
+
+    go_alone();
+    note_owner(&stay->home);
+    if (listen_at(stay->listener) == 0 && write(begun, "", 1) == 1) {
+        close(begun);
+        status = stay_and_serve(session);
+        for (struct session *heir; (heir = session->stay->heir) != NULL; session = heir) {
+            free_staying(session);
+            listen_for_notes(heir);
+            status = stay_and_serve(heir);
+        }
+        remove_home(&session->stay->home);
+    }
+    free_staying(session);
+    return status;
+}
+
+/* Connects to the session that has begun, and relays. Returns the exit status. */
+static int relay_to(struct session *session, int begun)
+{
+    uint8_t byte;
+    int line, error = 0;
+    ssize_t count;
+
+    do
+        count = read(begun, &byte, 1);
+    while (count < 0 && errno == EINTR);
+    close(begun);
+    if (count != 1 || (error = connect_home(&session->stay->home, &line)) != 0) {
+        set_listener(NULL, NULL);
+        say("session %s did not begin: %s", session->stay->home.name, error == 0 ? "its process ended" : cause(error));
+        free_staying(session);
+        return STATUS_BROKEN;
+    }
+    free_staying(session);
+    return relay(line);
+}
+
+/* Goes on in two processes: one serves the session, one relays. Returns the exit status of either. */
+static int part(struct session *session)
+{
+    struct stay *stay = session->stay;
+    int ends[2] = {-1, -1};
+    int error = bind_home(&stay->home, &stay->listener);
+    pid_t process = -1;
+
+    if (error == 0 && (pipe(ends) != 0 || (process = fork()) < 0))
+        error = errno;
+    if (error != 0) {
+        set_listener(NULL, NULL);
+        say("session %s did not begin: %s", stay->home.name, cause(error));
+        if (!stay->is_again)
+            remove_home(&stay->home);
+        free_staying(session);
+        return STATUS_BROKEN;
+    }
+    close(ends[process == 0 ? 0 : 1]);
+    return process == 0 ? serve_alone(session, ends[1]) : relay_to(session, ends[0]);
+}
+
+/* ---- Beginning ---- */
+
+/* Says on standard error what was said so far. */
+static void say_gathered(const struct stay *stay)
+{
+    set_listener(NULL, NULL);
+    for (const struct note *note = stay->notes; note != NULL; note = note->next)
+        say("%s", note->words + strlen("told "));
+}
+
+/* Begins a session in its folder, which is locked. Returns the exit status. */
+static int begin_in(struct home *home, char **paths, int count, const struct options *options)
+{
+    struct session *session = make_staying(home, options->longest_alone);
+
+    if (session == NULL) {
+        say("out of memory");
+        remove_home(home);
+        close_home(home);
+        return STATUS_MEMORY;
+    }
+    listen_for_notes(session);
+    int status = open_session(session, paths, count, options);
+    if (status == STATUS_OK) {
+        int error = make_journal(session->stay, JOURNAL);
+        if (error == 0)
+            note_start(session);
+        else /* one that is not whole is none */
+            say("there is no journal: %s; if samhost ends unasked, the session ends with it", cause(error));
+        note_about(session);
+        return part(session);
+    }
+    say_gathered(session->stay);
+    remove_home(home);
+    free_staying(session);
+    return status;
+}
+
+int begin_to_stay(char **paths, int count, const struct options *options)
+{
+    struct home home;
+    int error = open_home(options->name, true, &home);
+
+    if (error != 0)
+        return say_home(options->name, error);
+    error = lock_home(&home);
+    if (error == 0 && !has_journal(&home))
+        return begin_in(&home, paths, count, options);
+    close_home(&home);
+    return error == 0 || error == EWOULDBLOCK ? attach(options->name) : say_home(options->name, error);
+}
+
+/* ---- Finding it again ---- */
+
+/* Connects to a session of which the folder is there. ENOENT where no samhost has it any more. */
+static int find(struct home *home, int *line)
+{
+    const struct timespec nap = {0, NAP};
+    int64_t until = now() + LONGEST_START;
+    int error;
+
+    while ((error = connect_home(home, line)) != 0 && error != EPERM && now() < until) {
+        int locked = lock_home(home);
+        if (locked == 0 || locked == ENOENT)
+            return ENOENT;
+        nanosleep(&nap, NULL); /* it has begun, and doesn't listen yet */
+    }
+    return error;
+}
+
+static const char *why_not_again(enum replay_fault fault)
+{
+    switch (fault) {
+    case REPLAY_OTHER:
+        return "its journal is of another version of samhost";
+    case REPLAY_DIFFERS:
+        return "its journal has other answers than samhost gives now, which is a fault of samhost";
+    case REPLAY_SHORT:
+        return "out of memory";
+    case REPLAY_NO_FOLDER:
+        return "the folder in which it began can't be entered";
+    case REPLAY_UNREADABLE:
+        return "its journal can't be read";
+    default:
+        return "it had not begun";
+    }
+}
+
+/* Says why a session can't be made again, and saves its texts aside where they are known. Where it will never be, its folder goes, but for
+ * a journal that is wrong, so that it can be looked at. Returns the exit status. */
+static int give_up(struct session *session, enum replay_fault fault, bool is_attached)
+{
+    struct home *home = &session->stay->home;
+    bool is_known = session->documents != NULL && (fault == REPLAY_OTHER || fault == REPLAY_DIFFERS);
+    bool is_for_ever = is_known || fault == REPLAY_NOTHING;
+
+    say_gathered(session->stay);
+    say("session %s can't go on: %s", home->name, why_not_again(fault));
+    if (is_known)
+        (void)close_session(session, INPUT_ENDED);
+    if (fault == REPLAY_DIFFERS)
+        (void)renameat(home->folder, JOURNAL, home->folder, JOURNAL ".wrong");
+    if (is_for_ever)
+        remove_home(home);
+    free_staying(session);
+    if (is_attached && (is_for_ever || fault == REPLAY_OTHER))
+        return refuse_hello();
+    return fault == REPLAY_SHORT ? STATUS_MEMORY : STATUS_UNREADABLE;
+}
+
+/* Makes a session again whose samhost is gone, and goes on with it; its folder is locked. Returns the exit status. */
+static int go_on(struct home *home)
+{
+    struct session *session = make_staying(home, 0);
+
+    if (session == NULL) {
+        say("out of memory");
+        close_home(home);
+        return STATUS_MEMORY;
+    }
+    session->stay->is_again = true;
+    listen_for_notes(session);
+    enum replay_fault fault = begin_again(session);
+    return fault == REPLAY_OK ? part(session) : give_up(session, fault, true);
+}
+
+int end_without_samhost(struct home *home)
+{
+    struct session *session = make_staying(home, 0);
+
+    if (session == NULL) {
+        say("out of memory");
+        close_home(home);
+        return STATUS_MEMORY;
+    }
+    enum replay_fault fault = has_journal(home) ? begin_again(session) : REPLAY_NOTHING;
+    int status = fault == REPLAY_OK ? close_session(session, INPUT_ENDED) : STATUS_OK;
+    if (fault == REPLAY_OK || fault == REPLAY_NOTHING)
+        remove_home(home);
+    else
+        return give_up(session, fault, false);
+    free_staying(session);
+    return status;
+}
+
+int attach(const char *name)
+{
+    struct home home;
+    int line, error = open_home(name, false, &home);
+
+    if (error == 0) {
+        error = find(&home, &line);
+        if (error == ENOENT && home.lock >= 0 && has_journal(&home))
+            return go_on(&home);
+        if (error == ENOENT && home.lock >= 0)
+            remove_home(&home);
+        close_home(&home);
+    }
+    if (error == 0)
+        return relay(line);
+    return error == ENOENT ? refuse_hello() : say_home(name, error);
+}
+
+/* Notes the name of a session, if it is the first. */
+static int note_only(struct home *home, void *at)
+{
+    char *name = at;
+
+    if (*name != '\0')
+        return EEXIST;
+    memcpy(name, home->name, NAME_DIGITS + 1);
+    return 0;
+}
+
+int take(const char *name)
+{
+    char only[NAME_DIGITS + 1] = "";
+    int error = name != NULL ? 0 : each_home(note_only, only);
+
+    if (error == EEXIST) {
+        say("there are several sessions, so one has to be named; --list lists them");
+        return STATUS_WORDS;
+    }
+    if (error != 0) {
+        say("sessions can't be listed: %s", cause(error));
+        return STATUS_UNREADABLE;
+    }
+    if (name == NULL && *only == '\0')
+        return refuse_hello();
+    return attach(name != NULL ? name : only);
+}

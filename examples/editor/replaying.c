@@ -1,0 +1,282 @@
+/* replaying.c: makes a session again of its journal.
+ *
+ * The files and the terminal's bytes alone decide what a host is, and what a link puts. So a new host and a new link are given the same, in
+ * the same order, and have to say the very same: where they don't, that is a fault of this program, and nothing is sent. What was done to
+ * files is not done again, but for what the process had not come to.
+ */
+#define _GNU_SOURCE
+#include <errno.h>
+#include <stdlib.h>
+#include <string.h>
+#include <sys/stat.h>
+#include <unistd.h>
+
+#include "samhost.h"
+
+static ssize_t take_in(struct session *session, uint8_t *into, size_t room)
+{
+    size_t count = 0;
+
+    if (sam_link_take_in(&session->stay->link, into, room, &count) == SAM_OK && count > 0)
+        return (ssize_t)count;
+    errno = EAGAIN;
+    return -1;
+}
+
+/* What the host says waits until the journal says that it was put. */
+static ssize_t hold_out(struct session *session, const uint8_t *bytes, size_t len)
+{
+    (void)session;
+    (void)bytes;
+    (void)len;
+    errno = EAGAIN;
+    return -1;
+}
+
+static const struct carrier by_journal = {take_in, hold_out};
+
+/* ---- What was done to files ---- */
+
+bool is_done_already(struct session *session, enum doing doing, uint16_t tag)
+{
+    struct replay *replay = session->stay == NULL ? NULL : session->stay->replay;
+
+    if (replay == NULL || replay->next == replay->count)
+        return false;
+    struct record record = replay->done[replay->next++];
+    bool is_other = take_number(&record) != doing, is_held = take_number(&record) != 0;
+    struct record document = record;
+    if (is_other || take_number(&document) != tag || document.is_wrong) {
+        replay->fault = REPLAY_DIFFERS;
+        return true;
+    }
+    if (!is_held)
+        take_document(session, &record);
+    return !is_held;
+}
+
+/* ---- Steps ---- */
+
+/* Has the host take what has come, up to the next note. */
+static void take_all(struct session *session)
+{
+    struct stay *stay = session->stay;
+    bool has_come = session->wire.is_short;
+    int tries = 0;
+
+    while (stay->replay->fault == REPLAY_OK && stay->ending == GOES_ON) {
+        while (read_bytes(session))
+            has_come = true;
+        if (!has_come)
+            return;
+        stay->ending = take_input(session);
+        if (session->wire.is_short && stay->ending == GOES_ON)
+            stay->ending = take_again(session, &tries);
+        if (session->wire.is_short)
+            stay->replay->fault = REPLAY_SHORT;
+        has_come = false;
+    }
+}
+
+/* Has the link put what the host says, which has to be what it said before. */
+static void put_again(struct session *session, const struct record *record)
+{
+    struct wire *wire = &session->wire;
+    struct replay *replay = session->stay->replay;
+
+    for (size_t at = 0; at < record->len && replay->fault == REPLAY_OK;) {
+        if (wire->sent == wire->output_len)
+            send_pending(session); /* fetches more */
+        if (wire->sent == wire->output_len) {
+            take_all(session);
+            send_pending(session);
+        }
+        size_t has = wire->output_len - wire->sent, len = has < record->len - at ? has : record->len - at;
+        if (len == 0 || memcmp(wire->output + wire->sent, record->body + at, len) != 0)
+            replay->fault = REPLAY_DIFFERS;
+        wire->sent += len;
+        at += len;
+    }
+    if (replay->fault == REPLAY_OK && sam_link_put(&session->stay->link, record->body, record->len) != SAM_OK)
+        replay->fault = REPLAY_SHORT;
+}
+
+static void take_start(struct session *session, struct record *record)
+{
+    char *folder = take_words(record);
+
+    session->mode_of_new_files = (mode_t)take_number(record);
+    session->vault = (uint16_t)take_number(record);
+    session->stay->longest_alone = (int64_t)take_number(record);
+    umask(0666 & ~session->mode_of_new_files);
+    if (folder == NULL || chdir(folder) != 0) {
+        say("%s: %s", folder == NULL ? "the folder of the session" : folder, cause(errno));
+        session->stay->replay->fault = REPLAY_NO_FOLDER;
+    }
+    free(folder);
+}
+
+static void take_file(struct session *session, struct record *record)
+{
+    size_t name_len, len;
+    const uint8_t *name = take_data(record, &name_len), *text = take_data(record, &len);
+    uint16_t tag = 0;
+
+    if (record->is_wrong)
+        return;
+    uint32_t code = sam_host_add_file(&session->host, name, name_len, text, len, &tag);
+    struct record document = *record;
+    if (code == SAM_NO_MEMORY)
+        session->stay->replay->fault = REPLAY_SHORT;
+    else if (code != SAM_OK || take_number(&document) != tag)
+        session->stay->replay->fault = REPLAY_DIFFERS;
+    else
+        take_document(session, record);
+}
+
+/* Has a new link take a hello that the old one took. */
+static uint32_t answer_again(struct stay *stay, const struct record *record)
+{
+    uint32_t what;
+
+    if (stay->attempt == 0 && record->len == SAM_LINK_HELLO_BYTES) {
+        uint32_t code = sam_link_read_hello(record->body, record->len, &what, stay->id, &stay->attempt);
+        if (code == SAM_OK)
+            code = sam_link_new(&stay->link, SAM_LINK_HOST, stay->id);
+        if (code != SAM_OK)
+            return code;
+    }
+    uint32_t code = sam_link_answer(&stay->link, record->body, record->len);
+    return code == SAM_OK ? (uint32_t)sam_link_attempt(&stay->link, &stay->attempt) : code;
+}
+
+/* Has the link take bytes that the old one took. All that it has put counts as given, so that they may acknowledge it. */
+static uint32_t feed_again(struct stay *stay, const struct record *record)
+{
+    size_t count = 0;
+    uint32_t code;
+
+    do
+        code = sam_link_take_out(&stay->link, stay->attempt, stay->out.bytes, PIECE, &count);
+    while (code == SAM_OK && count > 0);
+    return code == SAM_OK ? (uint32_t)sam_link_feed(&stay->link, stay->attempt, record->body, record->len) : code;
+}
+
+static void note_again(struct session *session, const struct record *record)
+{
+    struct stay *stay = session->stay;
+
+    stay->has_ended |= record->len > 6 && memcmp(record->body, "ended ", 6) == 0;
+    if (sam_link_put_note(&stay->link, record->body, record->len) != SAM_OK)
+        stay->replay->fault = REPLAY_SHORT;
+}
+
+static void forget_note(struct session *session)
+{
+    uint8_t note[SAM_LINK_MOST_NOTE];
+    size_t len;
+
+    take_all(session);
+    if (sam_link_next_note(&session->stay->link, note, sizeof note, &len) != SAM_OK)
+        session->stay->replay->fault = REPLAY_DIFFERS;
+}
+
+static void replay_step(struct session *session, struct record *record)
+{
+    struct replay *replay = session->stay->replay;
+    uint32_t code = SAM_OK;
+
+    if (record->step == STEP_FILE || record->step == STEP_KEPT || record->step == STEP_KEPT_CUT)
+        take_all(session);
+    if (record->step == STEP_START)
+        take_start(session, record);
+    else if (record->step == STEP_FILE)
+        take_file(session, record);
+    else if (record->step == STEP_HELLO)
+        code = answer_again(session->stay, record);
+    else if (record->step == STEP_UP)
+        code = feed_again(session->stay, record);
+    else if (record->step == STEP_DOWN)
+        put_again(session, record);
+    else if (record->step == STEP_NOTE)
+        note_again(session, record);
+    else if (record->step == STEP_NOTED)
+        forget_note(session);
+    else if (record->step == STEP_KEPT)
+        take_document(session, record);
+    else if (record->step == STEP_KEPT_CUT)
+        take_cut_copy(session, record);
+    if (code != SAM_OK)
+        replay->fault = code == SAM_NO_MEMORY ? REPLAY_SHORT : REPLAY_DIFFERS;
+    if (record->is_short)
+        replay->fault = REPLAY_SHORT;
+    else if (record->is_wrong && replay->fault == REPLAY_OK)
+        replay->fault = REPLAY_DIFFERS;
+}
+
+/* ---- All of them ---- */
+
+/* Finds what was done to files, which the steps before it ask for. Hands out where the last whole record ends; 0 where the session had not
+ * begun. */
+static size_t find_done(const struct text *all, struct replay *replay)
+{
+    size_t at = first_record(), room = 0;
+    bool has_begun = false;
+
+    for (struct record record; next_record(all, &at, &record);) {
+        has_begun |= record.step == STEP_BEGUN;
+        if (record.step != STEP_DONE)
+            continue;
+        if (replay->count == room) {
+            room = room == 0 ? 64 : 2 * room;
+            struct record *done = realloc(replay->done, room * sizeof *done);
+            if (done == NULL) {
+                replay->fault = REPLAY_SHORT;
+                return at;
+            }
+            replay->done = done;
+        }
+        replay->done[replay->count++] = record;
+    }
+    return has_begun ? at : 0;
+}
+
+static void replay_all(struct session *session, const struct text *all, size_t end)
+{
+    struct stay *stay = session->stay;
+    struct record record;
+
+    session->wire.carrier = &by_journal;
+    for (size_t at = first_record(); at < end && stay->replay->fault == REPLAY_OK && next_record(all, &at, &record);)
+        replay_step(session, &record);
+    take_all(session);
+    if (stay->replay->fault == REPLAY_OK && stay->replay->next < stay->replay->count)
+        stay->replay->fault = REPLAY_DIFFERS;
+    if (stay->attempt > 0)
+        (void)!sam_link_broken(&stay->link, stay->attempt);
+    stay->out.len = stay->out.sent = 0;
+}
+
+enum replay_fault begin_again(struct session *session)
+{
+    struct stay *stay = session->stay;
+    struct replay replay = {0};
+    struct text all;
+    enum journal_kind kind;
+    int error = open_journal(stay, &all, &kind);
+
+    if (error != 0 || kind == JOURNAL_UNKNOWN || !make_session(session))
+        replay.fault = error != 0 ? REPLAY_UNREADABLE : kind == JOURNAL_UNKNOWN ? REPLAY_OTHER : REPLAY_SHORT;
+    size_t end = replay.fault == REPLAY_OK ? find_done(&all, &replay) : 0;
+    if (replay.fault == REPLAY_OK && end == 0)
+        replay.fault = REPLAY_NOTHING;
+    if (replay.fault == REPLAY_OK && end < all.len && cut_journal(stay, end) != 0)
+        replay.fault = REPLAY_UNREADABLE;
+    stay->replay = &replay;
+    if (replay.fault == REPLAY_OK)
+        replay_all(session, &all, end);
+    stay->replay = NULL;
+    free(replay.done);
+    close_records(&all);
+    return replay.fault != REPLAY_OK || kind == JOURNAL_SAME ? replay.fault : REPLAY_OTHER;
+}

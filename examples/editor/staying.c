@@ -1,0 +1,396 @@
+/* staying.c: serves a session that stays when its line breaks.
+ *
+ * The bytes of the session go through a link, which gives each of them once and in order over connections that may break anywhere. What the
+ * plain samhost writes to standard error goes to the terminal as notes, in order with them. It ends when the terminal leaves, at a signal,
+ * and when no connection was there for as long as the words say; before that it saves all that is not written.
+ */
+#define _GNU_SOURCE
+#include <errno.h>
+#include <poll.h>
+#include <stdarg.h>
+#include <stdio.h>
+#include <stdlib.h>
+#include <string.h>
+#include <sys/socket.h>
+#include <unistd.h>
+
+#include "samhost.h"
+
+enum {
+    LONGEST_END = 60000,   /* milliseconds that the last note is kept for a terminal that has left */
+    SIGNAL_END = 5000,     /* milliseconds that it is where a signal ends the session, and a terminal is there */
+    PAUSE = 100,           /* milliseconds until memory is asked for again */
+    MOST_PIECES_LEFT = 64, /* pieces of input that are still taken after a signal */
+};
+
+/* ---- Notes ---- */
+
+/* The length of a note, cut to whole runes where it is too long. */
+static size_t note_len(const char *note)
+{
+    size_t len = strlen(note);
+
+    if (len > SAM_LINK_MOST_NOTE) {
+        len = SAM_LINK_MOST_NOTE;
+        while (len > 0 && ((unsigned char)note[len] & 0xC0) == 0x80)
+            len--;
+    }
+    return len;
+}
+
+void put_notes(struct session *session)
+{
+    struct stay *stay = session->stay;
+
+    if (stay->attempt == 0 || stay->replay != NULL) /* there is no link yet, or it is not where it was */
+        return;
+    while (stay->notes != NULL) {
+        struct note *note = stay->notes;
+        const uint8_t *bytes = (const uint8_t *)note->words;
+        size_t len = note_len(note->words);
+        if (sam_link_put_note(&stay->link, bytes, len) != SAM_OK)
+            return;
+        stay->notes = note->next;
+        add_record(session, STEP_NOTE, bytes, len);
+        free(note->words);
+        free(note);
+    }
+    if (stay->missing > 0) {
+        unsigned missing = stay->missing;
+        stay->missing = 0;
+        say("lines missing before this one, since memory was out: %u", missing);
+    }
+}
+
+bool say_note(struct session *session, const char *format, ...)
+{
+    struct note **last = &session->stay->notes, *note = malloc(sizeof *note);
+    char words[2 * SAM_LINK_MOST_NOTE];
+    va_list list;
+
+    va_start(list, format);
+    vsnprintf(words, sizeof words, format, list);
+    va_end(list);
+    char *own = formatted("%s", words);
+    if (note == NULL || own == NULL) {
+        free(note);
+        free(own);
+        return false;
+    }
+    while (*last != NULL)
+        last = &(*last)->next;
+    *note = (struct note){NULL, own};
+    *last = note;
+    put_notes(session);
+    return true;
+}
+
+static void hear_line(void *at, const char *line)
+{
+    struct session *session = at;
+
+    if (!say_note(session, "told %s", line))
+        session->stay->missing++;
+}
+
+void listen_for_notes(struct session *session)
+{
+    set_listener(hear_line, session);
+}
+
+/* How many bytes a link counts; none where there is no link yet. */
+static uint64_t count_of(struct stay *stay, sam_status (*reader)(sam_link *link, uint64_t *count))
+{
+    uint64_t count = 0;
+
+    return reader(&stay->link, &count) == SAM_OK ? count : 0;
+}
+
+/* ---- What the link carries ---- */
+
+/* Takes bytes of the terminal's stream, up to the next note. */
+static ssize_t take_in(struct session *session, uint8_t *into, size_t room)
+{
+    size_t count = 0;
+
+    if (!session->stay->has_note && sam_link_take_in(&session->stay->link, into, room, &count) == SAM_OK && count > 0)
+        return (ssize_t)count;
+    errno = EAGAIN;
+    return -1;
+}
+
+static ssize_t put_out(struct session *session, const uint8_t *bytes, size_t len)
+{
+    uint32_t code = SAM_NO_MEMORY;
+
+    put_notes(session);
+    if (session->stay->notes == NULL)
+        code = sam_link_put(&session->stay->link, bytes, len);
+    if (code == SAM_OK) {
+        add_record(session, STEP_DOWN, bytes, len);
+        return (ssize_t)len;
+    }
+    errno = code == SAM_COUNT_FULL ? EOVERFLOW : EAGAIN;
+    return -1;
+}
+
+static const struct carrier by_link = {take_in, put_out};
+
+/* Does what the next note asks, if there is one, and memory for it. */
+static bool take_note(struct session *session)
+{
+    struct stay *stay = session->stay;
+
+    if (!stay->has_note) {
+        stay->has_note = sam_link_next_note(&stay->link, stay->note, SAM_LINK_MOST_NOTE, &stay->note_len) == SAM_OK;
+        if (!stay->has_note)
+            return false;
+        stay->note[stay->note_len] = '\0';
+    }
+    if (!do_note(session, (const char *)stay->note))
+        return false;
+    stay->has_note = false;
+    add_record(session, STEP_NOTED, NULL, 0);
+    return true;
+}
+
+/* Has the host take what has come, and does what notes ask, in their order. */
+static enum ending take_packets(struct session *session)
+{
+    struct wire *wire = &session->wire;
+    enum ending ending = GOES_ON;
+    bool has_come = wire->is_short;
+
+    do {
+        while (read_bytes(session))
+            has_come = true;
+        if (has_come)
+            ending = take_input(session);
+        has_come = ending == GOES_ON && !wire->is_short && take_note(session);
+    } while (has_come);
+    return ending;
+}
+
+/* ---- The connection ---- */
+
+/* Reads what has come over the newest connection. What can't be taken, since memory is out, is given to the link again later. */
+static void read_line(struct session *session)
+{
+    struct stay *stay = session->stay;
+    struct piece *in = &stay->in;
+
+    if (in->len == 0) {
+        ssize_t count = read(stay->line, in->bytes, PIECE);
+        if (count == 0 || (count < 0 && errno != EAGAIN && errno != EINTR))
+            drop_line(stay);
+        in->len = count > 0 ? (size_t)count : 0;
+    }
+    if (in->len == 0)
+        return;
+    uint64_t before = count_of(stay, sam_link_put_count);
+    uint32_t code = sam_link_feed(&stay->link, stay->attempt, in->bytes, in->len);
+    if (code == SAM_OK) {
+        add_record(session, STEP_UP, in->bytes, in->len);
+        stay->journal.is_awaited |= count_of(stay, sam_link_put_count) != before; /* it has acknowledged what came */
+    }
+    if (code != SAM_NO_MEMORY)
+        in->len = 0;
+    if (code != SAM_OK && code != SAM_NO_MEMORY) /* a wrong packet ends the connection, and the next brings all of it again */
+        drop_line(stay);
+}
+
+/* Sends what the link has for the newest connection, as much as goes without waiting. */
+static void write_line(struct session *session)
+{
+    struct stay *stay = session->stay;
+    struct piece *out = &stay->out;
+
+    if (stay->journal.is_awaited && stay->line >= 0)
+        sync_journal(session);
+    while (stay->line >= 0) {
+        if (out->sent == out->len) {
+            out->sent = out->len = 0;
+            if (sam_link_take_out(&stay->link, stay->attempt, out->bytes, PIECE, &out->len) != SAM_OK || out->len == 0)
+                return;
+        }
+        ssize_t count = send(stay->line, out->bytes + out->sent, out->len - out->sent, MSG_NOSIGNAL | MSG_DONTWAIT);
+        if (count < 0 && (errno == EAGAIN || errno == EINTR))
+            return;
+        if (count < 0)
+            drop_line(stay);
+        else
+            out->sent += (size_t)count;
+    }
+}
+
+void say_the_last(struct session *session, const char *machine)
+{
+    if (session->stay->line < 0 || !say_note(session, "gone %s", machine))
+        return;
+    write_line(session);
+}
+
+void drop_line(struct stay *stay)
+{
+    if (stay->line < 0)
+        return;
+    close(stay->line);
+    stay->line = -1;
+    stay->in.len = stay->out.len = stay->out.sent = 0;
+    stay->alone_since = now();
+    (void)!sam_link_broken(&stay->link, stay->attempt); /* it takes no memory */
+}
+
+/* ---- Waiting ---- */
+
+/* The earlier of two times; -1 is no time. */
+static int64_t earlier(int64_t one, int64_t other)
+{
+    return one < 0 || (other >= 0 && other < one) ? other : one;
+}
+
+/* In how many milliseconds something is to be done that nothing which comes asks for; -1: never. */
+static int64_t time_to_wait(const struct session *session, int64_t longest)
+{
+    struct stay *stay = session->stay;
+    int64_t wait = earlier(earlier(longest, save_is_due_in(session)), drop_callers(stay));
+
+    if (stay->line < 0 && stay->longest_alone >= 0) {
+        int64_t left = stay->alone_since + stay->longest_alone - now();
+        wait = earlier(wait, left > 0 ? left : 0);
+    }
+    bool is_short = stay->in.len > 0 || stay->has_note || session->wire.sent < session->wire.output_len || stay->notes != NULL;
+    return is_short && stay->attempt > 0 ? earlier(wait, PAUSE) : wait;
+}
+
+/* Sleeps until something comes or is due, and reads and sends what it can. Signals come here. */
+static void carry(struct session *session, const sigset_t *mask, int64_t longest)
+{
+    struct stay *stay = session->stay;
+    struct pollfd ends[2 + MOST_CALLERS];
+    int64_t wait = time_to_wait(session, longest);
+    struct timespec pause = {wait / 1000, wait % 1000 * 1000000};
+    int free_ones = 0;
+
+    for (int at = 0; at < MOST_CALLERS; at++) {
+        ends[2 + at] = (struct pollfd){stay->callers[at].socket, POLLIN, 0};
+        free_ones += stay->callers[at].socket < 0;
+    }
+    ends[0] = (struct pollfd){free_ones > 0 ? stay->listener : -1, POLLIN, 0};
+    short awaited = (short)((stay->in.len == 0 ? POLLIN : 0) | (stay->out.sent < stay->out.len ? POLLOUT : 0));
+    ends[1] = (struct pollfd){stay->line, awaited, 0};
+    if (ppoll(ends, 2 + MOST_CALLERS, wait < 0 ? NULL : &pause, mask) < 0)
+        return;
+    int line = stay->line;
+    for (int at = 0; at < MOST_CALLERS && stay->heir == NULL; at++) { /* first, as the host has taken by now all that the link has */
+        if (ends[2 + at].revents != 0)
+            hear_caller(session, &stay->callers[at]);
+    }
+    if (stay->heir != NULL)
+        return;
+    if (ends[0].revents != 0)
+        accept_callers(stay);
+    if (stay->line >= 0 && stay->line == line && (ends[1].revents != 0 || stay->in.len > 0))
+        read_line(session);
+    put_notes(session);
+    write_line(session);
+}
+
+/* ---- The session ---- */
+
+static bool is_alone_too_long(const struct stay *stay)
+{
+    return stay->line < 0 && stay->longest_alone >= 0 && now() - stay->alone_since >= stay->longest_alone;
+}
+
+/* After a signal, or a long time alone: takes what has come already. */
+static enum ending take_what_is_there(struct session *session, const sigset_t *mask)
+{
+    enum ending ending = GOES_ON;
+    uint64_t before, after = 0;
+    int tries = 0, pieces = 0;
+
+    do {
+        before = after;
+        ending = take_packets(session);
+        if (ending == GOES_ON)
+            ending = take_again(session, &tries);
+        carry(session, mask, 0);
+        after = count_of(session->stay, sam_link_received);
+    } while (ending == GOES_ON && after != before && ++pieces <= MOST_PIECES_LEFT);
+    return ending;
+}
+
+static enum ending serve_line(struct session *session, const sigset_t *mask)
+{
+    struct stay *stay = session->stay;
+    enum ending ending = stay->ending;
+
+    while (ending == GOES_ON && !is_signalled() && !is_alone_too_long(stay)) {
+        carry(session, mask, -1);
+        if (stay->heir != NULL)
+            return GOES_ON;
+        ending = take_packets(session);
+        send_pending(session);
+        write_line(session);
+        if (save_due(session)) {
+            note_copies(session);
+            sync_journal(session);
+        }
+    }
+    if (ending == GOES_ON)
+        ending = take_what_is_there(session, mask);
+    send_pending(session);
+    return ending == GOES_ON ? INPUT_ENDED : ending;
+}
+
+/* Puts the last note, and keeps it until the terminal has acknowledged it: for a while where that has left, and for a moment where it may
+ * not know. */
+static void say_the_end(struct session *session, const sigset_t *mask, int status, bool has_left)
+{
+    struct stay *stay = session->stay;
+    bool was_signalled = is_signalled();
+    uint64_t wanted = 0;
+    int64_t until = now() + (has_left ? LONGEST_END : stay->line >= 0 ? SIGNAL_END : 0);
+
+    stay->longest_alone = -1;
+    while (stay->attempt > 0 && now() < until && is_signalled() == was_signalled) {
+        if (!stay->has_ended)
+            stay->has_ended = say_note(session, "ended %d", status);
+        put_notes(session);
+        if (stay->has_ended && stay->notes == NULL && wanted == 0)
+            wanted = count_of(stay, sam_link_put_count);
+        if (wanted > 0 && count_of(stay, sam_link_acknowledged) >= wanted)
+            return;
+        sync_journal(session);
+        write_line(session);
+        carry(session, mask, wanted > 0 ? until - now() : PAUSE);
+        while (read_bytes(session)) /* nothing counts any more */
+            session->wire.taken = session->wire.input_len;
+    }
+}
+
+int stay_and_serve(struct session *session)
+{
+    struct stay *stay = session->stay;
+    sigset_t mask;
+    int status = STATUS_OK;
+
+    set_signals(&mask);
+    session->wire.carrier = &by_link;
+    stay->alone_since = now();
+    stay->begun = stay->begun == 0 ? stay->alone_since : stay->begun;
+    put_notes(session);
+    if (!stay->has_ended) { /* else another samhost has done all but to wait */
+        stay->ending = serve_line(session, &mask);
+        if (stay->heir != NULL)
+            return STATUS_OK;
+        for (size_t tag = 1, tags = count_tags(session); tag < tags; tag++)
+            note_closing(session, (uint16_t)tag);
+        status = close_session(session, stay->ending);
+    }
+    note_copies(session);
+    say_the_end(session, &mask, status, stay->ending != INPUT_ENDED);
+    drop_line(stay);
+    return status;
+}

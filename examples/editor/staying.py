@@ -1,0 +1,436 @@
+"""A line that goes on through breaks: the stream and notes of a session that stays at the host, over one connection after another.
+
+Each connection is a process that carries bytes to the session and back (a relay). What the host has not acknowledged is kept, and goes out
+again over the next connection.
+"""
+import os
+import select
+import time
+from typing import Callable, Dict, List, NamedTuple, Optional, Sequence, Union
+
+import sulgrevad
+from link import SECONDS_TO_END, Link, wait_for
+from sulgrevad import SamError
+
+MARK = bytes.fromhex("8973616d6c696e6b")  # with which a hello begins
+HELLO_BYTES = 42
+ID_BYTES, NAME_BYTES = 16, 8  # of a session; of its name the first ones, in hexadecimal digits
+PIECE = 65_536  # bytes that are taken at once
+MOST_NOISE = 65_536  # bytes that may come before a hello
+
+SECONDS_TO_BREAK = 15.0  # without a byte, where an answer is due, after which a connection counts as broken
+SECONDS_TO_CONNECT = 60.0  # the same until a connection is welcomed, and twice as many each time after that
+MOST_TO_CONNECT = 960.0
+PAUSES = (1, 2, 4, 8, 16, 30)  # seconds until another connection is tried; the last one from then on
+SECONDS_TO_GO = 2  # that the last bytes may take where the session stays
+LATE_AFTER = 1.0  # seconds, and two round trips, after which an answer counts as late
+RETRY = 0.1  # seconds until that for which the memory was too small is tried again
+
+WELCOME = 4
+# Refusals of the host after which no connection comes any more.
+REFUSED = {
+    18: "the host knows another version of the link",
+    20: "the session is not there any more",
+    21: "another terminal has the session",
+    23: "the host has begun again, and lacks some of what it said: samterm --take goes on with the texts that it has",
+}
+
+
+class Note(NamedTuple):
+    """A note of the host: a verb, and what stands after it."""
+
+    verb: str
+    rest: str
+
+
+Item = Union[bytes, str, Note]  # bytes of the stream, a line that the host tells, another note
+
+
+class Staying:
+    """The terminal's end. Nothing here waits, but for `wait_for_stream`, `connect_in_front` and `close`."""
+
+    def __init__(self, command: List[str], begin: Callable[[str], List[str]], takes_over: bool = False, clock=time.monotonic):
+        """The command runs samhost with words after it: those of `begin`, which is told the session's name, at first, and then those that
+        join the session again."""
+        self.command, self.clock, self.takes_over = command, clock, takes_over
+        identity = os.urandom(ID_BYTES)
+        self.name, self.machine = identity[:NAME_BYTES].hex(), ""
+        self._end = sulgrevad.Link(sulgrevad.Link.TERMINAL, identity)
+        self.relay: Optional[Link] = None  # the newest connection; None between two
+        self._old: List[Link] = []  # those that are ended, until their processes are gone
+        self._gone = (0, 0)  # bytes that older connections have carried each way
+        self.is_lost, self.why = False, ""  # no connection comes any more
+        self.ended_with: Optional[int] = None  # the status with which the session has ended
+        self._last_line = ""  # of a connection's standard error
+        self._noise = b""  # what came before the first hello
+        self._early: List[Item] = []
+        self._begun = bytearray()  # what has come of a connection before it was welcomed
+        self._unput, self._unfed = bytearray(), bytearray()  # for which there was no memory
+        self._due = self._asked = 0  # up to which byte of ours an answer is wanted, and where the last question stands
+        self._asked_at = self._heard_at = self._called_at = self._again_at = 0.0
+        self._lost_at: Optional[float] = None  # since when there is no line
+        self._failures, self._connecting = 0, SECONDS_TO_CONNECT
+        self.round_trip, self._is_measured = 0.0, True  # seconds that the last question took, and whether its answer has come
+        self._call(begin(self.name))
+
+    # ---- Connections
+
+    def _call(self, words: Sequence[str], in_front: bool = False) -> None:
+        """Begins another connection. But for the first, and those that the user waits for, it has no screen on which ssh could ask."""
+        attempt = self._end.call(self.takes_over)
+        self._begun.clear()
+        self._called_at = self._heard_at = self.clock()
+        try:
+            self.relay = Link([*self.command, *words], own_session=attempt > 1 and not in_front)
+        except OSError:
+            self._end.broken(attempt)
+            if attempt == 1:
+                raise
+            self._pause()
+            return
+        self._push()
+
+    def connect(self, in_front: bool = False) -> None:
+        """Tries another connection now."""
+        self._drop()
+        self._call(["--attach", self.name], in_front)
+
+    def _drop(self) -> None:
+        """Ends the newest connection."""
+        relay, self.relay = self.relay, None
+        if relay is not None:
+            self._end.broken(self._end.attempt)
+            self._gone = (self._gone[0] + relay.up, self._gone[1] + relay.down)
+            relay.kill()
+            self._old.append(relay)
+
+    def _break(self) -> None:
+        """The newest connection is broken: another is tried after a pause."""
+        self._is_measured = True
+        if self._lost_at is None:
+            self._lost_at = max(self._asked_at, self._heard_at) if self._is_answer_due else self.clock()
+        self._drop()
+        self._pause()
+
+    def _pause(self) -> None:
+        self._again_at = self.clock() + PAUSES[min(self._failures, len(PAUSES) - 1)]
+        self._failures += 1
+
+    def _lose(self, why: str) -> None:
+        if not self.is_lost:
+            self.is_lost, self.why = True, why
+
+    @property
+    def is_open(self) -> bool:
+        return self._end.phase == self._end.OPEN
+
+    @property
+    def is_connecting(self) -> bool:
+        return self.relay is not None and not self.is_open and not self.is_lost
+
+    def go_on(self) -> None:
+        """Does what is due by the clock."""
+        now = self.clock()
+        self._old = [relay for relay in self._old if not relay.is_over()]
+        if self.is_lost:
+            return
+        if self.relay is None:
+            if now >= self._again_at:
+                self.connect()
+        elif self.is_open:
+            if self._is_answer_due and now - max(self._asked_at, self._heard_at) >= SECONDS_TO_BREAK:
+                self._break()
+        elif now - self._called_at >= self._connecting:
+            self._connecting = min(2 * self._connecting, MOST_TO_CONNECT)
+            self._break()
+
+    def delay(self) -> Optional[float]:
+        """Seconds until something is due by the clock; None where nothing is."""
+        now = self.clock()
+        if self._unput or self._unfed:
+            return RETRY
+        if self.is_lost:
+            return None
+        if self.relay is None:
+            return max(0.0, self._again_at - now)
+        if self.is_open:
+            return max(0.0, max(self._asked_at, self._heard_at) + SECONDS_TO_BREAK - now) if self._is_answer_due else None
+        return max(0.0, self._called_at + self._connecting - now)
+
+    # ---- Bytes
+
+    @property
+    def up(self) -> int:
+        return self._gone[0] + (self.relay.up if self.relay else 0)
+
+    @property
+    def down(self) -> int:
+        return self._gone[1] + (self.relay.down if self.relay else 0)
+
+    @property
+    def waiting(self) -> bytes:
+        """Bytes that the pipe has not taken yet."""
+        return bytes(self.relay.waiting) if self.relay else b""
+
+    def send(self, data: bytes = b"") -> None:
+        """Sends bytes of the stream, as many as go; the others wait."""
+        self._put(data)
+        self._ask()
+        self._push()
+
+    def put_note(self, verb: str, *words: str) -> None:
+        """Sends a note, in its order with the stream."""
+        self._put(b"")
+        self._end.put_note(" ".join((verb, *words)).encode("utf-8", "surrogateescape"))
+        self._due = self._end.put_count
+
+    def _put(self, data: bytes) -> None:
+        self._unput += data
+        if self._unput:
+            try:
+                self._end.put(bytes(self._unput))
+            except MemoryError:
+                return
+            self._unput.clear()
+            self._due = self._end.put_count
+
+    def _ask(self) -> None:
+        """Asks whether all has come, unless such a question is under way."""
+        acknowledged = self._end.acknowledged
+        if acknowledged < self._due and self._asked <= acknowledged:
+            try:
+                self._end.ask()
+            except MemoryError:
+                return
+            self._asked, self._asked_at, self._is_measured = self._end.put_count, self.clock(), False
+
+    def _push(self) -> None:
+        relay = self.relay
+        while relay is not None and not relay.is_deaf:
+            data = b"" if relay.waiting or self._end.phase == self._end.DOWN else self._end.take_out(self._end.attempt, PIECE)
+            if not data and not relay.waiting:
+                return
+            relay.send(data)
+            if relay.waiting:
+                return
+
+    def wanted(self) -> Dict[int, int]:
+        """What to wait for: events by descriptor."""
+        return {} if self.relay is None or self.is_lost else self.relay.wanted()
+
+    def take_early(self) -> List[Item]:
+        """What has come already, in its order."""
+        items, self._early = self._early, []
+        return items
+
+    def take(self, ready: Dict[int, int]) -> List[Item]:
+        """What has come, in its order."""
+        items = self.take_early()
+        relay = self.relay
+        if relay is not None:
+            data = relay.receive() if relay.source in ready and not relay.is_lost else b""
+            if not relay.is_quiet:
+                items += self._new_lines(relay)
+            if data:
+                self._hear(data)
+            elif self._unfed:
+                self._feed()
+            items += self._come()
+            if relay.is_lost and relay is self.relay and not self.is_lost:
+                self._break()
+        self.go_on()
+        self._put(b"")
+        self._ask()
+        self._push()
+        return items
+
+    def _new_lines(self, relay: Link) -> List[str]:
+        """What a connection's programs write to standard error; each line once, however many connections fail by the same."""
+        lines = [line for line in relay.listen() if line != self._last_line]
+        self._last_line = lines[-1] if lines else self._last_line
+        return lines
+
+    def _hear(self, data: bytes) -> None:
+        self._heard_at = self.clock()
+        if self.is_open:
+            self._unfed += data
+            self._feed()
+            return
+        self._begun += data
+        noise, found, _ = self._begun.partition(MARK)
+        if len(noise) > MOST_NOISE:
+            self._break()
+            return
+        hello = bytes(self._begun[len(noise) :][:HELLO_BYTES])
+        if found and len(hello) == HELLO_BYTES:
+            if self._end.attempt == 1:
+                self._noise = bytes(noise)
+            self._unfed = self._begun[len(noise) + HELLO_BYTES :]
+            self._begun = bytearray()
+            self._greet(hello)
+
+    def _greet(self, hello: bytes) -> None:
+        """The host's hello has come."""
+        try:
+            what = sulgrevad.read_hello(hello).what
+            self._end.welcomed(hello)
+        except SamError:
+            if what in REFUSED:
+                self._lose(REFUSED[what])
+            else:
+                self._break()
+            return
+        self._failures, self._connecting, self._lost_at = 0, SECONDS_TO_CONNECT, None
+        self._asked_at = self.clock()
+        self._feed()
+
+    def _feed(self) -> None:
+        try:
+            self._end.feed(self._end.attempt, bytes(self._unfed))
+        except MemoryError:
+            return
+        except SamError:  # the packet is wrong
+            self._unfed.clear()
+            self._break()
+            return
+        self._unfed.clear()
+        if not self._is_measured and self._end.acknowledged >= self._asked:
+            self._is_measured, self.round_trip = True, self.clock() - self._asked_at
+
+    def _come(self) -> List[Item]:
+        """What of the host's stream is here: bytes, and notes between them."""
+        items: List[Item] = []
+        while True:
+            if data := self._end.take_in(PIECE):
+                items.append(data)
+                continue
+            note = self._end.next_note()
+            if note is None:
+                return items
+            item = self._meet(note.decode("utf-8", "replace"))
+            if item is not None:
+                items.append(item)
+
+    def _meet(self, note: str) -> Optional[Item]:
+        verb, _, rest = note.partition(" ")
+        if verb == "told":
+            return f"samhost: {rest}"
+        if verb == "session":
+            self.name, _, self.machine = rest.partition(" ")
+        elif verb == "ended":
+            self.ended_with = int(rest) if rest.isdecimal() else 1
+            self._end.acknowledge()
+            self._push()
+            self._lose("the host is gone")
+        elif verb == "gone":
+            self._lose(f"another terminal has taken the session over: {rest}")
+        else:
+            return Note(verb, rest)
+        return None
+
+    # ---- How the line is
+
+    @property
+    def _is_answer_due(self) -> bool:
+        return self._end.acknowledged < self._asked
+
+    @property
+    def has_all(self) -> bool:
+        """Whether the host is known to have all that was sent."""
+        return not self._unput and self._end.acknowledged >= self._due
+
+    @property
+    def lacking(self) -> int:
+        """How many bytes of ours the host may not have."""
+        return len(self._unput) + max(0, self._due - self._end.acknowledged)
+
+    @property
+    def silence(self) -> float:
+        """For how many seconds nothing has come, though an answer is due."""
+        if self._lost_at is not None:
+            return self.clock() - self._lost_at
+        return self.clock() - max(self._asked_at, self._heard_at) if self._is_answer_due else 0.0
+
+    @property
+    def late_after(self) -> float:
+        """The silence after which an answer counts as late."""
+        return LATE_AFTER + 2 * self.round_trip
+
+    @property
+    def is_broken(self) -> bool:
+        """Whether there is no line."""
+        return self._lost_at is not None
+
+    @property
+    def told(self) -> str:
+        """What the status line says of a line that is lost."""
+        seconds = f"LINE LOST {int(self.silence)} s"
+        if self.relay is not None:
+            return f"{seconds}, connecting"
+        return f"{seconds}, again in {max(0, round(self._again_at - self.clock()))} s"
+
+    # ---- The begin and the end
+
+    @property
+    def noise(self) -> List[str]:
+        """The lines that came before the first hello."""
+        return [line for line in (self._noise or bytes(self._begun)).decode("utf-8", "replace").splitlines() if line.strip()]
+
+    @property
+    def refused_words(self) -> bool:
+        """Whether the host's command has ended at its words, before any byte: a samhost that knows of no session that stays."""
+        return self.relay is not None and self.relay.is_lost and not self._begun and self.relay.process.wait() == 2
+
+    def wait_for_stream(self, first: bytes, hear: Callable[[str], None]) -> bool:
+        """Waits until the host's stream begins. Passes on what is told meanwhile. Returns whether it begins."""
+        while not any(isinstance(item, bytes) for item in self._early) and not self.is_lost and self.relay is not None:
+            relay, ready = self.relay, wait_for(self.wanted(), self.delay())
+            for line in relay.listen() if relay.messages in ready and not relay.is_quiet else []:
+                hear(line)
+            if relay.source in ready and (data := relay.receive()):
+                self._hear(data)
+            self._early += self._come()
+            self._push()
+            if relay.is_lost:
+                break
+        if self.is_lost:
+            hear(f"samterm: {self.why}")
+        return any(isinstance(item, bytes) for item in self._early)
+
+    def connect_in_front(self, hear: Callable[[str], None], signals: int, is_stopped: Callable[[], bool]) -> None:
+        """Tries another connection while the user waits for it, at a screen on which ssh may ask. A signal may stop that."""
+        self.connect(in_front=True)
+        while self.is_connecting and self.relay is not None:
+            ready = wait_for({**self.wanted(), signals: select.POLLIN}, self.delay())
+            if signals in ready and is_stopped():
+                self._break()
+                return
+            for item in self.take(ready):
+                hear(item) if isinstance(item, str) else self._early.append(item)
+
+    def close(
+        self, hear: Callable[[str], None], take: Callable[[bytes], None] = lambda data: None, seconds: float = SECONDS_TO_END
+    ) -> Optional[int]:
+        """Sends what waits, and passes on what still comes. Where the session ends, waits for that, and returns its status; else for the
+        host's word that it has all, and returns None: the session stays."""
+        until = self.clock() + seconds
+        while self.ended_with is None and self.clock() < until and not self.is_lost and self.relay is not None:
+            if not self.ends and self.has_all:
+                break
+            left = min(until - self.clock(), 1.0 if self.delay() is None else self.delay())
+            for item in self.take(wait_for(self.wanted(), left)):
+                if isinstance(item, bytes):
+                    take(item)
+                elif isinstance(item, str):
+                    hear(item)
+        if self.relay is not None and self.ended_with is not None:
+            self.relay.close(hear, seconds=SECONDS_TO_GO)
+        self._drop()
+        for relay in self._old:
+            relay.is_over(waits=True)
+        return self.ended_with
+
+    ends = False  # whether the user has left, so that the session ends
+
+
+Line = Union[Link, Staying]  # the way to the host, whichever it is

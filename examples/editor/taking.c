@@ -1,0 +1,162 @@
+/* taking.c: another terminal takes a session over.
+ *
+ * It gets a new host with the names and texts of the old one, and a link of its own, so the session is named anew, too. What was not
+ * written stays so. Undo, dots, the command window and what the host has cut are the old terminal's: what was cut last is saved aside. All
+ * memory is taken before anything changes.
+ */
+#define _GNU_SOURCE
+#include <errno.h>
+#include <fcntl.h>
+#include <stdio.h>
+#include <stdlib.h>
+#include <string.h>
+#include <sys/socket.h>
+#include <unistd.h>
+
+#include "samhost.h"
+
+/* ---- What is handed on ---- */
+
+static bool is_handed_on(struct session *session, size_t tag)
+{
+    bool has = false;
+
+    return tag != session->vault && !session->documents[tag].is_left && sam_host_has_file(&session->host, (uint16_t)tag, &has) == SAM_OK &&
+           has;
+}
+
+/* Gives the new host the names and texts of the old one, in their order. Returns whether there is memory for them. */
+static bool copy_files(struct session *session, struct session *heir)
+{
+    size_t tags = count_tags(session);
+    char name[NAME_ROOM];
+    size_t len;
+    uint16_t tag;
+
+    for (size_t old = 1; old < tags; old++) {
+        if (!is_handed_on(session, old))
+            continue;
+        if (take_text(session, (uint16_t)old) != 0 ||
+            sam_host_name(&session->host, (uint16_t)old, (uint8_t *)name, NAME_ROOM, &len) != SAM_OK)
+            return false;
+        if (sam_host_add_file(&heir->host, (const uint8_t *)name, len, session->text.bytes, session->text.len, &tag) != SAM_OK)
+            return false;
+    }
+    return session->vault == 0 || add_vault(heir) == STATUS_OK;
+}
+
+/* Hands on what is known of the files, which takes no memory. What the new terminal would take for written is marked. */
+static void hand_documents(struct session *session, struct session *heir)
+{
+    size_t tags = count_tags(session), next = 1;
+
+    for (size_t old = 1; old < tags; old++) {
+        bool is_dirty = true;
+        if (!is_handed_on(session, old))
+            continue;
+        struct document *document = &heir->documents[next++];
+        *document = session->documents[old];
+        session->documents[old] = (struct document){0};
+        document->is_unsaved |= sam_host_is_dirty(&session->host, (uint16_t)old, &is_dirty) != SAM_OK || is_dirty;
+    }
+    heir->closed = session->closed;
+    session->closed = NULL;
+    heir->due = session->due;
+    heir->mode_of_new_files = session->mode_of_new_files;
+}
+
+/* Hands on the folder and all connections; the old terminal is told that they are gone, as far as its line takes that at once. */
+static void hand_stay(struct session *session, struct session *heir, struct caller *caller)
+{
+    struct stay *stay = session->stay, *next = heir->stay;
+    char machine[MACHINE_ROOM];
+
+    name_machine(machine);
+    say_the_last(session, machine);
+    drop_line(stay);
+    next->line = caller->socket;
+    caller->socket = -1;
+    next->listener = stay->listener;
+    memcpy(next->callers, stay->callers, sizeof next->callers);
+    for (int at = 0; at < MOST_CALLERS; at++)
+        stay->callers[at].socket = -1;
+    next->begun = stay->begun;
+    stay->listener = stay->home.all = stay->home.folder = stay->home.lock = -1;
+    stay->heir = heir;
+}
+
+/* ---- The folder ---- */
+
+/* Writes the journal of the new session, and names its folder by its link. */
+static void name_anew(struct session *session, struct session *heir, const struct caller *caller)
+{
+    struct home *home = &heir->stay->home;
+    char before[NAME_DIGITS + 1];
+
+    if (session->stay->journal.file >= 0)
+        close(session->stay->journal.file);
+    session->stay->journal.file = -1;
+    memcpy(before, home->name, sizeof before);
+    name_of_id(heir->stay->id, home->name);
+    int error = make_journal(heir->stay, JOURNAL ".new");
+    if (error == 0) {
+        note_start(heir);
+        add_record(heir, STEP_HELLO, caller->bytes, caller->len);
+        sync_journal(heir);
+        error = renameat(home->folder, JOURNAL ".new", home->folder, JOURNAL) != 0 ? errno : 0;
+    }
+    if (error != 0) {
+        (void)unlinkat(home->folder, JOURNAL, 0);
+        say("there is no journal: %s; if samhost ends unasked, the session ends with it", cause(error));
+    }
+    if (renameat(home->all, before, home->all, home->name) != 0) {
+        say("session %s can't be named anew: %s", before, cause(errno));
+        memcpy(home->name, before, sizeof before);
+    }
+    note_about(heir);
+}
+
+/* ---- All of it ---- */
+
+/* Makes the new session, as far as it takes memory. NULL where that is out, or where its link refuses. */
+static struct session *make_heir(struct session *session, const struct caller *caller, const uint8_t *id, uint32_t *code)
+{
+    struct session *heir = make_staying(&session->stay->home, session->stay->longest_alone);
+
+    *code = SAM_NO_MEMORY;
+    if (heir == NULL)
+        return NULL;
+    memcpy(heir->stay->id, id, SAM_LINK_ID_BYTES);
+    if (make_session(heir) && copy_files(session, heir))
+        *code = sam_link_new(&heir->stay->link, SAM_LINK_HOST, id);
+    if (*code == SAM_OK)
+        *code = sam_link_answer(&heir->stay->link, caller->bytes, caller->len);
+    if (*code == SAM_OK && !say_first(heir))
+        *code = SAM_NO_MEMORY;
+    if (*code == SAM_OK)
+        return heir;
+    heir->stay->home.all = heir->stay->home.folder = heir->stay->home.lock = -1; /* they are the old one's as before */
+    free_staying(heir);
+    return NULL;
+}
+
+uint32_t take_over(struct session *session, struct caller *caller, const uint8_t *id, uint64_t attempt)
+{
+    uint32_t code = SAM_NO_MEMORY;
+
+    if (session->stay->ending != GOES_ON) /* it waits for its terminal to hear of its end */
+        return SAM_LINK_NO_SESSION;
+    struct session *heir = session->wire.is_short || session->stay->has_note ? NULL : make_heir(session, caller, id, &code);
+
+    if (heir == NULL)
+        return code;
+    hand_documents(session, heir);
+    hand_stay(session, heir, caller);
+    heir->stay->attempt = attempt;
+    heir->stay->journal.is_awaited = true;
+    listen_for_notes(heir);
+    name_anew(session, heir, caller);
+    (void)save_cut(session, false);
+    report_taken(heir);
+    return SAM_OK;
+}

@@ -1,0 +1,577 @@
+"""A session that stays at the host, over a line that breaks."""
+import contextlib
+import os
+import random
+import re
+import signal
+import threading
+import time
+
+from checks import Skipped
+
+from .fuzz import Run
+from .model import Model
+from .pairs import LONG as MANY_LINES
+from .pairs import in_a_small_window, loads_of, opened
+from .support import COMMAND_WINDOW, READ_AFTER, SAMHOST, STATE, Session, expect, made, wait_for_text, wait_until
+
+LINES = [f"line {number} {'x' * (number * 7 % 60)}\n" for number in range(1, 1501)]
+LONG = "".join(LINES)
+
+
+class Line:
+    """What the editor knows of a line to a session that stays, as a check says."""
+
+    late_after, round_trip, has_all, told = 1.0, 0.0, True, "LINE LOST"
+
+    def __init__(self):
+        self.is_broken, self.silence, self.notes = False, 0.0, []
+
+    def put_note(self, *words):
+        self.notes.append(words)
+
+
+def with_line(*texts, **more):
+    """An editor with windows for texts, and its line."""
+    pair, editor, key, text = opened(*texts, **more)
+    editor.way.line = line = Line()
+    return pair, editor, key, text, line
+
+
+# ---- Without a screen
+
+
+def check_keys_on_a_lost_line(folder):
+    """While the line is lost all that needs no answer acts at once, what can't act says so, and nothing locks a file."""
+    pair, editor, key, text, line = with_line("one two\nthree\n", has_vault=True)
+    line.is_broken = True
+    pair.wait(0.5)
+    keys = (text("x"), key("^Right"), key("^W"), key("Shift-Home"), key("^X"), key("^End"), key("^V"), text("!"), key("^Z"), key("^R"))
+    for each in keys:
+        editor.take(each)
+        expect(not editor.deferred and not pair.terminal.locked(1), f"{each} waits, or locks the file")
+    model = Model("one two\nthree\n", 200)
+    for act in (lambda: model.type("x"), lambda: model.word_right(False), lambda: model.home(True), model.cut, model.last, model.paste):
+        act()
+    model.type("!")
+    window = editor.focus
+    expect(window.read(0, window.length) == model.text, f"the text is {window.read(0, window.length)!r}, wanted {model.text!r}")
+    pair.wait(4)
+    for name in ("^N", "^K", "^D", "^E"):
+        editor.take(key(name))
+        expect(f"{name} can't act until the line is back" in editor.message and not editor.deferred, f"{name}: {editor.message}")
+    for name in ("^L", "^F", "^S"):
+        editor.take(key(name))
+        expect(not editor.deferred and not pair.terminal.locked(1), f"{name} waits")
+    editor.take(key("Esc"))
+    for each in (key("Esc"), text("1d\n"), key("Esc"), text("?")):
+        editor.take(each)
+    expect(pair.terminal.read(0, 0, 10) == list("1d"), "the command line is not there, or has run")
+    model.last()
+    model.type("?")
+    line.is_broken = False
+    pair.finish()
+    expect(pair.host.text(1) == model.text, f"the host has {pair.host.text(1)!r}, wanted {model.text!r}")
+    expect(list(pair.host.written()) == [1], "the file is not written once the line is back")
+    expect(pair.host.text(0) == "1d", f"the command window has {pair.host.text(0)!r}")
+
+
+def check_keys_of_a_short_break(folder):
+    """Over a break of less than three seconds keys do what they do over a line that holds; and no key that has text typed behind it goes,
+    however long the break is."""
+    for seconds, keys in ((2, ("^D", "^F", "Esc", "1d\n", "Esc", "x")), (9, ("^D", "x")), (9, ("^N", "x", "Esc", "f name\n"))):
+        texts = []
+        for is_broken in (False, True):
+            pair, editor, key, text, line = with_line("one two\ntwo\n", "b\n")
+            line.is_broken = is_broken
+            pair.wait(0.2)
+            for name in keys:
+                editor.take(text(name) if name[0] not in "^E" else key(name))
+                if not is_broken:
+                    pair.finish()
+            pair.wait(seconds)
+            line.is_broken = False
+            pair.finish()
+            texts.append({tag: (pair.host.name(tag), pair.host.text(tag)) for tag in pair.terminal.files()})
+        expect(texts[0] == texts[1], f"{keys}: over a break of {seconds} s {texts[1]}, else {texts[0]}")
+
+
+def check_nothing_is_loaded_without_a_line(folder):
+    """While the line is lost nothing is asked for, and a key that needs text which isn't loaded says so."""
+    pair, editor, key, text = in_a_small_window(True)
+    editor.way.line = line = Line()
+    line.is_broken = True
+    pair.wait(4)
+    loads = loads_of(pair)
+    for name in ("^End", "Up", "Page Up", "^Home", "Page Down", "Page Down", "Page Down"):
+        editor.take(key(name))
+        pair.wait(0.5)
+        expect(not editor.deferred, f"{name} waits")
+    expect(not loads, f"it loads {loads}")
+    editor.take(text("x"))
+    expect(pair.terminal.read(1, 0, 1) == ["x"], "what is typed doesn't stand at the caret")
+    line.is_broken = False
+    pair.finish()
+    expect(pair.host.text(1) == "x" + MANY_LINES, "the host has another text")
+
+
+def check_slices(folder):
+    """While the user rests the whole text is loaded; while keys come nothing is asked for."""
+    pair, editor, key, text = in_a_small_window(True)
+    editor.way.line = Line()
+    pair.finish(3)
+    expect(pair.terminal.first_gap(1) is None, "the text is not loaded whole")
+
+
+# ---- On the screen
+
+
+class BrokenRun(Run):
+    """Random keys against the model, while the line breaks again and again."""
+
+    HOW = (signal.SIGKILL, signal.SIGTERM, signal.SIGSTOP)
+
+    def __init__(self, seed):
+        super().__init__(seed, delay=None)
+        self.breaks = 0
+
+    def session(self, folder):
+        return Session(folder, "a.txt", slow=self.delay, width=self.width, height=self.height, stays=True)
+
+    @contextlib.contextmanager
+    def broken(self, session):
+        """Breaks the line at random meanwhile: the process that carries the bytes is killed, or stands still before."""
+        numbers, is_over = random.Random(self.seed), threading.Event()
+
+        def go_on():
+            while not is_over.wait(numbers.random() * 0.7):
+                if session.shows("LINE LOST") or session.shows("no answer"):
+                    continue  # a break of some seconds is no short one
+                relay = session.relay()
+                with contextlib.suppress(ProcessLookupError, TypeError):
+                    how = numbers.choice(self.HOW)
+                    os.kill(relay, how)
+                    self.breaks += 1
+                    if how == signal.SIGSTOP:
+                        is_over.wait(numbers.random())
+                        os.kill(relay, numbers.choice((signal.SIGCONT, signal.SIGKILL)))
+
+        thread = threading.Thread(target=go_on)
+        thread.start()
+        try:
+            yield
+        finally:
+            is_over.set()
+            thread.join()
+
+    def check(self, session):
+        wait_until(lambda: not session.shows("LINE LOST"), "the line doesn't come back")
+        super().check(session)
+
+    def arrive(self, session, keys):
+        with self.broken(session):
+            for key in keys:
+                self.send(session, key)
+                time.sleep(self.numbers.choice((0, 0.05, 0.3, 0.6)))
+
+
+def run_breaks(folder, seeds):
+    breaks = 0
+    for seed in seeds:
+        place = folder / str(seed)
+        place.mkdir()
+        run = BrokenRun(seed)
+        run.go(place)
+        breaks += run.breaks
+    return breaks
+
+
+def check_random_breaks(folder):
+    """Over a line that breaks at random the text, the caret and the screen are as over one that holds. tests/editor_breaks tries more."""
+    breaks = run_breaks(folder, range(3))
+    expect(breaks > 3, f"this test is wrong: the line broke {breaks} times")
+
+
+def check_typing_on_a_stopped_line(folder):
+    """While the line stands still each key on loaded text shows at once; when it goes on, the host has all."""
+    (path,) = made(folder, a=LONG)
+    with Session(folder, "a.txt", stays=True, width=160) as session:
+        session.wait_for("line 1 ")
+        session.wait_for_quiet()
+        model = Model(LONG, 160)
+        wait_until_loaded(session)
+        with session.stopped_line():
+            slowest = 0.0
+            until, count = time.monotonic() + 5, 0
+            while time.monotonic() < until:
+                start, rune = time.monotonic(), "abcdefghij"[count % 10]
+                session.type(rune)
+                model.type(rune)
+                wait_until(lambda: f"{len(model.text)}, line" in session.status(), lambda: f"{rune} doesn't show: {session.status()}", 2)
+                slowest, count = max(slowest, time.monotonic() - start), count + 1
+                if count == 20:
+                    session.keys("C-Home", "S-End", "C-x", "Down", "C-v", "C-z", "C-r")
+                    for act in (model.first, lambda: model.end(True), model.cut, lambda: model.down(False), model.paste):
+                        act()
+            session.wait_for("no answer for")
+            session.keys("C-w")
+            session.wait_for("written when the line is back")
+            session.type("!")
+            model.type("!")
+            expect(path.read_text() == LONG, "it is written already: this test is wrong")
+        wait_for_text(path, model.text)
+        expect(slowest < 1.0, f"a key took {slowest:.2f} s")
+        session.leave()
+
+
+def wait_until_loaded(session):
+    """Waits until all of the text is loaded: nothing more comes for a second then."""
+    while True:
+        before = wait_until(lambda: session.bytes_down() > len(LONG) and session.bytes_down(), "the text doesn't come")
+        time.sleep(1)
+        if session.bytes_down() == before:
+            return
+
+
+def check_lost_line(folder):
+    """A line that is lost for a while is told of, and so is what can't be done meanwhile; changed texts are written here, and no longer
+    once it is back."""
+    (path,) = made(folder, a="one\ntwo\n")
+    block = folder / "block"
+    host = folder / "host"
+    host.write_text(f"#!/bin/sh\n[ -e {block} ] && exit 1\nexec {SAMHOST} \"$@\"\n")
+    host.chmod(0o755)
+    with Session(folder, "a.txt", host=str(host), stays=True, width=120) as session:
+        session.wait_for("two")
+        session.type("x")
+        session.wait_for("xone")
+        session.wait_for_quiet()
+        block.touch()
+        session.break_line()
+        session.wait_for("LINE LOST")
+        session.wait_for("again in")
+        session.type("y")
+        session.wait_for("xyone")
+        session.keys("C-w")
+        session.wait_for("a.txt is written when the line is back")
+        time.sleep(3.5)
+        for key, words in (("C-d", "^D can't act until the line is back"), ("C-n", "^N can't act"), ("C-k", "^K can't act")):
+            session.keys(key)
+            session.wait_for(words)
+        session.switch()
+        session.type("2d")
+        session.keys("Enter")
+        session.wait_for("the command line stays")
+        expect("2d" in session.rows(COMMAND_WINDOW), f"the command window has {session.rows(COMMAND_WINDOW)}")
+        session.switch()
+        session.type("z")
+        session.wait_for("xyzone")
+        here = folder / "a.txt.sam-here"
+        wait_until(lambda: here.exists() and here.read_text() == "xyzone\ntwo\n", "no text is written here")
+        block.unlink()
+        session.keys("F5")
+        wait_until(lambda: not session.shows("LINE LOST"), "the line is not tried at once", 5)
+        wait_for_text(path, "xyzone\ntwo\n")
+        wait_until(lambda: not list(folder.glob("*.sam-here")), lambda: f"there are {list(folder.glob('*.sam-here'))}")
+        session.switch()
+        session.keys("Enter")
+        wait_until(lambda: session.rows("a.txt")[:2] == ["xyzone", ""], lambda: f"the line has not run: {session.rows('a.txt')}")
+        session.keys("C-q")
+        session.answer("not written", "C-q")
+        session.wait_for_end(0)
+
+
+def check_password_for_a_lost_line(folder):
+    """A connection that is tried again can't ask on the screen of the text; F5 gives it the screen, and `^C` takes that back."""
+    made(folder, a="one\n")
+    asks, host = folder / "asks", folder / "host"
+    host.write_text(f"""#!/bin/sh
+if [ -e {asks} ]; then
+    exec 3<> /dev/tty || exit 1
+    printf 'password: ' >&3
+    read -r word <&3
+    [ "$word" = secret ] || exit 1
+fi 2> /dev/null
+exec {SAMHOST} "$@"
+""")
+    host.chmod(0o755)
+    with Session(folder, "a.txt", host=str(host), stays=True, width=120, settings="trap : INT;") as session:
+        session.wait_for("one")
+        session.wait_for_quiet()
+        asks.touch()
+        session.break_line()
+        session.wait_for("LINE LOST 4 s")
+        expect(not session.shows("password"), "it asks on the screen of the text")
+        session.type("x")
+        session.wait_for("xone")
+        session.keys("F5")
+        session.wait_for("password:")
+        session.keys("C-c")
+        session.wait_for("xone")
+        session.wait_for("LINE LOST")
+        session.keys("F5")
+        session.wait_for("password:")
+        session.type("secret")
+        session.keys("Enter")
+        session.wait_for("xone")
+        wait_until(lambda: not session.shows("LINE LOST"), "the line doesn't come back")
+        session.wait_for_quiet()
+        session.keys("C-w")
+        wait_for_text(folder / "a.txt", "xone\n")
+        session.leave()
+
+
+def check_leave_and_take(folder):
+    """Who leaves on a dead line is asked once, and told how he comes back; then all is there."""
+    (path,) = made(folder, a="one\ntwo\n")
+    with Session(folder, "a.txt", stays=True, width=160) as session:
+        session.ends_staying = False
+        session.wait_for("two")
+        session.type("x")
+        session.wait_for("xone")
+        session.wait_for_quiet()
+        with session.stopped_line():
+            session.type("y")
+            session.wait_for("no answer for")
+            session.keys("C-q")
+            session.answer("^Q again leaves", "C-q")
+            session.wait_for_end(3)
+    told = (folder / "stderr").read_text()
+    name = re.search(r"--take \S+ ([0-9a-f]{16})", told)
+    expect(name is not None and "session stays" in told, f"it tells {told!r}")
+    expect((folder / "a.txt.sam-here").read_text() == "xyone\ntwo\n", "the text is not written here")
+    (folder / "status").unlink()
+    with Session(folder, take=name[1]) as session:
+        session.wait_for("it was not written before")
+        wait_until(lambda: session.rows("a.txt")[:2] in (["xone", "two"], ["xyone", "two"]), lambda: f"it has {session.rows('a.txt')}")
+        expect(session.shows(">* a.txt"), "it is not marked as changed")
+        session.keys("C-w")
+        wait_until(lambda: path.read_text() in ("xone\ntwo\n", "xyone\ntwo\n"), "it is not written")
+        wait_until(lambda: session.shows(">  a.txt"), "it stays marked as changed")
+        session.leave()
+
+
+# ---- Files that join
+
+
+def expect_joining():
+    """Skips where the library takes no file once a session has begun."""
+    from sulgrevad import AddRefused, Host, Terminal
+
+    with Host() as host, Terminal() as terminal:
+        terminal.offer_version(2)
+        host.feed(terminal.take_out())
+        try:
+            host.add_file("late")
+        except AddRefused as why:
+            raise Skipped("the library takes no file once a session has begun") from why
+
+
+def open_path(session, path, shown=None):
+    """Opens a path by the menu of files, once an entry shows."""
+    session.keys("F2")
+    session.wait_for("Files; a path opens another")
+    session.type(path)
+    session.wait_for(f"+ {shown or path}")
+    session.keys("Enter")
+
+
+def check_open_by_path(folder):
+    """The menu of files opens what is beside the host: by its path, by a part of it, in a folder, one that isn't there as new, and one that
+    is open already by its window. What was typed for a path that can't be opened goes into no other file."""
+    expect_joining()
+    path, other = made(folder, a="one\n", bee="bee\n")
+    (folder / "sub").mkdir()
+    (folder / "sub" / "deep.txt").write_text("deep\n")
+    with Session(folder, "a.txt", stays=True, slow=20, width=120) as session:
+        session.wait_for("one")
+        session.wait_for_quiet()
+        open_path(session, "be", "bee.txt")
+        session.wait_to_go_to("bee.txt")
+        wait_until(lambda: session.rows("bee.txt")[:1] == ["bee"], "it is not shown")
+        session.type("x")
+        session.keys("C-w")
+        wait_for_text(other, "xbee\n")
+        open_path(session, "su", "sub/")
+        session.wait_for("+ sub/deep.txt")
+        session.keys("Enter")
+        session.wait_to_go_to("sub/deep.txt")
+        open_path(session, "new.txt", "new.txt  (a new file)")
+        session.type("hi")
+        session.wait_to_go_to("new.txt")
+        session.wait_for("hi")
+        session.keys("C-w")
+        wait_for_text(folder / "new.txt", "hi")
+        open_path(session, "./bee.txt")
+        session.wait_to_go_to("bee.txt")
+        session.wait_for_quiet()
+        session.keys("F2")
+        session.wait_for("Files; a path")
+        names = [line.strip() for line in session.screen() if line.startswith("    ") and ".txt" in line]
+        expect(sorted(names) == ["a.txt", "bee.txt", "new.txt", "sub/deep.txt"], f"the menu has {names}")
+        session.keys("Escape")
+        session.keys("F2")
+        session.type("nowhere/x.txt")
+        session.keys("Enter")
+        session.type("stray")
+        session.wait_for("is not opened")
+        session.wait_for("^V has what you typed")
+        session.wait_for_quiet()
+        expect(session.rows("bee.txt")[:1] == ["xbee"], f"it goes into {session.rows('bee.txt')[:1]}")
+        session.keys("End", "C-v")
+        session.wait_for("xbeestray")
+        session.keys("C-w")
+        wait_for_text(other, "xbeestray\n")
+        session.leave()
+
+
+def check_open_while_the_line_breaks(folder):
+    """A path that was opened as the line broke comes once it is back, and what was typed for it goes into it."""
+    expect_joining()
+    made(folder, a="one\n", bee="bee\n")
+    with Session(folder, "a.txt", stays=True, width=120) as session:
+        session.wait_for("one")
+        session.wait_for_quiet()
+        with session.stopped_line():
+            session.keys("F2")
+            session.type("bee.txt")
+            session.keys("Enter")
+            session.type("x")
+            session.wait_for("held 1")
+            session.break_line()
+        session.wait_for("LINE LOST")
+        session.wait_for("xbee")
+        session.wait_for_quiet()
+        expect(session.rows("bee.txt")[:1] == ["xbee"], f"the windows are {session.screen()}")
+        session.leave_unwritten()
+
+
+# ---- Ends
+
+
+def host_of(folder):
+    """The process of the samhost that stays, which its lock names."""
+    (lock,) = (folder / STATE / "sulgrevad").glob("*/lock")
+    return int(lock.read_text())
+
+
+def check_end_by_a_signal(folder):
+    """A signal to samterm leaves the session at the host, with all that was typed; nothing is written here. Another takes it up."""
+    (path,) = made(folder, a="one\n")
+    with Session(folder, "a.txt", stays=True, width=120) as session:
+        session.ends_staying = False
+        session.wait_for("one")
+        session.type("x")
+        session.wait_for("xone")
+        os.kill(session.terminal(), signal.SIGTERM)
+        session.wait_for_end(128 + signal.SIGTERM)
+    told = (folder / "stderr").read_text()
+    expect("the session stays at the host. This goes on with it" in told, f"it tells {told!r}")
+    expect(not list(folder.glob("*.sam-here")), f"there are {list(folder.glob('*.sam-here'))}")
+    (folder / "status").unlink()
+    with Session(folder, take="", width=120) as session:
+        wait_until(lambda: session.shows(">* a.txt") and session.rows("a.txt")[:1] == ["xone"], "its text doesn't come back as changed")
+        session.keys("C-w")
+        wait_for_text(path, "xone\n")
+        session.leave()
+
+
+def check_taken_over(folder):
+    """Who takes a session over that is shown elsewhere has its texts; the other is told so, and keeps here what the host may lack."""
+    made(folder, a="one\n")
+    beside = folder / "beside"
+    beside.mkdir()
+    with Session(folder, "a.txt", stays=True, width=120) as session:
+        session.wait_for("one")
+        session.type("x")
+        session.wait_for("xone")
+        session.wait_for_quiet()
+        settings = f"XDG_STATE_HOME={folder / STATE}"
+        with Session(beside, take="", settings=settings, width=120) as other:
+            other.wait_for("xone")
+            session.wait_for("HOST LOST")
+            session.wait_for("taken the session over")
+            session.keys("C-q")
+            session.wait_for_end(3)
+            other.keys("C-w")
+            wait_for_text(folder / "a.txt", "xone\n")
+            other.leave()
+
+
+def check_host_is_killed(folder):
+    """Another samhost begins where a killed one was, and the session goes on: text, undo and what was copied."""
+    (path,) = made(folder, a="one\ntwo\n")
+    with Session(folder, "a.txt", stays=True, width=120) as session:
+        session.wait_for("two")
+        session.keys("S-Right", "C-c")
+        session.type("x")
+        session.wait_for("xne")
+        session.wait_for_quiet()
+        os.kill(host_of(folder), signal.SIGKILL)
+        session.wait_for("LINE LOST")
+        session.type("y")
+        session.wait_for("xyne")
+        wait_until(lambda: not session.shows("LINE LOST"), "the session doesn't go on")
+        session.keys("C-v")
+        session.wait_for("xyone")
+        session.keys("C-w")
+        wait_for_text(path, "xyone\ntwo\n")
+        session.keys("C-z", "C-z", "C-z")
+        session.wait_for_quiet()
+        session.keys("C-w")
+        wait_for_text(path, "one\ntwo\n")
+        session.leave()
+
+
+def check_old_host(folder):
+    """Where samhost is too old for a session that stays, it is run without, which is told."""
+    (path,) = made(folder, a="one\n")
+    host = folder / "host"
+    host.write_text(f'#!/bin/sh\n[ "$1" = --serve ] && echo "usage: samhost [--undo] [--times] [--] [FILE ..]" >&2 && exit 2\nexec {SAMHOST} "$@"\n')
+    host.chmod(0o755)
+    with Session(folder, "a.txt", host=str(host), stays=True) as session:
+        session.wait_for("one")
+        session.type("x")
+        session.keys("C-w")
+        wait_for_text(path, "xone\n")
+        session.leave()
+    told = (folder / "stderr").read_text()
+    expect("too old for a session that stays" in told and "usage" not in told, f"it tells {told!r}")
+
+
+def check_break_while_leaving(folder):
+    """A break amid leaving ends nothing too early: once the line is back the session ends, and its text is saved."""
+    (path,) = made(folder, a="one\n")
+    with Session(folder, "a.txt", stays=True, width=120) as session:
+        session.wait_for("one")
+        session.type("x")
+        session.wait_for("xone")
+        session.wait_for_quiet()
+        session.keys("C-q")
+        session.wait_for("not written")
+        time.sleep(READ_AFTER)
+        with session.stopped_line():
+            session.keys("C-q")
+            session.wait_for("leaving")
+            session.break_line()
+        session.wait_for_end(0)
+    wait_for_text(folder / "a.txt.sam-saved", "xone\n")
+    expect(path.read_text() == "one\n", "it is written")
+    wait_until(lambda: not list((folder / STATE / "sulgrevad").glob("*/socket")), "the session is still there")
+
+
+def check_keys_that_wait_are_kept(folder):
+    """Who leaves on a dead line while typed text waits finds it here."""
+    made(folder, a="x" * 5_000 + "\nend\n")
+    with Session(folder, "a.txt", stays=True, width=120) as session:
+        session.wait_for("xxx")
+        session.wait_for_quiet()
+        with session.stopped_line():
+            session.keys("C-n")
+            session.type("typed for the new file")
+            session.wait_for("no answer for")
+            session.keys("C-q")
+            session.answer("^Q again leaves", "C-q")
+            session.wait_for_end(3)
+    kept = "".join(path.read_text() for path in folder.glob("*.sam-here"))
+    expect("typed for the new file" in kept, f"it keeps {kept[-200:]!r}")

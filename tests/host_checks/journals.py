@@ -1,0 +1,398 @@
+"""The journal of a session that stays: where its samhost is killed, another goes on from it."""
+import os
+import random
+import re
+import resource
+import shutil
+import signal
+import struct
+import subprocess
+import time
+
+from checks import Skipped, expect, wait_until
+from link_model import What
+
+from .line import Staying, home_of, is_running, pid_of
+from .support import SAMHOST, expect_equal, made, names_in, text_of
+
+FRONT = 16  # bytes of a journal before its first record
+
+
+def kill(folder, session):
+    """Kills the samhost of a session; answers its number."""
+    pid = pid_of(folder, session.name)
+    os.kill(pid, signal.SIGKILL)
+    wait_until(lambda: not is_running(pid), "it still runs")
+    return pid
+
+
+def records_of(journal):
+    """Where the records of a journal begin, with their kinds; and where they end."""
+    found, at = [], FRONT
+    while at + 9 <= len(journal):
+        length = struct.unpack(">I", journal[at : at + 4])[0]
+        if at + 9 + length > len(journal):
+            break
+        found.append((at, journal[at + 4]))
+        at += 9 + length
+    return found, at
+
+
+def check_journal_goes_on(folder):
+    """After kill -9 the next attempt finds all texts, names, dots and marks as they were, and goes on from the counts. The file is written
+    once."""
+    made(folder, a="one\n", b="other\n")
+    with Staying(folder, "a.txt", "b.txt", options=("--undo",)) as session:
+        session.type("two\n")
+        session.write()
+        session.type("three\n", 2)
+        session.rename("c.txt", 2)
+        status = (folder / "a.txt").stat()
+        pid = kill(folder, session)
+        session.type("four\n")
+        expect(pid_of(folder, session.name) != pid, "no other samhost has begun")
+        expect_equal((folder / "a.txt").stat().st_mtime_ns, status.st_mtime_ns, "when the file was written")
+        expect_equal((session.text(1), session.text(2)), ("one\ntwo\nfour\n", "other\nthree\n"), "the texts")
+        expect_equal(session.terminal.name(2), "c.txt", "the name")
+        session.write(1)
+        session.write(2)
+        expect_equal(text_of(folder / "a.txt"), "one\ntwo\nfour\n", "the file")
+        expect_equal(text_of(folder / "c.txt"), "other\nthree\n", "the other file")
+        expect_equal([note for note in session.notes if note.startswith("told ?")], [], "what it says of writes")
+        session.leave()
+        wait_until(lambda: not home_of(folder, session.name).exists(), "its folder stays")
+    expect_equal([name for name in names_in(folder) if "sam" in name], [], "the copies that are left")
+
+
+def check_journal_knows_copies(folder):
+    """A copy that a killed samhost has saved is the next one's own: it is replaced, and goes once the file is written. So is what was cut."""
+    made(folder, a="one two\n")
+    with Staying(folder, "a.txt", options=("--undo",)) as session:
+        session.terminal.select(1, 0, 4)
+        session.terminal.cut(1)
+        session.settle()
+        copies = ["a.txt.sam-saved", "cut.sam-saved"]
+        wait_until(lambda: [name for name in names_in(folder) if "sam-" in name] == copies, "no copies are there")
+        journal = home_of(folder, session.name) / "journal"
+        wait_until(lambda: {10, 11} <= {kind for _, kind in records_of(journal.read_bytes())[0]}, "they are not in the journal")
+        kill(folder, session)
+        session.type("three\n")
+        wait_until(lambda: text_of(folder / "a.txt.sam-saved") == "two\nthree\n", "the copy isn't replaced")
+        expect_equal([name for name in names_in(folder) if "sam-" in name], copies, "the copies")
+        session.terminal.paste(1)
+        session.write()
+        session.leave()
+    expect_equal([name for name in names_in(folder) if "sam-" in name], [], "the copies at the end")
+
+
+def check_journal_through_kills(folder):
+    """samhost and relay are killed at random moments, many times, while the user types, cuts, writes and runs commands."""
+    (path,) = made(folder, a="one\n" * 20)
+    chance = random.Random(11)
+    with Staying(folder, "a.txt", options=("--undo",)) as session:
+        for number in range(40):
+            length = session.terminal.len(1)
+            start, end = sorted(chance.randrange(length + 1) for _ in range(2))
+            session.terminal.select(1, start, min(end, start + 20))
+            what = chance.random()
+            if what < 0.6:
+                session.terminal.type(1, f"<{number}>" + "x" * chance.randrange(100))
+            elif what < 0.7:
+                session.terminal.cut(1)
+            elif what < 0.8:
+                session.terminal.paste(1)
+            else:
+                session.terminal.write(1)
+            if chance.random() < 0.5:
+                session.left = chance.randrange(1, 300)
+            session.send()
+            if chance.random() < 0.5:
+                time.sleep(chance.random() * 0.01)
+                kill(folder, session)
+            session.settle()
+        session.left = None
+        session.write()
+        expect_equal(text_of(path), session.text(), "the file")
+        expect_equal([note for note in session.notes if note.startswith("told ")], [], "what it says")
+        session.leave()
+    copies = [name for name in names_in(folder) if "sam" in name and not name.startswith(".sam-")]  # a write that was killed leaves those
+    expect_equal(copies, [], "the copies that are left")
+
+
+def check_journal_torn(folder):
+    """A journal that is torn at any of its last bytes goes on from its last whole record; a terminal that has more is refused by name."""
+    for cut in range(1, 40):
+        place = folder / str(cut)
+        place.mkdir()
+        made(place, a="one\n")
+        with Staying(place, "a.txt") as session:
+            session.type("two\n")
+            session.type("three\n")
+            kill(place, session)
+            journal = home_of(place, session.name) / "journal"
+            data = journal.read_bytes()
+            records, end = records_of(data)
+            expect_equal(end, len(data), "where its records end")
+            journal.write_bytes(data[:-cut])
+            left = [at for at, _ in records if at <= len(data) - cut][-1]  # the record that is torn begins here, or the whole one ends
+            session.drop()
+            session.attach()
+            answer = session.refusal()
+            if answer == What.WELCOME:
+                session.hear(b"")
+                session.abandon()
+                session.type("four\n")
+                expect_equal(session.text(), "one\ntwo\nthree\nfour\n", f"cut by {cut}: the text")
+            else:
+                expect_equal(answer, What.WRONG_COUNT, f"cut by {cut}: the answer")
+            expect(left > FRONT, "this test is wrong: it cuts the front")
+
+
+def check_journal_with_a_wrong_byte(folder):
+    """A byte that is wrong in the last record, wherever, ends the journal before that."""
+    for place in ("kind", "body", "sum"):
+        room = folder / place
+        room.mkdir()
+        made(room, a="one\n")
+        with Staying(room, "a.txt") as session:
+            session.type("two\n")
+            kill(room, session)
+            journal = home_of(room, session.name) / "journal"
+            data = bytearray(journal.read_bytes())
+            last = records_of(data)[0][-1][0]
+            data[{"kind": last + 4, "body": last + 5, "sum": len(data) - 1}[place]] ^= 1
+            journal.write_bytes(data)
+            session.drop()
+            session.attach()
+            expect(session.refusal() in (What.WELCOME, What.WRONG_COUNT), "the answer is another")
+            expect_equal(journal.read_bytes()[:last], bytes(data[:last]), f"{place}: the records before")
+            expect(journal.read_bytes()[last : len(data)] != data[last:], f"{place}: the wrong record is there")
+
+
+def check_journal_behind_garbage(folder):
+    """Garbage behind the last record goes."""
+    made(folder, a="one\n")
+    with Staying(folder, "a.txt") as session:
+        session.type("two\n")
+        kill(folder, session)
+        journal = home_of(folder, session.name) / "journal"
+        data = journal.read_bytes()
+        journal.write_bytes(data + os.urandom(100))
+        session.type("three\n")
+        kill(folder, session)
+        expect(os.path.commonprefix([data, journal.read_bytes()]) == data, "the records that were whole are not there")
+        session.type("four\n")
+        expect_equal(session.text(), "one\ntwo\nthree\nfour\n", "the text")
+        session.leave()
+
+
+def check_journal_of_another_version(folder):
+    """A journal of another version is told of, and not used; where only the library differs the texts are saved aside."""
+    for at in (11, 15):  # the last byte of each version
+        place = folder / str(at)
+        place.mkdir()
+        made(place, a="one\n")
+        with Staying(place, "a.txt") as session:
+            session.type("two\n")
+            kill(place, session)
+            journal = home_of(place, session.name) / "journal"
+            data = bytearray(journal.read_bytes())
+            data[at] ^= 1
+            journal.write_bytes(data)
+            session.drop()
+            session.attach()
+            expect_equal(session.refusal(), What.NO_SESSION, "the answer")
+            expect_equal(session.wait(), 7, "the status")
+            said = session.process.stderr.read().decode()
+            expect(f"samhost: session {session.name} can't go on: its journal is of another version" in said, f"it says {said!r}")
+            if at == 15:
+                expect_equal(text_of(place / "a.txt.sam-saved"), "one\ntwo\n", "the copy")
+                expect("its text is in a.txt.sam-saved" in said, f"it says {said!r}")
+                expect(not home_of(place, session.name).exists(), "its folder stays")
+
+
+def check_journal_that_differs(folder):
+    """Where the journal has another answer than samhost gives now, nothing is sent; that is told, and the texts are saved aside."""
+    made(folder, a="one\n")
+    with Staying(folder, "a.txt") as session:
+        session.type("two\n")
+        kill(folder, session)
+        journal = home_of(folder, session.name) / "journal"
+        data = bytearray(journal.read_bytes())
+        records, _ = records_of(data)
+        at = [at for at, kind in records if kind == 6][-1]  # what the host has said last
+        length = struct.unpack(">I", data[at : at + 4])[0]
+        data[at + 5] ^= 1
+        data[at + 5 + length : at + 9 + length] = struct.pack(">I", crc(data[at : at + 5 + length]))
+        journal.write_bytes(data)
+        session.drop()
+        session.attach()
+        expect_equal((session.refusal(), session.wait()), (What.NO_SESSION, 7), "the answer, and the status")
+        said = session.process.stderr.read().decode()
+        expect("its journal has other answers than samhost gives now" in said, f"it says {said!r}")
+    expect_equal(text_of(folder / "a.txt.sam-saved"), "one\ntwo\n", "the copy")
+
+
+def crc(data):
+    """CRC-32C, bit by bit."""
+    total = 0xFFFFFFFF
+    for byte in data:
+        total ^= byte
+        for _ in range(8):
+            total = total >> 1 ^ (0x82F63B78 if total & 1 else 0)
+    return total ^ 0xFFFFFFFF
+
+
+def check_journal_has_crc_32c(folder):
+    """The sums are CRC-32C, whose value of "123456789" is known."""
+    expect_equal(crc(b"123456789"), 0xE3069283, "the sum of the known text")
+    made(folder, a="one\n")
+    with Staying(folder, "a.txt") as session:
+        data = (home_of(folder, session.name) / "journal").read_bytes()
+        records, end = records_of(data)
+        ends = [at for at, _ in records[1:]] + [end]
+        for (at, _), after in zip(records, ends):
+            expect_equal(struct.unpack(">I", data[after - 4 : after])[0], crc(data[at : after - 4]), f"the sum of the record at {at}")
+        session.leave()
+
+
+def check_journal_that_is_ended(folder):
+    """--end and --list find a session whose samhost was killed: its texts are saved aside, and its folder goes."""
+    made(folder, a="one\n")
+    with Staying(folder, "a.txt") as session:
+        session.type("two\n")
+        session.drop()
+        kill(folder, session)
+        expect("its samhost is gone" in session.run("--list").stdout, "the list doesn't have it")
+        ended = session.run("--end", session.name)
+        expect_equal((ended.returncode, ended.stdout), (0, ""), "what comes of --end")
+        expect_equal(ended.stderr, "samhost: a.txt was not written; its text is in a.txt.sam-saved\n", "what it says")
+        expect_equal(session.run("--list").stdout, "", "the list")
+    expect_equal(text_of(folder / "a.txt.sam-saved"), "one\ntwo\n", "the copy")
+
+
+def check_journal_where_a_write_was_not_noted(folder):
+    """Killed between a write and its note in the journal, the next samhost writes again where the file is still what it was; and finds it
+    written where it is."""
+    if shutil.which("strace") is None:
+        raise Skipped("no strace")
+    for call, when in (("rename", 1), ("fsync", 1), ("unlink", 1)):
+        place = folder / call
+        place.mkdir()
+        (path,) = made(place, a="one\n")
+        with Staying(place, "a.txt") as session:
+            session.type("two\n")
+            pid = pid_of(place, session.name)
+            words = ("strace", "-qq", "-o", "/dev/null", "-f", "-p", str(pid), "-e", f"inject={call}:signal=KILL:when={when}")
+            with subprocess.Popen(words, stderr=subprocess.PIPE) as tracer:
+                wait_until(lambda: "TracerPid:\t0\n" not in open(f"/proc/{pid}/status").read(), "it is not traced")
+                session.terminal.write(1)
+                session.type("three\n")
+                session.settle()
+                if is_running(pid):
+                    tracer.kill()
+            expect_equal(text_of(path), "one\ntwo\n", f"{call}: the file")
+            session.write()
+            expect_equal(text_of(path), "one\ntwo\nthree\n", f"{call}: the file at the end")
+            expect_equal([note for note in session.notes if note.startswith("told ?")], [], f"{call}: what it says of writes")
+            session.leave()
+
+
+def check_journal_before_acknowledgements(folder):
+    """What is acknowledged is in the journal, and that is on the disk, before the acknowledgement goes out."""
+    if shutil.which("strace") is None:
+        raise Skipped("no strace")
+    made(folder, a="one\n")
+    with Staying(folder, "a.txt") as session:
+        session.type("two\n")
+        pid, log = pid_of(folder, session.name), folder / "temporary" / "calls"
+        words = ("strace", "-qq", "-xx", "-s", "64", "-o", log, "-p", str(pid), "-e", "trace=writev,fdatasync,sendto")
+        with subprocess.Popen(words, stderr=subprocess.DEVNULL) as tracer:
+            wait_until(lambda: "TracerPid:\t0\n" not in open(f"/proc/{pid}/status").read(), "it is not traced")
+            session.type("three\n")
+            tracer.terminate()
+        forms = {
+            r"writev\(\d+, \[\{iov_base=\"(\\x..){4}\\x05": "up",
+            r"fdatasync\(": "on disk",
+            r"sendto\(.*\\x03\\x00\\x08": "acknowledged",
+        }
+        calls = [name for line in log.read_text().splitlines() for form, name in forms.items() if re.match(form, line)]
+        expect("up" in calls and "acknowledged" in calls, f"it takes nothing, or acknowledges nothing: {calls}")
+        for at, call in enumerate(calls):
+            is_there = call != "acknowledged" or calls[:at] == [] or calls[at - 1] != "up"
+            expect(is_there, f"it acknowledges what is not on the disk: {calls[: at + 1]}")
+        session.leave()
+
+
+def check_journal_without_room_for_it(folder):
+    """Where the journal can't be written the terminal is told once, and the session goes on without it."""
+    made(folder, a="one\n")
+    with Staying(folder, "a.txt") as session:
+        session.type("two\n")
+        journal = home_of(folder, session.name) / "journal"
+        limit = journal.stat().st_size + 20
+        resource.prlimit(pid_of(folder, session.name), resource.RLIMIT_FSIZE, (limit, resource.RLIM_INFINITY))
+        session.type("three\n")
+        session.type("four\n")
+        told = [note for note in session.notes if note.startswith("told the journal can't be written: File too large")]
+        expect_equal(len(told), 1, f"how often it says so, in {session.notes}: it")
+        expect(not journal.exists(), "a journal that lacks steps is there")
+        session.drop()
+        session.type("five\n")
+        session.write()
+        expect_equal(text_of(folder / "a.txt"), "one\ntwo\nthree\nfour\nfive\n", "the file")
+        session.leave()
+
+
+def check_journal_for_one_alone(folder):
+    """Of several that find the same journal one goes on from it, and the others find that one."""
+    made(folder, a="one\n")
+    with Staying(folder, "a.txt") as session:
+        session.type("two\n")
+        session.drop()
+        kill(folder, session)
+        pipe = subprocess.PIPE
+        words = [SAMHOST, "--attach", session.name]
+        relays = [subprocess.Popen(words, cwd=folder, env=session.environment, stdin=pipe, stdout=pipe, stderr=pipe) for _ in range(6)]
+        try:
+            session.type("three\n")
+            pid = pid_of(folder, session.name)
+            named = [it for it in map(int, filter(str.isdigit, os.listdir("/proc"))) if is_session(it, session.name)]
+            expect_equal(named, [pid], "the processes that have a session")
+        finally:
+            for relay in relays:
+                relay.kill()
+                relay.communicate()
+        session.leave()
+
+
+def is_session(pid, name):
+    """Whether a process serves this session: it has no terminal's pipes, but those words."""
+    try:
+        words = open(f"/proc/{pid}/cmdline", "rb").read().split(b"\0")
+        return name.encode() in words and os.readlink(f"/proc/{pid}/fd/0") == "/dev/null"
+    except OSError:
+        return False
+
+
+def check_journal_is_read_quickly(folder):
+    """A journal of 16 MB is read within some seconds on a busy machine; on a quiet one it takes less than one."""
+    made(folder, a="one\n")
+    with Staying(folder, "a.txt") as session:
+        text = "x" * 79 + "\n"
+        for _ in range(16):
+            for _ in range(100):
+                session.terminal.select(1, 0, 0)
+                session.terminal.type(1, text)
+            session.settle()
+        journal = home_of(folder, session.name) / "journal"
+        session.type("last\n")
+        expect(journal.stat().st_size > 100000, f"it has {journal.stat().st_size} bytes")
+        kill(folder, session)
+        start = time.monotonic()
+        session.drop()
+        session.attach()
+        expect_equal(session.refusal(), What.WELCOME, "the answer")
+        expect(time.monotonic() - start < 5, f"it took {time.monotonic() - start:.1f} s")
+        session.abandon()
+        session.leave()
