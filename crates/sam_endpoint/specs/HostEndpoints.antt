@@ -24,9 +24,9 @@ use Rattle.sam_endpoint.specs.Streams.{Gives}
 pub record PlainHostEndpoint : Type 0 where
   pub framer : Held  -- what came of the terminal's stream and is no whole frame yet
   pub host : PlainHost
-  pub waiting : List Tmesg  -- messages that came and are not answered yet, since memory was refused
+  pub waiting : List Tmesg  -- messages that came and are not answered yet
   pub broken_by : Option StreamFault  -- what is wrong with the stream after them
-  pub unwritten : List HFrame  -- frames that were answered and are not in the pending bytes yet, since memory was refused
+  pub unwritten : List HFrame  -- frames that were answered and are not in the pending bytes yet
   pub pending_bytes : List ℕ  -- bytes for the terminal that were not taken yet
   pub writes : List ℕ  -- the tags that the host was told to write and that were not asked for yet, in order
   pub stop : Option HostStop  -- why it has stopped for good

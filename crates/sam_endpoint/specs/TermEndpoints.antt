@@ -28,9 +28,9 @@ use Rattle.sam_endpoint.specs.Streams.{Gives}
 pub record PlainTermEndpoint : Type 0 where
   pub framer : Held  -- what came of the host's stream and is no whole frame yet
   pub term : PlainTerminal
-  pub waiting : List HFrame  -- frames that came and are not received yet, since memory was refused
+  pub waiting : List HFrame  -- frames that came and are not received yet
   pub broken_by : Option StreamFault  -- what is wrong with the stream after them
-  pub unwritten : List Tmesg  -- messages that were composed and are not in the pending bytes yet, since memory was refused
+  pub unwritten : List Tmesg  -- messages that were composed and are not in the pending bytes yet
   pub pending_bytes : List ℕ  -- bytes for the host that were not taken yet
   pub seen : ℕ  -- the stamp of the last frame that was received: how many messages the host had taken; 0 before the first
   pub events : ℕ  -- how many events the user made

@@ -101,11 +101,11 @@ pub struct HostEndpoint {
     framer: FramerT,
     /// The host, as the messages answered so far left it.
     host: Host,
-    /// The messages that came and are not answered yet, the oldest first. There are none after a call that returned `Ok`.
+    /// The messages that came and are not answered yet, the oldest first. There are none after a `feed` that returned `Ok`.
     pub(crate) waiting: VecDeque<Tmesg>,
     /// What is wrong with the stream after these messages; `None` if nothing is.
     pub(crate) broken_by: Option<StreamFault>,
-    /// The frames of the last answer, while their bytes are not pending. There are none after a call that returned `Ok`.
+    /// The frames of the last answer, while their bytes are not pending. There are none after a `feed` that returned `Ok`.
     pub(crate) unwritten: Vec<HFrame>,
     /// The bytes for the terminal that were not taken out yet.
     pending_bytes: PendingBytes,

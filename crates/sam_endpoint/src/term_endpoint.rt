@@ -38,11 +38,13 @@ pub struct TermEndpoint {
     framer: FramerH,
     /// The terminal, as the frames and events so far left it. It holds at most as many events as `events` counts.
     pub(crate) term: Terminal,
-    /// The frames that came and are not received yet, the oldest first. There are none after a call that returned `Ok`.
+    /// The frames that came and are not received yet, the oldest first. There are none after a `feed`, `put` or `flush_now` that returned
+    /// `Ok`.
     pub(crate) waiting: VecDeque<HFrame>,
     /// What is wrong with the stream after these frames; `None` if nothing is.
     pub(crate) broken_by: Option<StreamFault>,
-    /// The messages that were composed last, while their bytes are not pending. There are none after a call that returned `Ok`.
+    /// The messages that were composed last, while their bytes are not pending. There are none after a `feed`, `put` or `flush_now` that
+    /// returned `Ok`.
     pub(crate) unwritten: Vec<Tmesg>,
     /// The bytes for the host that were not taken out yet.
     pending_bytes: PendingBytes,
