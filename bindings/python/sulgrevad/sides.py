@@ -14,7 +14,7 @@ MOST_IN_PATTERN = 512  # bytes of the longest pattern
 LEAST_PIECE = 256  # bytes that are read of a text, where so few runes are wished for
 GAP = 2**32 - 1  # what stands for a rune that is not loaded
 
-# SAMOK as a plain number: once a call is done nothing may want memory, and up to Python 3.11 to look up a Status does.
+# SAM_OK as a plain number: once a call is done nothing may want memory, and up to Python 3.11 to look up a Status does.
 OK = int(Status.OK)
 
 # The first number that is too great for a type of an argument.
@@ -258,7 +258,7 @@ class Host(_Side):
         code = self._answer("next_message", byref(kind), byref(tag))
         if code == Status.NONE:
             return None
-        if code != _OK:
+        if code != OK:
             raise error_of(code)
         return kind.value, tag.value
 

@@ -1,6 +1,6 @@
-//! The host, the terminal and a link for C, and the replay of scripts. Each export does what a call of a lower crate does, and states its clauses
-//! again over the value that the handle holds, or over the bytes that it is given. What a C program owes, and what each call does, stands
-//! in include/sulgrevad.h.
+//! The host, the terminal and a link for C, and the replay of scripts. Each export does what a call of a lower crate does, and states its
+//! clauses again over the value that the handle holds, or over the bytes that it is given. What a C program owes, and what each call does,
+//! stands in include/sulgrevad.h.
 #![tactic(auto)]
 
 mod handle;

@@ -13,9 +13,9 @@ impl HostEndpoint {
     /// Takes a piece of the terminal's stream, of any length, by framing alone: the messages that are whole with it wait, in order, for
     /// `step` to answer them.
     ///
-    /// Errors, in this order: `Stopped` if the endpoint has stopped before; `Waiting` if something of before waits, which is so until `step`
-    /// has returned `Idle`; `CountFull` if the stream would be longer than 2^64-1 bytes; `OutOfMemory`. After an error the piece is not
-    /// taken, and the endpoint is as it was.
+    /// Errors, in this order: `Stopped` if the endpoint has stopped before; `Waiting` if something of before waits, which is so until
+    /// `step` has returned `Idle`; `CountFull` if the stream would be longer than 2^64-1 bytes; `OutOfMemory`. After an error the piece is
+    /// not taken, and the endpoint is as it was.
     #[tactic(auto, using(crate::proofs::HostEndpointStepping::not_brought))]
     pub fn bring(&mut self, piece: &[u8]) -> Result<(), BringFault<HostStop>>
         ensures { BringsIn self.old piece.now result self.new }
@@ -39,9 +39,9 @@ impl HostEndpoint {
         self.waiting.front()
     }
 
-    /// Goes on by one step with what waits, and says what it did. It writes the frames of the last answer, if some are left over. Else it has
-    /// the host take what waits first: messages that type or cut in one file and follow each other, at once, or the oldest message. `feed`
-    /// does these steps until one is `Idle`.
+    /// Goes on by one step with what waits, and says what it did. It writes the frames of the last answer, if some are left over. Else it
+    /// has the host take what waits first: messages that type or cut in one file and follow each other, at once, or the oldest message.
+    /// `feed` does these steps until one is `Idle`.
     ///
     /// Errors, in this order:
     ///

@@ -15,9 +15,9 @@ impl TermEndpoint {
     /// Takes a piece of the host's stream, of any length, by framing alone: the frames that are whole with it wait, in order, for `step` to
     /// have the terminal receive them.
     ///
-    /// Errors, in this order: `Stopped` if the endpoint has stopped before; `Waiting` if something of before waits, which is so until `step`
-    /// has returned `Idle` or `Locked`; `CountFull` if the stream would be longer than 2^64-1 bytes; `OutOfMemory`. After an error the piece
-    /// is not taken, and the endpoint is as it was.
+    /// Errors, in this order: `Stopped` if the endpoint has stopped before; `Waiting` if something of before waits, which is so until
+    /// `step` has returned `Idle` or `Locked`; `CountFull` if the stream would be longer than 2^64-1 bytes; `OutOfMemory`. After an error
+    /// the piece is not taken, and the endpoint is as it was.
     #[tactic(auto, using(crate::proofs::TermEndpointStepping::not_brought))]
     pub fn bring(&mut self, piece: &[u8]) -> Result<(), BringFault<TermStop>>
         ensures { BringsIn self.old piece.now result self.new }

@@ -67,9 +67,9 @@ pub record IsAllCarried (up down : List ℕ) (e : PlainHostEndpoint) (g : PlainT
 
 -- ## What follows
 
--- A run of one world of these files, in which the user did all of `said` and no file joined, leads to the very host and the very terminal. What is under way
--- between them is, in bytes: what waits at the one, the front of a frame that its framer holds, what is on its way, and what the other has
--- not written yet
+-- A run of one world of these files, in which the user did all of `said` and no file joined, leads to the very host and the very terminal.
+-- What is under way between them is, in bytes: what waits at the one, the front of a frame that its framer holds, what is on its way, and
+-- what the other has not written yet
 pub record AreOneRun (given : List (List ℕ × List ℕ)) (said : List UserEvent) (up down : List ℕ)
     (e : PlainHostEndpoint) (g : PlainTermEndpoint) : Type 0 where
   pub events : List Event

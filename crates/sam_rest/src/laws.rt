@@ -2,15 +2,16 @@
 ghost use Rattle.sam_rest.specs.Loaded.{ViewsAreLoaded};
 ghost use Rattle.sam_rest.specs.Rest.{DoneIsStuck, StepsEnd, StuckIsDone};
 
-/// Says that where no event but the user's or a file that joins would change anything, all is done: nothing is unsent, under way, held or locked, and no
-/// request awaits its data. This supposes that the counts of messages have room. And where all is done, no such event changes anything.
+/// Says that where no event but the user's or a file that joins would change anything, all is done: nothing is unsent, under way, held or
+/// locked, and no request awaits its data. This supposes that the counts of messages have room. And where all is done, no such event
+/// changes anything.
 pub fn stuck_is_done()
     ensures done { StuckIsDone }
     ensures stuck { DoneIsStuck }
 {}
 
-/// Says that in every world events that are neither the user's nor a file that joins, each of which changes something, come to an end, whatever their order: there
-/// is a number such that no list of them is longer.
+/// Says that in every world events that are neither the user's nor a file that joins, each of which changes something, come to an end,
+/// whatever their order: there is a number such that no list of them is longer.
 #[tactic(auto, using(crate::proofs::Ends::steps_end))]
 pub fn steps_end()
     ensures { StepsEnd }

@@ -10,9 +10,9 @@ use sam_world::{StepFault, World};
 /// What can be brought to rest: a [`World`]. It is a trait because `World` stands in a lower crate, which knows none of the laws that
 /// say that this ends.
 pub trait Rest {
-    /// Makes events happen until none applies, without a limit, each of them the one that `World::drain` would make happen next. It ends
-    /// in every world, however much is under way. The user does nothing in them, and no file joins. At `Ok` all is done: nothing is unsent, under way, held
-    /// or locked, and no request awaits its data. Where all is done already, it returns `Ok` and changes nothing.
+    /// Makes events happen until none applies, without a limit, each of them the one that `World::drain` would make happen next. It ends in
+    /// every world, however much is under way. The user does nothing in them, and no file joins. At `Ok` all is done: nothing is unsent,
+    /// under way, held or locked, and no request awaits its data. Where all is done already, it returns `Ok` and changes nothing.
     ///
     /// Errors: `CountFull` comes only if the next event would take a count of messages past 2^64-1. `OutOfMemory` may come at any event,
     /// before `CountFull` too, and also once none applies any more. `NothingThere` and `NotAdded` never come. After an error the events

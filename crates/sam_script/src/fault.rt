@@ -11,7 +11,8 @@ use thiserror::Error;
 /// calls `OutOfMemory` alone.
 #[derive(Clone, Copy, Debug, PartialEq, Eq, Error)]
 pub enum ScriptFault {
-    /// Reading: this line, counted from 1, is the first wrong one. Replaying: it is `host` or `term`, and found nothing to take, or it is `add`, and no tag was left.
+    /// Reading: this line, counted from 1, is the first wrong one. Replaying: it is `host` or `term`, and found nothing to take, or it is
+    /// `add`, and no tag was left.
     #[error("wrong script at line {0}")]
     Line(usize),
     /// Replaying: a step would take a count of messages past 2^64-1.

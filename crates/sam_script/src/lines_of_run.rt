@@ -15,9 +15,9 @@ use std::alloc::{AllocError, Global};
 /// As many bytes as the line of an event has as a rule: more for an event of the user, fewer for another.
 const EVENT_LINE: usize = 8;
 
-/// Returns the script that makes just these events happen, as bytes: a `file` line for each file of `script`, a line for each event,
-/// and a line `show`. Each event of the user is a `k` line, also where it was the mouse's, and a file that joins is an `add` line. If the events are a run from these files, a
-/// replay of the bytes shows the world to which they lead. The only error is `OutOfMemory`.
+/// Returns the script that makes just these events happen, as bytes: a `file` line for each file of `script`, a line for each event, and a
+/// line `show`. Each event of the user is a `k` line, also where it was the mouse's, and a file that joins is an `add` line. If the events
+/// are a run from these files, a replay of the bytes shows the world to which they lead. The only error is `OutOfMemory`.
 pub fn run_lines(alloc: Global, script: &Script, events: &[Event]) -> Result<Vec<u8>, ScriptFault>
     ensures lines { IfOk result (λ out. out.items ≡ run_lines_of script.now.files events.now) }
     ensures memory { IfErr result (λ why. why ≡ ScriptFault.OutOfMemory) }

@@ -29,13 +29,13 @@ pub fn replay_bytes(alloc: Global, bytes: &[u8]) -> Result<Vec<u8>, ScriptFault>
 /// Does the lines of a script one after another, over the first world of its files, and returns all that its `show` lines print. The
 /// script stays as it is, so it can be replayed again. Each event is copied before it happens; [`replay_owned`] copies none.
 ///
-/// The first line that can't be done stops it, and then nothing of what was printed is returned. The error is `Line(n)` if line n is
-/// `host` or `term` and nothing is under way to that side, or `add` and all tags were given, and `CountFull` if the line's step, or an event of its drain, would take a
-/// count of messages past 2^64-1. `OutOfMemory` may come at any line, and before the first.
+/// The first line that can't be done stops it, and then nothing of what was printed is returned. The error is `Line(n)` if line n is `host`
+/// or `term` and nothing is under way to that side, or `add` and all tags were given, and `CountFull` if the line's step, or an event of
+/// its drain, would take a count of messages past 2^64-1. `OutOfMemory` may come at any line, and before the first.
 ///
 /// Wherever the replay stands, what was done by the lines above, but for events that are still held, has done in its order what it does in
-/// an editor without a network, with the files that joined. So where a `show` stands with nothing unsent or under way, the host and the terminal that it prints are those of that
-/// editor, but for runes that are not loaded and for counts of messages.
+/// an editor without a network, with the files that joined. So where a `show` stands with nothing unsent or under way, the host and the
+/// terminal that it prints are those of that editor, but for runes that are not loaded and for counts of messages.
 #[tactic(auto, using(crate::proofs::Replays::replays_as_if_local), unfolding(crate::specs::Replay::replayed))]
 pub fn replay(alloc: Global, script: &Script) -> Result<Vec<u8>, ScriptFault>
     ensures ok { IfOk result (λ out. replayed script.now ≡ Ok out.items) }

@@ -81,7 +81,8 @@ pub fn users_of(lines: Vec<Numbered>, room: Users) -> Users
         match line {
             Line::Key(event) => keys.push_reserved(event),
             Line::Mouse(event) => clicks.push_reserved(event),
-            _ => {}
+            Line::Add(_name, _text) => {}
+            Line::Act | Line::Flush | Line::Host | Line::Term | Line::Drain | Line::Show => {}
         }
     }
     Users { keys, clicks }

@@ -66,7 +66,7 @@ fn bytes_and_notes_survive_a_break() {
     host.acknowledge().unwrap();
     let count = host.take_out(second, &mut bytes).unwrap();
     link.feed(second, &bytes[..count]).unwrap();
-    assert_eq!(link.acknowledged(), link.put_count());
+    assert_eq!((link.acknowledged(), link.unsent()), (link.put_count(), 0));
     assert_eq!((link.received(), link.take_in(&mut [0; 9]), link.next_note()), (22, 0, None));
 }
 
