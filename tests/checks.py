@@ -1,4 +1,4 @@
-"""What the tests in Python have in common: how a check fails or is skipped, how it waits, and a place of its own."""
+"""The common parts of the tests in Python: how a check fails or is skipped, how it waits, and a place of its own."""
 import contextlib
 import ctypes
 import os
