@@ -33,8 +33,9 @@ called.
 The shared library is the first of these that is there:
 
 1. the file that the environment variable SAM_LIBRARY names; if that can't be used, no other is tried;
-2. `out/libsulgrevad.so` of the repository or of the installed editor, if this package lies in one of these;
-3. `libsulgrevad.so.0.1`, where the system looks for shared libraries: /usr/local/lib after `ldconfig`, or the folders of LD_LIBRARY_PATH.
+2. the library that a wheel has inside;
+3. `out/libsulgrevad.so` of the repository or of the installed editor, if this package lies in one of these;
+4. `libsulgrevad.so.0.1`, where the system looks for shared libraries: /usr/local/lib after `ldconfig`, or the folders of LD_LIBRARY_PATH.
 
 Each call of the library keeps the interpreter's lock, so threads may share a handle; a free-threaded Python has no such lock, so use one
 of your own there. `text`, `saved` and `snarfed` read a long text by several calls: let no other thread change it meanwhile.

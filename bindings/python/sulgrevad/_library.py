@@ -88,6 +88,8 @@ def path() -> str:
     if named := os.environ.get("SAM_LIBRARY"):
         return named
     folder = Path(__file__).resolve().parent
+    if (inside := folder / "libsulgrevad.so").exists():  # of a wheel
+        return str(inside)
     if folder.parts[-3:] == ("bindings", "python", "sulgrevad"):
         beside = folder.parents[2] / "out" / "libsulgrevad.so"
         if beside.exists():
