@@ -224,6 +224,41 @@ struct sam_did {
 };
 typedef struct sam_did sam_did;
 
+/* ---- Many readers at once ---- */
+
+/* What a terminal holds, as the readers of these names hand it out: sam_term_state. */
+struct sam_state {
+    uint64_t events;
+    uint64_t decided;
+    uint64_t held;
+    uint64_t sent;
+    uint64_t under_way;
+    size_t pending;
+    size_t tags;
+    uint32_t unsent;
+    uint32_t snarf_len;
+    uint16_t version;
+    bool command_locked;
+    bool exited;
+};
+typedef struct sam_state sam_state;
+
+/* What a terminal knows of a tag, as its readers hand it out: sam_term_file. Where there is no such file, or it is not open, what needs it
+ * is 0 or false. */
+struct sam_file {
+    uint32_t len;
+    uint32_t dot_start;
+    uint32_t dot_end;
+    uint32_t view_start;
+    uint32_t view_end;
+    bool is_known;
+    bool is_open;
+    bool is_dirty;
+    bool is_changed;
+    bool is_locked;
+};
+typedef struct sam_file sam_file;
+
 /* ==== The host ==== */
 
 /* ---- The host: making and freeing ---- */
@@ -327,6 +362,12 @@ SAM_MUST_USE sam_status sam_host_text(sam_host *host, uint16_t tag, uint32_t pla
 /* The dot of a file: the places where the selection begins and ends. */
 SAM_MUST_USE sam_status sam_host_dot(sam_host *host, uint16_t tag, uint32_t *start, uint32_t *end);
 
+/* How many runes the snarf buffer has. */
+SAM_MUST_USE sam_status sam_host_snarf_len(sam_host *host, uint32_t *runes);
+
+/* What the snarf buffer has, from a place on, in UTF-8: as many whole runes as have room. Hands out how many bytes and how many runes. */
+SAM_MUST_USE sam_status sam_host_snarf(sam_host *host, uint32_t place, uint8_t *into, size_t room, size_t *bytes, uint32_t *runes);
+
 /* ==== The terminal ==== */
 
 /* ---- The terminal: making and freeing ---- */
@@ -348,6 +389,10 @@ SAM_MUST_USE sam_status sam_term_feed(sam_term *term, const uint8_t *bytes, size
  * handed out SAM_STEP_IDLE or SAM_STEP_LOCKED; SAM_COUNT_FULL; SAM_NO_MEMORY. The bytes are then not taken, and the terminal is as it
  * was. */
 SAM_MUST_USE sam_status sam_term_bring(sam_term *term, const uint8_t *bytes, size_t len);
+
+/* What the oldest frame that waits will do once a step receives it: as that step will say it in `kind`, `tag`, `start` and `gone`. So a
+ * program can read what will go. `came` is 0. SAM_NONE if no frame waits. */
+SAM_MUST_USE sam_status sam_term_next_frame(sam_term *term, sam_did *next);
 
 /* Does one thing of what waits, and says what: it writes what was composed last, if that is left over; or the terminal receives the
  * oldest frame; or, where none waits, the oldest event acts or is refused. sam_term_feed makes such steps up to SAM_STEP_IDLE or
@@ -523,6 +568,9 @@ SAM_MUST_USE sam_status sam_term_exited(sam_term *term, bool *exited);
 /* The version of the protocol that both sides speak: 1, or 2 if both know it: that allows longer snarfed texts. */
 SAM_MUST_USE sam_status sam_term_version(sam_term *term, uint16_t *version);
 
+/* All of these at once, with sam_term_pending, sam_term_snarf_len and sam_term_tags. */
+SAM_MUST_USE sam_status sam_term_state(sam_term *term, sam_state *state);
+
 /* ---- The terminal: files that it knows ---- */
 
 /* How many tags the terminal has room for: each file that it knows has a tag below this. */
@@ -547,6 +595,10 @@ SAM_MUST_USE sam_status sam_term_is_changed(sam_term *term, uint16_t tag, bool *
 /* The file that the host's answer to sam_term_work or sam_term_new_file named last, SAM_NONE before the first. It may be closed since.
  * sam_term_open changes the file that command lines work on, too, but not what this hands out. */
 SAM_MUST_USE sam_status sam_term_current(sam_term *term, uint16_t *tag);
+
+/* Of a tag at once: sam_term_is_known, _is_open, _is_dirty, _is_changed, _locked, _len, _dot and _view_of. A tag without a file is no
+ * error. */
+SAM_MUST_USE sam_status sam_term_file(sam_term *term, uint16_t tag, sam_file *file);
 
 /* ---- The terminal: texts of open files ---- */
 

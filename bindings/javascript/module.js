@@ -31,8 +31,9 @@ export const library = await load();
 if (library.sam_library_version() >>> 8 !== VERSION) throw new Error(`${PLACE} has another version than this package`);
 
 // What a call hands out stands at RESULTS, and what it is lent at SPACE, if there is room.
-const RESULTS = library.malloc(BigInt(64 + PIECE));
-const SPACE = RESULTS + 64n;
+const RESULTS_SIZE = 128;
+const RESULTS = library.malloc(BigInt(RESULTS_SIZE + PIECE));
+const SPACE = RESULTS + BigInt(RESULTS_SIZE);
 const ENCODER = new TextEncoder();
 const DECODER = new TextDecoder("utf-8", { fatal: true, ignoreBOM: true });
 let stopped = null; // why no call can be made

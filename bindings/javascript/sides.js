@@ -244,6 +244,14 @@ export class Host extends Side {
   saved(tag, place = 0, runes = undefined) {
     return longText(this, "saved", place, runes, short(tag));
   }
+
+  get snarfLen() {
+    return one(this, "snarf_len", u32);
+  }
+
+  snarf(place = 0, runes = undefined) {
+    return longText(this, "snarf", place, runes);
+  }
 }
 
 /** The side with the windows. */
@@ -288,6 +296,13 @@ export class Terminal extends Side {
     make(this, "offer_version", short(version));
   }
 
+  nextFrame() {
+    return ifAny(() => {
+      make(this, "next_frame", result(0));
+      return { kind: didKind(), tag: didTag(), start: u32(3), gone: u32(3, 4) };
+    });
+  }
+
   step() {
     make(this, "step", result(0));
     const [start, gone, came] = [u32(3), u32(3, 4), u32(4)];
@@ -299,6 +314,24 @@ export class Terminal extends Side {
       make(this, "next_refusal", result(0), result(1));
       return { event: u64(0), why: u32(1) };
     });
+  }
+
+  /** A sam_state: seven numbers of 64 bits, two of 32, one of 16, and two truths. */
+  state() {
+    make(this, "state", result(0));
+    const [events, decided, held, sent, underWay, pending, tags] = [0, 1, 2, 3, 4, 5, 6].map((at) => u64(at));
+    const [commandLocked, exited] = [u8(8, 2) !== 0, u8(8, 3) !== 0];
+    const counts = { events, decided, held, sent, underWay, pending, tags };
+    return { ...counts, unsent: u32(7), snarfLen: u32(7, 4), version: u16(8), commandLocked, exited };
+  }
+
+  /** A sam_file: five numbers of 32 bits, and five truths. */
+  file(tag) {
+    make(this, "file", short(tag), result(0));
+    const [isKnown, isOpen, isDirty, isChanged, isLocked] = [4, 5, 6, 7, 8].map((at) => u8(2, at) !== 0);
+    const dot = { start: u32(0, 4), end: u32(1) };
+    const view = { start: u32(1, 4), end: u32(2) };
+    return { isKnown, isOpen, isDirty, isChanged, isLocked, len: u32(0), dot, view };
   }
 
   *refusals() {

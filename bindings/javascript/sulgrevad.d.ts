@@ -177,12 +177,42 @@ export declare class Host extends Side {
   savedLen(tag: number): number | null;
   /** What a file was when it was written last, from a place on. Throws Missing, also if it never was. */
   saved(tag: number, place?: number, runes?: number): string;
+  /** How many runes the snarf buffer has. */
+  readonly snarfLen: number;
+  /** What the snarf buffer has, from a place on: so many runes, or all. */
+  snarf(place?: number, runes?: number): string;
 }
 
 /** An event of the user that could not be done: which one, counted from 1 over all event calls, and why (Status.REFUSAL_..). */
 export type Refusal = { event: number; why: number };
 /** From the place `start` on `gone` runes or gaps of the old text gave way to `came` of the new one. */
 export type Change = { start: number; gone: number; came: number };
+/** What a terminal holds. */
+export type TerminalState = {
+  events: number;
+  decided: number;
+  held: number;
+  sent: number;
+  underWay: number;
+  pending: number;
+  tags: number;
+  unsent: number;
+  snarfLen: number;
+  version: number;
+  commandLocked: boolean;
+  exited: boolean;
+};
+/** What a terminal knows of a tag: 0 and false where there is no such file, or it is not open. */
+export type FileState = {
+  isKnown: boolean;
+  isOpen: boolean;
+  isDirty: boolean;
+  isChanged: boolean;
+  isLocked: boolean;
+  len: number;
+  dot: { start: number; end: number };
+  view: { start: number; end: number };
+};
 /** What a step of a terminal did: `event` is the number of an event that acted or was refused, and `why` the status of a refusal. */
 export type TerminalStep = {
   step: "idle" | "locked" | "wrote" | "received" | "acted" | "refused";
@@ -249,10 +279,17 @@ export declare class Terminal extends Side {
   exit(): void;
   /** Composes the typed runes that are not sent yet; to be called when the user pauses. */
   flushNow(): void;
+  /** The oldest frame that waits, as the step that receives it will say it: its kind, its file or 0, and the place in its text where `gone`
+   * runes or gaps will give way. So they can be read before. Null if no frame waits. */
+  nextFrame(): { kind: number; tag: number; start: number; gone: number } | null;
   /** Does one thing of what waits, and says what: it writes what was composed last, if that is left over; or the terminal receives the
    * oldest frame; or, where none waits, the oldest event acts or is refused. `feed` makes such steps until one is idle or locked. What a
    * step doesn't say is 0. Throws Unfinished, where nothing has changed, or why the terminal has stopped. */
   step(): TerminalStep;
+  /** What the terminal holds, as its readers of these names say it, by one call. */
+  state(): TerminalState;
+  /** What the terminal knows of a tag, by one call. A tag without a file is no error. */
+  file(tag: number): FileState;
   /** The oldest refused event that was not handed out yet; null if there is none. */
   nextRefusal(): Refusal | null;
   /** The refused events that were not handed out yet, oldest first. */

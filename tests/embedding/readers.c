@@ -78,7 +78,9 @@ static void read_host(void)
 {
     uint8_t kind = 0;
     uint16_t number = 0;
+    uint8_t bytes[ROOM];
     uint64_t taken = 0;
+    uint32_t runes = 0;
     size_t count = 0;
     bool is = false;
     read_finish(READ(sam_host_finish(&host)));
@@ -88,6 +90,8 @@ static void read_host(void)
     READ(sam_host_taken(&host, &taken));
     READ(sam_host_version(&host, &number));
     note(WRITTEN, READ(sam_host_next_written(&host, &number)) == SAM_OK);
+    READ(sam_host_snarf_len(&host, &runes));
+    READ(sam_host_snarf(&host, pick(4), bytes, ROOM, &count, &runes));
     READ(sam_host_tags(&host, &count));
     for (uint16_t tag = 0; tag <= count; tag++)
         read_host_file(tag);
@@ -110,6 +114,30 @@ static void read_rasp(uint16_t tag, uint32_t place)
     note(A_GAP, READ(sam_term_first_gap(&term, tag, place, &gaps)) == SAM_OK);
 }
 
+/* All that is known of a tag at once is what its readers say one by one. */
+static void read_file(uint16_t tag)
+{
+    static const sam_file other = {1, 2, 3, 4, 5, true, true, true, true, true};
+    sam_file file = other;
+    uint32_t len = 0, start = 0, end = 0;
+    bool is = false;
+    READ(sam_term_file(&term, tag, &file));
+    want("is known", sam_term_is_known(&term, tag, &is) == SAM_OK && is == file.is_known ? SAM_OK : SAM_NONE);
+    want("is open", sam_term_is_open(&term, tag, &is) == SAM_OK && is == file.is_open ? SAM_OK : SAM_NONE);
+    want("is dirty", (sam_term_is_dirty(&term, tag, &is) == SAM_OK && is) == file.is_dirty ? SAM_OK : SAM_NONE);
+    want("is changed", sam_term_is_changed(&term, tag, &is) == SAM_OK && is == file.is_changed ? SAM_OK : SAM_NONE);
+    want("is locked", sam_term_locked(&term, tag, &is) == SAM_OK && is == file.is_locked ? SAM_OK : SAM_NONE);
+    want("the length", (sam_term_len(&term, tag, &len) == SAM_OK) == file.is_open && len == file.len ? SAM_OK : SAM_NONE);
+    want("the dot", (sam_term_dot(&term, tag, &start, &end) == SAM_OK) == file.is_open && start == file.dot_start && end == file.dot_end
+                        ? SAM_OK
+                        : SAM_NONE);
+    start = end = 0;
+    want("the view",
+         (sam_term_view_of(&term, tag, &start, &end) == SAM_OK) == file.is_open && start == file.view_start && end == file.view_end
+             ? SAM_OK
+             : SAM_NONE);
+}
+
 static void read_term_file(uint16_t tag)
 {
     uint8_t bytes[ROOM];
@@ -128,8 +156,32 @@ static void read_term_file(uint16_t tag)
     READ(sam_term_len(&term, tag, &end));
     READ(sam_term_dot(&term, tag, &start, &end));
     READ(sam_term_view_of(&term, tag, &start, &end));
+    read_file(tag);
     read_rasp(tag, 0);
     read_rasp(tag, pick(ROOM));
+}
+
+/* All that the terminal holds at once is what its readers say one by one. */
+static void read_state(void)
+{
+    sam_state state;
+    uint64_t events = 0, decided = 0, held = 0, sent = 0, under_way = 0;
+    size_t pending = 0, tags = 0;
+    uint32_t unsent = 0, snarf_len = 0;
+    uint16_t version = 0;
+    bool command_locked = false, exited = false;
+    memset(&state, 0xFF, sizeof state);
+    READ(sam_term_state(&term, &state));
+    want("the counts", sam_term_events(&term, &events) | sam_term_decided(&term, &decided) | sam_term_held(&term, &held)
+                           | sam_term_sent(&term, &sent) | sam_term_under_way(&term, &under_way));
+    want("the lengths", sam_term_pending(&term, &pending) | sam_term_tags(&term, &tags) | sam_term_unsent(&term, &unsent)
+                            | sam_term_snarf_len(&term, &snarf_len));
+    want("the session",
+         sam_term_version(&term, &version) | sam_term_command_locked(&term, &command_locked) | sam_term_exited(&term, &exited));
+    bool is_same = events == state.events && decided == state.decided && held == state.held && sent == state.sent
+        && under_way == state.under_way && pending == state.pending && tags == state.tags && unsent == state.unsent
+        && snarf_len == state.snarf_len && version == state.version && command_locked == state.command_locked && exited == state.exited;
+    want("the state", is_same ? SAM_OK : SAM_NONE);
 }
 
 static void read_counts(void)
@@ -146,6 +198,7 @@ static void read_counts(void)
     note(UNSENT, runes > 0);
     READ(sam_term_held(&term, &number));
     note(EVENT_HELD, number > 0);
+    read_state();
 }
 
 static void read_term(void)
@@ -156,9 +209,11 @@ static void read_term(void)
     uint16_t number = 0;
     size_t count = 0;
     sam_status why;
+    sam_did next;
     bool is = false;
     read_finish(READ(sam_term_finish(&term)));
     read_counts();
+    READ(sam_term_next_frame(&term, &next));
     note(REFUSED, READ(sam_term_next_refusal(&term, &event, &why)) == SAM_OK);
     READ(sam_term_command_locked(&term, &is));
     READ(sam_term_exited(&term, &is));

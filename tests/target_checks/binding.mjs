@@ -188,8 +188,24 @@ function checkSteps() {
   same([host.step().step, host.step()], ["wrote", { step: "edited", kind: 0, tag, count: 2 }]);
   same([host.step().step, host.nextMessage(), host.text(tag)], ["idle", null, "axyzc"]);
   terminal.bring(host.takeOut());
+  same(terminal.nextFrame(), { kind: 71, tag, start: 0, gone: 0 });
   same(terminal.step(), { step: "received", kind: 71, tag, change: none, event: 0, why: 0 });
-  same(terminal.step().step, "idle");
+  same([terminal.step().step, terminal.nextFrame()], ["idle", null]);
+}
+
+function checkStates() {
+  const [host, terminal, tag] = opened(["one", "abc"]);
+  terminal.select(tag, 1, 3);
+  terminal.snarf(tag);
+  carry(host, terminal);
+  same([host.snarf(), host.snarf(1), host.snarfLen], ["bc", "c", 2]);
+  terminal.type(tag, "xyz");
+  terminal.write(tag + 7);
+  for (const [name, value] of Object.entries(terminal.state())) same([name, value], [name, terminal[name]]);
+  const isLocked = terminal.locked(tag);
+  const [dot, view] = [terminal.dot(tag), terminal.viewOf(tag)];
+  same(terminal.file(tag), { isKnown: true, isOpen: true, isDirty: false, isChanged: true, isLocked, len: 4, dot, view });
+  same([terminal.file(tag + 7).isKnown, terminal.file(tag + 7).len], [false, 0]);
 }
 
 function checkNumbers() {
@@ -252,6 +268,6 @@ function keyTime() {
 
 /** Runs all checks. Throws where one fails; returns what was measured. */
 export function checkAll() {
-  for (const check of [checkTexts, checkFiles, checkEditing, checkRefusals, checkSteps, checkNumbers, checkEnds, checkMemory, checkScripts]) check();
+  for (const check of [checkTexts, checkFiles, checkEditing, checkRefusals, checkSteps, checkStates, checkNumbers, checkEnds, checkMemory, checkScripts]) check();
   return keyTime();
 }

@@ -21,6 +21,7 @@ const PER_SESSION = 500;
 const REFUSED_EVENTS = 25;
 const NONE = 2 ** 32 - 1;
 const SPACE_SIZE = 1 << 21;
+const WHOLE = { "out did": 39, "out state": 68, "out file": 25 }; // of what is handed out as one: all bytes but those that fill it up
 
 // ---- Chance
 
@@ -124,7 +125,7 @@ function make(name, ...words) {
   free = SPACE;
   for (const kind of kinds) {
     if (kind.startsWith("out ")) {
-      const length = kind === "out did" ? 39 : 8; // of a sam_did all but the byte that fills it up
+      const length = WHOLE[kind] ?? 8;
       const at = room(length + 1);
       given.push(at);
       handedOut.push([at, length]);

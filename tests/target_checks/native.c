@@ -17,8 +17,10 @@ struct lent {
 };
 
 union out {
-    uint8_t bytes[40];
+    uint8_t bytes[72];
     sam_did did;
+    sam_state state;
+    sam_file file;
     uint8_t u8;
     uint16_t u16;
     uint32_t u32;

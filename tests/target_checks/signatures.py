@@ -3,10 +3,13 @@ makes the call of a number."""
 import re
 
 DECLARATION = re.compile(r"^(?:SAM_MUST_USE )?sam_status (sam_\w+)\(([^)]*)\);", re.M)
-FIELDS = {"uint8_t": "u8", "sam_did": "did", "uint16_t": "u16", "uint32_t": "u32", "uint64_t": "u64", "size_t": "size", "bool": "truth", "sam_status": "status"}
+FIELDS = {
+    "uint8_t": "u8", "uint16_t": "u16", "uint32_t": "u32", "uint64_t": "u64", "size_t": "size", "bool": "truth", "sam_status": "status",
+    "sam_did": "did", "sam_state": "state", "sam_file": "file",
+}
 NUMBERS = {"uint16_t": "u16", "uint32_t": "u32", "size_t": "size"}
 OUT = 8  # bytes that are compared of what is handed out
-DID = 39  # of a sam_did, all but the one that fills it up
+WHOLE = {"did": 39, "state": 68, "file": 25}  # of what is handed out as one: all but what fills it up
 HANDLES = {"sam_host": "host", "sam_term": "term"}
 
 
@@ -52,7 +55,7 @@ def case(code, name, kinds):
         if kind.startswith("out "):
             lines.append(f"union out a{at} = filler();")
             words.append(f"&a{at}.{kind[4:]}")
-            after.append(f"put(a{at}.bytes, {DID if kind == 'out did' else OUT});")
+            after.append(f"put(a{at}.bytes, {WHOLE.get(kind[4:], OUT)});")
         elif kind in types:
             lines.append(f"{types[kind]}a{at} = {makers[kind]};")
             words.append(f"a{at}")

@@ -47,7 +47,7 @@ nothing that a link hands out.
 """
 from sulgrevad.link import HELLO_BYTES, MOST_NOTE, Hello, Link, What, read_hello, write_refusal
 from sulgrevad.scripts import replay
-from sulgrevad.sides import Change, Host, HostDid, Refusal, Terminal, TerminalDid
+from sulgrevad.sides import Change, FileState, Host, HostDid, NextFrame, Refusal, Terminal, TerminalDid, TerminalState
 from sulgrevad.status import (
     AddRefused,
     CountFull,
@@ -73,8 +73,8 @@ from sulgrevad.status import (
 __version__ = "0.1.0"
 
 __all__ = [
-    "HELLO_BYTES", "MOST_NOTE", "AddRefused", "Change", "CountFull", "HandleFault", "Hello", "Host", "HostDid", "HostRefused", "Link",
-    "LinkFault", "Missing", "NoMemory", "NotText", "Refusal", "SamError", "ScriptFault", "Status", "Step", "StreamFault", "Terminal",
-    "TerminalDid", "TerminalRefused", "Unfinished", "Waiting", "What", "error_of", "library_version", "read_hello", "replay",
-    "status_text", "write_refusal",
+    "HELLO_BYTES", "MOST_NOTE", "AddRefused", "Change", "CountFull", "FileState", "HandleFault", "Hello", "Host", "HostDid",
+    "HostRefused", "Link", "LinkFault", "Missing", "NextFrame", "NoMemory", "NotText", "Refusal", "SamError", "ScriptFault", "Status",
+    "Step", "StreamFault", "Terminal", "TerminalDid", "TerminalRefused", "TerminalState", "Unfinished", "Waiting", "What", "error_of",
+    "library_version", "read_hello", "replay", "status_text", "write_refusal",
 ]  # fmt: skip

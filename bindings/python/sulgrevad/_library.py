@@ -24,6 +24,25 @@ class Did(ctypes.Structure):
     ]  # fmt: skip
 
 
+class State(ctypes.Structure):
+    """sam_state: what a terminal holds."""
+
+    _fields_ = [
+        ("events", c_uint64), ("decided", c_uint64), ("held", c_uint64), ("sent", c_uint64), ("under_way", c_uint64),
+        ("pending", c_size_t), ("tags", c_size_t), ("unsent", c_uint32), ("snarf_len", c_uint32), ("version", c_uint16),
+        ("command_locked", c_bool), ("exited", c_bool),
+    ]  # fmt: skip
+
+
+class File(ctypes.Structure):
+    """sam_file: what a terminal knows of a tag."""
+
+    _fields_ = [
+        ("len", c_uint32), ("dot_start", c_uint32), ("dot_end", c_uint32), ("view_start", c_uint32), ("view_end", c_uint32),
+        ("is_known", c_bool), ("is_open", c_bool), ("is_dirty", c_bool), ("is_changed", c_bool), ("is_locked", c_bool),
+    ]  # fmt: skip
+
+
 class Handle(ctypes.Structure):
     """sam_host, sam_term and sam_link; empty if all bytes are zero."""
 
@@ -44,6 +63,7 @@ SIGNATURES: Dict[str, Tuple[Any, ...]] = {
     "host_version": (_TAG,), "host_tags": (_SIZE,), "host_has_file": (c_uint16, _BOOL), "host_name": (c_uint16, *_BUFFER, _SIZE),
     "host_len": (c_uint16, _U32), "host_is_dirty": (c_uint16, _BOOL), "host_text": (c_uint16, *_TEXT_FROM),
     "host_saved_len": (c_uint16, _U32), "host_saved": (c_uint16, *_TEXT_FROM), "host_dot": (c_uint16, _U32, _U32),
+    "host_snarf_len": (_U32,), "host_snarf": _TEXT_FROM,
     "term_new": (), "term_free": (), "term_type": (c_uint16, *_BYTES),
     "term_edit": (c_uint16, c_uint32, c_uint32, *_BYTES), "term_select": (c_uint16, c_uint32, c_uint32),
     "term_cut": (c_uint16,), "term_paste": (c_uint16,), "term_snarf": (c_uint16,), "term_look": (c_uint16,),
@@ -52,7 +72,8 @@ SIGNATURES: Dict[str, Tuple[Any, ...]] = {
     "term_open_cmd": (), "term_new_file": (),
     "term_write": (c_uint16,), "term_close": (c_uint16,), "term_work": (c_uint16,), "term_check": (c_uint16,), "term_get_snarf": (),
     "term_set_snarf": _BYTES, "term_offer_version": (c_uint16,), "term_flush": (), "term_exit": (), "term_feed": _BYTES,
-    "term_bring": _BYTES, "term_step": (_DID,),
+    "term_bring": _BYTES, "term_next_frame": (_DID,), "term_step": (_DID,),
+    "term_state": (POINTER(State),), "term_file": (c_uint16, POINTER(File)),
     "term_finish": (), "term_flush_now": (), "term_pending": (_SIZE,), "term_take_out": (*_BUFFER, _SIZE),
     "term_next_refusal": (_U64, _U32), "term_events": (_U64,), "term_decided": (_U64,),
     "term_tags": (_SIZE,), "term_is_known": (c_uint16, _BOOL), "term_name": (c_uint16, *_BUFFER, _SIZE),

@@ -6,7 +6,7 @@ from ctypes import byref, c_bool, c_size_t, c_uint8, c_uint16, c_uint32, c_uint6
 from types import TracebackType
 from typing import Any, Deque, Iterator, List, NamedTuple, NoReturn, Optional, SupportsIndex, Tuple, Type, TypeVar, Union
 
-from sulgrevad._library import LIBRARY, PIECE, Did, Handle, Text, bytes_of
+from sulgrevad._library import LIBRARY, PIECE, Did, File, Handle, State, Text, bytes_of
 from sulgrevad.status import Missing, Status, Step, error_of
 
 MOST_IN_NAME = 256  # bytes of the longest name
@@ -58,6 +58,46 @@ class TerminalDid(NamedTuple):
     change: Change = Change(0, 0, 0)
     event: int = 0
     why: Optional[Status] = None
+
+
+class NextFrame(NamedTuple):
+    """The frame that a terminal's next step receives: its kind, by the numbers of docs/PROTOCOL.md, the file that it names, or 0, and the
+    place in its text where `gone` runes or gaps will give way."""
+
+    kind: int
+    tag: int
+    start: int
+    gone: int
+
+
+class TerminalState(NamedTuple):
+    """What a terminal holds, as its readers of these names say it."""
+
+    events: int
+    decided: int
+    held: int
+    sent: int
+    under_way: int
+    pending: int
+    tags: int
+    unsent: int
+    snarf_len: int
+    version: int
+    command_locked: bool
+    exited: bool
+
+
+class FileState(NamedTuple):
+    """What a terminal knows of a tag, as its readers say it; 0 and False where there is no such file, or it is not open."""
+
+    is_known: bool
+    is_open: bool
+    is_dirty: bool
+    is_changed: bool
+    is_locked: bool
+    len: int
+    dot: Tuple[int, int]
+    view: Tuple[int, int]
 
 
 def _index(kind: Any, number: SupportsIndex) -> int:
@@ -196,10 +236,10 @@ class _Side(Held):
         data = bytes(memoryview(data))
         self._call("bring", data, len(data))
 
-    def _step(self) -> Did:
-        """Makes a step, and says what it did."""
+    def _did(self, name: str) -> Did:
+        """Makes a call that hands out what a step did, or will do."""
         did = Did()
-        self._call("step", byref(did))
+        self._call(name, byref(did))
         return did
 
     def finish(self) -> None:
@@ -266,7 +306,7 @@ class Host(_Side):
         """Does one thing of what waits, and says what: it writes what was answered last, if that is left over; or the host takes edits of
         one file that follow each other, or else answers the oldest message. `feed` makes such steps until one is IDLE. Raises Unfinished,
         where nothing has changed, or why the host has stopped, now or before."""
-        did = self._step()
+        did = self._did("step")
         return HostDid(Step(did.step), did.kind, did.tag, did.count)
 
     def next_written(self) -> Optional[int]:
@@ -334,6 +374,15 @@ class Host(_Side):
     def dot(self, tag: int) -> Tuple[int, int]:
         """The places where the selection of a file begins and ends. Raises Missing."""
         return self._range("dot", tag)
+
+    @property
+    def snarf_len(self) -> int:
+        """How many runes the snarf buffer has."""
+        return self._number("snarf_len", c_uint32)
+
+    def snarf(self, place: int = 0, runes: Optional[int] = None) -> str:
+        """What the snarf buffer has, from a place on: so many runes, or all."""
+        return self._long_text("snarf", place, runes)
 
 
 class Terminal(_Side):
@@ -469,11 +518,19 @@ class Terminal(_Side):
         Unfinished, or why the terminal has stopped, now or before."""
         self._call("flush_now")
 
+    def next_frame(self) -> Optional[NextFrame]:
+        """The oldest frame that waits, as the step that receives it will say it: so what will go can be read before. None if none waits."""
+        try:
+            next_did = self._did("next_frame")
+        except Missing:
+            return None
+        return NextFrame(next_did.kind, next_did.tag, next_did.start, next_did.gone)
+
     def step(self) -> TerminalDid:
         """Does one thing of what waits, and says what: it writes what was composed last, if that is left over; or the terminal receives
         the oldest frame; or, where none waits, the oldest event acts or is refused. `feed` makes such steps until one is IDLE or LOCKED.
         Raises Unfinished, where nothing has changed, or why the terminal has stopped, now or before."""
-        did = self._step()
+        did = self._did("step")
         why = Status(did.why) if did.why else None
         return TerminalDid(Step(did.step), did.kind, did.tag, Change(did.start, did.gone, did.came), did.event, why)
 
@@ -493,6 +550,21 @@ class Terminal(_Side):
             yield refusal
 
     # ---- What a screen draws
+
+    def state(self) -> TerminalState:
+        """What the terminal holds, by one call: for a screen, which draws it at each key."""
+        state = State()
+        self._call("state", byref(state))
+        return TerminalState._make([getattr(state, name) for name in TerminalState._fields])
+
+    def file(self, tag: int) -> FileState:
+        """What the terminal knows of a tag, by one call. A tag without a file is no error."""
+        file = File()
+        self._call("file", tag, byref(file))
+        return FileState(
+            file.is_known, file.is_open, file.is_dirty, file.is_changed, file.is_locked, file.len,
+            (file.dot_start, file.dot_end), (file.view_start, file.view_end),
+        )  # fmt: skip
 
     @property
     def events(self) -> int:

@@ -10,3 +10,4 @@ pub mod LinkStatus
 pub mod Links
 pub mod Walking
 pub mod Steps
+pub mod Snapshots

@@ -5,13 +5,14 @@ use Rattle.sam_endpoint.specs.Naming.{file_of_t}
 use Rattle.sam_endpoint.specs.HostEndpoints.{PlainHostEndpoint}
 use Rattle.sam_endpoint.specs.HostStepping.{BringsIn as HostBringsIn, Steps as HostSteps}
 use Rattle.sam_endpoint.specs.TermEndpoints.{PlainTermEndpoint}
-use Rattle.sam_endpoint.specs.TermStepping.{BringsIn as TermBringsIn, Steps as TermSteps}
+use Rattle.sam_endpoint.specs.TermStepping.{BringsIn as TermBringsIn, Steps as TermSteps, next_frame}
 use Rattle.sam_endpoint.specs.declared.fault.EndpointFault.{EndpointFault}
 use Rattle.sam_endpoint.specs.declared.fault.HostStop.{HostStop}
 use Rattle.sam_endpoint.specs.declared.fault.TermStop.{TermStop}
 use Rattle.sam_endpoint.specs.declared.step.BringFault.{BringFault}
 use Rattle.sam_endpoint.specs.declared.step.HostStep.{HostStep}
 use Rattle.sam_endpoint.specs.declared.step.HostStep.TheVariants as host
+use Rattle.sam_endpoint.specs.declared.step.NextFrame.{NextFrame}
 use Rattle.sam_endpoint.specs.declared.step.TermStep.{TermStep}
 use Rattle.sam_endpoint.specs.declared.step.TermStep.TheVariants as term
 use Rattle.sam_c.specs.declared.steps.SamDid.{SamDid}
@@ -80,3 +81,10 @@ TermStepped (Some e) before status after g =
 -- the kind of the oldest message that waits, and the file that it names
 abbrev pub next_of : PlainHostEndpoint → Option (ℕ × ℕ)
 next_of e = option_map (λ m. (kind_t m, tag_or_zero (file_of_t m))) (slice_get e.waiting 0)
+
+-- the oldest frame that waits at a terminal, as a step that doesn't know yet what comes
+abbrev pub did_next : NextFrame → SamDid
+did_next frame = record (did_nothing 5) { kind = frame.kind; tag = tag_or_zero frame.tag; start = frame.start; gone = frame.gone }
+
+abbrev pub next_did : PlainTermEndpoint → Option SamDid
+next_did e = option_map (λ frame. did_next (next_frame e.term frame)) (slice_get e.waiting 0)

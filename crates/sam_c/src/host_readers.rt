@@ -2,7 +2,7 @@
 //! `SAM_NO_HANDLE` if the handle is empty; after that, and after `SAM_NONE`, what its other arguments lead to is as it was. Places count
 //! runes from the beginning of the text.
 
-ghost use Rattle.std.specs.Prelude.{◌≡◌, drop, is_some, length, option_map};
+ghost use Rattle.std.specs.Prelude.{◌≡◌, Some, drop, is_some, length, option_map};
 ghost use Rattle.sam_c.specs.Buffers.{countable};
 ghost use Rattle.sam_c.specs.Calls.{Reports, ReportsName, ReportsSome, ReportsText, written};
 ghost use Rattle.sam_c.specs.Hosts.{dot_of, file_of, saved_of};
@@ -218,5 +218,37 @@ pub extern "C" fn sam_host_saved(
             Some(saved) => tell_text(runes_from(countable(saved.as_slice()), place), into, bytes, runes),
             None => NONE,
         }
+    })
+}
+
+/// Hands out how many runes the snarf buffer has.
+#[unsafe(no_mangle)]
+pub extern "C" fn sam_host_snarf_len(host: &mut SamHost, runes: &mut u32, alloc: Global) -> u32
+    ensures told { Reports host.old.held.end result runes.old runes.new (λ e. length (countable e.host.files.snarf)) }
+    ensures kept { host.new.held.end ≡ host.old.held.end }
+{
+    with_end!(host alloc end {
+        *runes = count(countable(end.host().files().snarf_text().as_slice()));
+        OK
+    })
+}
+
+/// Puts what the snarf buffer has, from a place on, into the buffer in UTF-8, as many whole runes as have room. Hands out how many bytes
+/// and how many runes.
+#[unsafe(no_mangle)]
+pub extern "C" fn sam_host_snarf(
+    host: &mut SamHost,
+    place: u32,
+    into: &mut [u8],
+    bytes: &mut usize,
+    runes: &mut u32,
+    alloc: Global,
+) -> u32
+    ensures told { ReportsText host.old.held.end result (written into.old bytes.old runes.old) (written into.new bytes.new runes.new)
+        (λ e. Some (drop place (countable e.host.files.snarf))) }
+    ensures kept { host.new.held.end ≡ host.old.held.end }
+{
+    with_end!(host alloc end {
+        tell_text(runes_from(countable(end.host().files().snarf_text().as_slice()), place), into, bytes, runes)
     })
 }

@@ -12,6 +12,7 @@ mod measures;
 mod members;
 mod parts;
 mod scripts;
+mod snapshots;
 mod status;
 mod steps;
 mod term_calls;
@@ -22,4 +23,5 @@ mod utf8;
 
 pub use handle::{SamHost, SamLink, SamTerm};
 pub use link_calls::{SamLinkHello, SamLinkId};
+pub use snapshots::{SamTermFile, SamTermState};
 pub use steps::SamDid;

@@ -3,7 +3,7 @@
 
 ghost use Rattle.std.specs.Prelude.{◌≡◌};
 ghost use Rattle.sam_c.specs.Calls.{ReportsSome};
-ghost use Rattle.sam_c.specs.Steps.{HostBrought, HostStepped, TermBrought, TermStepped, did_of_host, did_of_term, did_nothing, next_of, tag_or_zero};
+ghost use Rattle.sam_c.specs.Steps.{HostBrought, HostStepped, TermBrought, TermStepped, did_of_host, did_of_term, did_nothing, next_did, next_of, tag_or_zero};
 
 use crate::handle::{SamHost, SamTerm, with_end};
 use crate::status::{
@@ -228,6 +228,30 @@ pub extern "C" fn sam_term_step(term: &mut SamTerm, did: &mut SamDid, alloc: Glo
                 OK
             }
             Err(why) => term_status(Err(why)),
+        }
+    })
+}
+
+/// Hands out what the next frame that a terminal receives will do, before it does: its kind, its file, or 0, and the place where as many runes
+/// or gaps of the text will give way. `SAM_NO_HANDLE` if the handle is empty; `SAM_NONE` if no frame waits.
+#[unsafe(no_mangle)]
+pub extern "C" fn sam_term_next_frame(term: &mut SamTerm, next: &mut SamDid, alloc: Global) -> u32
+    ensures told { ReportsSome term.old.held.end result next.old next.new next_did }
+    ensures kept { term.new.held.end ≡ term.old.held.end }
+{
+    with_end!(term alloc end {
+        match end.next_frame() {
+            Some(frame) => {
+                *next = SamDid {
+                    kind: frame.kind,
+                    tag: tag_or_zero(frame.tag),
+                    start: frame.start,
+                    gone: frame.gone,
+                    ..did_nothing(RECEIVED)
+                };
+                OK
+            }
+            None => NONE,
         }
     })
 }

@@ -22,7 +22,7 @@ use sam_term::records::KnownFile;
 use std::alloc::Global;
 
 /// Returns what the terminal knows of a tag; `None` if it knows no file of it.
-fn known_file(end: &TermEndpoint, tag: u16) -> Option<&KnownFile>
+pub(crate) fn known_file(end: &TermEndpoint, tag: u16) -> Option<&KnownFile>
     ensures { option_copied result ≡ known_of end.now tag }
 {
     let files = end.term().files();

@@ -5,7 +5,7 @@ use Rattle.sam_mesg.specs.declared.hmesg.HFrame.{HFrame}
 use Rattle.sam_mesg.specs.HostKinds.{kind_h}
 use Rattle.sam_frame.specs.Framing.{HasRoom}
 use Rattle.sam_term.specs.Events.{file_of}
-use Rattle.sam_term.specs.Term.{act_of, take_of}
+use Rattle.sam_term.specs.Term.{PlainTerminal, act_of, take_of}
 use Rattle.sam_term.specs.declared.event.Acted.TheVariants as become
 use Rattle.sam_term.specs.declared.fault.Refusal.{Refusal}
 use Rattle.sam_endpoint.specs.declared.fault.TermStop.{TermStop}
@@ -15,10 +15,11 @@ use Rattle.sam_endpoint.specs.declared.fault.EndpointFault.TheVariants as fault
 use Rattle.sam_endpoint.specs.declared.changes.Change.{Change}
 use Rattle.sam_endpoint.specs.declared.step.BringFault.{BringFault}
 use Rattle.sam_endpoint.specs.declared.step.BringFault.TheVariants as bring
+use Rattle.sam_endpoint.specs.declared.step.NextFrame.{NextFrame}
 use Rattle.sam_endpoint.specs.declared.step.TermStep.{TermStep}
 use Rattle.sam_endpoint.specs.declared.step.TermStep.TheVariants.{Idle, Locked, Wrote, Received, Acted, Refused}
 use Rattle.sam_endpoint.specs.Naming.{file_of_h}
-use Rattle.sam_endpoint.specs.Changes.{change_between, frame_touch, oldest_touch}
+use Rattle.sam_endpoint.specs.Changes.{change_between, change_by, frame_touch, oldest_touch, touched_len}
 use Rattle.sam_endpoint.specs.TermEndpoints.{PlainTermEndpoint, Feeds, IsDone, IsQuiet, TakesIn, oldest, undone}
 use Rattle.sam_endpoint.specs.TermSteps.{Acts, ActsFirst, Answer, Receives, ReceivesFirst, stopped, written}
 
@@ -33,6 +34,12 @@ BringsIn e piece (Err (bring.Stopped why)) g = (e.stop ≡ Some why) × (g ≡ e
 BringsIn e piece (Err bring.Waiting) g = (e.stop ≡ None) × (IsDone e → ⊥) × (g ≡ e)
 BringsIn e piece (Err bring.CountFull) g = IsReady e × (2 ^ 64 ≤ e.framer.offset + length e.framer.bytes + length piece) × (g ≡ e)
 BringsIn e piece (Err bring.OutOfMemory) g = IsReady e × HasRoom e.framer piece × (g ≡ e)
+
+-- what is told of a frame before the terminal receives it: its kind, its file, and the part of the text that will give way
+abbrev pub next_frame : PlainTerminal → HFrame → NextFrame
+next_frame t frame =
+    let touch = frame_touch t frame.msg in let change = change_by touch (touched_len t touch) 0 in
+    record { kind = kind_h frame.msg; tag = file_of_h frame.msg; start = change.start; gone = change.gone }
 
 -- the terminal received the oldest frame, which has this kind, names this file, and made this change
 pub record ReceivedFirst (e : PlainTermEndpoint) (kind : ℕ) (tag : Option ℕ) (change : Change) (g : PlainTermEndpoint) : Type 0 where

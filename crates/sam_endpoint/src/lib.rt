@@ -20,5 +20,5 @@ pub use drawing::{GAP, read_rasp};
 pub use fault::{AddFault, EndpointFault, FinishFault, HostStop, StreamFault, TermStop};
 pub use host_endpoint::HostEndpoint;
 pub use naming::name_message;
-pub use step::{BringFault, HostStep, TermStep};
+pub use step::{BringFault, HostStep, NextFrame, TermStep};
 pub use term_endpoint::TermEndpoint;

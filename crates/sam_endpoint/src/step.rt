@@ -67,6 +67,19 @@ pub enum TermStep {
     },
 }
 
+/// The frame that a terminal endpoint's next step receives, before it does. The place and the count are of runes and gaps.
+#[derive(Clone, Copy, Debug, PartialEq, Eq, Drop)]
+pub struct NextFrame {
+    /// The number of the frame's kind.
+    pub kind: u8,
+    /// The file that the frame names, if it names one.
+    pub tag: Option<u16>,
+    /// The place in the text of that file where something will give way or come in; 0 if nothing changes.
+    pub start: u32,
+    /// How many runes or gaps will give way there.
+    pub gone: u32,
+}
+
 /// What became of the oldest event of a terminal endpoint.
 #[derive(Clone, Copy, Drop)]
 pub(crate) enum Decision {

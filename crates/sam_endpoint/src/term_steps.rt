@@ -1,14 +1,14 @@
 //! A terminal that goes on by single steps, each of which says what it did.
 
-ghost use Rattle.std.specs.Prelude.{◌≡◌, ◌↔◌, ◌<◌, [], IsTrue, length};
+ghost use Rattle.std.specs.Prelude.{◌≡◌, ◌↔◌, ◌<◌, [], IsTrue, length, option_map, slice_get};
 ghost use Rattle.sam_endpoint.specs.TermEndpoints.{IsDone};
 ghost use Rattle.sam_endpoint.specs.TermSteps.{Ends};
-ghost use Rattle.sam_endpoint.specs.TermStepping.{BringsIn, DecidesStep, ReceivesStep, Steps};
+ghost use Rattle.sam_endpoint.specs.TermStepping.{BringsIn, DecidesStep, ReceivesStep, Steps, next_frame};
 
 use crate::changes::{change_by, frame_touch, oldest_touch, touched_len};
 use crate::fault::{EndpointFault, TermStop};
 use crate::naming::{name_frame, oldest_file};
-use crate::step::{BringFault, Decision, TermStep};
+use crate::step::{BringFault, Decision, NextFrame, TermStep};
 use crate::term_endpoint::{TermEndpoint, first_frame};
 
 impl TermEndpoint {
@@ -32,6 +32,25 @@ impl TermEndpoint {
             Ok(()) => Ok(()),
             Err(why) => Err(BringFault::of(why)),
         }
+    }
+
+    /// Returns what the next step that receives a frame begins with: the oldest frame that waits, and the part of its file's text that will
+    /// give way. `None` if none waits.
+    pub fn next_frame(&self) -> Option<NextFrame>
+        ensures { result ≡ option_map (next_frame self.now.term) (slice_get self.now.waiting 0) }
+    {
+        let Some(frame) = first_frame(&self.waiting) else {
+            return None;
+        };
+        let (kind, tag) = name_frame(&frame.msg);
+        let touch = frame_touch(&self.term, &frame.msg);
+        let change = change_by(touch, touched_len(&self.term, touch), 0);
+        Some(NextFrame {
+            kind,
+            tag,
+            start: change.start,
+            gone: change.gone,
+        })
     }
 
     /// Goes on by one step with what waits, and says what it did. It writes the messages that were composed last, if some are left over.

@@ -106,6 +106,40 @@ pub struct sam_did {
     pub kind: u8,
 }
 
+/// What a terminal holds.
+#[derive(Clone, Copy, Debug, Default, PartialEq, Eq)]
+#[repr(C)]
+pub struct sam_state {
+    pub events: u64,
+    pub decided: u64,
+    pub held: u64,
+    pub sent: u64,
+    pub under_way: u64,
+    pub pending: usize,
+    pub tags: usize,
+    pub unsent: u32,
+    pub snarf_len: u32,
+    pub version: u16,
+    pub command_locked: bool,
+    pub exited: bool,
+}
+
+/// What a terminal knows of a tag.
+#[derive(Clone, Copy, Debug, Default, PartialEq, Eq)]
+#[repr(C)]
+pub struct sam_file {
+    pub len: u32,
+    pub dot_start: u32,
+    pub dot_end: u32,
+    pub view_start: u32,
+    pub view_end: u32,
+    pub is_known: bool,
+    pub is_open: bool,
+    pub is_dirty: bool,
+    pub is_changed: bool,
+    pub is_locked: bool,
+}
+
 /// What `sam_term_read` hands out for a rune that is not loaded.
 pub const SAM_GAP: u32 = u32::MAX;
 
@@ -207,6 +241,15 @@ extern "C" {
         runes: *mut u32,
     ) -> sam_status;
     pub fn sam_host_dot(host: *mut sam_host, tag: u16, start: *mut u32, end: *mut u32) -> sam_status;
+    pub fn sam_host_snarf_len(host: *mut sam_host, runes: *mut u32) -> sam_status;
+    pub fn sam_host_snarf(
+        host: *mut sam_host,
+        place: u32,
+        into: *mut u8,
+        room: usize,
+        bytes: *mut usize,
+        runes: *mut u32,
+    ) -> sam_status;
 
     pub fn sam_term_new(term: *mut sam_term) -> sam_status;
     pub fn sam_term_free(term: *mut sam_term) -> sam_status;
@@ -237,7 +280,10 @@ extern "C" {
     pub fn sam_term_exit(term: *mut sam_term) -> sam_status;
     pub fn sam_term_feed(term: *mut sam_term, bytes: *const u8, len: usize) -> sam_status;
     pub fn sam_term_bring(term: *mut sam_term, bytes: *const u8, len: usize) -> sam_status;
+    pub fn sam_term_next_frame(term: *mut sam_term, next: *mut sam_did) -> sam_status;
     pub fn sam_term_step(term: *mut sam_term, did: *mut sam_did) -> sam_status;
+    pub fn sam_term_state(term: *mut sam_term, state: *mut sam_state) -> sam_status;
+    pub fn sam_term_file(term: *mut sam_term, tag: u16, file: *mut sam_file) -> sam_status;
     pub fn sam_term_finish(term: *mut sam_term) -> sam_status;
     pub fn sam_term_flush_now(term: *mut sam_term) -> sam_status;
     pub fn sam_term_pending(term: *mut sam_term, len: *mut usize) -> sam_status;

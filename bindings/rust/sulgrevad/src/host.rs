@@ -161,6 +161,19 @@ impl Host {
         })
     }
 
+    /// What the snarf buffer has.
+    pub fn snarf(&self) -> String {
+        whole_text(|place, into, bytes, runes| unsafe {
+            sys::sam_host_snarf(self.at(), place, into.as_mut_ptr(), into.len(), bytes, runes)
+        })
+        .expect("the handle is made")
+    }
+
+    /// How many runes the snarf buffer has.
+    pub fn snarf_len(&self) -> u32 {
+        tells(|runes| unsafe { sys::sam_host_snarf_len(self.at(), runes) })
+    }
+
     /// The length in runes of what a file was when it was written last.
     pub fn saved_len(&self, tag: u16) -> Option<u32> {
         told(|runes| unsafe { sys::sam_host_saved_len(self.at(), tag, runes) })

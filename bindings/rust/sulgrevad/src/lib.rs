@@ -46,8 +46,8 @@ pub use error::{Error, HostFault, LinkFault, Refusal, StreamFault, TermFault};
 pub use host::Host;
 pub use link::{read_hello, write_refusal, Hello, Link, Phase, Role, What, HELLO_BYTES, MOST_NOTE};
 pub use script::replay;
-pub use step::{HostStep, TermStep};
-pub use terminal::{Change, Terminal};
+pub use step::{HostStep, NextFrame, TermStep};
+pub use terminal::{Change, FileState, TermState, Terminal};
 
 use std::ffi::CStr;
 use sulgrevad_sys as sys;

@@ -3,6 +3,19 @@
 use crate::{Change, Refusal};
 use sulgrevad_sys::{self as sys, sam_did};
 
+/// The frame that a terminal's next step receives. Places and counts are of runes and gaps.
+#[derive(Clone, Copy, Debug, PartialEq, Eq)]
+pub struct NextFrame {
+    /// The number of its kind, as docs/PROTOCOL.md has it.
+    pub kind: u8,
+    /// The file that it names, or 0.
+    pub tag: u16,
+    /// The place in that file's text where something will give way or come in; 0 if nothing changes.
+    pub start: u32,
+    /// How many runes or gaps will give way there.
+    pub gone: u32,
+}
+
 /// What a step of a host did.
 #[derive(Clone, Copy, Debug, PartialEq, Eq)]
 #[non_exhaustive]
@@ -41,6 +54,15 @@ fn change_of(did: &sam_did) -> Change {
         start: did.start,
         gone: did.gone,
         came: did.came,
+    }
+}
+
+pub(crate) fn next_frame(next: &sam_did) -> NextFrame {
+    NextFrame {
+        kind: next.kind,
+        tag: next.tag,
+        start: next.start,
+        gone: next.gone,
     }
 }
 

@@ -1,9 +1,9 @@
 //! The terminal: windows, keyboard and mouse over partly loaded texts.
 
-use crate::step::term_step;
-use crate::{done, short_text, tells, text_from, told, whole_text, Error, Refusal, TermStep, PIECE};
+use crate::step::{next_frame, term_step};
+use crate::{done, short_text, tells, text_from, told, whole_text, Error, NextFrame, Refusal, TermStep, PIECE};
 use std::cell::UnsafeCell;
-use sulgrevad_sys::{self as sys, sam_did, sam_term};
+use sulgrevad_sys::{self as sys, sam_did, sam_file, sam_state, sam_term};
 
 /// What `read` hands out for a rune that is not loaded.
 const GAP: u32 = sys::SAM_GAP;
@@ -17,6 +17,36 @@ pub struct Change {
     pub gone: u32,
     /// How many came.
     pub came: u32,
+}
+
+/// What a terminal holds, as its readers of these names say it.
+#[derive(Clone, Copy, Debug, PartialEq, Eq)]
+pub struct TermState {
+    pub events: u64,
+    pub decided: u64,
+    pub held: u64,
+    pub sent: u64,
+    pub under_way: u64,
+    pub pending: usize,
+    pub tags: usize,
+    pub unsent: u32,
+    pub snarf_len: u32,
+    pub version: u16,
+    pub command_locked: bool,
+    pub exited: bool,
+}
+
+/// What a terminal knows of a tag, as its readers say it; 0 and `false` where there is no such file, or it is not open.
+#[derive(Clone, Copy, Debug, PartialEq, Eq)]
+pub struct FileState {
+    pub is_known: bool,
+    pub is_open: bool,
+    pub is_dirty: bool,
+    pub is_changed: bool,
+    pub is_locked: bool,
+    pub len: u32,
+    pub dot: (u32, u32),
+    pub view: (u32, u32),
 }
 
 /// A terminal. It is dropped with what is pending. A thread may hand it to another, but two can't share it:
@@ -201,6 +231,11 @@ impl Terminal {
         done(unsafe { sys::sam_term_bring(self.at(), bytes.as_ptr(), bytes.len()) })
     }
 
+    /// The oldest frame that waits, as the step that receives it will say it: so what will go can be read before. `None` if none waits.
+    pub fn next_frame(&self) -> Option<NextFrame> {
+        told(|next| unsafe { sys::sam_term_next_frame(self.at(), next) }).map(|next| next_frame(&next))
+    }
+
     /// Does one thing of what waits, and says what: it writes what was composed last, if that is left over; or the terminal receives the
     /// oldest frame; or, where none waits, the oldest event acts or is refused. `feed` makes such steps until one is `Idle` or `Locked`.
     /// Errors: `Unfinished`, where nothing has changed, or why the terminal has stopped, now or before.
@@ -273,6 +308,40 @@ impl Terminal {
         match unsafe { sys::sam_term_changed(self.at(), tag, &mut start, &mut gone, &mut came) } {
             sys::SAM_NONE => Ok(None),
             status => done(status).map(|()| Some(Change { start, gone, came })),
+        }
+    }
+
+    /// All counts at once.
+    pub fn state(&self) -> TermState {
+        let state = tells(|value: &mut sam_state| unsafe { sys::sam_term_state(self.at(), value) });
+        TermState {
+            events: state.events,
+            decided: state.decided,
+            held: state.held,
+            sent: state.sent,
+            under_way: state.under_way,
+            pending: state.pending,
+            tags: state.tags,
+            unsent: state.unsent,
+            snarf_len: state.snarf_len,
+            version: state.version,
+            command_locked: state.command_locked,
+            exited: state.exited,
+        }
+    }
+
+    /// All that it knows of a tag, but for the name and the text. A tag without a file is no error.
+    pub fn file(&self, tag: u16) -> FileState {
+        let file = tells(|value: &mut sam_file| unsafe { sys::sam_term_file(self.at(), tag, value) });
+        FileState {
+            is_known: file.is_known,
+            is_open: file.is_open,
+            is_dirty: file.is_dirty,
+            is_changed: file.is_changed,
+            is_locked: file.is_locked,
+            len: file.len,
+            dot: (file.dot_start, file.dot_end),
+            view: (file.view_start, file.view_end),
         }
     }
 

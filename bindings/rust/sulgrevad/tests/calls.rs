@@ -206,6 +206,7 @@ fn what_is_copied_comes_once_it_is_asked_for() -> Result<(), Error> {
     term.get_snarf()?;
     carry(&mut term, &mut host)?;
     assert_eq!((term.snarfed().as_str(), term.snarf_len()), ("two", 3));
+    assert_eq!((host.snarf().as_str(), host.snarf_len()), ("two", 3));
     assert_eq!((host.text(file).as_deref(), term.len(file)), (Some("one two one\n"), Some(12)));
     Ok(())
 }

@@ -3,7 +3,7 @@
 mod both;
 
 use both::{carry, opened};
-use sulgrevad::{Change, Error, HostStep, Refusal, StreamFault, TermStep};
+use sulgrevad::{Change, Error, FileState, HostStep, NextFrame, Refusal, StreamFault, TermStep};
 
 #[test]
 fn an_edit_that_would_cross_waits() -> Result<(), Error> {
@@ -259,6 +259,13 @@ fn single_steps_say_what_they_did() -> Result<(), Error> {
         gone: 6,
         came: 6,
     };
+    let next = NextFrame {
+        kind: 73,
+        tag: file,
+        start: 0,
+        gone: 6,
+    };
+    assert_eq!(term.next_frame(), Some(next));
     assert_eq!(
         term.step()?,
         TermStep::Received {
@@ -284,5 +291,34 @@ fn single_steps_say_what_they_did() -> Result<(), Error> {
     host.bring(&term.take_out().flatten().collect::<Vec<u8>>())?;
     assert_eq!(host.step()?, HostStep::Edited { tag: file, count: 2 });
     assert_eq!(host.text(file).as_deref(), Some("elloxy\n"));
+    assert_eq!(term.next_frame(), None);
+    Ok(())
+}
+
+#[test]
+fn a_state_has_what_its_readers_say() -> Result<(), Error> {
+    let (mut host, mut term, file) = opened("hello\n")?;
+    term.view(file, 1, 3)?;
+    carry(&mut term, &mut host)?;
+    term.select(file, 2, 4)?;
+    term.type_(file, "xyz")?;
+    term.write(file + 7)?;
+    let state = term.state();
+    assert_eq!((state.events, state.decided, state.held), (term.events(), term.decided(), term.held()));
+    assert_eq!((state.sent, state.under_way, state.pending), (term.sent(), term.under_way(), term.pending()));
+    assert_eq!((state.tags, state.unsent, state.snarf_len), (term.tags(), term.unsent(), term.snarf_len()));
+    assert_eq!((state.version, state.command_locked, state.exited), (2, term.command_locked(), term.exited()));
+    let open = FileState {
+        is_known: true,
+        is_open: true,
+        is_dirty: false,
+        is_changed: true,
+        is_locked: term.locked(file),
+        len: 7,
+        dot: (5, 5),
+        view: (1, 4),
+    };
+    assert_eq!((term.file(file), term.len(file), term.dot(file), term.view_of(file)), (open, Some(7), Some((5, 5)), Some((1, 4))));
+    assert!(!term.file(file + 7).is_known);
     Ok(())
 }

@@ -1,0 +1,147 @@
+//! What C reads of a terminal at once: include/sulgrevad.h says what each field hands out. Neither call changes the terminal. Each returns
+//! `SAM_NO_HANDLE` if the handle is empty; what its other arguments lead to is then as it was.
+
+ghost use Rattle.std.specs.Prelude.{◌≡◌};
+ghost use Rattle.sam_c.specs.Calls.{Reports};
+ghost use Rattle.sam_c.specs.Snapshots.{file_state, term_state};
+
+use crate::handle::{SamTerm, with_end};
+use crate::status::{NO_HANDLE, OK};
+use crate::term_readers::known_file;
+use sam_endpoint::TermEndpoint;
+use std::alloc::Global;
+
+/// What a terminal holds: `sam_term_state` of include/sulgrevad.h.
+#[repr(C)]
+#[derive(Clone, Copy, Drop)]
+pub struct SamTermState {
+    /// How many event calls were taken.
+    pub events: u64,
+    /// How many of them have acted or were refused.
+    pub decided: u64,
+    /// How many are held.
+    pub held: u64,
+    /// How many messages were composed.
+    pub sent: u64,
+    /// How many of these the host has not taken, as far as its frames say.
+    pub under_way: u64,
+    /// How many bytes are pending.
+    pub pending: usize,
+    /// How many tags there is room for.
+    pub tags: usize,
+    /// How many typed runes are not sent yet.
+    pub unsent: u32,
+    /// How many runes the host's snarf buffer has.
+    pub snarf_len: u32,
+    /// The version of the protocol.
+    pub version: u16,
+    /// Whether the command lock is held.
+    pub command_locked: bool,
+    /// Whether the host has ended the session.
+    pub exited: bool,
+}
+
+/// What a terminal knows of a tag: `sam_term_file` of include/sulgrevad.h. What is not so, or not there, is false or 0.
+#[repr(C)]
+#[derive(Clone, Copy, Drop)]
+pub struct SamTermFile {
+    /// The length of the text, gaps counted.
+    pub len: u32,
+    /// The place where the dot begins.
+    pub dot_start: u32,
+    /// The place where it ends.
+    pub dot_end: u32,
+    /// The place where the view begins.
+    pub view_start: u32,
+    /// The place where it ends.
+    pub view_end: u32,
+    /// Whether the terminal knows a file of this tag.
+    pub is_known: bool,
+    /// Whether the file is open.
+    pub is_open: bool,
+    /// Whether the host said last that it is dirty.
+    pub is_dirty: bool,
+    /// Whether it may differ from what was written last.
+    pub is_changed: bool,
+    /// Whether an edit of it would wait for a lock.
+    pub is_locked: bool,
+}
+
+/// Returns what the terminal holds.
+fn state_of(end: &TermEndpoint) -> SamTermState
+    ensures { result ≡ term_state end.now }
+{
+    let term = end.term();
+    SamTermState {
+        events: end.events(),
+        decided: end.decided(),
+        held: term.held() as u64,
+        sent: term.sent(),
+        under_way: end.under_way(),
+        pending: end.pending(),
+        tags: term.files().len(),
+        unsent: term.unsent(),
+        snarf_len: term.snarf_len(),
+        version: term.version(),
+        command_locked: term.command_locked(),
+        exited: term.exited(),
+    }
+}
+
+/// Returns what the terminal knows of a tag.
+fn file_of(end: &TermEndpoint, tag: u16) -> SamTermFile
+    ensures { result ≡ file_state end.now tag }
+{
+    let term = end.term();
+    let (is_known, is_dirty) = match known_file(end, tag) {
+        Some(file) => (true, file.dirty),
+        None => (false, false),
+    };
+    let file = SamTermFile {
+        len: 0,
+        dot_start: 0,
+        dot_end: 0,
+        view_start: 0,
+        view_end: 0,
+        is_known,
+        is_open: false,
+        is_dirty,
+        is_changed: term.is_changed(tag),
+        is_locked: term.locked(tag),
+    };
+    let (Some(rasp), Some(dot), Some(view)) = (term.rasp(tag), term.dot(tag), term.view(tag)) else {
+        return file;
+    };
+    SamTermFile {
+        len: rasp.len(),
+        dot_start: dot.0,
+        dot_end: dot.1,
+        view_start: view.0,
+        view_end: view.1,
+        is_open: true,
+        ..file
+    }
+}
+
+/// Hands out what a terminal holds, in one call.
+#[unsafe(no_mangle)]
+pub extern "C" fn sam_term_state(term: &mut SamTerm, state: &mut SamTermState, alloc: Global) -> u32
+    ensures told { Reports term.old.held.end result state.old state.new term_state }
+    ensures kept { term.new.held.end ≡ term.old.held.end }
+{
+    with_end!(term alloc end { *state = state_of(&end); OK })
+}
+
+/// Hands out what a terminal knows of a tag, in one call.
+#[unsafe(no_mangle)]
+pub extern "C" fn sam_term_file(
+    term: &mut SamTerm,
+    tag: u16,
+    file: &mut SamTermFile,
+    alloc: Global,
+) -> u32
+    ensures told { Reports term.old.held.end result file.old file.new (λ e. file_state e tag) }
+    ensures kept { term.new.held.end ≡ term.old.held.end }
+{
+    with_end!(term alloc end { *file = file_of(&end, tag); OK })
+}
