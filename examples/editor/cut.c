@@ -1,7 +1,6 @@
 /* cut.c: what was cut last and stands nowhere else.
  *
- * The library's host hands out no snarf buffer, so each message that fills it is looked at just before the host takes it. While a terminal
- * keeps text for undo, what the user has cut stands at the end of the file for undo, and the snarf buffer has another text.
+ * While a terminal keeps text for undo, what the user has cut stands at the end of the file for undo, and the snarf buffer has another text.
  */
 #define _XOPEN_SOURCE 700
 #include <errno.h>
@@ -9,12 +8,6 @@
 #include <string.h>
 
 #include "samhost.h"
-
-enum {
-    TAG_AT = HEADER, /* where the fields of a message stand */
-    START_AT = TAG_AT + 2,
-    END_AT = START_AT + 4
-};
 
 #define HASH_FACTOR UINT64_C(0x100000001b3)
 
@@ -34,11 +27,6 @@ void free_cut(struct cut *cut)
 
 /* ---- What fills the snarf buffer ---- */
 
-static uint32_t number_at(const uint8_t *bytes)
-{
-    return (uint32_t)bytes[0] << 24 | (uint32_t)bytes[1] << 16 | (uint32_t)bytes[2] << 8 | bytes[3];
-}
-
 /* Whether a rune begins with a byte. */
 static bool is_first(uint8_t byte)
 {
@@ -54,85 +42,37 @@ static uint32_t count_runes(const struct text *text)
     return runes;
 }
 
-/* Cuts a text to its first runes. */
-static void keep_first(struct text *text, uint32_t runes)
-{
-    size_t len = 0;
-
-    while (len < text->len && (runes > 0 || !is_first(text->bytes[len])))
-        runes -= is_first(text->bytes[len++]);
-    text->len = len;
-}
-
-/* Takes what stands from one place of a file to another. */
-static int take_range(struct session *session, uint16_t tag, uint32_t start, uint32_t end, struct text *text)
+/* Takes what the host's snarf buffer has. */
+static void take_snarf(struct session *session, struct text *text)
 {
     size_t bytes = 0;
-    uint32_t runes = 1, place = start;
+    uint32_t runes = 1, place = 0;
 
-    for (text->len = 0; runes > 0 && place < end; text->len += bytes) {
-        size_t room = (size_t)(end - place) * 4, left = MOST_BYTES - text->len;
-        uint32_t code = sam_host_text(&session->host, tag, place, text->bytes + text->len, room < left ? room : left, &bytes, &runes);
-        if (code != SAM_OK)
-            return ENOMEM;
-        place += runes;
-    }
-    if (place > end)
-        keep_first(text, end - start);
-    return 0;
+    for (text->len = 0; runes > 0; text->len += bytes, place += runes)
+        if (sam_host_snarf(&session->host, place, text->bytes + text->len, MOST_BYTES - text->len, &bytes, &runes) != SAM_OK)
+            return;
 }
 
-/* A text goes to the end of the file for undo, if there is room. The first is what the user has cut or copied: another comes then. */
-static void note_paste(struct session *session)
+void note_paste(struct session *session, uint16_t tag)
 {
     struct cut *cut = &session->cut;
     uint32_t len = 0;
 
-    if (cut->is_moved || sam_host_len(&session->host, session->vault, &len) != SAM_OK || len + count_runes(&cut->snarf) > MOST_RUNES)
+    if (tag == 0 || tag != session->vault || cut->is_moved || sam_host_len(&session->host, session->vault, &len) != SAM_OK || len + count_runes(&cut->snarf) > MOST_RUNES)
         return;
     memcpy(cut->moved.bytes, cut->snarf.bytes, cut->snarf.len);
     cut->moved.len = cut->snarf.len;
     cut->is_moved = true;
 }
 
-size_t watched_len(const uint8_t *bytes, size_t len)
-{
-    switch (bytes[0]) {
-    case KIND_CUT:
-    case KIND_SNARF:
-        return len == HEADER + 10 ? len : 0;
-    case KIND_PASTE:
-        return len == HEADER + 6 ? len : 0;
-    case KIND_SET_SNARF:
-        return len <= HEADER + MOST_SET ? len : 0;
-    default:
-        return 0;
-    }
-}
-
-int note_snarf(struct session *session, const uint8_t *bytes, size_t len)
+void note_snarf(struct session *session, uint8_t kind, uint16_t tag)
 {
     struct cut *cut = &session->cut;
 
-    if (bytes[0] == KIND_SET_SNARF) {
-        cut->snarf.len = len - HEADER;
-        memcpy(cut->snarf.bytes, bytes + HEADER, cut->snarf.len);
+    if (kind == KIND_SNARF || kind == KIND_SET_SNARF)
+        take_snarf(session, &cut->snarf);
+    if (kind == KIND_SET_SNARF || (kind == KIND_CUT && tag != 0 && tag == session->vault))
         cut->is_moved = false;
-        return 0;
-    }
-    uint16_t tag = (uint16_t)(bytes[TAG_AT] << 8 | bytes[TAG_AT + 1]);
-    bool is_of_vault = tag != 0 && tag == session->vault;
-    if (bytes[0] == KIND_SNARF) {
-        uint32_t start = number_at(bytes + START_AT), end = number_at(bytes + END_AT), len = 0;
-        if (sam_host_len(&session->host, tag, &len) != SAM_OK || start > end || end > len)
-            return 0; /* the host finds what is wrong with it, and its snarf buffer stays */
-        return take_range(session, tag, start, end, &cut->snarf);
-    }
-    if (bytes[0] == KIND_PASTE && is_of_vault)
-        note_paste(session);
-    else if (bytes[0] == KIND_CUT && is_of_vault) /* it has become the snarf buffer again just before */
-        cut->is_moved = false;
-    return 0;
 }
 
 /* ---- Saving ---- */

@@ -16,7 +16,7 @@ from pointing import Pointer
 from slices import Slices
 from sulgrevad import Refusal, SamError, Status, Terminal
 from staying import Note
-from stream import CLEAN, CLOSE, DELNAME, MOVETO, NEWNAME, SETDOT, UNLOCK, UNLOCKFILE, Frame, Stream
+from stream import CLEAN, CLOSE, DELNAME, MOVETO, NEWNAME, SETDOT, UNLOCK, UNLOCKFILE, Stream
 from texts import COMMAND, COMMAND_NAME, Texts
 from undo import Undo
 from vault import Vault
@@ -60,8 +60,9 @@ class Editor(Desk, Waiting, Actions):
         self.log, self.numbers, self.keeping = Undo(terminal, self.texts, self.vault), Numbers(self.texts), Keeping(self)
         self.left, self.slices, self.joining = Left(self), Slices(self), Joining(self)
         told = {CLEAN: self._meet_clean, CLOSE: self._meet_close, MOVETO: self._meet_move, SETDOT: self._meet_dot}
-        told.update({UNLOCK: self._meet_unlock, NEWNAME: self._meet_name, DELNAME: self._meet_name, UNLOCKFILE: self._meet_pasted})
-        self.stream = Stream(terminal, self.texts, told)
+        told.update({NEWNAME: self._meet_name, DELNAME: self._meet_name})
+        settled = {UNLOCK: self._meet_unlock, UNLOCKFILE: self._meet_pasted}
+        self.stream = Stream(terminal, self.texts, told, settled)
         self.texts.listeners = [self.log.hear, self.numbers.hear, self.keeping.hear_changes, self.hear_changes, self.hear_run]
         self._known: Optional[List[int]] = None  # all files, since thousands take long to ask for; None where some came or went
         self.pointer, self.menu, self.help = Pointer(self), None, None  # the help lies over all else
@@ -168,37 +169,37 @@ class Editor(Desk, Waiting, Actions):
             why += "; ^V has what you typed for it"
         self.notes.keep(1, why)
 
-    def _meet_clean(self, frame: Frame) -> None:
+    def _meet_clean(self, tag: int) -> None:
         """The host has written a file, or could not. It may say that a little later, so it is asked once more."""
-        self.keeping.meet_clean(frame.tag)
-        self.left.meet_written(frame.tag)
+        self.keeping.meet_clean(tag)
+        self.left.meet_written(tag)
         self.way.confirm()
 
-    def _meet_name(self, _frame: Frame) -> None:
+    def _meet_name(self, _tag: int) -> None:
         self._known = None
 
-    def _meet_close(self, frame: Frame) -> None:
+    def _meet_close(self, tag: int) -> None:
         for memory in (self.log, self.numbers, self.keeping, self.left):
-            memory.drop(frame.tag)
-        self._pasting.discard(frame.tag)
+            memory.drop(tag)
+        self._pasting.discard(tag)
 
-    def _meet_move(self, frame: Frame) -> None:
-        self.window_of(frame.tag).follow()
+    def _meet_move(self, tag: int) -> None:
+        self.window_of(tag).follow()
 
-    def _meet_dot(self, frame: Frame) -> None:
-        if self._sought is not None and self._sought[0] == frame.tag:
-            self.numbers.set(frame.tag, frame.place, self._sought[1])
+    def _meet_dot(self, tag: int) -> None:
+        if self._sought is not None and self._sought[0] == tag:
+            self.numbers.set(tag, self.terminal.dot(tag)[0], self._sought[1])
 
-    def _meet_unlock(self, _frame: Frame) -> None:
+    def _meet_unlock(self, _tag: int) -> None:
         self._sought, self._aside = None, ""
         self.end_run()
 
-    def _meet_pasted(self, frame: Frame) -> None:
+    def _meet_pasted(self, tag: int) -> None:
         """The host has answered what locked a file. What it has pasted it has selected: the caret goes after that."""
-        if frame.tag in self._pasting:
-            self._pasting.remove(frame.tag)
+        if tag in self._pasting:
+            self._pasting.remove(tag)
             self.cut_text = ""
-            window = self.window_of(frame.tag)
+            window = self.window_of(tag)
             window.select(window.dot[1])
 
     def pause(self) -> None:

@@ -54,14 +54,11 @@ enum {
 
 /* Messages of a terminal, as far as they are looked at before the host takes them. */
 enum {
-    HEADER = 3, /* bytes of a message before its body: its kind, and the length of the body */
-    KIND_TYPE = 8,
     KIND_CUT = 9,
     KIND_PASTE = 10,
     KIND_SNARF = 11,
     KIND_CLOSE = 14,
-    KIND_SET_SNARF = 20,
-    MOST_SET = 32000 /* bytes of the body of the last */
+    KIND_SET_SNARF = 20
 };
 
 enum {
@@ -165,11 +162,9 @@ struct carrier {
 struct wire {
     const struct carrier *carrier;
     uint8_t input[PIECE], output[PIECE];
-    size_t taken, input_len; /* bytes of `input`: taken by the host, and in all */
-    size_t left;             /* bytes that are still to be taken of a message that has begun */
-    bool is_start;           /* the bytes that are taken next begin with a message */
-    size_t again;            /* bytes that were not taken, since memory is out */
-    uint16_t closing;        /* the file that was closed last */
+    size_t taken, input_len; /* bytes of `input`: brought to the host, and in all */
+    bool is_stepping;        /* the host has not taken yet all that it was brought */
+    bool is_prepared;        /* what is to be done before its next message is done */
     size_t sent, output_len; /* bytes of `output`: sent, and in all */
     bool is_short;           /* the host is out of memory */
     int output_error;        /* the error number for which nothing more can be sent; else 0 */
@@ -531,11 +526,12 @@ bool save_last(struct session *session, bool is_alone);
 bool make_cut(struct cut *cut);
 void free_cut(struct cut *cut);
 
-/* The length of a message that may fill the snarf buffer or take a part in keeping text for undo, if that is right for its kind. Else 0. */
-size_t watched_len(const uint8_t *bytes, size_t len);
+/* Before the host pastes into this file: if it is the one for undo, and has room, the snarf buffer's text goes to its end. The first is what
+ * the user has cut or copied, and another comes into the snarf buffer then. Cutting that text out again follows its way back. */
+void note_paste(struct session *session, uint16_t tag);
 
-/* Before the host takes such a message, which is whole: notes what the snarf buffer has after it. */
-int note_snarf(struct session *session, const uint8_t *bytes, size_t len);
+/* After the host took a message of this kind, which names this file: notes what the snarf buffer has, and where what the user cut is. */
+void note_snarf(struct session *session, uint8_t kind, uint16_t tag);
 
 /* Saves what was cut last, unless it stands in a file. Says once that it can't be saved. Returns whether it is. */
 bool keep_cut(struct session *session);

@@ -1,7 +1,7 @@
 /* serving.c: carries bytes between the host and standard input and output, and sleeps. A session that stays has them carried by its link.
  *
- * The host takes one message at a time, so that a file is written, or saved before it is closed, as it stands at its message. A while after
- * the last message texts are saved aside.
+ * The host goes on by single steps, so that a file is written, or saved before it is closed, as it stands at its message. A while after the
+ * last message texts are saved aside.
  */
 #define _XOPEN_SOURCE 700
 #include <errno.h>
@@ -18,9 +18,7 @@ enum {
     LONGEST_UNSAVED = 10000, /* milliseconds after which they are, while messages still come */
     PAUSE = 100,             /* milliseconds until memory is asked for again */
     LONGEST_GONE = 5000,     /* milliseconds after which it isn't, where the terminal is gone */
-    MOST_PIECES_LEFT = 64,   /* pieces of input that are still taken after a signal */
-    TAG_LEN = 2,             /* bytes of a file's tag */
-    CLOSE_LEN = HEADER + TAG_LEN
+    MOST_PIECES_LEFT = 64    /* pieces of input that are still taken after a signal */
 };
 
 static volatile sig_atomic_t was_signalled;
@@ -117,113 +115,84 @@ void send_pending(struct session *session)
     }
 }
 
-/* The length of the message of which so many bytes have come, its header among them. */
-static size_t message_len(const uint8_t *bytes)
-{
-    return HEADER + ((size_t)bytes[1] << 8 | bytes[2]);
-}
-
-/* The length of the message that begins there, if it is whole and types or cuts in a file other than the command file. Else 0. */
-static size_t edit_len(const uint8_t *bytes, size_t have)
-{
-    if (have < HEADER + TAG_LEN || (bytes[0] != KIND_TYPE && bytes[0] != KIND_CUT))
-        return 0;
-    size_t len = message_len(bytes);
-    bool is_command = bytes[HEADER] == 0 && bytes[HEADER + 1] == 0;
-    return is_command || len > have ? 0 : len;
-}
-
-/* How many of the bytes that were read are of the next message, or of the rest of one. Edits go together, since the host takes many as
- * quickly as one. 0 where too few have come to say. */
-static size_t next_piece(struct wire *wire, bool *is_close)
-{
-    const uint8_t *bytes = wire->input + wire->taken;
-    size_t have = wire->input_len - wire->taken;
-
-    *is_close = false;
-    wire->is_start = wire->left == 0;
-    if (wire->is_start) {
-        if (have < HEADER)
-            return 0;
-        size_t len = message_len(bytes);
-        *is_close = bytes[0] == KIND_CLOSE && len == CLOSE_LEN;
-        if ((*is_close && have < CLOSE_LEN) || have < watched_len(bytes, len))
-            return 0;
-        if (edit_len(bytes, have) > 0)
-            for (size_t more; (more = edit_len(bytes + len, have - len)) > 0; len += more)
-                ;
-        wire->left = len;
-    }
-    return wire->left < have ? wire->left : have;
-}
-
-/* Notes what the snarf buffer has after the next bytes, which are whole messages or a part of one. Only for memory it fails. */
-static int note_snarfs(struct session *session, size_t len)
-{
-    const struct wire *wire = &session->wire;
-    const uint8_t *bytes = wire->input + wire->taken;
-    int error = 0;
-
-    for (size_t at = 0; error == 0 && wire->is_start && at + HEADER <= len && message_len(bytes + at) <= len - at;) {
-        size_t next = message_len(bytes + at);
-        if (watched_len(bytes + at, next) > 0)
-            error = note_snarf(session, bytes + at, next);
-        at += next;
-    }
-    return error;
-}
-
-/* Has the host take some bytes that were read, and does what they ask. */
-static enum ending feed(struct session *session, size_t len)
+/* Before the host takes the oldest message that waits, once: saves a text that is about to be dropped, and notes one that moves. */
+static void prepare_step(struct session *session)
 {
     struct wire *wire = &session->wire;
-    bool is_done = false;
-    int noted = note_snarfs(session, len);
-    uint32_t code = noted == 0 ? sam_host_feed(&session->host, wire->input + wire->taken, len) : SAM_NO_MEMORY;
+    uint8_t kind;
+    uint16_t tag;
 
-    wire->again = code == SAM_NO_MEMORY ? len : 0;
-    if (code != SAM_NO_MEMORY) {
-        wire->taken += len;
-        wire->left -= len < wire->left ? len : wire->left;
-    }
+    if (wire->is_prepared || sam_host_next_message(&session->host, &kind, &tag) != SAM_OK)
+        return;
+    wire->is_prepared = true;
+    if (kind == KIND_CLOSE)
+        save_closing(session, tag);
+    else if (kind == KIND_PASTE)
+        note_paste(session, tag);
+}
+
+/* Does what messages ask that the host has taken. */
+static void follow_step(struct session *session, const sam_did *did)
+{
+    bool is_edit = did->step == SAM_STEP_EDITED;
+
+    if (!is_edit && did->step != SAM_STEP_ANSWERED)
+        return;
+    session->wire.is_prepared = false;
+    note_snarf(session, is_edit ? KIND_CUT : did->kind, did->tag);
     write_files(session);
-    forget_closed(session, wire->closing);
-    if ((code == SAM_NO_MEMORY || code == SAM_UNFINISHED) && !wire->is_short)
-        say("out of memory; it is tried again");
-    wire->is_short = code == SAM_NO_MEMORY || code == SAM_UNFINISHED;
-    if (code != SAM_OK && !wire->is_short) {
-        say("the terminal's stream is wrong (status %u)", (unsigned)code);
-        return FAULT;
-    }
-    return sam_host_is_done(&session->host, &is_done) == SAM_OK && is_done ? LEFT : GOES_ON;
+    if (did->kind == KIND_CLOSE)
+        forget_closed(session, did->tag);
 }
 
-/* Has the host take a message that closes a file, whose text it drops then. */
-static enum ending feed_close(struct session *session)
+/* Has the host take what it was brought, step by step, up to the last message that is whole or to where memory is out. Returns SAM_OK, or
+ * why it could not go on. */
+static uint32_t step_host(struct session *session)
 {
-    struct wire *wire = &session->wire;
-    const uint8_t *body = wire->input + wire->taken + HEADER;
+    sam_did did;
 
-    wire->closing = (uint16_t)(body[0] << 8 | body[1]);
-    save_closing(session, wire->closing);
-    return feed(session, CLOSE_LEN);
+    do {
+        prepare_step(session);
+        uint32_t code = sam_host_step(&session->host, &did);
+        if (code != SAM_OK)
+            return code;
+        follow_step(session, &did);
+    } while (did.step != SAM_STEP_IDLE);
+    session->wire.is_stepping = false;
+    return SAM_OK;
+}
+
+/* Brings the host the bytes that were read. */
+static uint32_t bring(struct wire *wire, sam_host *host)
+{
+    uint32_t code = sam_host_bring(host, wire->input + wire->taken, wire->input_len - wire->taken);
+
+    if (code == SAM_OK) {
+        wire->taken = wire->input_len;
+        wire->is_stepping = true;
+    }
+    return code;
 }
 
 enum ending take_input(struct session *session)
 {
     struct wire *wire = &session->wire;
-    enum ending ending = GOES_ON;
-    bool is_close;
-    size_t len, before = wire->taken;
+    bool is_done = false, was_short = wire->is_short, had_more = wire->is_stepping || wire->taken < wire->input_len;
+    uint32_t code = wire->is_stepping ? step_host(session) : SAM_OK;
 
-    if (wire->is_short)
-        ending = feed(session, wire->again);
-    while (ending == GOES_ON && !wire->is_short && (len = next_piece(wire, &is_close)) > 0)
-        ending = is_close ? feed_close(session) : feed(session, len);
-    if (wire->taken != before || wire->is_short)
+    if (code == SAM_OK && wire->taken < wire->input_len && (code = bring(wire, &session->host)) == SAM_OK)
+        code = step_host(session);
+    wire->is_short = code == SAM_NO_MEMORY || code == SAM_UNFINISHED;
+    if (wire->is_short && !was_short)
+        say("out of memory; it is tried again");
+    if (had_more)
         note_input(&session->due);
     send_pending(session);
-    return ending;
+    if (code != SAM_OK && !wire->is_short) {
+        say("the terminal's stream is wrong (status %u)", (unsigned)code);
+        return FAULT;
+    }
+    return sam_host_is_done(&session->host, &is_done) == SAM_OK && is_done ? LEFT : GOES_ON;
 }
 
 /* Whether more can be read: not after the end, nor while memory is out and as much waits for it as there is room for. */
@@ -253,15 +222,13 @@ bool read_bytes(struct session *session)
     return count > 0;
 }
 
-/* How the session ends where no more comes. What is left of a message may be wrong. */
+/* How the session ends where no more comes. */
 static enum ending end_input(struct session *session)
 {
     struct wire *wire = &session->wire;
 
     if (wire->end == GOES_ON || wire->is_short)
         return INPUT_ENDED; /* a signal ends it, or what is left is lost */
-    if (feed(session, wire->input_len - wire->taken) == FAULT)
-        return FAULT;
     if (wire->end == INPUT_ENDED && sam_host_finish(&session->host) == SAM_TRUNCATED) {
         say("standard input ends inside a message");
         wire->end = LINE_BROKE;

@@ -1,155 +1,90 @@
-"""The host's stream: it is fed to the terminal frame by frame, edits many at a time; and what each frame does is told."""
-from itertools import repeat
-from struct import Struct
-from typing import Callable, Dict, List, NamedTuple, Optional
+"""The host's stream: the terminal goes on by single steps, and what each of them changed is told."""
+from collections import deque
+from typing import Callable, Deque, Dict, List, Optional
 
-from sulgrevad import SamError, Terminal, Unfinished
+from sulgrevad import Step, Terminal, TerminalDid
 from texts import GAP, Change, Texts
 
 # Kinds of frames.
 BINDNAME, NEWNAME, GROW, UNLOCK, DATA, UNLOCKFILE, SETDOT, GROWDATA, MOVETO, CLEAN = 66, 68, 70, 72, 73, 75, 76, 77, 78, 79
 CUT, DELNAME, CLOSE = 81, 83, 84
-HEAD = 3  # bytes before a frame's body
-FIRST = bytes.fromhex("41000a00000000000000010002")  # the frame that answers the first message, which offers version 2
+EDITS = (CUT, GROW, GROWDATA)
 
-EDIT, COUNT = Struct(">BH8xHI"), Struct(">I")  # kind, length, tag and place of a frame that edits; how much it cuts
-FIXED = EDIT.size  # bytes before a text or a count
-MOST_IN_TEXT = 2048  # bytes of the text that a frame brings
-NOWHERE = 1 << 33  # after all places
-
-
-class Frame(NamedTuple):
-    """The fields of a frame with a tag, which stand after the stamp."""
-
-    kind: int
-    body: bytes
-
-    @property
-    def tag(self) -> int:
-        return int.from_bytes(self.body[8:10], "big")
-
-    @property
-    def place(self) -> int:
-        return int.from_bytes(self.body[10:14], "big")
-
-    @property
-    def count(self) -> int:
-        return int.from_bytes(self.body[14:18], "big")
-
-
-class Edits(NamedTuple):
-    """Edits of one file: how many bytes their frames have; of each its place, how much it takes out, and what comes in."""
-
-    size: int
-    places: List[int]
-    counts: List[int]
-    came: List[str]
-
-
-def first_edits(data: bytearray, tag: int) -> Edits:
-    """The edits of a file by the whole frames that come first, up to one that takes out what another has changed or moved: what that is
-    can be read once the terminal has taken that other one."""
-    places: List[int] = []
-    counts: List[int] = []
-    came: List[str] = []
-    size, there, least = 0, len(data), NOWHERE
-    while (at := size + FIXED) <= there:
-        kind, length, other, place = EDIT.unpack_from(data, size)
-        end = size + HEAD + length
-        if other != tag or end > there:
-            break
-        if kind == GROWDATA and at <= end <= at + MOST_IN_TEXT:
-            count, text = 0, data[at:end].decode("utf-8", "replace")  # the terminal refuses what is no text
-        elif kind == CUT and end == at + COUNT.size:
-            (count,), text = COUNT.unpack_from(data, at), ""
-            if place + count > least:
-                break
-        else:
-            break
-        places.append(place)
-        counts.append(count)
-        came.append(text)
-        if place < least:
-            least = place
-        size = end
-    return Edits(size, places, counts, came)
+Told = Dict[int, Callable[[int], None]]
 
 
 class Stream:
-    """Bytes come in by `feed`. `told` has what to call with a frame of a kind that edits nothing, once the terminal has taken it."""
+    """Bytes come in by `feed`. `told` has what to call with the file of a frame of a kind that edits nothing, once the terminal has received
+    it: it makes no event, since frames still wait. `settled` has the same for after all of them."""
 
-    def __init__(self, terminal: Terminal, texts: Texts, told: Dict[int, Callable[[Frame], None]]):
-        self.terminal, self.texts, self.told = terminal, texts, told
-        self._bytes = bytearray()  # from the first frame on that the terminal has not taken whole
-        self._given = 0  # how many of them it has taken: none, or that frame's head
+    def __init__(self, terminal: Terminal, texts: Texts, told: Told, settled: Told):
+        self.terminal, self.texts, self.told, self.settled = terminal, texts, told, settled
+        self._bytes = bytearray()  # what was not brought, since the terminal had no memory
+        self._is_stepping = False  # what was brought is not done yet
+        self._edits: List[Change] = []  # of one file, not told yet
+        self._later: Deque[Callable[[], None]] = deque()  # what is to be called after all steps
         self._bound: Optional[int] = None  # the file that the last frame opened; its text comes next
 
     @property
     def is_waiting(self) -> bool:
-        """Whether a head or a whole frame was not taken, since the terminal had no memory."""
-        return len(self._bytes) >= (self._size if self._given else HEAD)
-
-    @property
-    def _size(self) -> int:
-        """How many bytes the first frame has."""
-        return HEAD + int.from_bytes(self._bytes[1:HEAD], "big")
+        """Whether something that came is not done, since memory is out."""
+        return bool(self._bytes or self._is_stepping or self._later)
 
     def feed(self, data: bytes = b"") -> None:
-        """Feeds all whole frames. Raises what the terminal raises; what it has not taken is fed by the next call. The head goes first: so a
-        wrong one shows at once, and nothing waits in the terminal any more when its text is read. What edits takes the edits after it
-        along."""
+        """Takes what came, and goes on. Raises what the terminal raises; what is not done then is done by the next call."""
         self._bytes += data
-        while self.is_waiting:
-            if not self._given:
-                self._give(HEAD, self._note_head)
-                continue
-            frame = Frame(self._bytes[0], bytes(self._bytes[HEAD : self._size]))
-            if frame.kind in (CUT, GROWDATA) and self.terminal.is_open(frame.tag):
-                self._feed_edits(frame.tag)
+        self._go_on()
+        if self._bytes:
+            self._is_stepping = True
+            self.terminal.bring(bytes(self._bytes))
+            self._bytes.clear()
+            self._go_on()
+
+    def _go_on(self) -> None:
+        try:
+            while self._is_stepping:
+                self._is_stepping = self._step()
+        finally:
+            self._tell_edits()
+        while self._later:
+            self._later.popleft()()
+
+    def _step(self) -> bool:
+        """Makes one step. Returns whether there may be another. Edits of a file that follow each other are told together; what one takes out
+        is read before it is gone."""
+        following, gone = self.terminal.next_frame(), ""
+        is_edit = following is not None and following.kind in EDITS
+        if self._edits and not (is_edit and following.tag == self._edits[0].tag):
+            self._tell_edits()
+        if is_edit and following.gone:
+            gone = self.texts.read(following.tag, following.start, following.gone)
+        did = self.terminal.step()
+        if did.step == Step.RECEIVED:
+            self._meet(did, gone)
+        elif did.step == Step.ACTED and (did.change.gone or did.change.came):
+            self._note(did, GAP * did.change.gone)
+        return did.step not in (Step.IDLE, Step.LOCKED)
+
+    def _meet(self, did: TerminalDid, gone: str) -> None:
+        bound, self._bound = self._bound, did.tag if did.kind == BINDNAME else None
+        if did.kind in EDITS:
+            if did.kind != GROW or did.tag != bound:  # the text that comes in as a file is opened is no change
+                self._note(did, gone)
             else:
-                size = self._size
-                self._give(size, lambda: self._end(size, frame))
+                self.texts.touch(did.tag)
+        elif did.kind == DATA:
+            self.texts.touch(did.tag)
+        if did.kind in self.told:
+            self.told[did.kind](did.tag)
+        if did.kind in self.settled:
+            self._later.append(lambda: self.settled[did.kind](did.tag))
 
-    def _feed_edits(self, tag: int) -> None:
-        size, places, counts, came = first_edits(self._bytes, tag)
-        gone = self.texts.read_each(tag, places, counts)
-        changes = list(map(Change._make, zip(repeat(tag), places, gone, came)))
-        try:
-            self._give(size, lambda: self._end_edits(size, changes))
-        except MemoryError:
-            raise
-        except SamError:
-            if len(changes) > 1:  # some of them may be made, nobody knows which
-                self.texts.tell([Change(tag, 0, "", "")])
-            raise
+    def _note(self, did: TerminalDid, gone: str) -> None:
+        """Notes the change of a step, to be told."""
+        start, _, came = did.change
+        self._edits.append(Change(did.tag, start, gone, self.texts.read(did.tag, start, came)))
 
-    def _give(self, end: int, then: Callable[[], None]) -> None:
-        """Has the terminal take the bytes up to an end. After Unfinished it has taken them all the same."""
-        try:
-            self.terminal.feed(bytes(self._bytes[self._given : end]))
-        except Unfinished:
-            then()
-            raise
-        then()
-
-    def _note_head(self) -> None:
-        self._given = HEAD
-
-    def _drop(self, count: int) -> None:
-        del self._bytes[:count]
-        self._given = 0
-
-    def _end_edits(self, size: int, changes: List[Change]) -> None:
-        self._drop(size)
-        self._bound = None
-        self.texts.tell(changes)
-
-    def _end(self, size: int, frame: Frame) -> None:
-        self._drop(size)
-        bound, self._bound = self._bound, frame.tag if frame.kind == BINDNAME else None
-        if frame.kind == GROW and frame.tag != bound:  # the text that comes in as a file is opened is no change
-            self.texts.tell([Change(frame.tag, frame.place, "", GAP * frame.count)])
-        elif frame.kind in (GROW, DATA):
-            self.texts.touch(frame.tag)
-        if frame.kind in self.told:
-            self.told[frame.kind](frame)
+    def _tell_edits(self) -> None:
+        edits, self._edits = self._edits, []
+        if edits:
+            self.texts.tell(edits)

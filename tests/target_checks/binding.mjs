@@ -197,7 +197,7 @@ function checkStates() {
   const [host, terminal, tag] = opened(["one", "abc"]);
   terminal.select(tag, 1, 3);
   terminal.snarf(tag);
-  carry(host, terminal);
+  carry(terminal, host);
   same([host.snarf(), host.snarf(1), host.snarfLen], ["bc", "c", 2]);
   terminal.type(tag, "xyz");
   terminal.write(tag + 7);
