@@ -72,6 +72,18 @@ extern "C" {
  * minor number grows, so a program can compare both. The protocol has a version of its own: sam_host_version, sam_term_version. */
 uint32_t sam_library_version(void);
 
+/* ---- Limits ----
+ *
+ * docs/PROTOCOL.md has all of them. */
+
+#define SAM_MOST_RUNES 1000000      /* runes of a text */
+#define SAM_MOST_IN_TYPE 512        /* runes of one sam_term_type */
+#define SAM_MOST_IN_NAME 64         /* runes of a file's name */
+#define SAM_MOST_NAME_BYTES 256     /* bytes of the longest name */
+#define SAM_MOST_IN_PATTERN 128     /* runes of a pattern */
+#define SAM_MOST_PATTERN_BYTES 512  /* bytes of the longest pattern */
+#define SAM_MOST_SNARFED_BYTES 32000 /* bytes of sam_term_set_snarf and sam_term_snarfed, in version 2 */
+
 /* ---- What a call returns ---- */
 
 /* Has the compiler warn of a dropped status, if it can. Define it empty before the include to have no such warning. */
@@ -165,6 +177,10 @@ typedef enum sam_status sam_status;
 /* The name of a status and a sentence about it, as "SAM_NOT_TEXT: the bytes are not UTF-8"; "unknown status" for any other number. The
  * text ends in NUL, and is the library's: it stays, and may be read from any thread. */
 const char *sam_status_text(sam_status status);
+
+/* Whether a status of sam_host_feed, sam_term_feed, an event or a step says that the handle has stopped for good: the other side's stream is
+ * wrong, or was refused. It goes on after any other: SAM_NO_MEMORY, SAM_UNFINISHED, SAM_COUNT_FULL, SAM_NOT_TEXT. */
+bool sam_is_stop(sam_status status);
 
 /* ---- Handles ---- */
 

@@ -6,6 +6,15 @@ uint32_t sam_library_version(void)
     return SAM_VERSION;
 }
 
+bool sam_is_stop(sam_status status)
+{
+    uint32_t number = (uint32_t)status;
+    bool is_of_stream = SAM_STREAM < number && number < SAM_TRUNCATED;
+
+    return is_of_stream || (SAM_HOST_REFUSED < number && number <= SAM_HOST_COMMAND_FILE)
+        || (SAM_TERM_REFUSED < number && number <= SAM_TERM_COUNT_FULL);
+}
+
 #define TEXT(status, sentence)                                                                                                             \
     case status:                                                                                                                           \
         return #status ": " sentence

@@ -77,6 +77,11 @@ export class SamError extends Error {
     super(statusText(code));
     this.code = code;
   }
+
+  /** Whether the host or terminal has stopped for good: the other side's stream is wrong, or was refused. */
+  get isStop() {
+    return Boolean(library.sam_is_stop(this.code));
+  }
 }
 
 /** Out of memory, and what the call brought was not taken: make it again (SAM_NO_MEMORY). */

@@ -82,6 +82,8 @@ export declare const memory: {
 /** A call that did not answer SAM_OK; `code` is what it answered. */
 export declare class SamError extends Error {
   code: number;
+  /** Whether the host or terminal has stopped for good: the other side's stream is wrong, or was refused. */
+  readonly isStop: boolean;
 }
 /** Out of memory, and what the call brought was not taken: make it again. */
 export declare class NoMemory extends SamError {}

@@ -58,7 +58,9 @@ void note_paste(struct session *session, uint16_t tag)
     struct cut *cut = &session->cut;
     uint32_t len = 0;
 
-    if (tag == 0 || tag != session->vault || cut->is_moved || sam_host_len(&session->host, session->vault, &len) != SAM_OK || len + count_runes(&cut->snarf) > MOST_RUNES)
+    if (tag == 0 || tag != session->vault || cut->is_moved)
+        return;
+    if (sam_host_len(&session->host, tag, &len) != SAM_OK || len + count_runes(&cut->snarf) > MOST_RUNES)
         return;
     memcpy(cut->moved.bytes, cut->snarf.bytes, cut->snarf.len);
     cut->moved.len = cut->snarf.len;

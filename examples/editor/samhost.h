@@ -44,7 +44,7 @@
 
 enum {
     ALL_TAGS = 65536,            /* tags of a session */
-    MOST_RUNES = 1000000,        /* runes of a text */
+    MOST_RUNES = SAM_MOST_RUNES, /* runes of a text */
     MOST_BYTES = 4 * MOST_RUNES, /* bytes of a text */
     MOST_IN_NAME = 64,           /* runes of a name */
     NAME_ROOM = 256,             /* bytes of the longest name */

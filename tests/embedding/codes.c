@@ -746,6 +746,12 @@ static void no_handle_needed(void)
     WANT(strcmp(sam_status_text(SAM_ADD), "unknown status"), 0);
     WANT(strcmp(sam_status_text(SAM_STATUS_WIDTH), "unknown status"), 0);
     WANT(sizeof(sam_status), 4);
+    for (int status = 0; status < 256; status++) {
+        bool is_of_stream = status == SAM_BAD_KIND || status == SAM_BAD_LENGTH || status == SAM_BAD_TEXT;
+        bool is_known = strcmp(sam_status_text((sam_status)status), "unknown status") != 0;
+        bool is_refused = is_known && ((64 < status && status < 96) || (96 < status && status < 128));
+        WANT(sam_is_stop((sam_status)status) && is_known, is_of_stream || is_refused);
+    }
 }
 
 int main(void)

@@ -98,6 +98,7 @@ SIGNATURES: Dict[str, Tuple[Any, ...]] = {
 FREE_SIGNATURES: Dict[str, Tuple[Tuple[Any, ...], Any]] = {
     "library_version": ((), c_uint32),
     "status_text": ((c_uint32,), c_char_p),
+    "is_stop": ((c_uint32,), c_bool),
     "replay": ((*_BYTES, *_BUFFER, _SIZE, _SIZE), c_uint32),
     "link_read_hello": ((*_BYTES, _U32, POINTER(c_char), _U64), c_uint32),
     "link_write_refusal": ((c_uint32, *_BYTES, POINTER(c_char)), c_uint32),

@@ -109,6 +109,11 @@ class SamError(Exception):
         """The same as `code`."""
         return self.code
 
+    @property
+    def is_stop(self) -> bool:
+        """Whether the host or terminal has stopped for good: the other side's stream is wrong, or was refused."""
+        return bool(LIBRARY.sam_is_stop(self.code))
+
     def __reduce__(self) -> Tuple[Any, ...]:
         """Is copied and pickled by its code, of which the sentence is made."""
         return type(self), (self.code,), self.__dict__

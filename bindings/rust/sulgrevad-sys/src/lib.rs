@@ -194,6 +194,7 @@ impl sam_link {
 extern "C" {
     pub fn sam_library_version() -> u32;
     pub fn sam_status_text(status: sam_status) -> *const c_char;
+    pub fn sam_is_stop(status: sam_status) -> bool;
 
     pub fn sam_host_new(host: *mut sam_host) -> sam_status;
     pub fn sam_host_free(host: *mut sam_host) -> sam_status;

@@ -220,6 +220,11 @@ impl Error {
             Error::Unknown(status) => status,
         }
     }
+
+    /// Whether the host or terminal has stopped for good: the other side's stream is wrong, or was refused.
+    pub fn is_stop(self) -> bool {
+        unsafe { sys::sam_is_stop(self.status()) }
+    }
 }
 
 /// What the library says of a status, without its name.
