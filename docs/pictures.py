@@ -1,11 +1,15 @@
 #!/usr/bin/env python3
-"""Draws docs/crates.svg (from crates.txt) and docs/threads.svg. Run it after a crate came, went or stands on others.
+"""Draws docs/crates.svg (from crates.txt), docs/threads.svg, and docs/film.svg (from docs/film.json, which bench/film writes). Run it after a
+crate came, went or stands on others.
 
 docs/pictures.py --check draws nothing: it says whether both are as they would be drawn now, and ends in 'N passed, M failed'.
 """
 
+import json
 import sys
+from itertools import zip_longest
 from pathlib import Path
+from xml.sax.saxutils import escape
 
 DOCS = Path(__file__).resolve().parent
 CRATES = DOCS.parent / "crates.txt"
@@ -187,6 +191,89 @@ def threads_picture():
         text(24, 371, "The terminal never waits in a send: its bytes wait outside the line up until that has room.", "", "start"),
     ]
     return picture("Five workers and the three lines between them", 800, 390, parts)
+
+
+# ---- The film
+
+LETTER_WIDTH, LETTER_HEIGHT = 7.83, 17  # of the font below, which each viewer's browser comes near to
+MARGIN, TOP = 14, 74
+FILM_STYLE = """
+text { font: 13px ui-monospace, SFMono-Regular, Menlo, Consolas, 'DejaVu Sans Mono', monospace; fill: #1f2328; white-space: pre; }
+.head { font: 600 14px -apple-system, 'Segoe UI', Helvetica, Arial, 'DejaVu Sans', sans-serif; }
+.words { font: 14px -apple-system, 'Segoe UI', Helvetica, Arial, 'DejaVu Sans', sans-serif; }
+.still { font: 600 14px -apple-system, 'Segoe UI', Helvetica, Arial, 'DejaVu Sans', sans-serif; fill: #cf222e; }
+.screen { fill: #f6f8fa; stroke: #818b98; }
+.cursor { fill: #0969da; opacity: 0.35; }
+"""
+
+
+class Film:
+    """Elements that are to be seen from one time to another, in milliseconds, again and again."""
+
+    def __init__(self, end):
+        self.end, self.frames, self.parts = end, [], []
+
+    def show(self, element, start, stop):
+        """Notes an element, of which `{}` stands for what makes it come and go."""
+        if start <= 0 and stop >= self.end:
+            self.parts.append(element.format(""))
+            return
+        name = f"k{len(self.frames)}"
+        hidden, seen = "{visibility:hidden}", "{visibility:visible}"
+        shows = f"0%{hidden}{100 * start / self.end:.2f}%{seen}" if start > 0 else f"0%{seen}"
+        hides = f"{100 * stop / self.end:.2f}%{hidden}" if stop < self.end else ""
+        self.frames.append(f"@keyframes {name}{{{shows}{hides}}}")
+        self.parts.append(element.format(f' style="animation:{name} {self.end}ms step-end infinite"'))
+
+    def show_each(self, changes, drawn):
+        """Shows what each change draws until the next one."""
+        for (start, *what), following in zip_longest(changes, changes[1:]):
+            if element := drawn(*what):
+                self.show(element, start, following[0] if following else self.end)
+
+
+def film_text(x, y, line):
+    plain = escape(line.expandtabs()).replace("{", "{{").replace("}", "}}")
+    return f'<text x="{x:g}" y="{y:g}" xml:space="preserve"{{}}>{plain}</text>' if line else ""
+
+
+def film_panel(film, panel, x, width, height):
+    """A screen: its name above, and its rows and cursor as they were at each time."""
+    film.parts.append(f'<text class="head" x="{x}" y="{TOP - 8}">{panel["name"]}</text>')
+    film.parts.append(f'<rect class="screen" x="{x}" y="{TOP}" width="{width:g}" height="{height:g}" rx="5"/>')
+    left = x + 6
+    film.show_each(
+        panel["cursor"],
+        lambda column, row: (
+            f'<rect class="cursor" x="{left + LETTER_WIDTH * column:g}" y="{TOP + 5 + LETTER_HEIGHT * row:g}" width="{LETTER_WIDTH:g}"'
+            f' height="{LETTER_HEIGHT}"{{}}/>'
+        ),
+    )
+    for at, row in enumerate(panel["rows"]):
+        film.show_each(row, lambda line, y=TOP + 18 + LETTER_HEIGHT * at: film_text(left, y, line))
+
+
+def film_picture():
+    taken = json.loads((DOCS / "film.json").read_text(encoding="utf-8"))
+    film = Film(taken["end"])
+    width, height = 12 + LETTER_WIDTH * taken["width"], 12 + LETTER_HEIGHT * taken["height"]
+    words = f"The same keys at the same time, over a line of {taken['delay']} ms each way."
+    film.parts.append(f'<text class="words" x="{MARGIN}" y="26">{words}</text>')
+    still = '<text class="still" x="{}" y="46"{{}}>The line stands still.</text>'.format(MARGIN)
+    film.show(still, taken["break"], taken["mended"])
+    for at, panel in enumerate(taken["panels"]):
+        film_panel(film, panel, round(MARGIN + at * (width + MARGIN)), width, height)
+    whole, high = 3 * MARGIN + 2 * width, TOP + height + MARGIN
+    return "\n".join(
+        [
+            f'<svg xmlns="http://www.w3.org/2000/svg" width="{whole:g}" height="{high:g}" viewBox="0 0 {whole:g} {high:g}" role="img">',
+            f"<title>samterm beside vim. {words}</title>",
+            f"<style>{FILM_STYLE}{''.join(film.frames)}</style>",
+            '<rect width="100%" height="100%" fill="#ffffff"/>',
+            *film.parts,
+            "</svg>\n",
+        ]
+    ).encode("ascii", "xmlcharrefreplace").decode("ascii")
 
 
 PICTURES = {"crates.svg": crates_picture, "threads.svg": threads_picture}

@@ -39,7 +39,7 @@ class Actions(Commands, Moves):
     def _typed_at_once(self, window: Window, runes: str) -> int:
         """How many of typed runes act as one. They do what they do where they come one by one: a newline is a key of its own, and ends a
         step of undo; and so does so much text."""
-        if runes.startswith("\n"):
+        if runes.startswith("\n") or (runes.startswith("\t") and window.targets.selected_lines()):
             return 1
         return min(len(runes.partition("\n")[0]), self.log.room(window.tag, *window.dot))
 
@@ -47,6 +47,9 @@ class Actions(Commands, Moves):
         start, end = window.dot
         self.texts.left = runes
         if not self._may_go(window, "the same key again"):
+            return
+        if runes == "\t" and not is_paste and window.targets.selected_lines():
+            self._indent("\t")
             return
         if runes == "\n" and not is_paste and self.indents and start == end:
             runes += window.targets.indentation()
@@ -121,7 +124,11 @@ class Actions(Commands, Moves):
 
     def do_small(self) -> None:
         self.is_small = not self.is_small
-        self.arrange(self.rows, self.command.width)
+        self.arrange(self.rows, self.columns)
+
+    def do_numbers(self) -> None:
+        self.has_numbers = not self.has_numbers
+        self.arrange(self.rows, self.columns)
 
     def do_redraw(self) -> None:
         self.wishes.append("redraw")
@@ -295,6 +302,21 @@ class Actions(Commands, Moves):
         self.log.begin(window.tag, "erase", start, end)
         self.texts.replace(window.tag, "")
         window.anchor = None
+
+    def _indent(self, came: str) -> None:
+        """Puts a tab before each selected line; or takes out one, or as many blanks."""
+        window = self.focus
+        lines = window.targets.selected_lines()
+        blanks = [0 if came else window.targets.indent_of(line) for line in lines]
+        if not self._has_room(window.dot[1] - window.dot[0] + len(came) * len(lines)):
+            return
+        self.log.begin(window.tag)
+        for line, gone in zip(reversed(lines), reversed(blanks)):
+            self.texts.edit(window.tag, line, line + gone, came)
+
+    def do_unindent(self) -> None:
+        if self.focus.targets.selected_lines():
+            self._indent("")
 
     def do_erase_left(self) -> None:
         self._erase(*self.focus.targets.erased_left())

@@ -19,6 +19,7 @@ class Desk:
         self.focus = self.active = self.command  # where keys go; the file window that they went to last
         self.rows, self.columns = 24, 80
         self.is_small = False  # whether the command window is
+        self.has_numbers = False  # whether the lines of files have numbers
         self.is_tiny = False  # the screen has room for one window alone
 
     def window_of(self, tag: int) -> Window:
@@ -38,6 +39,8 @@ class Desk:
     def arrange(self, rows: int, columns: int) -> None:
         """Shares so many rows among the windows. Where these are too few each window has all of them."""
         self.rows, self.columns = rows, columns
+        for window in self.files:
+            window.wants_numbers = self.has_numbers
         self.is_tiny = rows < SMALL * len(self.windows)
         if self.is_tiny:
             for window in self.windows:

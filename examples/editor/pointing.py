@@ -37,7 +37,7 @@ class Pointer:
         self.editor.go_to(window)
         if mouse.row == window.y:
             return
-        place = window.layout().place_at(mouse.row - window.y - 1, mouse.column)
+        place = window.layout().place_at(mouse.row - window.y - 1, max(0, mouse.column - window.gutter))
         when, spot = self._clicked
         if spot == (window, place) and mouse.when - when < DOUBLE_CLICK and not self.editor.is_alone:
             self.editor.terminal.dclick(window.tag, place)
@@ -55,7 +55,7 @@ class Pointer:
         if start > window.length:
             return
         row = max(0, min(mouse.row - window.y - 1, window.height - 1))
-        place = window.layout().place_at(row, mouse.column)
+        place = window.layout().place_at(row, max(0, mouse.column - window.gutter))
         if place != window.caret:
             window.anchor = start
             window.select(place, extends=True)

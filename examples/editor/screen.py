@@ -182,12 +182,26 @@ def window_rows(editor: Editor, window: Window) -> Dict[int, List[Run]]:
     mark = "*" if editor.is_changed(window.tag) else " "
     title = f"{'>' if is_focus else ' '}{mark} {editor.name(window.tag)}"
     attributes = curses.A_REVERSE | (curses.A_BOLD if is_focus else curses.A_NORMAL)
-    frame: Dict[int, List[Run]] = {window.y: [(fitted(title, window.width), attributes)]}
+    frame: Dict[int, List[Run]] = {window.y: [(fitted(title, window.width + window.gutter), attributes)]}
     if window.is_open:
-        dot = window.dot
-        for at, row in enumerate(window.layout().rows):
-            frame[window.y + 1 + at] = row_runs(row, dot, window.width, is_focus)
+        dot, rows = window.dot, window.layout().rows
+        heads = numbers_of(editor, window, rows) if window.gutter else [[]] * len(rows)
+        for at, (row, head) in enumerate(zip(rows, heads)):
+            frame[window.y + 1 + at] = head + row_runs(row, dot, window.width, is_focus)
     return frame
+
+
+def numbers_of(editor: Editor, window: Window, rows: List[Row]) -> List[List[Run]]:
+    """What stands before each row: the number of the line that begins there, where it is known."""
+    heads: List[List[Run]] = []
+    number = editor.numbers.line(window.tag, window.top)
+    begins = window.top == 0 or window.read(window.top - 1, 1) == "\n"
+    for row in rows:
+        shown = str(number) if begins and number is not None else ""
+        heads.append([(shown.rjust(window.gutter - 1) + " ", curses.A_DIM)])
+        begins = row.text_end < row.end
+        number = number + 1 if begins and number is not None else number
+    return heads
 
 
 def row_runs(row: Row, dot: Tuple[int, int], width: int, is_focus: bool) -> List[Run]:
@@ -270,4 +284,4 @@ def cursor_of(editor: Editor) -> Optional[Tuple[int, int]]:
     if not layout.shows(caret):
         return None
     row, column = layout.position_of(caret)
-    return window.y + 1 + row, min(column, window.width - 1)
+    return window.y + 1 + row, window.gutter + min(column, window.width - 1)

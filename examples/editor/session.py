@@ -7,8 +7,10 @@ import signal
 import sys
 from typing import List, NamedTuple, Optional
 
+import layout
 import rescue
 from editor import Editor
+from glance import Glance
 from link import SECONDS_OF_SILENCE, SECONDS_TO_END, Link
 from loop import KEYBOARD, Loop
 from notes import printable, said
@@ -191,13 +193,16 @@ class Session:
 
 class Wish(NamedTuple):
     """What the user asks for: the words of the host's command, the files, how Enter begins a line, for how many hours a session stays
-    that is alone, and whether he goes on with one that stays, whose name may be given in place of the files."""
+    that is alone, whether he goes on with one that stays, whose name may be given in place of the files, whether lines have numbers, and
+    how far tab stops are apart."""
 
     command: List[str]
     files: List[str]
     indents: bool = True
     hours: Optional[str] = None
     takes_over: bool = False
+    numbers: bool = False
+    tab: int = layout.TAB
 
     @property
     def stays(self) -> bool:
@@ -230,8 +235,10 @@ def edit(wish: Wish) -> int:
 def _edit(wish: Wish, stays: bool) -> Optional[int]:
     """The same; None where the host knows of no session that stays."""
     files = None if wish.takes_over else wish.files
-    with Terminal() as terminal:
+    with Glance() as terminal:
+        layout.TAB = wish.tab
         editor = Editor(terminal, indents=wish.indents, asked_for=files)
+        editor.has_numbers = wish.numbers
         try:
             link = wish.link(stays)
         except OSError as error:

@@ -1,7 +1,8 @@
 """Where a key leads in a window, by the text alone; and which text has to be loaded for that."""
 import re
-from typing import Tuple
+from typing import List, Tuple
 
+import layout
 from layout import Layout, line_end, line_start, looks, row_start
 from texts import GAP
 
@@ -162,6 +163,21 @@ class Targets:
         if blanks < len(line):
             self._want(start + blanks, 1)
         return line[:blanks]
+
+    def selected_lines(self) -> List[int]:
+        """The starts of the lines that are selected, of which there are two at least; none where something of them is not loaded."""
+        start, end = self.window.dot
+        first = line_start(self.read, start)
+        text = self.read(first, end - first)
+        is_known = GAP not in text and (first == 0 or self.read(first - 1, 1) == "\n")
+        if not is_known or "\n" not in text[start - first :]:
+            return []
+        return [first, *(first + at + 1 for at, rune in enumerate(text[:-1]) if rune == "\n")]
+
+    def indent_of(self, line: int) -> int:
+        """How many runes at the start of a line are one step of indentation: a tab, or as many blanks as it has columns."""
+        text = self.read(line, layout.TAB)
+        return 1 if text.startswith("\t") else len(text) - len(text.lstrip(" "))
 
     def newline(self) -> str:
         """How lines end there: as the line above does, else as the first one."""

@@ -132,6 +132,15 @@ class Texts:
         """Types runes in the place of the dot. What the terminal refuses is no change."""
         self._change(tag, runes, lambda: self._type(tag, runes))
 
+    def edit(self, tag: int, start: int, end: int, came: str) -> None:
+        """Puts runes in the place of others, wherever the dot is. What the terminal refuses is no change."""
+        before, gone = self.terminal.len(tag), self.read(tag, start, end - start)
+        try:
+            self.terminal.edit(tag, start, end, came)
+        finally:
+            if came != gone and self.terminal.len(tag) - before == len(came) - len(gone) and self.read(tag, start, len(came)) == came:
+                self.tell([Change(tag, start, gone, came)])
+
     def cut(self, tag: int) -> None:
         """Cuts the dot into the snarf buffer."""
         self._change(tag, "", lambda: self.terminal.cut(tag))

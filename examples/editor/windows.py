@@ -6,8 +6,9 @@ from sulgrevad import Terminal
 from targets import Targets
 from texts import GAP, Change, Texts, moved
 
-MOST_STRETCHES, MOST_IN_STRETCH = 64, 512  # that one Load asks for, and the runes of each
+MOST_STRETCHES, MOST_IN_STRETCH = 64, 512  # that are asked for at once, so that no key waits long, and the runes of each
 MOST_IN_LOAD = MOST_STRETCHES * MOST_IN_STRETCH
+GUTTER, LEAST_WITH_NUMBERS = 8, 40  # columns of the numbers of lines, with a blank; and of a screen that has them
 
 
 def ask(terminal: Terminal, tag: int, top: int, end: int, page: int, turns: int = 0) -> None:
@@ -50,7 +51,8 @@ class Window:
     def __init__(self, texts: Texts, tag: int):
         self.terminal, self.texts, self.tag = texts.terminal, texts, tag
         self.targets = Targets(self)
-        self.y, self.height, self.width = 0, 1, 80  # row of the title, rows of text, columns
+        self.y, self.height, self.width = 0, 1, 80  # row of the title, rows of text, columns of text
+        self.gutter, self.wants_numbers = 0, False  # columns before the text, for the numbers of lines
         self.anchor: Optional[int] = None  # the end of the selection that stays while the user extends it
         self.goal: Optional[Tuple[int, int]] = None  # the column that moves by rows keep to, and where the last one led
         self._top = 0
@@ -107,7 +109,10 @@ class Window:
         return self._layout
 
     def put(self, y: int, height: int, width: int) -> None:
-        """Gives it a place on the screen. A caret that was shown stays so, and the window begins with a row of the new width."""
+        """Gives it a place on the screen. A caret that was shown stays so, and the window begins with a row of the new width. Where a screen
+        is narrow it has no numbers of lines."""
+        self.gutter = GUTTER if self.wants_numbers and width >= LEAST_WITH_NUMBERS else 0
+        width -= self.gutter
         if (height, width) != (self.height, self.width) and self.is_open:
             if self.layout().shows(self.caret):
                 self._followed = None

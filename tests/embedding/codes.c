@@ -14,6 +14,8 @@ struct handed {
     size_t len;
     bool is;
     sam_did did;
+    sam_state state;
+    sam_file file;
 };
 
 static void no_host(sam_host *host, struct handed *out)
@@ -40,6 +42,8 @@ static void no_host(sam_host *host, struct handed *out)
     WANT(sam_host_saved_len(host, 0, &out->a), SAM_NO_HANDLE);
     WANT(sam_host_saved(host, 0, 0, out->buffer, sizeof out->buffer, &out->len, &out->more), SAM_NO_HANDLE);
     WANT(sam_host_dot(host, 0, &out->a, &out->b), SAM_NO_HANDLE);
+    WANT(sam_host_snarf_len(host, &out->a), SAM_NO_HANDLE);
+    WANT(sam_host_snarf(host, 0, out->buffer, sizeof out->buffer, &out->len, &out->more), SAM_NO_HANDLE);
 }
 
 static void no_term_for_events(sam_term *term)
@@ -76,6 +80,7 @@ static void no_term_for_bytes(sam_term *term, struct handed *out)
 {
     WANT(sam_term_feed(term, BYTES("x")), SAM_NO_HANDLE);
     WANT(sam_term_bring(term, BYTES("x")), SAM_NO_HANDLE);
+    WANT(sam_term_next_frame(term, &out->did), SAM_NO_HANDLE);
     WANT(sam_term_step(term, &out->did), SAM_NO_HANDLE);
     WANT(sam_term_finish(term), SAM_NO_HANDLE);
     WANT(sam_term_flush_now(term), SAM_NO_HANDLE);
@@ -110,6 +115,8 @@ static void no_term_for_files(sam_term *term, struct handed *out)
 /* Locks, what is unsent or under way, the pattern and the snarf buffer, the session. */
 static void no_term_for_state(sam_term *term, struct handed *out)
 {
+    WANT(sam_term_state(term, &out->state), SAM_NO_HANDLE);
+    WANT(sam_term_file(term, 0, &out->file), SAM_NO_HANDLE);
     WANT(sam_term_locked(term, 0, &out->is), SAM_NO_HANDLE);
     WANT(sam_term_command_locked(term, &out->is), SAM_NO_HANDLE);
     WANT(sam_term_held(term, &out->many), SAM_NO_HANDLE);
@@ -308,6 +315,31 @@ static void host_steps(void)
     WANT(sam_host_free(&host), SAM_OK);
 }
 
+static sam_did next_frame(sam_term *term)
+{
+    sam_did next;
+    WANT(sam_term_next_frame(term, &next), SAM_OK);
+    WANT(next.step, SAM_STEP_RECEIVED);
+    return next;
+}
+
+/* Many readers at once, after the steps of term_steps: file 1 has "b", whose dot is after it; the cut is not taken out. */
+static void at_once(sam_term *term)
+{
+    sam_state state;
+    sam_file file, none;
+    WANT(sam_term_state(term, &state), SAM_OK);
+    WANT(state.events == 4 && state.decided == 4 && state.held == 0 && state.sent == 3 && state.under_way == 3, true);
+    WANT(state.pending == 5 + 13 + 13 && state.tags == 2 && state.unsent == 0 && state.snarf_len == 0, true);
+    WANT(state.version == 1 && !state.command_locked && !state.exited, true);
+    WANT(sam_term_file(term, 1, &file), SAM_OK);
+    WANT(file.is_known && file.is_open && !file.is_dirty && file.is_changed && !file.is_locked, true);
+    WANT(file.len == 1 && file.dot_start == 1 && file.dot_end == 1 && file.view_start == 0 && file.view_end == 0, true);
+    WANT(sam_term_file(term, 7, &none), SAM_OK);
+    WANT(none.is_known || none.is_open || none.is_dirty || none.is_changed || none.is_locked, false);
+    WANT(none.len + none.dot_start + none.dot_end + none.view_start + none.view_end, 0);
+}
+
 /* Frames to a terminal: Hnewname, Hbindname, Hgrowdata and Hcut of file 1, and Hunlock, which the events wait for. */
 static void term_steps(void)
 {
@@ -323,10 +355,14 @@ static void term_steps(void)
                                                             "\x51\0\x12" SEEN "\0\x01\0\0\0\0\0\0\0\x01\x48\0\x08" SEEN)),
          SAM_OK);
     WANT(sam_term_bring(&term, NULL, 0), SAM_WAITING);
+    sam_did did = next_frame(&term);
+    WANT(did.kind == 0x44 && did.tag == 1 && did.gone == 0, true);
     WANT(stepped_term(&term, SAM_STEP_RECEIVED).kind, 0x44);
     WANT(stepped_term(&term, SAM_STEP_RECEIVED).kind, 0x42);
-    sam_did did = stepped_term(&term, SAM_STEP_RECEIVED);
+    did = stepped_term(&term, SAM_STEP_RECEIVED);
     WANT(did.kind == 0x4d && did.tag == 1 && did.start == 0 && did.gone == 0 && did.came == 3, true);
+    did = next_frame(&term);
+    WANT(did.kind == 0x51 && did.tag == 1 && did.start == 0 && did.gone == 1 && did.came == 0, true);
     did = stepped_term(&term, SAM_STEP_RECEIVED);
     WANT(did.kind == 0x51 && did.tag == 1 && did.start == 0 && did.gone == 1 && did.came == 0, true);
     did = stepped_term(&term, SAM_STEP_RECEIVED);
@@ -339,6 +375,10 @@ static void term_steps(void)
     did = stepped_term(&term, SAM_STEP_REFUSED);
     WANT(did.event == 4 && did.why == SAM_REFUSAL_NO_FILE && did.tag == 0, true);
     stepped_term(&term, SAM_STEP_IDLE);
+    did.kind = 0xFF;
+    WANT(sam_term_next_frame(&term, &did), SAM_NONE);
+    WANT(did.kind, 0xFF);
+    at_once(&term);
     WANT(sam_term_free(&term), SAM_OK);
 }
 
@@ -463,6 +503,8 @@ static void text_loads(sam_host *host, sam_term *term)
 /* The next occurrence of the dot, and what is changed and dirty once it is cut. */
 static void found_and_cut(sam_host *host, sam_term *term)
 {
+    uint8_t bytes[8];
+    size_t len;
     uint32_t a, b;
     bool is;
     WANT(sam_term_look(term, 1), SAM_OK);
@@ -484,6 +526,10 @@ static void found_and_cut(sam_host *host, sam_term *term)
     same_text(host, 1, "one two \n");
     WANT(sam_term_snarf_len(term, &a), SAM_OK);
     WANT(a, 3);
+    WANT(sam_host_snarf_len(host, &a), SAM_OK);
+    WANT(a, 3);
+    WANT(sam_host_snarf(host, 1, bytes, sizeof bytes, &len, &a), SAM_OK);
+    WANT(len == 2 && a == 2 && memcmp(bytes, "ne", 2) == 0, true);
 }
 
 /* What is pasted, what is typed in its place, and what of it is unsent and under way. */
