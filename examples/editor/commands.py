@@ -7,6 +7,10 @@ from texts import COMMAND, GAP, Change
 from windows import Window
 
 
+TOO_LONG = "? long\n"  # what the host prints of a line that it didn't run
+HINT = "? long: the text and all that the line puts in are over 1,000,000 characters together; select a part, and run it on that"
+
+
 def line_at(window: Window, place: int, least: int = 0) -> str:
     """The text of the line of a place, up to it; GAP before what is not loaded."""
     first = line_start(window.read, place, least)
@@ -62,6 +66,8 @@ class Commands:
         """The host has run a command line. Unless that was an address alone the next key replaces nothing that the line has selected: the
         caret stands after its last change, else at the end of that."""
         before, self._before = self._before or {}, None
+        if before and self.texts.read(COMMAND, max(0, self.command.length - len(TOO_LONG)), len(TOO_LONG)) == TOO_LONG:
+            self.message = HINT
         for tag, dot in before.items():
             if tag == COMMAND or not self.terminal.is_open(tag) or (tag not in self._ends and self.texts.dot(tag) == dot):
                 continue

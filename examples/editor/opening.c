@@ -91,8 +91,11 @@ static int add_file(struct session *session, const char *path)
     if (error == 0)
         error = add_text(session, path, &text, &code, &tag);
     free(text.bytes);
-    if (error == 0 && code == SAM_OK)
+    if (error == 0 && code == SAM_OK) {
+        if (access(path, F_OK) == 0 && access(path, W_OK) != 0)
+            say("%s can only be read: %s", path, cause(errno));
         return STATUS_OK;
+    }
     say("%s: %s", path, error == EFBIG ? why_not_added(SAM_ADD_TOO_LONG) : error != 0 ? cause(error) : why_not_added(code));
     return error == ENOMEM || (error == 0 && code == SAM_NO_MEMORY) ? STATUS_MEMORY : STATUS_UNREADABLE;
 }
@@ -134,22 +137,27 @@ bool is_one_file(const struct identity *one, const struct identity *other)
            (one->name == NULL || strcmp(one->name, other->name) == 0);
 }
 
-/* Refuses two paths of one file. A path of which that can't be said will fail when it is read, or when it is written. Returns the exit
- * status. */
-static int refuse_twice(char **paths, struct identity *identities, int count)
+/* Finds out which files the paths name. A path of which that can't be said will fail when it is read, or when it is written. Returns the
+ * exit status. */
+static int identify_all(char **paths, struct identity *identities, int count)
 {
-    for (int at = 0; at < count; at++) {
-        int error = identify(paths[at], &identities[at]);
-        if (error == ENOMEM)
-            return STATUS_MEMORY;
-        for (int before = 0; error == 0 && before < at; before++) {
-            if (is_one_file(&identities[at], &identities[before])) {
-                say("%s: it stands twice among the words, first as %s", paths[at], paths[before]);
-                return STATUS_UNREADABLE;
-            }
+    int error = 0;
+
+    for (int at = 0; error != ENOMEM && at < count; at++)
+        error = identify(paths[at], &identities[at]);
+    return error == ENOMEM ? STATUS_MEMORY : STATUS_OK;
+}
+
+/* Whether a path names the file of one before it, which is said then. */
+static bool is_named_before(char **paths, const struct identity *identities, int at)
+{
+    for (int before = 0; identities[at].inode != 0 && before < at; before++) {
+        if (is_one_file(&identities[at], &identities[before])) {
+            say("%s: it stands twice among the words, first as %s", paths[at], paths[before]);
+            return true;
         }
     }
-    return STATUS_OK;
+    return false;
 }
 
 bool is_folder(const char *path)
@@ -171,21 +179,35 @@ static int mark_files(const struct identity *identities, int count, struct marks
     return error;
 }
 
+/* Reads the files in turn. What can't be read is left out, and said. Returns the exit status: STATUS_UNREADABLE where that is all. */
+static int add_each(struct session *session, char **paths, const struct identity *identities, int count, struct marks *marks)
+{
+    int status = STATUS_OK, added = 0;
+
+    for (int at = 0; status != STATUS_MEMORY && at < count; at++) {
+        if (is_named_before(paths, identities, at))
+            continue;
+        status = is_folder(paths[at]) ? add_folder(session, paths[at], marks) : add_file(session, paths[at]);
+        added += status == STATUS_OK;
+    }
+    return status == STATUS_MEMORY || added == 0 ? status : STATUS_OK;
+}
+
 int add_files(struct session *session, char **paths, int count)
 {
     struct identity *identities = calloc((size_t)count + 1, sizeof *identities);
     struct marks marks = {0};
-    int status = identities == NULL ? STATUS_MEMORY : refuse_twice(paths, identities, count);
+    int status = identities == NULL ? STATUS_MEMORY : identify_all(paths, identities, count);
 
     if (status == STATUS_OK && mark_files(identities, count, &marks) != 0)
         status = STATUS_MEMORY;
     if (status == STATUS_MEMORY)
         say("out of memory");
+    else
+        status = add_each(session, paths, identities, count, &marks);
     for (int at = 0; identities != NULL && at < count; at++)
         free(identities[at].name);
     free(identities);
-    for (int at = 0; status == STATUS_OK && at < count; at++)
-        status = is_folder(paths[at]) ? add_folder(session, paths[at], &marks) : add_file(session, paths[at]);
     free(marks.items);
     return status;
 }

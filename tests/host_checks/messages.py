@@ -225,6 +225,20 @@ def check_refused(folder):
     ):  # fmt: skip
         ended = subprocess.run([*prefix, SAMHOST, name], cwd=folder, input=b"", capture_output=True, timeout=SECONDS)
         expect_equal((ended.returncode, ended.stderr.decode()), (1, f"samhost: {name}: {why}\n"), f"of {name} status and line")
+    (folder / "good.txt").write_text("good\n")
+    with Session(folder, "latin.txt", "good.txt", "long.txt") as session:
+        expect_equal(session.told(), ["latin.txt: it is not UTF-8", "long.txt: it is longer than 1,000,000 characters"], "what it says")
+        expect_equal([session.terminal.name(tag) for tag in session.terminal.files()][1:2], ["good.txt"], "the file that it has")
+        session.end()
+
+
+def check_read_only(folder):
+    """Of a file that can't be written that is said at once, and its text can be read."""
+    made(folder, a="one\n")
+    prefix = as_nobody(folder)
+    (folder / "a.txt").chmod(0o444)
+    ended = subprocess.run([*prefix, SAMHOST, "a.txt"], cwd=folder, input=b"", capture_output=True, timeout=SECONDS)
+    expect_equal((ended.returncode, ended.stderr.decode()), (0, "samhost: a.txt can only be read: Permission denied\n"), "status and line")
 
 
 def check_longest(folder):
