@@ -69,8 +69,11 @@ fn main() {
         );
         return link_archive(&folder);
     }
-    let words = ask_pkg_config()
-        .unwrap_or_else(|why| panic!("no libsulgrevad: set SAM_OUT to the folder of libsulgrevad.a, or install the library ({why})"));
+    // Without it a check or the documentation can be made, and no program: the linker looks for it then, and doesn't find it.
+    let words = ask_pkg_config().unwrap_or_else(|why| {
+        println!("cargo:warning=no libsulgrevad: set SAM_OUT to the folder of libsulgrevad.a, or install the library ({why})");
+        "-lsulgrevad".to_owned()
+    });
     for word in words_of(&words) {
         if let Some(folder) = word.strip_prefix("-L") {
             println!("cargo:rustc-link-search=native={folder}");

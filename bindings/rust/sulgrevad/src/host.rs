@@ -1,7 +1,7 @@
 //! The host: whole texts, commands, and the answers to a terminal's messages.
 
 use crate::step::host_step;
-use crate::{done, short_text, tells, told, whole_text, Error, HostStep, PIECE};
+use crate::{done, part_of_text, short_text, tells, told, whole_text, Error, HostStep, PIECE};
 use std::cell::UnsafeCell;
 use sulgrevad_sys::{self as sys, sam_did, sam_host};
 
@@ -149,14 +149,24 @@ impl Host {
 
     /// A file's text.
     pub fn text(&self, tag: u16) -> Option<String> {
-        whole_text(|place, into, bytes, runes| unsafe {
+        self.text_part(tag, 0, u32::MAX)
+    }
+
+    /// A file's text from a place on, at most so many runes.
+    pub fn text_part(&self, tag: u16, place: u32, most: u32) -> Option<String> {
+        part_of_text(place, most, |place, into, bytes, runes| unsafe {
             sys::sam_host_text(self.at(), tag, place, into.as_mut_ptr(), into.len(), bytes, runes)
         })
     }
 
     /// What a file was when it was written last; `None` also if it never was.
     pub fn saved(&self, tag: u16) -> Option<String> {
-        whole_text(|place, into, bytes, runes| unsafe {
+        self.saved_part(tag, 0, u32::MAX)
+    }
+
+    /// The same from a place on, at most so many runes.
+    pub fn saved_part(&self, tag: u16, place: u32, most: u32) -> Option<String> {
+        part_of_text(place, most, |place, into, bytes, runes| unsafe {
             sys::sam_host_saved(self.at(), tag, place, into.as_mut_ptr(), into.len(), bytes, runes)
         })
     }

@@ -93,23 +93,29 @@ fn tells<T: Default>(read: impl FnOnce(&mut T) -> u32) -> T {
 
 /// A text that is read in pieces: `read` puts some of it into the buffer from a place on, and says how many bytes and runes.
 fn whole_text(read: impl FnMut(u32, &mut [u8], &mut usize, &mut u32) -> u32) -> Option<String> {
-    text_from(0, read)
+    part_of_text(0, u32::MAX, read)
 }
 
-/// The same from a place on.
-fn text_from(mut place: u32, mut read: impl FnMut(u32, &mut [u8], &mut usize, &mut u32) -> u32) -> Option<String> {
-    let mut text = Vec::new();
+/// The same from a place on, at most so many runes.
+fn part_of_text(mut place: u32, most: u32, mut read: impl FnMut(u32, &mut [u8], &mut usize, &mut u32) -> u32) -> Option<String> {
+    let (mut text, mut left) = (String::new(), most);
     loop {
         let mut piece = [0; PIECE];
         let (mut bytes, mut runes) = (0, 0);
         if read(place, &mut piece, &mut bytes, &mut runes) != sys::SAM_OK {
             return None;
         }
-        if runes == 0 {
-            return Some(String::from_utf8(text).expect("the library writes UTF-8"));
+        let more = std::str::from_utf8(&piece[..bytes]).expect("the library writes UTF-8");
+        if runes >= left {
+            text.extend(more.chars().take(left as usize));
+            return Some(text);
         }
-        text.extend_from_slice(&piece[..bytes]);
+        if runes == 0 {
+            return Some(text);
+        }
+        text.push_str(more);
         place += runes;
+        left -= runes;
     }
 }
 

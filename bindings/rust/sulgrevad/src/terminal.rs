@@ -1,7 +1,7 @@
 //! The terminal: windows, keyboard and mouse over partly loaded texts.
 
 use crate::step::{next_frame, term_step};
-use crate::{done, short_text, tells, text_from, told, whole_text, Error, NextFrame, Refusal, TermStep, PIECE};
+use crate::{done, part_of_text, short_text, tells, told, whole_text, Error, NextFrame, Refusal, TermStep, PIECE};
 use std::cell::UnsafeCell;
 use sulgrevad_sys::{self as sys, sam_did, sam_file, sam_state, sam_term};
 
@@ -287,17 +287,14 @@ impl Terminal {
         std::iter::from_fn(|| self.next_refusal())
     }
 
-    /// The runes of an open file from a place on, at most `most`: `None` for each that is not loaded. Nothing if it is not open.
-    pub fn read(&self, tag: u16, place: u32, most: usize) -> Vec<Option<char>> {
-        let most = most.min(self.len(tag).unwrap_or(0).saturating_sub(place) as usize);
+    /// The runes of an open file from a place on, at most `most`: in it `None` for each that is not loaded. `None` if it is not open.
+    pub fn read(&self, tag: u16, place: u32, most: usize) -> Option<Vec<Option<char>>> {
+        let most = most.min(self.len(tag)?.saturating_sub(place) as usize);
         let mut runes = vec![0; most];
-        let mut count = 0;
-        unsafe { sys::sam_term_read(self.at(), tag, place, runes.as_mut_ptr(), most, &mut count) };
+        let count: u32 = told(|count| unsafe { sys::sam_term_read(self.at(), tag, place, runes.as_mut_ptr(), most, count) })?;
         runes.truncate(count as usize);
-        runes
-            .into_iter()
-            .map(|rune| if rune == GAP { None } else { char::from_u32(rune) })
-            .collect()
+        let shown = |rune| if rune == GAP { None } else { char::from_u32(rune) };
+        Some(runes.into_iter().map(shown).collect())
     }
 
     /// What changed in an open file since this was asked of it last: the smallest stretch that holds what each frame and each event
@@ -449,7 +446,12 @@ impl Terminal {
 
     /// The text of an open file from a place on, up to the first rune that is not loaded; `None` if it is not open.
     pub fn text(&self, tag: u16, place: u32) -> Option<String> {
-        text_from(place, |place, into, bytes, runes| unsafe {
+        self.text_part(tag, place, u32::MAX)
+    }
+
+    /// The same, at most so many runes.
+    pub fn text_part(&self, tag: u16, place: u32, most: u32) -> Option<String> {
+        part_of_text(place, most, |place, into, bytes, runes| unsafe {
             sys::sam_term_text(self.at(), tag, place, into.as_mut_ptr(), into.len(), bytes, runes)
         })
     }

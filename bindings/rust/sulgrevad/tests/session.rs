@@ -42,15 +42,18 @@ fn messages_without_an_answer_count_until_a_later_one_is_answered() -> Result<()
 #[test]
 fn gaps_are_told_and_fill() -> Result<(), Error> {
     let (mut host, mut term, file) = opened("one\n")?;
-    assert_eq!(term.read(file, 0, 9), vec![None; 4]);
+    assert_eq!(term.read(file, 0, 9), Some(vec![None; 4]));
     assert_eq!(term.first_gap(file, 0), Some(0));
     term.view(file, 0, 4)?;
     carry(&mut term, &mut host)?;
     assert_eq!(term.first_gap(file, 0), None);
-    assert_eq!(term.read(file, 1, 2), vec![Some('n'), Some('e')]);
-    assert_eq!(term.read(file, 2, usize::MAX), vec![Some('e'), Some('\n')]);
-    assert_eq!(term.read(file, 5, 1), vec![]);
-    assert_eq!(term.read(file + 1, 0, usize::MAX), vec![]);
+    assert_eq!(term.read(file, 1, 2), Some(vec![Some('n'), Some('e')]));
+    assert_eq!((term.text_part(file, 1, 2), term.text_part(file, 1, 0)), (Some("ne".into()), Some("".into())));
+    assert_eq!((host.text_part(file, 1, 2), host.text_part(file, 2, 9)), (Some("ne".into()), Some("e\n".into())));
+    assert_eq!((host.saved_part(file, 0, 1), host.text_part(file + 1, 0, 1)), (None, None));
+    assert_eq!(term.read(file, 2, usize::MAX), Some(vec![Some('e'), Some('\n')]));
+    assert_eq!(term.read(file, 5, 1), Some(vec![]));
+    assert_eq!(term.read(file + 1, 0, usize::MAX), None);
     Ok(())
 }
 
