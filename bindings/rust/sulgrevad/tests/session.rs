@@ -48,8 +48,14 @@ fn gaps_are_told_and_fill() -> Result<(), Error> {
     carry(&mut term, &mut host)?;
     assert_eq!(term.first_gap(file, 0), None);
     assert_eq!(term.read(file, 1, 2), Some(vec![Some('n'), Some('e')]));
-    assert_eq!((term.text_part(file, 1, 2), term.text_part(file, 1, 0)), (Some("ne".into()), Some("".into())));
-    assert_eq!((host.text_part(file, 1, 2), host.text_part(file, 2, 9)), (Some("ne".into()), Some("e\n".into())));
+    assert_eq!(
+        (term.text_part(file, 1, 2), term.text_part(file, 1, 0)),
+        (Some("ne".into()), Some("".into()))
+    );
+    assert_eq!(
+        (host.text_part(file, 1, 2), host.text_part(file, 2, 9)),
+        (Some("ne".into()), Some("e\n".into()))
+    );
     assert_eq!((host.saved_part(file, 0, 1), host.text_part(file + 1, 0, 1)), (None, None));
     assert_eq!(term.read(file, 2, usize::MAX), Some(vec![Some('e'), Some('\n')]));
     assert_eq!(term.read(file, 5, 1), Some(vec![]));
@@ -307,10 +313,22 @@ fn a_state_has_what_its_readers_say() -> Result<(), Error> {
     term.type_(file, "xyz")?;
     term.write(file + 7)?;
     let state = term.state();
-    assert_eq!((state.events, state.decided, state.held), (term.events(), term.decided(), term.held()));
-    assert_eq!((state.sent, state.under_way, state.pending), (term.sent(), term.under_way(), term.pending()));
-    assert_eq!((state.tags, state.unsent, state.snarf_len), (term.tags(), term.unsent(), term.snarf_len()));
-    assert_eq!((state.version, state.command_locked, state.exited), (2, term.command_locked(), term.exited()));
+    assert_eq!(
+        (state.events, state.decided, state.held),
+        (term.events(), term.decided(), term.held())
+    );
+    assert_eq!(
+        (state.sent, state.under_way, state.pending),
+        (term.sent(), term.under_way(), term.pending())
+    );
+    assert_eq!(
+        (state.tags, state.unsent, state.snarf_len),
+        (term.tags(), term.unsent(), term.snarf_len())
+    );
+    assert_eq!(
+        (state.version, state.command_locked, state.exited),
+        (2, term.command_locked(), term.exited())
+    );
     let open = FileState {
         is_known: true,
         is_open: true,
@@ -321,7 +339,10 @@ fn a_state_has_what_its_readers_say() -> Result<(), Error> {
         dot: (5, 5),
         view: (1, 4),
     };
-    assert_eq!((term.file(file), term.len(file), term.dot(file), term.view_of(file)), (open, Some(7), Some((5, 5)), Some((1, 4))));
+    assert_eq!(
+        (term.file(file), term.len(file), term.dot(file), term.view_of(file)),
+        (open, Some(7), Some((5, 5)), Some((1, 4)))
+    );
     assert!(!term.file(file + 7).is_known);
     Ok(())
 }
