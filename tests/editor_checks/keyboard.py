@@ -224,6 +224,97 @@ def check_indents(folder):
             session.leave()
 
 
+def check_selected_lines(folder):
+    """Tab puts a tab before each selected line, Shift-Tab takes one or as many blanks; both are one step of undo, and a Tab over part of a
+    line is typed."""
+    import layout
+
+    before = "one\n  two\n\tthree\n\nfive"
+    pair, editor, key, text = opened(before)
+    window = editor.focus
+    editor.texts.select(1, 1, len("one\n  two\n\tthr"))
+    pair.press(text("\t"))
+    expect(pair.host.text(1) == "\tone\n\t  two\n\t\tthree\n\nfive", f"after a Tab: {pair.host.text(1)!r}")
+    expect(window.dot == (2, len("\tone\n\t  two\n\t\tthr")), f"after a Tab {window.dot} is selected")
+    pair.press(key("^Z"))
+    expect(pair.host.text(1) == before, f"a Tab is not taken back: {pair.host.text(1)!r}")
+    pair.press(key("^R"), key("Shift-Tab"), key("Shift-Tab"))
+    expect(pair.host.text(1) == "one\ntwo\n\tthree\n\nfive", f"after two Shift-Tab: {pair.host.text(1)!r}")
+    pair.press(key("Shift-Tab"))
+    expect(pair.host.text(1) == "one\ntwo\nthree\n\nfive", f"after three: {pair.host.text(1)!r}")
+    editor.texts.select(1, 1, 2)
+    pair.press(text("\t"))
+    expect(pair.host.text(1) == "o\te\ntwo\nthree\n\nfive", f"in a line: {pair.host.text(1)!r}")
+    expect(layout.TAB == 8, "another check has changed the tab stops")
+
+
+def check_numbers(folder):
+    """`--numbers` and F10 show the numbers of lines, the rest of a long line without one; clicks and the caret go by the text."""
+    made(folder, a="one\n" + "x" * 75 + "\nthree\n" + "\n" * 30)
+    with Session(folder, "--numbers", "a.txt", height=24) as session:
+        session.wait_for("      1 one")
+        expect([row[:8] for row in session.rows("a.txt")[:4]] == ["      1 ", "      2 ", "        ", "      3 "], session.screen())
+        session.keys("Down", "End")
+        session.wait_for_quiet()
+        session.type("!")
+        session.wait_for("xxx!")
+        top = next(at for at, line in enumerate(session.screen()) if "a.txt" in line and line.startswith(">"))
+        session.mouse((0, 8 + 3, top + 1), (3, 8 + 3, top + 1))
+        session.type("?")
+        session.wait_for("      1 one?")
+        session.keys("F10")
+        session.wait_for("one?")
+        expect(session.rows("a.txt")[0] == "one?", session.screen())
+        session.keys("C-w")
+        session.leave()
+    with Session(folder, "--tab", "3", "a.txt") as session:
+        session.wait_for("one?")
+        session.type("\tx")
+        session.wait_for("   xone?")
+        session.keys("C-w")
+        session.leave()
+
+
+def check_line_too_long(folder):
+    """A command line that would make a text too long says what may help."""
+    pair, editor, key, text = opened("a\n" * 400_000)
+    editor.go_to(editor.command)
+    pair.press(text(",x/a/c/bbb/\n"))
+    pair.finish(0)
+    expect("? long: the text and all" in editor.message and "select a part" in editor.message, f"it says {editor.message!r}")
+    expect(pair.host.len(1) == 800_000, "the line was run")
+
+
+def check_calls_of_a_key(folder):
+    """A key makes at most 25 calls of the library until it is drawn and sent, and so does the host's answer to it."""
+    from sulgrevad import sides
+
+    class Counting:
+        """The library, with a count of its calls."""
+
+        def __init__(self, library):
+            self.library, self.calls = library, 0
+
+        def __getattr__(self, name):
+            self.calls += 1
+            return getattr(self.library, name)
+
+    pair, editor, key, text = opened("one\ntwo\n" * 20)
+    pair.finish()
+    library = sides.LIBRARY
+    sides.LIBRARY = counting = Counting(library)
+    try:
+        for typed in (text("x"), key("Left"), text("y"), key("Backspace")):
+            counting.calls = 0
+            editor.take(typed)
+            pair.pause()
+            expect(0 < counting.calls <= 25, f"{typed} makes {counting.calls} calls")
+    finally:
+        sides.LIBRARY = library
+    pair.finish()
+    expect(pair.host.text(1).startswith("xone") or pair.host.text(1).startswith("one"), "the keys are lost")
+
+
 def check_find(folder):
     """Finding as the user types, next and previous; the host finds what is not loaded, and knows the pattern."""
     lines = "".join(f"line {at}\n" for at in range(3000))

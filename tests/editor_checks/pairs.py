@@ -15,10 +15,11 @@ class Pair:
         import sulgrevad
         import screen
         from editor import Editor
+        from glance import Glance
         from texts import GAP
 
         self.random, self.keys, self.screen, self.gap = random_numbers, keys, screen, GAP
-        self.host, self.terminal, self.now = sulgrevad.Host(), sulgrevad.Terminal(), 0.0
+        self.host, self.terminal, self.now = sulgrevad.Host(), Glance(), 0.0
         for at, text in enumerate(texts):
             self.host.add_file(f"file{at}", text)
         if has_vault:
