@@ -164,23 +164,23 @@ static void read_term_file(uint16_t tag)
 /* All that the terminal holds at once is what its readers say one by one. */
 static void read_state(void)
 {
-    sam_state state;
+    sam_state now;
     uint64_t events = 0, decided = 0, held = 0, sent = 0, under_way = 0;
     size_t pending = 0, tags = 0;
     uint32_t unsent = 0, snarf_len = 0;
     uint16_t version = 0;
     bool command_locked = false, exited = false;
-    memset(&state, 0xFF, sizeof state);
-    READ(sam_term_state(&term, &state));
+    memset(&now, 0xFF, sizeof now);
+    READ(sam_term_state(&term, &now));
     want("the counts", sam_term_events(&term, &events) | sam_term_decided(&term, &decided) | sam_term_held(&term, &held)
                            | sam_term_sent(&term, &sent) | sam_term_under_way(&term, &under_way));
     want("the lengths", sam_term_pending(&term, &pending) | sam_term_tags(&term, &tags) | sam_term_unsent(&term, &unsent)
                             | sam_term_snarf_len(&term, &snarf_len));
     want("the session",
          sam_term_version(&term, &version) | sam_term_command_locked(&term, &command_locked) | sam_term_exited(&term, &exited));
-    bool is_same = events == state.events && decided == state.decided && held == state.held && sent == state.sent
-        && under_way == state.under_way && pending == state.pending && tags == state.tags && unsent == state.unsent
-        && snarf_len == state.snarf_len && version == state.version && command_locked == state.command_locked && exited == state.exited;
+    bool is_same = events == now.events && decided == now.decided && held == now.held && sent == now.sent
+        && under_way == now.under_way && pending == now.pending && tags == now.tags && unsent == now.unsent
+        && snarf_len == now.snarf_len && version == now.version && command_locked == now.command_locked && exited == now.exited;
     want("the state", is_same ? SAM_OK : SAM_NONE);
 }
 
