@@ -336,7 +336,7 @@ mod tests {
     fn only_a_wrong_stream_stops() {
         for (status, error) in ERRORS {
             let is_of_a_stream = matches!(error, Error::Stream(_) | Error::HostRefused(_) | Error::TermRefused(_));
-            let goes_on = *error == Error::Stream(StreamFault::Truncated);
+            let goes_on = error == Error::Stream(StreamFault::Truncated);
             assert_eq!(error.is_stop(), is_of_a_stream && !goes_on, "{status}");
         }
     }
