@@ -39,7 +39,7 @@ class Actions(Commands, Moves):
     def _typed_at_once(self, window: Window, runes: str) -> int:
         """How many of typed runes act as one. They do what they do where they come one by one: a newline is a key of its own, and ends a
         step of undo; and so does so much text."""
-        if runes.startswith("\n") or (runes.startswith("\t") and window.targets.selected_lines()):
+        if runes.startswith("\n") or (runes.startswith("\t") and window.targets.are_lines_selected()):
             return 1
         return min(len(runes.partition("\n")[0]), self.log.room(window.tag, *window.dot))
 
@@ -48,7 +48,7 @@ class Actions(Commands, Moves):
         self.texts.left = runes
         if not self._may_go(window, "the same key again"):
             return
-        if runes == "\t" and not is_paste and window.targets.selected_lines():
+        if runes == "\t" and not is_paste and window.targets.are_lines_selected():
             self._indent("\t")
             return
         if runes == "\n" and not is_paste and self.indents and start == end:
@@ -315,7 +315,7 @@ class Actions(Commands, Moves):
             self.texts.edit(window.tag, line, line + gone, came)
 
     def do_unindent(self) -> None:
-        if self.focus.targets.selected_lines():
+        if self.focus is not self.command:
             self._indent("")
 
     def do_erase_left(self) -> None:

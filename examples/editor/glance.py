@@ -4,11 +4,11 @@ from typing import Any, Callable, Dict, Optional, Tuple
 
 from sulgrevad import FileState, Terminal, TerminalState
 
-# What changes something: each event, and what takes bytes in or out.
+# What changes something of a file: each event, and what takes bytes in.
 DEEDS = (
     "type", "edit", "select", "dclick", "look", "search", "flush", "cut", "snarf", "paste", "get_snarf", "set_snarf", "view", "load", "scroll",
     "check", "open", "new_file", "write", "close", "open_cmd", "work", "send", "offer_version", "exit", "flush_now", "bring", "step", "feed",
-    "take_out", "free",
+    "free",
 )  # fmt: skip
 COUNTS = (
     "events", "decided", "held", "sent", "under_way", "tags", "unsent", "snarf_len", "version", "command_locked", "exited",
@@ -26,6 +26,12 @@ class Glance(Terminal):
         self._now: Optional[TerminalState] = None
         self._known: Dict[int, FileState] = {}
 
+    def take_out(self, most: Optional[int] = None) -> bytes:
+        try:
+            return super().take_out(most)
+        finally:
+            self._now = None
+
     def state(self) -> TerminalState:
         if self._now is None:
             self._now = super().state()
@@ -36,6 +42,10 @@ class Glance(Terminal):
         if file is None:
             file = self._known[tag] = super().file(tag)
         return file
+
+    @property
+    def pending(self) -> int:
+        return super().pending if self._left else self.state().pending
 
     def is_known(self, tag: int) -> bool:
         return self.file(tag).is_known

@@ -57,7 +57,7 @@ BINDINGS = (
     Binding(("^E",), "send", "runs the selection as a command line", ANSWERS, ROWS, asks=True),
     Binding(("Backspace",), "erase_left", "erase the selection, or a character", needs="erased_left"),
     Binding(("Delete",), "erase_right", "erase the selection, or a character", needs="erased_right"),
-    Binding(("Shift-Tab",), "unindent", "takes a tab from each selected line; Tab puts one in", needs="selection"),
+    Binding(("Shift-Tab",), "unindent", "takes a tab from the line or each selected one; Tab puts them in", needs="selection"),
     Binding(("Left",), "left", "move; with Shift they select", needs="left", reads=True, extends=True),
     Binding(("Right",), "right", "move; with Shift they select", needs="right", reads=True, extends=True),
     Binding(("Up",), "up", "move; with Shift they select", needs="up", reads=True, extends=True),

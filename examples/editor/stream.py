@@ -69,6 +69,8 @@ class Stream:
     def _meet(self, did: TerminalDid, gone: str) -> None:
         bound, self._bound = self._bound, did.tag if did.kind == BINDNAME else None
         if did.kind in EDITS:
+            if not did.change.came and not gone:
+                return
             if did.kind != GROW or did.tag != bound:  # the text that comes in as a file is opened is no change
                 self._note(did, gone)
             else:

@@ -97,11 +97,12 @@ class Targets:
         if start < end:
             self.selection()
             return start, end
-        self._want(start - 1, -1)
-        if start > 1 and self.read(start - 1, 1) == "\n":
+        before = self.read(max(0, start - 2), min(2, start))
+        if before.endswith(GAP):
+            self._want(start - 1, -1)
+        if before == GAP + "\n":
             self._want(start - 2, -1)
-        is_pair = start > 1 and self.read(start - 2, 2) == "\r\n"
-        return max(0, start - (2 if is_pair else 1)), start
+        return max(0, start - (2 if before == "\r\n" else 1)), start
 
     def erased_right(self) -> Tuple[int, int]:
         """What Delete erases: the selection, or the rune after the caret with those that stand on it."""
@@ -165,14 +166,18 @@ class Targets:
         return line[:blanks]
 
     def selected_lines(self) -> List[int]:
-        """The starts of the lines that are selected, of which there are two at least; none where something of them is not loaded."""
+        """The starts of the lines that are selected, or that of the caret; none where something of them is not loaded."""
         start, end = self.window.dot
         first = line_start(self.read, start)
         text = self.read(first, end - first)
-        is_known = GAP not in text and (first == 0 or self.read(first - 1, 1) == "\n")
-        if not is_known or "\n" not in text[start - first :]:
+        if GAP in text or (first > 0 and self.read(first - 1, 1) == GAP):
             return []
         return [first, *(first + at + 1 for at, rune in enumerate(text[:-1]) if rune == "\n")]
+
+    def are_lines_selected(self) -> bool:
+        """Whether what is selected ends a line or several, and all of them are loaded."""
+        start, end = self.window.dot
+        return start < end and "\n" in self.read(start, end - start) and self.selected_lines() != []
 
     def indent_of(self, line: int) -> int:
         """How many runes at the start of a line are one step of indentation: a tab, or as many blanks as it has columns."""

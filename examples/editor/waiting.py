@@ -47,7 +47,7 @@ def bound(key: Input) -> Binding:
         return SCROLLING if key.what.startswith("wheel") else POINTING
     if isinstance(key, (Text, Paste)):
         return ENTER if "\n" in key.runes else TYPING
-    return ACTIONS.get(key.name.replace("Shift-", ""), NO_ACTION)
+    return ACTIONS.get(key.name) or ACTIONS.get(key.name.replace("Shift-", ""), NO_ACTION)
 
 
 def action_of(key: Input) -> str:

@@ -208,7 +208,7 @@ def check_stream_in_pieces(folder):
             count = int.from_bytes(each[17:21], "big") if kind in (CUT, GROW) else 0
             if kind == GROW:
                 came, count = GAP * count, 0
-            if kind != DIRTY:
+            if kind != DIRTY and (count or came):
                 wanted.append(Change(tag, place, text[place : place + count], came))
                 texts[tag] = text[:place] + came + text[place + count :]
         state = one_by_one.state()
@@ -229,28 +229,26 @@ def check_stream_without_memory(folder):
         quick, slow = Fed(random.Random(seed)), Fed(random.Random(seed))
         frames = some_edits(random.Random(seed), quick.lengths())
         quick.editor.feed(b"".join(frames))
-        numbers, feed, waiting = random.Random(seed), slow.terminal.feed, []
+        numbers = random.Random(seed)
 
-        def short(data=b""):
-            if numbers.random() < 0.2:
-                raise NoMemory(Status.NO_MEMORY)
-            if numbers.random() < 0.2:
-                raise MemoryError  # of Python, before the library is called
-            while waiting:
-                feed(waiting.pop())
-            if numbers.random() < 0.3:
-                waiting.append(data)
-                raise Unfinished(Status.UNFINISHED)
-            feed(data)
+        def short(call, refused):
+            """The call, which is refused memory now and then, by the library or by Python before that is called."""
 
-        slow.terminal.feed = short
+            def made(*words):
+                if numbers.random() < 0.3:
+                    raise numbers.choice((refused, MemoryError()))
+                return call(*words)
+
+            return made
+
+        slow.terminal.bring = short(slow.terminal.bring, NoMemory(Status.NO_MEMORY))
+        slow.terminal.step = short(slow.terminal.step, Unfinished(Status.UNFINISHED))
+        slow.terminal.next_frame = short(slow.terminal.next_frame, MemoryError())
         for piece in [*pieces_of(numbers, b"".join(frames), 300), *[b""] * 1000]:
             try:
                 slow.editor.feed(piece)
             except MemoryError:
                 continue
-        while waiting:
-            feed(waiting.pop())
         expect(not slow.editor.stream.is_waiting, f"seed {seed}: bytes stay")
         expect(slow.state() == quick.state(), f"seed {seed}: {slow.state()}, wanted {quick.state()}")
 

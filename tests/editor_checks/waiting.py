@@ -362,13 +362,13 @@ def check_no_memory(folder):
     pair = Pair(random.Random(1), ["text"])
 
     def refuse(data=b""):
-        del pair.terminal.feed
+        del pair.terminal.bring
         raise NoMemory(Status.NO_MEMORY)
 
     pair.host.feed(bytes(pair.up))
     pair.up.clear()
     told = pair.host.take_out()
-    pair.terminal.feed = refuse
+    pair.terminal.bring = refuse
     try:
         pair.editor.feed(told)
         raise Failed("this test is wrong")

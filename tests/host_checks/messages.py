@@ -227,7 +227,7 @@ def check_refused(folder):
         expect_equal((ended.returncode, ended.stderr.decode()), (1, f"samhost: {name}: {why}\n"), f"of {name} status and line")
     (folder / "good.txt").write_text("good\n")
     with Session(folder, "latin.txt", "good.txt", "long.txt") as session:
-        expect_equal(session.told(), ["latin.txt: it is not UTF-8", "long.txt: it is longer than 1,000,000 characters"], "what it says")
+        expect_equal(session.told(), ["samhost: latin.txt: it is not UTF-8", "samhost: long.txt: it is longer than 1,000,000 characters"], "what it says")
         expect_equal([session.terminal.name(tag) for tag in session.terminal.files()][1:2], ["good.txt"], "the file that it has")
         session.end()
 
