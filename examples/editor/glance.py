@@ -2,7 +2,7 @@
 from functools import wraps
 from typing import Any, Callable, Dict, Optional, Tuple
 
-from sulgrevad import FileState, Terminal, TerminalState
+from sulgrevad import FileState, Terminal, TerminalDid, TerminalState
 
 # What changes something of a file: each event, and what takes bytes in.
 DEEDS = (
@@ -78,12 +78,21 @@ def _forgetting(deed: Callable[..., Any]) -> Callable[..., Any]:
         try:
             return deed(self, *words, **more)
         finally:  # what was refused memory may be done in part
-            self.forget()
+            self._now = None
+            self._known.clear()
 
     return done
 
 
+def _step(self: Glance) -> TerminalDid:
+    """The same, without what costs time: there may be thousands of steps."""
+    self._now = None
+    self._known.clear()
+    return Terminal.step(self)
+
+
 for _deed in DEEDS:
     setattr(Glance, _deed, _forgetting(getattr(Terminal, _deed)))
+Glance.step = _step  # type: ignore[method-assign]
 for _count in COUNTS:
     setattr(Glance, _count, property(lambda self, name=_count: getattr(self.state(), name)))

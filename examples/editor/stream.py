@@ -85,7 +85,7 @@ class Stream:
     def _note(self, did: TerminalDid, gone: str) -> None:
         """Notes the change of a step, to be told."""
         start, _, came = did.change
-        self._edits.append(Change(did.tag, start, gone, self.texts.read(did.tag, start, came)))
+        self._edits.append(Change(did.tag, start, gone, self.texts.read(did.tag, start, came) if came else ""))
 
     def _tell_edits(self) -> None:
         edits, self._edits = self._edits, []

@@ -11,11 +11,15 @@ from sulgrevad.status import Missing, Status, Step, error_of
 
 MOST_IN_NAME = 256  # bytes of the longest name
 MOST_IN_PATTERN = 512  # bytes of the longest pattern
+FEW = 64  # runes for which there is room before it is known how many there are
 LEAST_PIECE = 256  # bytes that are read of a text, where so few runes are wished for
 GAP = 2**32 - 1  # what stands for a rune that is not loaded
 
 # SAM_OK as a plain number: once a call is done nothing may want memory, and up to Python 3.11 to look up a Status does.
-OK = int(Status.OK)
+OK, NONE = int(Status.OK), int(Status.NONE)
+STEPS = tuple(Step)  # by their numbers
+
+_FEW_RUNES = c_uint32 * FEW
 
 # The first number that is too great for a type of an argument.
 _END = {c_uint16: 2**16, c_uint32: 2**32, c_uint64: 2**64, c_size_t: 2 ** (8 * ctypes.sizeof(c_size_t))}
@@ -236,12 +240,6 @@ class _Side(Held):
         data = bytes(memoryview(data))
         self._call("bring", data, len(data))
 
-    def _did(self, name: str) -> Did:
-        """Makes a call that hands out what a step did, or will do."""
-        did = Did()
-        self._call(name, byref(did))
-        return did
-
     def finish(self) -> None:
         """Asks whether the other side's stream may end here, once the input has ended. It changes nothing. Raises StreamFault with the
         code TRUNCATED if it ends inside a message or frame, Unfinished if some of what came or was composed still waits for memory, or
@@ -306,8 +304,9 @@ class Host(_Side):
         """Does one thing of what waits, and says what: it writes what was answered last, if that is left over; or the host takes edits of
         one file that follow each other, or else answers the oldest message. `feed` makes such steps until one is IDLE. Raises Unfinished,
         where nothing has changed, or why the host has stopped, now or before."""
-        did = self._did("step")
-        return HostDid(Step(did.step), did.kind, did.tag, did.count)
+        did = Did()
+        self._call("step", byref(did))
+        return HostDid(STEPS[did.step], did.kind, did.tag, did.count)
 
     def next_written(self) -> Optional[int]:
         """The tag of a file that the terminal asked the host to write: write `saved` of it to disk now. Each Twrite gives its tag once,
@@ -520,19 +519,24 @@ class Terminal(_Side):
 
     def next_frame(self) -> Optional[NextFrame]:
         """The oldest frame that waits, as the step that receives it will say it: so what will go can be read before. None if none waits."""
-        try:
-            next_did = self._did("next_frame")
-        except Missing:
+        did = Did()
+        code = LIBRARY.sam_term_next_frame(byref(self._handle), byref(did))  # a program asks it for each of thousands of frames
+        if code == OK:
+            return NextFrame(did.kind, did.tag, did.start, did.gone)
+        if code == NONE:
             return None
-        return NextFrame(next_did.kind, next_did.tag, next_did.start, next_did.gone)
+        raise error_of(code)
 
     def step(self) -> TerminalDid:
         """Does one thing of what waits, and says what: it writes what was composed last, if that is left over; or the terminal receives
         the oldest frame; or, where none waits, the oldest event acts or is refused. `feed` makes such steps until one is IDLE or LOCKED.
         Raises Unfinished, where nothing has changed, or why the terminal has stopped, now or before."""
-        did = self._did("step")
+        did = Did()
+        code = LIBRARY.sam_term_step(byref(self._handle), byref(did))
+        if code != OK:
+            raise error_of(code)
         why = Status(did.why) if did.why else None
-        return TerminalDid(Step(did.step), did.kind, did.tag, Change(did.start, did.gone, did.came), did.event, why)
+        return TerminalDid(STEPS[did.step], did.kind, did.tag, Change(did.start, did.gone, did.came), did.event, why)
 
     def next_refusal(self) -> Optional[Refusal]:
         """The oldest refused event that was not handed out yet; None if there is none."""
@@ -621,10 +625,15 @@ class Terminal(_Side):
     def read(self, tag: int, place: int, count: int) -> List[Optional[str]]:
         """The runes of an open file from a place on, at most `count`; None stands for one that is not loaded. Raises Missing,
         and ValueError if a number is below 0."""
-        length = self.len(tag)
-        room = least(count, max(0, length - max(0, place)))
-        into, got = (c_uint32 * room)(), c_uint32()
-        self._call("read", tag, place, into, room, byref(got))
+        if 0 <= count <= FEW and 0 <= place < _END[c_uint32] and 0 <= tag < _END[c_uint16]:  # as a program reads each of thousands of edits
+            into, got = _FEW_RUNES(), c_uint32()
+            code = LIBRARY.sam_term_read(byref(self._handle), tag, place, into, count, byref(got))
+            if code != OK:
+                raise error_of(code)
+        else:
+            room = least(count, max(0, self.len(tag) - max(0, place)))
+            into, got = (c_uint32 * room)(), c_uint32()
+            self._call("read", tag, place, into, room, byref(got))
         return [None if rune == GAP else chr(rune) for rune in into[: got.value]]
 
     def text(self, tag: int, place: int = 0, runes: Optional[int] = None) -> str:
