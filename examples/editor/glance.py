@@ -1,8 +1,9 @@
 """The terminal as the editor reads it: what it holds, and what it knows of a file, is asked of the library once, until something is done."""
 from functools import wraps
-from typing import Any, Callable, Dict, Optional, Tuple
+from typing import Any, Callable, Dict, Iterator, Optional, Tuple
 
-from sulgrevad import FileState, Terminal, TerminalDid, TerminalState
+from sulgrevad import Edit, FileState, Terminal, TerminalDid, TerminalState
+from texts import GAP
 
 # What changes something of a file: each event, and what takes bytes in.
 DEEDS = (
@@ -31,6 +32,12 @@ class Glance(Terminal):
             return super().take_out(most)
         finally:
             self._now = None
+
+    def edits(self, gap: str = GAP) -> Iterator[Edit]:
+        try:
+            yield from super().edits(gap)
+        finally:
+            self.forget()
 
     def state(self) -> TerminalState:
         if self._now is None:

@@ -8,7 +8,6 @@ from texts import GAP, Change, Texts
 # Kinds of frames.
 BINDNAME, NEWNAME, GROW, UNLOCK, DATA, UNLOCKFILE, SETDOT, GROWDATA, MOVETO, CLEAN = 66, 68, 70, 72, 73, 75, 76, 77, 78, 79
 CUT, DELNAME, CLOSE = 81, 83, 84
-EDITS = (CUT, GROW, GROWDATA)
 FIRST = bytes.fromhex("41000a00000000000000010002")  # the frame that answers the first message, which offers version 2
 
 Told = Dict[int, Callable[[int], None]]
@@ -51,41 +50,42 @@ class Stream:
             self._later.popleft()()
 
     def _step(self) -> bool:
-        """Makes one step. Returns whether there may be another. Edits of a file that follow each other are told together; what one takes out
-        is read before it is gone."""
-        following, gone = self.terminal.next_frame(), ""
-        is_edit = following is not None and following.kind in EDITS
-        if self._edits and not (is_edit and following.tag == self._edits[0].tag):
-            self._tell_edits()
-        if is_edit and following.gone:
-            gone = self.texts.read(following.tag, following.start, following.gone)
+        """Makes the steps of edits that come first, and then another. Returns whether there may be one after it."""
+        while self._take_edits():
+            pass
         did = self.terminal.step()
         if did.step == Step.RECEIVED:
-            self._meet(did, gone)
+            self._meet(did)
         elif did.step == Step.ACTED and (did.change.gone or did.change.came):
-            self._note(did, GAP * did.change.gone)
+            self._note(did)
         return did.step not in (Step.IDLE, Step.LOCKED)
 
-    def _meet(self, did: TerminalDid, gone: str) -> None:
+    def _take_edits(self) -> bool:
+        """Receives the edits of one file that come next, and tells of them. Returns whether there were any."""
+        takes = False
+        for edit in self.terminal.edits(GAP):
+            takes, self._bound = True, None
+            if edit.gone or edit.came:
+                self._edits.append(Change._make(edit))
+        self._tell_edits()
+        return takes
+
+    def _meet(self, did: TerminalDid) -> None:
         bound, self._bound = self._bound, did.tag if did.kind == BINDNAME else None
-        if did.kind in EDITS:
-            if not did.change.came and not gone:
-                return
-            if did.kind != GROW or did.tag != bound:  # the text that comes in as a file is opened is no change
-                self._note(did, gone)
-            else:
-                self.texts.touch(did.tag)
-        elif did.kind == DATA:
+        if did.kind == GROW and did.tag != bound:  # the text that comes in as a file is opened is no change
+            self._note(did)
+        elif did.kind in (GROW, DATA):
             self.texts.touch(did.tag)
         if did.kind in self.told:
             self.told[did.kind](did.tag)
         if did.kind in self.settled:
             self._later.append(lambda: self.settled[did.kind](did.tag))
 
-    def _note(self, did: TerminalDid, gone: str) -> None:
+    def _note(self, did: TerminalDid) -> None:
         """Notes the change of a step, to be told."""
-        start, _, came = did.change
-        self._edits.append(Change(did.tag, start, gone, self.texts.read(did.tag, start, came) if came else ""))
+        start, gone, came = did.change
+        if gone or came:
+            self._edits.append(Change(did.tag, start, GAP * gone, self.texts.read(did.tag, start, came)))
 
     def _tell_edits(self) -> None:
         edits, self._edits = self._edits, []

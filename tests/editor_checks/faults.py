@@ -1,4 +1,5 @@
 """Signals, faults of the editor, and the host's stream in pieces and with faults."""
+import contextlib
 import os
 import random
 import signal
@@ -223,32 +224,36 @@ def check_stream_in_pieces(folder):
 
 def check_stream_without_memory(folder):
     """Where memory is wanting now and then no edit is lost, and none is told twice, though some of them wait in the terminal."""
-    from sulgrevad import NoMemory, Status, Unfinished
+    from sulgrevad import Status, sides
+
+    class Short:
+        """The library, which at some calls of two has no memory."""
+
+        REFUSED = {"sam_term_bring": Status.NO_MEMORY, "sam_term_step": Status.UNFINISHED}
+
+        def __init__(self, library, is_short):
+            self.library, self.is_short = library, is_short
+
+        def __getattr__(self, name):
+            call, refused = getattr(self.library, name), self.REFUSED.get(name)
+            if refused is None:
+                return call
+            short = lambda *words: int(refused) if self.is_short() else call(*words)  # noqa: E731
+            short.argtypes = call.argtypes
+            return short
 
     for seed in range(40):
         quick, slow = Fed(random.Random(seed)), Fed(random.Random(seed))
         frames = some_edits(random.Random(seed), quick.lengths())
         quick.editor.feed(b"".join(frames))
-        numbers = random.Random(seed)
-
-        def short(call, refused):
-            """The call, which is refused memory now and then, by the library or by Python before that is called."""
-
-            def made(*words):
-                if numbers.random() < 0.3:
-                    raise numbers.choice((refused, MemoryError()))
-                return call(*words)
-
-            return made
-
-        slow.terminal.bring = short(slow.terminal.bring, NoMemory(Status.NO_MEMORY))
-        slow.terminal.step = short(slow.terminal.step, Unfinished(Status.UNFINISHED))
-        slow.terminal.next_frame = short(slow.terminal.next_frame, MemoryError())
-        for piece in [*pieces_of(numbers, b"".join(frames), 300), *[b""] * 1000]:
-            try:
-                slow.editor.feed(piece)
-            except MemoryError:
-                continue
+        numbers, library = random.Random(seed), sides.LIBRARY
+        sides.LIBRARY = Short(library, lambda: numbers.random() < 0.3)
+        try:
+            for piece in [*pieces_of(numbers, b"".join(frames), 300), *[b""] * 1000]:
+                with contextlib.suppress(MemoryError):
+                    slow.editor.feed(piece)
+        finally:
+            sides.LIBRARY = library
         expect(not slow.editor.stream.is_waiting, f"seed {seed}: bytes stay")
         expect(slow.state() == quick.state(), f"seed {seed}: {slow.state()}, wanted {quick.state()}")
 

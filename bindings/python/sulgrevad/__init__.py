@@ -41,13 +41,13 @@ Each call of the library keeps the interpreter's lock, so threads may share a ha
 of your own there. `text`, `saved` and `snarfed` read a long text by several calls: let no other thread change it meanwhile.
 
 A signal's handler that raises, as Python's own for ^C does, may break in once the library has done a call. Then nobody knows whether a
-piece or an event was taken, and what `next_written`, `next_refusal` or `changed` was to hand out is lost. So a program that goes on after
-a signal has a handler that only notes it. A `MemoryError` of Python's own may lose what these three and `add_file` hand out, too; but
-nothing that a link hands out.
+piece or an event was taken, and what `step`, `edits`, `next_written`, `next_refusal` or `changed` was to hand out is lost. So a program
+that goes on after a signal has a handler that only notes it. A `MemoryError` of Python's own may lose what these and `add_file` hand out,
+too; but nothing that a link hands out.
 """
 from sulgrevad.link import HELLO_BYTES, MOST_NOTE, Hello, Link, What, read_hello, write_refusal
 from sulgrevad.scripts import replay
-from sulgrevad.sides import Change, FileState, Host, HostDid, NextFrame, Refusal, Terminal, TerminalDid, TerminalState
+from sulgrevad.sides import Change, Edit, FileState, Host, HostDid, NextFrame, Refusal, Terminal, TerminalDid, TerminalState
 from sulgrevad.status import (
     AddRefused,
     CountFull,
@@ -73,7 +73,7 @@ from sulgrevad.status import (
 __version__ = "0.1.0"
 
 __all__ = [
-    "HELLO_BYTES", "MOST_NOTE", "AddRefused", "Change", "CountFull", "FileState", "HandleFault", "Hello", "Host", "HostDid",
+    "HELLO_BYTES", "MOST_NOTE", "AddRefused", "Change", "CountFull", "Edit", "FileState", "HandleFault", "Hello", "Host", "HostDid",
     "HostRefused", "Link", "LinkFault", "Missing", "NextFrame", "NoMemory", "NotText", "Refusal", "SamError", "ScriptFault", "Status",
     "Step", "StreamFault", "Terminal", "TerminalDid", "TerminalRefused", "TerminalState", "Unfinished", "Waiting", "What", "error_of",
     "library_version", "read_hello", "replay", "status_text", "write_refusal",

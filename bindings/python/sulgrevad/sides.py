@@ -18,6 +18,7 @@ GAP = 2**32 - 1  # what stands for a rune that is not loaded
 # SAM_OK as a plain number: once a call is done nothing may want memory, and up to Python 3.11 to look up a Status does.
 OK, NONE = int(Status.OK), int(Status.NONE)
 STEPS = tuple(Step)  # by their numbers
+EDITING = (77, 81)  # the kinds Hgrowdata and Hcut
 
 _FEW_RUNES = c_uint32 * FEW
 
@@ -72,6 +73,15 @@ class NextFrame(NamedTuple):
     tag: int
     start: int
     gone: int
+
+
+class Edit(NamedTuple):
+    """An edit that a frame made: in a file, at a place, the text `gone` gave way to `came`."""
+
+    tag: int
+    start: int
+    gone: str
+    came: str
 
 
 class TerminalState(NamedTuple):
@@ -526,6 +536,29 @@ class Terminal(_Side):
         if code == NONE:
             return None
         raise error_of(code)
+
+    def edits(self, gap: str = "\N{REPLACEMENT CHARACTER}") -> Iterator[Edit]:
+        """Makes the steps that receive the next frames, as long as each edits a text and all of them that of one file, and says of each what
+        went and what came; `gap` stands for a rune that is not loaded. Between two of them no event may be made. Raises what `step` does."""
+        at, did, got, first = byref(self._handle), Did(), c_uint32(), None
+        into, did_at, got_at = _FEW_RUNES(), byref(did), byref(got)
+        look, take, read = LIBRARY.sam_term_next_frame, LIBRARY.sam_term_step, LIBRARY.sam_term_read
+
+        def cells(tag: int, place: int, count: int) -> str:
+            if count > FEW or read(at, tag, place, into, count, got_at) != OK:
+                return "".join([rune or gap for rune in self.read(tag, place, count)])
+            return "".join([gap if rune == GAP else chr(rune) for rune in into[: got.value]])
+
+        while (code := look(at, did_at)) == OK and did.kind in EDITING and first in (None, did.tag):
+            first = tag = did.tag
+            gone = cells(tag, did.start, did.gone) if did.gone else ""
+            if (code := take(at, did_at)) != OK:
+                raise error_of(code)
+            if did.step == Step.RECEIVED:
+                start, came = did.start, did.came
+                yield Edit(tag, start, gone, cells(tag, start, came) if came else "")
+        if code not in (OK, NONE):
+            raise error_of(code)
 
     def step(self) -> TerminalDid:
         """Does one thing of what waits, and says what: it writes what was composed last, if that is left over; or the terminal receives
