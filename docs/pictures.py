@@ -276,7 +276,7 @@ def film_picture():
     ).encode("ascii", "xmlcharrefreplace").decode("ascii")
 
 
-PICTURES = {"crates.svg": crates_picture, "threads.svg": threads_picture}
+PICTURES = {"crates.svg": crates_picture, "threads.svg": threads_picture, "film.svg": film_picture}
 
 
 def check():
