@@ -1,9 +1,17 @@
 -- What every run of a terminal end comes to.
-use Rattle.sam_endpoint.proofs.Common.{◌≡◌, ◌⊎◌, refl, sym, ap, subst, ◌∙◌, inl, inr, ℕ, List, [], ◌∷◌, ◌++◌, flat_map, flat_map-append, Option, None, Some, Ok, Err, append_assoc, append-nil, length-append, arith, option_map, Tmesg, HFrame, host, terminal, Splits, stream_of, version_after, Held, stream_of-append, version_after-append, Splits-then, PlainTerminal, Acted, flush_of, composed_in, UserEvent, TermStop, StreamFault, Gives, mesg_fault, PlainTermEndpoint, Acts, Calls, Moves}
+use Rattle.sam_endpoint.proofs.Common.{◌≡◌, ◌⊎◌, refl, sym, ap, subst, ◌∙◌, inl, inr, ℕ, List, [], ◌∷◌, ◌++◌, flat_map, flat_map-append, Option, None, Some, Result, Ok, Err, append_assoc, append-nil, length-append, arith, All-append, All-nil, All-same, FitsT, FitMessages, option_map, Tmesg, HFrame, host, terminal, Splits, stream_of, version_after, Held, stream_of-append, version_after-append, Splits-then, PlainTerminal, Acted, flush_of, composed_in, UserEvent, TermStop, StreamFault, Gives, mesg_fault, PlainTermEndpoint, Acts, Calls, Moves}
 use Rattle.sam_frame.specs.Reading.{IsStream}
 use Rattle.sam_frame.proofs.Cuttings.{Splits-longer}
 use Rattle.sam_term.specs.Term.{new_terminal}
+use Rattle.sam_endpoint.specs.declared.fault.EndpointFault.{EndpointFault}
 use Rattle.sam_endpoint.specs.declared.fault.EndpointFault.TheVariants as fault
+use Rattle.sam_endpoint.specs.declared.step.BringFault.{BringFault}
+use Rattle.sam_endpoint.specs.declared.step.BringFault.TheVariants as bring
+use Rattle.sam_endpoint.specs.declared.step.TermStep.{TermStep}
+use Rattle.sam_endpoint.specs.declared.step.TermStep.TheVariants as step
+use Rattle.sam_endpoint.specs.Streams.{GoesOnAfter, if_taken}
+use Rattle.sam_endpoint.specs.TermStepping.{BringsIn, Steps}
+use Rattle.sam_endpoint.proofs.TermEndpointStepping.{Went, steps_not, steps_on, went_nowhere}
 use Rattle.sam_endpoint.specs.declared.fault.TermStop.TheVariants as stop
 use Rattle.sam_endpoint.specs.TermSteps.{Answer}
 use Rattle.sam_endpoint.specs.TermEndpoints.{Feeds, FeedsIdle, Flushes, FlushesIdle, GoesOn, IsDone, Puts, PutsIdle, Receives, TakesIn, composed_by, new_term_endpoint, oldest, refusals_from, with_event}
@@ -11,7 +19,7 @@ use Rattle.sam_endpoint.proofs.TermEndpointHeld.{act_held, flush_held, take_held
 use Rattle.std.specs.Prelude.{◌+◌, drop, length, option_to_list, slice_get}
 use Rattle.sam_endpoint.specs.declared.changes.Kept as changes
 use Rattle.sam_term.specs.declared.fault.Refusal.{Refusal}
-use Rattle.sam_endpoint.specs.TermRuns.{Call, GoesOnAfter, HasDone, HasStopped, Leads, Runs, Step, Stops, act_in, acts_in, came_in, event_in, events_in, frame_in, frames_in, handed_out, if_taken, put_in, went_out}
+use Rattle.sam_endpoint.specs.TermRuns.{Call, HasDone, HasStopped, Leads, Runs, Step, Stops, act_in, acts_in, came_in, event_in, events_in, frame_in, frames_in, handed_out, put_in, went_out}
 use Rattle.sam_endpoint.specs.TermRuns as run
 
 -- ## Steps one after another
@@ -113,6 +121,8 @@ kept_moves stream events out told e g frames acts m kept =
         leads = leads_more new_terminal e.term g.term d.steps (received frames ++ decided acts) d.composed (m.composed ++ composed_by acts) d.leads
             (leads_more e.term m.middle g.term (received frames) (decided acts) m.composed (composed_by acts)
             (receives_leads e.term m.middle frames m.composed m.receives) (acts_lead m.middle g.term acts m.acted));
+        composed_fit = All-append (FitsT 2) d.composed (m.composed ++ composed_by acts) d.composed_fit
+            (All-append (FitsT 2) m.composed (composed_by acts) m.composed_fit m.acted_fit);
         reads = reads_as stream e g (frames_in d.steps ++ e.waiting) (frames_in steps ++ g.waiting) frames_are m.framer m.broken_by d.reads;
         given = all_events d.steps frames acts ∙ d.given;
         bytes = bytes_on out e g d.composed m.composed (composed_by acts) d.bytes m.bytes;
@@ -205,10 +215,13 @@ kept_piece stream events out told piece e k none (frames, broken_by, rest, gives
     let version : e.framer.version ≡ version_after host 1 (frames_in d.steps) = kept.version ∙ ap (λ (x : List HFrame). version_after host 1 x) all in
     let more = reads_more e.framer rest stream piece (frames_in d.steps) frames broken_by splits version gives in
     subst (λ (x : PlainTermEndpoint). Kept (stream ++ piece) events out told x) (sym is) (record {
-      done = record { steps = d.steps; composed = d.composed; leads = d.leads; reads = more.0; given = d.given; bytes = d.bytes; refused = d.refused };
+      done = record { steps = d.steps; composed = d.composed; leads = d.leads; composed_fit = d.composed_fit; reads = more.0; given = d.given; bytes = d.bytes; refused = d.refused };
       version = more.1;
       count = kept.count;
     })
+
+kept_same : (stream : List ℕ) (events : List UserEvent) (out : List ℕ) (told : List (ℕ × Refusal)) (e k : PlainTermEndpoint) → k ≡ e → Kept stream events out told e → Kept (stream ++ []) events out told k
+kept_same stream events out told e k is kept = grind (arith, append-nil)
 
 -- an event is held
 kept_held : (stream : List ℕ) (events : List UserEvent) (out : List ℕ) (told : List (ℕ × Refusal)) (e : PlainTermEndpoint) (event : UserEvent) → Kept stream events out told e
@@ -225,6 +238,7 @@ kept_held stream events out told e event kept =
         steps = d.steps ++ run.Held event ∷ [];
         composed = d.composed ++ [];
         leads = leads_more new_terminal e.term (with_event e event).term d.steps (run.Held event ∷ []) d.composed [] d.leads (refl, refl);
+        composed_fit = All-same (FitsT 2) (d.composed ++ []) d.composed composed d.composed_fit;
         reads = subst (λ (x : List HFrame). IsStream host 1 stream (x ++ e.waiting) e.framer.bytes (option_map mesg_fault e.broken_by)) (sym frames) d.reads;
         given = flat_map-append event_in d.steps (run.Held event ∷ []) ∙ ap (λ (x : List UserEvent). x ++ event ∷ []) d.given;
         bytes = d.bytes ∙ ap (λ (x : List Tmesg). stream_of terminal x) (sym composed);
@@ -236,8 +250,8 @@ kept_held stream events out told e event kept =
 
 -- the unsent runes were composed
 kept_sent : (stream : List ℕ) (events : List UserEvent) (out : List ℕ) (told : List (ℕ × Refusal)) (e : PlainTermEndpoint) (u : PlainTerminal) (composed : List Tmesg) → e.unwritten ≡ []
-    → flush_of e.term ≡ Ok (u, composed) → Kept stream events out told e → Kept stream events out told (record e { term = u; unwritten = composed })
-kept_sent stream events out told e u composed none flushes kept =
+    → flush_of e.term ≡ Ok (u, composed) → FitMessages composed → Kept stream events out told e → Kept stream events out told (record e { term = u; unwritten = composed })
+kept_sent stream events out told e u composed none flushes fit kept =
     let d = kept.done in
     let frames : frames_in (d.steps ++ run.Sent ∷ []) ≡ frames_in d.steps = flat_map-append frame_in d.steps (run.Sent ∷ []) ∙ append-nil (frames_in d.steps) in
     let acts : acts_in (d.steps ++ run.Sent ∷ []) ≡ acts_in d.steps = flat_map-append act_in d.steps (run.Sent ∷ []) ∙ append-nil (acts_in d.steps) in
@@ -246,6 +260,7 @@ kept_sent stream events out told e u composed none flushes kept =
         steps = d.steps ++ run.Sent ∷ [];
         composed = d.composed ++ composed;
         leads = leads_more new_terminal e.term u d.steps (run.Sent ∷ []) d.composed composed d.leads (u, composed, [], flushes, sym (append-nil composed), (refl, refl));
+        composed_fit = All-append (FitsT 2) d.composed composed d.composed_fit fit;
         reads = subst (λ (x : List HFrame). IsStream host 1 stream (x ++ e.waiting) e.framer.bytes (option_map mesg_fault e.broken_by)) (sym frames) d.reads;
         given = flat_map-append event_in d.steps (run.Sent ∷ []) ∙ append-nil (events_in d.steps) ∙ d.given;
         bytes = bytes_on out e.pending_bytes e.unwritten d.composed composed none d.bytes;
@@ -260,7 +275,7 @@ kept_sent stream events out told e u composed none flushes kept =
     bytes_on out pending unwritten composed more none p = grind (arith, append-nil, stream_of-append)
 
 stopped_not : (result : Answer) (why : TermStop) → result ≡ Err (fault.Stopped why) → GoesOnAfter result → ⊥
-stopped_not result why is goes = subst GoesOnAfter is goes
+stopped_not result why is goes = subst (λ (x : Answer). GoesOnAfter x) is goes
 
 as_it_was : {A : Type 0} (result : Answer) (given : List A) → (result ≡ Err fault.OutOfMemory) ⊎ (result ≡ Err fault.CountFull) → if_taken result given ≡ []
 as_it_was result given (inl is) = ap (λ (x : Answer). if_taken x given) is
@@ -298,8 +313,8 @@ kept_put stream events out told event e g result goes (inr (inr (is, full, same)
 
 kept_flushed : (stream : List ℕ) (events : List UserEvent) (out : List ℕ) (told : List (ℕ × Refusal)) (e g : PlainTermEndpoint) (result : Answer) → GoesOnAfter result → e.unwritten ≡ []
     → FlushesIdle e result g → Kept stream events out told e → Kept stream events out told g
-kept_flushed stream events out told e g result goes none (inl (u, composed, flushes, on)) kept =
-    kept_goes_on stream events out told (record e { term = u; unwritten = composed }) g result goes on (kept_sent stream events out told e u composed none flushes kept)
+kept_flushed stream events out told e g result goes none (inl (u, composed, flushes, fit, on)) kept =
+    kept_goes_on stream events out told (record e { term = u; unwritten = composed }) g result goes on (kept_sent stream events out told e u composed none flushes fit kept)
 kept_flushed stream events out told e g result goes none (inr (inl (is, counted, same))) kept = subst (λ (x : PlainTermEndpoint). Kept stream events out told x) (sym same) kept
 kept_flushed stream events out told e g result goes none (inr (inr (why, fails, is, same))) kept = absurd (stopped_not result _ is goes)
 
@@ -314,6 +329,36 @@ kept_feeds stream events out told piece e g result goes (inr (going, k, Err faul
 kept_feeds stream events out told piece e g result goes (inr (going, k, Err (fault.Stopped why), on, (is, same))) kept = absurd (stopped_not result why is goes)
 kept_feeds stream events out told piece e g result goes (inr (going, k, Err fault.OutOfMemory, on, after)) kept = absurd on
 kept_feeds stream events out told piece e g result goes (inr (going, k, Err fault.CountFull, on, after)) kept = absurd on
+
+-- a piece was brought, or was not
+kept_brought : (stream : List ℕ) (events : List UserEvent) (out : List ℕ) (told : List (ℕ × Refusal)) (piece : List ℕ) (e k : PlainTermEndpoint) (result : Result (Unit {0}) (BringFault TermStop))
+    → BringsIn e piece result k → Kept stream events out told e → Kept (stream ++ came_in (run.Bring piece result)) events out told k
+kept_brought stream events out told piece e k (Ok done) (ready, takes) kept = kept_piece stream events out told piece e k ready.1.0.waiting takes kept
+kept_brought stream events out told piece e k (Err (bring.Stopped why)) (stops, same) kept = kept_same stream events out told e k same kept
+kept_brought stream events out told piece e k (Err bring.Waiting) (goes, waits, same) kept = kept_same stream events out told e k same kept
+kept_brought stream events out told piece e k (Err bring.CountFull) (ready, full, same) kept = kept_same stream events out told e k same kept
+kept_brought stream events out told piece e k (Err bring.OutOfMemory) (ready, room, same) kept = kept_same stream events out told e k same kept
+
+-- an end that makes a step goes on
+step_goes : (e k : PlainTermEndpoint) (done : TermStep) → Steps e (Ok done) k → e.stop ≡ None
+step_goes e k step.Idle steps = steps.0.0
+step_goes e k step.Locked steps = steps.0.0
+step_goes e k step.Wrote steps = steps.0
+step_goes e k (step.Received kind tag change) steps = steps.0.0
+step_goes e k (step.Acted number tag change) steps = steps.0.0
+step_goes e k (step.Refused number why) steps = steps.0.0
+
+went : (e k : PlainTermEndpoint) (done : TermStep) → Steps e (Ok done) k → Went e k
+went e k done steps = steps_on e e k done (went_nowhere e (step_goes e k done steps)) steps
+
+kept_stepped : (stream : List ℕ) (events : List UserEvent) (out : List ℕ) (told : List (ℕ × Refusal)) (e k : PlainTermEndpoint) (result : Result TermStep (EndpointFault TermStop))
+    → GoesOnAfter result → Steps e result k → Kept stream events out told e → Kept stream events out told k
+kept_stepped stream events out told e k (Ok done) goes steps kept =
+    let w = went e k done steps in kept_moves stream events out told e k w.frames w.acts w.moves kept
+kept_stepped stream events out told e k (Err fault.Unfinished) goes (going, waits, same) kept = subst (λ (x : PlainTermEndpoint). Kept stream events out told x) (sym same) kept
+kept_stepped stream events out told e k (Err fault.OutOfMemory) goes steps kept = absurd steps
+kept_stepped stream events out told e k (Err fault.CountFull) goes steps kept = absurd steps
+kept_stepped stream events out told e k (Err (fault.Stopped why)) goes steps kept = absurd goes
 
 kept_puts : (stream : List ℕ) (events : List UserEvent) (out : List ℕ) (told : List (ℕ × Refusal)) (event : UserEvent) (e g : PlainTermEndpoint) (result : Answer) → GoesOnAfter result
     → Puts e event result g → Kept stream events out told e → Kept stream (events ++ if_taken result (event ∷ [])) out told g
@@ -347,6 +392,7 @@ kept_out stream events out told bytes rest e is kept =
         steps = d.steps;
         composed = d.composed;
         leads = d.leads;
+        composed_fit = d.composed_fit;
         reads = d.reads;
         given = d.given;
         bytes = ap (λ (x : List ℕ). x ++ stream_of terminal e.unwritten) (append_assoc out bytes rest ∙ ap (λ (x : List ℕ). out ++ x) (sym is)) ∙ d.bytes;
@@ -370,6 +416,7 @@ kept_told stream events out told next e is kept =
         steps = d.steps;
         composed = d.composed;
         leads = d.leads;
+        composed_fit = d.composed_fit;
         reads = d.reads;
         given = d.given;
         bytes = d.bytes;
@@ -385,7 +432,7 @@ kept_changed : (stream : List ℕ) (events : List UserEvent) (out : List ℕ) (t
 kept_changed stream events out told e now kept =
     let d = kept.done in
     record {
-      done = record { steps = d.steps; composed = d.composed; leads = d.leads; reads = d.reads; given = d.given; bytes = d.bytes; refused = d.refused };
+      done = record { steps = d.steps; composed = d.composed; leads = d.leads; composed_fit = d.composed_fit; reads = d.reads; given = d.given; bytes = d.bytes; refused = d.refused };
       version = kept.version;
       count = kept.count;
     }
@@ -399,6 +446,12 @@ kept_run stream events out told (run.Feed piece answer ∷ calls) e g (k, feeds,
     subst (λ (x : List ℕ). Kept x (events ++ flat_map put_in calls) (out ++ flat_map went_out calls) (told ++ flat_map handed_out calls) g)
     (append_assoc stream (if_taken answer piece) (flat_map came_in calls))
     (kept_run (stream ++ if_taken answer piece) events out told calls k g runs (kept_feeds stream events out told piece e k answer goes feeds kept))
+kept_run stream events out told (run.Bring piece result ∷ calls) e g (k, brings, runs) kept =
+    subst (λ (x : List ℕ). Kept x (events ++ flat_map put_in calls) (out ++ flat_map went_out calls) (told ++ flat_map handed_out calls) g)
+    (append_assoc stream (came_in (run.Bring piece result)) (flat_map came_in calls))
+    (kept_run (stream ++ came_in (run.Bring piece result)) events out told calls k g runs (kept_brought stream events out told piece e k result brings kept))
+kept_run stream events out told (run.MakeStep result ∷ calls) e g (k, steps, goes, runs) kept =
+    kept_run stream events out told calls k g runs (kept_stepped stream events out told e k result goes steps kept)
 kept_run stream events out told (run.Put event answer ∷ calls) e g (k, puts, goes, runs) kept =
     subst (λ (x : List UserEvent). Kept (stream ++ flat_map came_in calls) x (out ++ flat_map went_out calls) (told ++ flat_map handed_out calls) g)
     (append_assoc events (if_taken answer (event ∷ [])) (flat_map put_in calls))
@@ -423,6 +476,7 @@ kept_begun = record {
     steps = [];
     composed = [];
     leads = (refl, refl);
+    composed_fit = All-nil (FitsT 2);
     reads = record { splits = record { whole = refl; fit = tt }; ends = tt };
     given = refl;
     bytes = refl;
@@ -447,9 +501,25 @@ put_goes e g event answer goes puts = grind arith
 flush_goes : (e g : PlainTermEndpoint) (answer : Answer) → GoesOnAfter answer → Flushes e answer g → g.stop ≡ None
 flush_goes e g answer goes flushes = grind arith
 
+bring_goes : (e k : PlainTermEndpoint) (piece : List ℕ) (result : Result (Unit {0}) (BringFault TermStop)) → e.stop ≡ None → BringsIn e piece result k → k.stop ≡ None
+bring_goes e k piece (Ok done) goes (ready, (frames, broken_by, rest, gives, is)) = ap (λ (x : PlainTermEndpoint). x.stop) is ∙ goes
+bring_goes e k piece (Err (bring.Stopped why)) goes (stops, same) = ap (λ (x : PlainTermEndpoint). x.stop) same ∙ goes
+bring_goes e k piece (Err bring.Waiting) goes (going, waits, same) = ap (λ (x : PlainTermEndpoint). x.stop) same ∙ goes
+bring_goes e k piece (Err bring.CountFull) goes (ready, full, same) = ap (λ (x : PlainTermEndpoint). x.stop) same ∙ goes
+bring_goes e k piece (Err bring.OutOfMemory) goes (ready, room, same) = ap (λ (x : PlainTermEndpoint). x.stop) same ∙ goes
+
+stepped_goes : (e k : PlainTermEndpoint) (result : Result TermStep (EndpointFault TermStop)) → GoesOnAfter result → Steps e result k → k.stop ≡ None
+stepped_goes e k (Ok done) goes steps = (went e k done steps).goes
+stepped_goes e k (Err fault.Unfinished) goes (going, waits, same) = ap (λ (x : PlainTermEndpoint). x.stop) same ∙ going
+stepped_goes e k (Err fault.OutOfMemory) goes steps = absurd steps
+stepped_goes e k (Err fault.CountFull) goes steps = absurd steps
+stepped_goes e k (Err (fault.Stopped why)) goes steps = absurd goes
+
 run_goes : (e g : PlainTermEndpoint) (calls : List Call) → e.stop ≡ None → Runs e calls g → g.stop ≡ None
 run_goes e g [] goes is = grind arith
 run_goes e g (run.Feed piece answer ∷ calls) goes (k, feeds, goes_on, runs) = run_goes k g calls (feed_goes e k piece answer goes_on feeds) runs
+run_goes e g (run.Bring piece result ∷ calls) goes (k, brings, runs) = run_goes k g calls (bring_goes e k piece result goes brings) runs
+run_goes e g (run.MakeStep result ∷ calls) goes (k, steps, goes_on, runs) = run_goes k g calls (stepped_goes e k result goes_on steps) runs
 run_goes e g (run.Put event answer ∷ calls) goes (k, puts, goes_on, runs) = run_goes k g calls (put_goes e k event answer goes_on puts) runs
 run_goes e g (run.Flush answer ∷ calls) goes (k, flushes, goes_on, runs) = run_goes k g calls (flush_goes e k answer goes_on flushes) runs
 run_goes e g (run.TakeOut bytes ∷ calls) goes (rest, is, runs) = run_goes (record e { pending_bytes = rest }) g calls goes runs
@@ -506,15 +576,15 @@ put_stops stream events out told event e g why (inr puts) kept = absurd (grind a
 
 flush_stops : (stream : List ℕ) (events : List UserEvent) (out : List ℕ) (told : List (ℕ × Refusal)) (e g : PlainTermEndpoint) (why : TermStop) → IsDone e
     → FlushesIdle e (Err (fault.Stopped why)) g → Kept stream events out told e → Ended stream events out told why g
-flush_stops stream events out told e g why whole (inl (u, composed, flushes, on)) kept =
-    went_on stream events out told (record e { term = u; unwritten = composed }) g why on (kept_sent stream events out told e u composed whole.0.unwritten flushes kept)
+flush_stops stream events out told e g why whole (inl (u, composed, flushes, fit, on)) kept =
+    went_on stream events out told (record e { term = u; unwritten = composed }) g why on (kept_sent stream events out told e u composed whole.0.unwritten flushes fit kept)
 flush_stops stream events out told e g why whole (inr (inl (is, counted, same))) kept = absurd (cc)
 flush_stops stream events out told e g why whole (inr (inr (who, fails, is, same))) kept =
     let one : stop.Refused who ≡ why = cc in
     let d = kept.done in
     subst (λ (x : PlainTermEndpoint). Ended stream events out told why x) (sym same)
     (subst (λ (w : TermStop). Ended stream events out told w (record e { stop = Some (stop.Refused who) })) one (record {
-      done = record { steps = d.steps; composed = d.composed; leads = d.leads; reads = d.reads; given = d.given; bytes = d.bytes; refused = d.refused };
+      done = record { steps = d.steps; composed = d.composed; leads = d.leads; composed_fit = d.composed_fit; reads = d.reads; given = d.given; bytes = d.bytes; refused = d.refused };
       stops = inr ((record { waiting = whole.0.waiting; unwritten = whole.0.unwritten }, whole.1), inr fails);
       says = refl;
     }))
@@ -538,6 +608,10 @@ last_stops stream events out told (run.Feed piece answer) e g why goes (feeds, i
           (ap (λ (x : Answer). stream ++ if_taken x piece) is) (append-nil events) (append-nil out) (append-nil told)
           (fed_stops stream events out told piece ready.middle g why ready.whole.0.waiting ready.brings ready.kept))
     ]
+last_stops stream events out told (run.Bring piece result) e g why goes stops kept = absurd stops
+last_stops stream events out told (run.MakeStep result) e g why goes (steps, is) kept =
+    let failed : Steps e (Err (fault.Stopped why)) g = subst (λ (x : Result TermStep (EndpointFault TermStop)). Steps e x g) is steps in
+    inl (went_on stream events out told e g why (steps_not e e g (fault.Stopped why) (went_nowhere e goes) failed) kept)
 last_stops stream events out told (run.Put event answer) e g why goes (puts, is) kept =
     elim (call_stops stream events out told e g why (λ middle. PutsIdle middle event (Err (fault.Stopped why)) g) goes (subst (λ (x : Answer). Puts e event x g) is puts) kept) [
       | inl ended ↦ inl ended

@@ -1,12 +1,13 @@
--- What both ends share: what can be written, and a stream that shows a fault.
-use Rattle.std.specs.Prelude.{◌≡◌, ℕ, ◌+◌, ◌^◌, ◌≤◌, List, length, Option, Some, None, Result, Ok, Err}
+-- What both ends share: what can be written, a stream that shows a fault, and what a call's answer says.
+use Rattle.std.specs.Prelude.{◌≡◌, ℕ, ◌+◌, ◌^◌, ◌≤◌, List, [], length, Option, Some, None, Result, Ok, Err, All}
 use Rattle.std.specs.Global.{Vec}
+use Rattle.sam_mesg.specs.HostKinds.{FitsH}
+use Rattle.sam_mesg.specs.TerminalKinds.{FitsT}
 use Rattle.sam_mesg.specs.declared.hmesg.HFrame.{HFrame}
 use Rattle.sam_mesg.specs.declared.tmesg.Tmesg.{Tmesg}
 use Rattle.sam_mesg.specs.declared.fault.MesgFault.{MesgFault}
 use Rattle.sam_mesg.specs.declared.fault.MesgFault.TheVariants as wrong
-use Rattle.sam_frame.specs.Direction.{Direction, terminal, host}
-use Rattle.sam_frame.specs.Stream.{CanEncode}
+use Rattle.sam_frame.specs.Direction.{Direction}
 use Rattle.sam_frame.specs.Framing.{Held, HasRoom, GaveAll, GaveUp}
 use Rattle.sam_endpoint.specs.declared.fault.EndpointFault.{EndpointFault}
 use Rattle.sam_endpoint.specs.declared.fault.EndpointFault.TheVariants as fault
@@ -15,13 +16,13 @@ use Rattle.sam_endpoint.specs.declared.step.BringFault.{BringFault}
 use Rattle.sam_endpoint.specs.declared.step.BringFault.TheVariants as bring
 use Rattle.sam_endpoint.specs.declared.fault.StreamFault.TheVariants.{BadKind, BadLength, BadText}
 
--- each frame fits in version 2, and so can be written
+-- each frame is a value of its type that is within the limits of version 2
 abbrev pub FitFrames : List HFrame → Type 0
-FitFrames frames = CanEncode host frames
+FitFrames frames = All (FitsH 2) frames
 
--- each message fits in version 2, and so can be written
+-- each message is a value of its type that is within the limits of version 2
 abbrev pub FitMessages : List Tmesg → Type 0
-FitMessages messages = CanEncode terminal messages
+FitMessages messages = All (FitsT 2) messages
 
 abbrev pub mesg_fault : StreamFault → MesgFault
 mesg_fault BadKind = wrong.BadKind
@@ -40,6 +41,27 @@ GivesAs d h piece (Err fault.OutOfMemory) k = HasRoom h piece × (k ≡ h)
 GivesAs d h piece (Err fault.CountFull) k = (2 ^ 64 ≤ h.offset + length h.bytes + length piece) × (k ≡ h)
 GivesAs d h piece (Err fault.Unfinished) k = ⊥
 GivesAs d h piece (Err (fault.Stopped why)) k = ⊥
+
+-- the end goes on after this answer
+abbrev pub GoesOnAfter : {A S : Type 0} → Result A (EndpointFault S) → Type 0
+GoesOnAfter (Ok done) = Unit {0}
+GoesOnAfter (Err fault.OutOfMemory) = Unit {0}
+GoesOnAfter (Err fault.Unfinished) = Unit {0}
+GoesOnAfter (Err fault.CountFull) = Unit {0}
+GoesOnAfter (Err (fault.Stopped why)) = ⊥
+
+-- what the call brought, if it was taken
+abbrev pub if_taken : {A S : Type 0} → Result (Unit {0}) (EndpointFault S) → List A → List A
+if_taken (Ok done) brought = brought
+if_taken (Err fault.OutOfMemory) brought = []
+if_taken (Err fault.Unfinished) brought = brought
+if_taken (Err fault.CountFull) brought = []
+if_taken (Err (fault.Stopped why)) brought = brought
+
+-- the piece, if it was brought
+abbrev pub if_brought : {S : Type 0} → Result (Unit {0}) (BringFault S) → List ℕ → List ℕ
+if_brought (Ok done) piece = piece
+if_brought (Err why) piece = []
 
 -- out of memory before what the call brought was taken
 abbrev pub not_taken : {S : Type 0} → EndpointFault S → EndpointFault S

@@ -56,6 +56,7 @@ module _ (adds : AddsGiven) (given : List (List ℕ × List ℕ)) (calls : List 
           frames = s.frames;
           writes = s.writes;
           serves = serves;
+          frames_fit = s.frames_fit;
           files = only_answers 0 answered;
           reads = subst (λ (ms : List Tmesg). IsStream terminal 1 (flat_map came_in calls) (ms ++ e.waiting) e.framer.bytes (option_map mesg_fault e.broken_by)) (sym same) s.reads;
           bytes = s.bytes;
