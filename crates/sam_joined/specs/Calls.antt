@@ -1,5 +1,5 @@
 -- Two runs of calls, one of each endpoint, and the bytes that were carried between them.
-use Rattle.std.specs.Prelude.{◌≡◌, ℕ, List, [], ◌∷◌, ◌++◌, flat_map, map, Err}
+use Rattle.std.specs.Prelude.{◌≡◌, ℕ, List, [], ◌∷◌, ◌++◌, flat_map, Err}
 use Rattle.sam_host.specs.Host.{new_host}
 use Rattle.sam_host.specs.Laws.{AreGiven}
 use Rattle.sam_host.specs.declared.fault.HostFault.TheVariants as host_fault
@@ -16,15 +16,6 @@ use Rattle.sam_endpoint.specs.declared.fault.TermStop.{TermStop}
 use Rattle.sam_endpoint.specs.declared.fault.TermStop.TheVariants as term_stop
 use Rattle.sam_joined.specs.Joined.{AreCarried, CanCross}
 
--- A run of calls of a host endpoint that began with some files, in which each other file joined before any message was answered: so these
--- are its files when it answers the first
-pub record RunsWith (given : List (List ℕ × List ℕ)) (calls : List HostCall) (e : PlainHostEndpoint) : Type 0 where
-  pub began : List (List ℕ × List ℕ)
-  pub joined : List (List ℕ × List ℕ)
-  pub given_are : given ≡ began ++ joined
-  pub runs : HostRuns (begun_with (new_host began)) calls e
-  pub all_first : flat_map joined_by calls ≡ map (λ (file : List ℕ × List ℕ). (0, file)) joined
-
 -- All bytes that the one handed out in its calls, or has pending, are those that came in with the calls of the other, and then those that
 -- are on their way
 pub record Carry (host_calls : List HostCall) (term_calls : List TermCall) (up down : List ℕ)
@@ -39,18 +30,18 @@ abbrev pub CallsAreCarried : Type 0
 CallsAreCarried =
     (given : List (List ℕ × List ℕ)) (host_calls : List HostCall) (term_calls : List TermCall) (up down : List ℕ)
     (e : PlainHostEndpoint) (g : PlainTermEndpoint)
-    → AreGiven given → RunsWith given host_calls e → TermRuns new_term_endpoint term_calls g
+    → AreGiven given → HostRuns (begun_with (new_host given)) host_calls e → TermRuns new_term_endpoint term_calls g
     → Carry host_calls term_calls up down e g
-    → AreCarried given (flat_map put_in term_calls) up down e g
+    → AreCarried given (flat_map joined_by host_calls) (flat_map put_in term_calls) up down e g
 
 -- and none does, but for a full count: where a piece stops the host endpoint, all of the piece or none of it may still be on its way
 abbrev pub NoPieceStopsTheHost : Type 0
 NoPieceStopsTheHost =
     (given : List (List ℕ × List ℕ)) (host_calls : List HostCall) (term_calls : List TermCall) (piece up down : List ℕ) (why : HostStop)
     (k e : PlainHostEndpoint) (g : PlainTermEndpoint)
-    → AreGiven given → RunsWith given host_calls k → Feeds k piece (Err (fault.Stopped why)) e
+    → AreGiven given → HostRuns (begun_with (new_host given)) host_calls k → Feeds k piece (Err (fault.Stopped why)) e
     → TermRuns new_term_endpoint term_calls g → Carry (host_calls ++ Feed piece (Err (fault.Stopped why)) ∷ []) term_calls up down e g
-    → (way : List ℕ) × (c : AreCarried given (flat_map put_in term_calls) way down e g)
+    → (way : List ℕ) × (c : AreCarried given (flat_map joined_by host_calls) (flat_map put_in term_calls) way down e g)
     × (CanCross c → why ≡ host_stop.Refused host_fault.CountFull)
 
 -- where a call stops the terminal endpoint, all that it brought or nothing of it was taken
@@ -58,7 +49,7 @@ abbrev pub NoCallStopsTheTerminal : Type 0
 NoCallStopsTheTerminal =
     (given : List (List ℕ × List ℕ)) (host_calls : List HostCall) (term_calls : List TermCall) (last : TermCall) (up down : List ℕ)
     (why : TermStop) (e : PlainHostEndpoint) (k g : PlainTermEndpoint)
-    → AreGiven given → RunsWith given host_calls e → TermRuns new_term_endpoint term_calls k → Stops k last why g
+    → AreGiven given → HostRuns (begun_with (new_host given)) host_calls e → TermRuns new_term_endpoint term_calls k → Stops k last why g
     → Carry host_calls (term_calls ++ last ∷ []) up down e g
-    → (said : List UserEvent) × (way : List ℕ) × (c : AreCarried given said up way e g)
+    → (said : List UserEvent) × (way : List ℕ) × (c : AreCarried given (flat_map joined_by host_calls) said up way e g)
     × (CanCross c → why ≡ term_stop.Refused term_fault.CountFull)
