@@ -1,7 +1,7 @@
 -- What the proofs of this crate cite most from its definitions and from the crates below.
 pub use Rattle.std.proofs.Common.{Bool, Err, IsTrue, IsUtf8, List, None, Ok, Option, Result, Some, [], ap, append-nil, append_assoc, arith, chars, drop, drop-cons, drop_of_length-le, encode_utf8_all, false, flat_map, get_or, get_or-drop, if◌then◌else◌, inl, inr, length, length-append, length-drop, length-set, length-take, map, min, option_copied, option_map, refl, rules, set, slice_get, subst, suc, sym, take, take-append-drop, take_all, true, ℕ, ◌++◌, ◌+◌, ◌-◌, ◌<◌, ◌∙◌, ◌∷◌, ◌≡◌, ◌≤◌, ◌⊎◌}
 pub use Rattle.std.proofs.lemmas.Grind.{common_steps, flat_map-append}
-pub use Rattle.std.proofs.lemmas.List.Elements.{All-cons, All-nil, All-tail}
+pub use Rattle.std.proofs.lemmas.List.Elements.{All-append, All-cons, All-nil, All-same, All-tail}
 pub use Rattle.std.proofs.lemmas.Str.{IsUtf8-from_is_utf8, chars_from_encodes, is_utf8-from_IsUtf8}
 pub use Rattle.sam_endpoint.specs.Changes.{act_touch, frame_touch, kept_acted, kept_after, kept_received, left_by}
 pub use Rattle.sam_endpoint.specs.Drawing.{Copies, Shows, drawn}
@@ -17,10 +17,11 @@ pub use Rattle.sam_endpoint.specs.declared.fault.TermStop.{TermStop}
 pub use Rattle.sam_frame.proofs.Fronts.{Splits-then, stream_of-append, version_after-append}
 pub use Rattle.sam_frame.specs.Direction.{host, terminal}
 pub use Rattle.sam_frame.specs.Framing.{Held}
-pub use Rattle.sam_frame.specs.Stream.{FitInTurn, Splits, stream_of, version_after}
+pub use Rattle.sam_frame.specs.Stream.{CanEncode, FitInTurn, Splits, stream_of, version_after}
 pub use Rattle.sam_host.specs.Host.{PlainHost, answer, with_given}
 pub use Rattle.sam_host.specs.Laws.{FitInPlace}
-pub use Rattle.sam_mesg.specs.HostKinds.{fits_h}
+pub use Rattle.sam_mesg.specs.HostKinds.{FitsH, fits_h}
+pub use Rattle.sam_mesg.specs.TerminalKinds.{FitsT}
 pub use Rattle.sam_mesg.specs.declared.hmesg.HFrame.{HFrame}
 pub use Rattle.sam_mesg.specs.declared.tmesg.Tmesg.{Tmesg}
 pub use Rattle.sam_rasp.proofs.SectionLaws.{length-cells}

@@ -1,5 +1,5 @@
 -- Going on with what waits, step by step.
-use Rattle.sam_endpoint.proofs.Common.{◌≡◌, ◌⊎◌, ◌<◌, ◌≤◌, take, drop, length, length-append, refl, sym, ap, if◌then◌else◌, subst, ◌∙◌, ℕ, List, [], ◌∷◌, ◌++◌, Option, None, Ok, Err, inl, inr, append_assoc, append-nil, arith, Tmesg, HFrame, host, terminal, stream_of, Held, stream_of-append, PlainHost, answer, with_given, map, StreamFault, HostStop, EndpointFault, Gives, PlainHostEndpoint, Answers, Feeds, GoesOn, Serves, TakesIn, writes_of, Answer, AnswersFirst, Ends, Writes}
+use Rattle.sam_endpoint.proofs.Common.{◌≡◌, ◌⊎◌, ◌<◌, ◌≤◌, take, drop, length, length-append, refl, sym, ap, if◌then◌else◌, subst, ◌∙◌, ℕ, List, [], ◌∷◌, ◌++◌, Option, None, Ok, Err, inl, inr, append_assoc, append-nil, arith, All-append, All-nil, FitsH, Tmesg, HFrame, host, terminal, stream_of, Held, stream_of-append, PlainHost, answer, with_given, map, StreamFault, HostStop, EndpointFault, FitFrames, Gives, PlainHostEndpoint, Answers, Feeds, GoesOn, Serves, TakesIn, writes_of, Answer, AnswersFirst, Ends, Writes}
 use Rattle.std.proofs.Common.{length-take-le, take-append-drop}
 use Rattle.std.proofs.lemmas.List.{map-append}
 use Rattle.sam_endpoint.specs.HostEndpoints.{Step, Answered, Joined}
@@ -30,6 +30,7 @@ answers_more e k g ms ns p q = record {
   more = p.more ++ q.more;
   serves = subst (λ (steps : List Step). Serves e.host steps (p.frames ++ q.frames) (p.more ++ q.more) g.host) (sym (map-append Answered ms ns))
       (serves_more e.host (map Answered ms) p.frames p.more k.host (map Answered ns) q.frames q.more g.host p.serves q.serves);
+  frames_fit = All-append (FitsH 2) p.frames q.frames p.frames_fit q.frames_fit;
   waiting = grind (arith, append_assoc);
   bytes = bytes_more e k g p.frames q.frames p.bytes q.bytes;
   writes = grind (arith, append_assoc);
@@ -40,8 +41,8 @@ answers_more e k g ms ns p q = record {
 -- the oldest message was answered and dropped
 pub first_done : (e before g : PlainHostEndpoint) (m : Tmesg) (rest : List Tmesg) (h : PlainHost) (frames : List HFrame) (writes : List ℕ) → before ≡ e
     → g ≡ record before { host = h; waiting = rest; unwritten = frames; writes = writes } → before.waiting ≡ m ∷ rest → answer before.host m ≡ Ok (h, frames)
-    → writes ≡ before.writes ++ writes_of before.host m → AnswersFirst e g
-first_done e before g m rest h frames writes same after waited answered noted = grind arith
+    → FitFrames frames → writes ≡ before.writes ++ writes_of before.host m → AnswersFirst e g
+first_done e before g m rest h frames writes same after waited answered fit noted = grind arith
 
 -- nothing is to be written
 pub none_written : (e : PlainHostEndpoint) → e.unwritten ≡ [] → e ≡ written e
@@ -56,15 +57,53 @@ pub record HasGone (e l : PlainHostEndpoint) : Type 0 where
   pub written : l.unwritten ≡ []
   pub goes : l.stop ≡ None
 
+-- an end that answers no message
+answers_none : (e g : PlainHostEndpoint) → g ≡ record e { pending_bytes = g.pending_bytes; unwritten = g.unwritten }
+    → g.pending_bytes ++ stream_of host g.unwritten ≡ e.pending_bytes ++ stream_of host e.unwritten → Answers e [] g
+answers_none e g same bytes = record {
+  frames = [];
+  more = [];
+  serves = (refl, refl, ap (λ (x : PlainHostEndpoint). x.host) same);
+  frames_fit = All-nil (FitsH 2);
+  waiting = sym (ap (λ (x : PlainHostEndpoint). x.waiting) same);
+  bytes = bytes ∙ ap (λ (fs : List HFrame). e.pending_bytes ++ stream_of host fs) (sym (append-nil e.unwritten));
+  writes = ap (λ (x : PlainHostEndpoint). x.writes) same ∙ sym (append-nil e.writes);
+  framer = ap (λ (x : PlainHostEndpoint). x.framer) same;
+  broken_by = ap (λ (x : PlainHostEndpoint). x.broken_by) same;
+}
+
+pub answers_nothing : (e : PlainHostEndpoint) → Answers e [] e
+answers_nothing e = answers_none e e refl refl
+
+pub answers_written : (e : PlainHostEndpoint) → Answers e [] (written e)
+answers_written e = answers_none e (written e) refl (append-nil (e.pending_bytes ++ stream_of host e.unwritten))
+
 then_written : (e k g : PlainHostEndpoint) (ms : List Tmesg) → Answers e ms k → k.stop ≡ None → g ≡ written k → HasGone e g
 then_written e k g ms p goes is = subst (λ (x : PlainHostEndpoint). HasGone e x) (sym is)
-    (record { messages = ms ++ []; answers = answers_more e k (written k) ms [] p (grind (arith, append-nil)); written = refl; goes = goes })
+    (record { messages = ms ++ []; answers = answers_more e k (written k) ms [] p (answers_written k); written = refl; goes = goes })
+
+-- the oldest message was answered, where all frames are written
+answers_first : (l k : PlainHostEndpoint) → l.unwritten ≡ [] → (first : AnswersFirst l k) → Answers l (first.message ∷ []) k
+answers_first l k none first =
+    let writes : List ℕ = writes_of l.host first.message in
+    subst (λ (x : PlainHostEndpoint). Answers l (first.message ∷ []) x) (sym first.after) (record {
+      frames = first.frames;
+      more = writes;
+      serves = (first.host, first.frames, [], [], first.answered, sym (append-nil first.frames), sym (append-nil writes), (refl, refl, refl));
+      frames_fit = first.frames_fit;
+      waiting = first.waited;
+      bytes = ap (λ (fs : List HFrame). l.pending_bytes ++ stream_of host (fs ++ first.frames)) (sym none);
+      writes = refl;
+      framer = refl;
+      broken_by = refl;
+    })
 
 first_gone : (e l k : PlainHostEndpoint) (gone : HasGone e l) (first : AnswersFirst l k) → Answers e (gone.messages ++ first.message ∷ []) k × (k.stop ≡ None)
-first_gone e l k gone first = grind (arith, answers_more, append-nil)
+first_gone e l k gone first =
+    (answers_more e l k gone.messages (first.message ∷ []) gone.answers (answers_first l k gone.written first), ap (λ (x : PlainHostEndpoint). x.stop) first.after ∙ gone.goes)
 
 pub starts : (e g : PlainHostEndpoint) → e.stop ≡ None → g ≡ written e → HasGone e g
-starts e g goes is = then_written e e g [] (grind (arith, append-nil)) goes is
+starts e g goes is = then_written e e g [] (answers_nothing e) goes is
 
 -- a message that needs no answer tells the host to write nothing
 no_write : (h k : PlainHost) (m : Tmesg) → answer h m ≡ Ok (k, []) → writes_of h m ≡ []
@@ -83,6 +122,7 @@ edits_gone e l k gone took =
       frames = [];
       more = [];
       serves = silent l.host took.messages took.host took.taken;
+      frames_fit = All-nil (FitsH 2);
       waiting = took.waited;
       bytes = grind (arith, append-nil);
       writes = sym (append-nil l.writes);

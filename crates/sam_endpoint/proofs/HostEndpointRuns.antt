@@ -1,5 +1,5 @@
 -- What every run of a host end comes to.
-use Rattle.sam_endpoint.proofs.Common.{◌≡◌, refl, sym, ap, subst, ◌∙◌, inl, inr, ℕ, ◌+◌, ◌≤◌, ◌⊎◌, List, [], ◌∷◌, ◌++◌, flat_map, Option, Some, None, Result, Ok, Err, length, length-append, append_assoc, append-nil, arith, option_map, map, chars, with_given, Tmesg, HFrame, host, terminal, Splits, stream_of, version_after, Held, stream_of-append, version_after-append, Splits-then, PlainHost, answer, HostStop, StreamFault, Gives, mesg_fault, PlainHostEndpoint, Answers, Feeds, FeedsAfter, GoesOn, IsIdle, Serves, TakesIn, Answer}
+use Rattle.sam_endpoint.proofs.Common.{◌≡◌, refl, sym, ap, subst, ◌∙◌, inl, inr, ℕ, ◌+◌, ◌≤◌, ◌⊎◌, List, [], ◌∷◌, ◌++◌, flat_map, Option, Some, None, Result, Ok, Err, length, length-append, append_assoc, append-nil, arith, All-append, All-nil, All-same, FitsH, option_map, map, chars, with_given, Tmesg, HFrame, host, terminal, Splits, stream_of, version_after, Held, stream_of-append, version_after-append, Splits-then, PlainHost, answer, HostStop, StreamFault, Gives, mesg_fault, PlainHostEndpoint, Answers, Feeds, FeedsAfter, GoesOn, IsIdle, Serves, TakesIn, Answer}
 use Rattle.sam_mesg.specs.declared.fault.MesgFault.{MesgFault}
 use Rattle.sam_frame.specs.Framing.{HasRoom}
 use Rattle.sam_frame.specs.Reading.{IsStream}
@@ -92,6 +92,7 @@ kept_answers h stream out handed joined e g ms a kept =
         frames = s.frames ++ a.frames;
         writes = s.writes ++ a.more;
         serves = serves_more h s.steps s.frames s.writes e.host (map Answered ms) a.frames a.more g.host s.serves a.serves;
+        frames_fit = All-append (FitsH 2) s.frames a.frames s.frames_fit a.frames_fit;
         files = joined_more h.taken s.steps ms ∙ s.files;
         reads = grind (arith, whole);
         bytes = bytes_on out e g s.frames a.frames s.bytes a.bytes;
@@ -139,7 +140,7 @@ kept_piece h stream out handed joined piece e k none (messages, broken_by, rest,
     let version : e.framer.version ≡ version_after terminal 1 done = kept.version ∙ ap (λ (x : List Tmesg). version_after terminal 1 x) all in
     let more = reads_more e.framer rest stream piece done messages broken_by splits version gives in
     subst (λ (x : PlainHostEndpoint). Kept h (stream ++ piece) out handed joined x) (sym is) (record {
-      served = record { steps = s.steps; frames = s.frames; writes = s.writes; serves = s.serves; files = s.files; reads = more.0; bytes = s.bytes; written = s.written };
+      served = record { steps = s.steps; frames = s.frames; writes = s.writes; serves = s.serves; frames_fit = s.frames_fit; files = s.files; reads = more.0; bytes = s.bytes; written = s.written };
       version = more.1;
       place = place_more e.framer rest stream piece messages broken_by kept.place gives;
     })
@@ -190,6 +191,7 @@ kept_out h stream out handed joined bytes rest e is kept =
         frames = s.frames;
         writes = s.writes;
         serves = s.serves;
+        frames_fit = s.frames_fit;
         files = s.files;
         reads = s.reads;
         bytes = ap (λ (x : List ℕ). x ++ stream_of host e.unwritten) (append_assoc out bytes rest ∙ ap (λ (x : List ℕ). out ++ x) (sym is)) ∙ s.bytes;
@@ -214,6 +216,7 @@ kept_handed h stream out handed joined tag e is kept =
         frames = s.frames;
         writes = s.writes;
         serves = s.serves;
+        frames_fit = s.frames_fit;
         files = s.files;
         reads = s.reads;
         bytes = s.bytes;
@@ -241,6 +244,7 @@ kept_added h stream out handed joined count name text (Ok tag) e g then (is, all
         frames = s.frames ++ [];
         writes = s.writes ++ [];
         serves = serves_more h s.steps s.frames s.writes e.host (Joined file ∷ []) [] [] (with_given e.host file) s.serves (may_join e name text allowed, (refl, refl, refl));
+        frames_fit = All-same (FitsH 2) (s.frames ++ []) s.frames (append-nil s.frames) s.frames_fit;
         files = joined_last h.taken count s.steps file place ∙ ap (λ (l : Files). l ++ (count, file) ∷ []) s.files;
         reads = grind (arith, same);
         bytes = s.bytes ∙ ap (stream_of host) (sym (append-nil s.frames));
@@ -256,7 +260,7 @@ kept_added h stream out handed joined count name text (Err why) e g then (is, af
 -- nothing was fed to an end of this host
 pub kept_begun : (h : PlainHost) → Kept h [] [] [] [] (begun_with h)
 kept_begun h = record {
-  served = record { steps = []; frames = []; writes = []; serves = (refl, refl, refl); files = refl; reads = record { splits = record { whole = refl; fit = tt }; ends = tt }; bytes = refl; written = refl };
+  served = record { steps = []; frames = []; writes = []; serves = (refl, refl, refl); frames_fit = All-nil (FitsH 2); files = refl; reads = record { splits = record { whole = refl; fit = tt }; ends = tt }; bytes = refl; written = refl };
   version = refl;
   place = refl;
 }

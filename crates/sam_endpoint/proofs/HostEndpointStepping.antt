@@ -10,7 +10,7 @@ use Rattle.sam_endpoint.specs.declared.step.HostStep.TheVariants.{Idle, Wrote, E
 use Rattle.sam_endpoint.specs.HostSteps.{Brings, TakesSo, written}
 use Rattle.sam_endpoint.specs.HostStepping.{AnsweredFirst, BringsIn, GoesBySteps, HostStepsFeed, IsReady, IsWritten, Steps, StepsWaiting, TookEdits}
 use Rattle.sam_endpoint.specs.Streams.{bring_fault}
-use Rattle.sam_endpoint.proofs.HostEndpointGoing.{answers_then, next_done}
+use Rattle.sam_endpoint.proofs.HostEndpointGoing.{answers_nothing, answers_then, answers_written, next_done}
 
 -- ## Answers
 
@@ -58,18 +58,15 @@ pub record Went (e l : PlainHostEndpoint) : Type 0 where
   pub goes : l.stop ≡ None
 
 pub went_nowhere : (e : PlainHostEndpoint) → e.stop ≡ None → Went e e
-went_nowhere e goes = record { messages = []; answers = grind (arith, append-nil); goes = goes }
+went_nowhere e goes = record { messages = []; answers = answers_nothing e; goes = goes }
 
 went_to : (e l k : PlainHostEndpoint) (ms : List Tmesg) → Went e l → Answers l ms k → k.stop ≡ None → Went e k
 went_to e l k ms w a goes = record { messages = w.messages ++ ms; answers = answers_then e l k w.messages ms w.answers a; goes = goes }
 
-wrote : (l : PlainHostEndpoint) → Answers l [] (written l)
-wrote l = grind (arith, append-nil)
-
 -- a step leads on
 pub steps_on : (e l k : PlainHostEndpoint) (step : HostStep) → Went e l → Steps l (Ok step) k → Went e k
 steps_on e l k Idle w (ready, same) = subst (λ (x : PlainHostEndpoint). Went e x) (sym same) w
-steps_on e l k Wrote w (goes, some, is) = subst (λ (x : PlainHostEndpoint). Went e x) (sym is) (went_to e l (written l) [] w (wrote l) goes)
+steps_on e l k Wrote w (goes, some, is) = subst (λ (x : PlainHostEndpoint). Went e x) (sym is) (went_to e l (written l) [] w (answers_written l) goes)
 steps_on e l k (Edited tag count) w (is, took) = let n = next_done l k is.0 is.1 (inr took.edits) in went_to e l k n.0 w n.1 n.2
 steps_on e l k (Answered kind tag) w (is, first) = let n = next_done l k is.0 is.1 (inl first.first) in went_to e l k n.0 w n.1 n.2
 
@@ -82,7 +79,8 @@ all_answered e l ms a none = subst (λ (x : List Tmesg). Answers e x l) (sym (a.
 
 -- what is said of an end holds of it also once it has stopped
 answers_stopped : (e l : PlainHostEndpoint) (ms : List Tmesg) (why : HostStop) → Answers e ms l → Answers e ms (record l { stop = Some why })
-answers_stopped e l ms why a = grind arith
+answers_stopped e l ms why a =
+    record { frames = a.frames; more = a.more; serves = a.serves; frames_fit = a.frames_fit; waiting = a.waiting; bytes = a.bytes; writes = a.writes; framer = a.framer; broken_by = a.broken_by }
 
 -- and so does one that could not be made
 pub steps_not : (e l g : PlainHostEndpoint) (why : EndpointFault HostStop) → Went e l → Steps l (Err why) g → GoesOn e (Err why) g

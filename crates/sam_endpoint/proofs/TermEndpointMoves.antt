@@ -1,6 +1,6 @@
 -- What an end has received, done and written so far grows by its steps.
-use Rattle.sam_endpoint.proofs.Common.{◌≡◌, refl, ap, subst, ◌∙◌, ℕ, ◌+◌, List, [], ◌∷◌, ◌++◌, length, Ok, append_assoc, arith, append-nil, rules, flat_map-append, common_steps, sym, Tmesg, HFrame, act_touch, frame_touch, kept_acted, kept_after, kept_received, left_by, terminal, stream_of, PlainTerminal, act_of, take_of, Acted, PlainTermEndpoint, Acts, IsDecided, Moves, last_stamp, oldest, refusals_from, ActsFirst, ReceivesFirst, written}
-use Rattle.sam_endpoint.specs.TermEndpoints.{Receives}
+use Rattle.sam_endpoint.proofs.Common.{◌≡◌, refl, ap, subst, ◌∙◌, ℕ, ◌+◌, List, [], ◌∷◌, ◌++◌, length, Ok, append_assoc, arith, append-nil, rules, flat_map-append, common_steps, sym, All-append, All-nil, FitsT, FitMessages, composed_in, Tmesg, HFrame, act_touch, frame_touch, kept_acted, kept_after, kept_received, left_by, terminal, stream_of, PlainTerminal, act_of, take_of, Acted, PlainTermEndpoint, Acts, IsDecided, Moves, last_stamp, oldest, refusals_from, ActsFirst, ReceivesFirst, written}
+use Rattle.sam_endpoint.specs.TermEndpoints.{Receives, composed_by}
 use Rattle.sam_endpoint.specs.declared.changes.Kept.{Kept}
 
 receives-more : (t u v : PlainTerminal) (frames : List HFrame) (frame : HFrame) (ms ns : List Tmesg) → Receives t frames ms u
@@ -47,14 +47,44 @@ broken_by : (out base : List ℕ) (left before more : List Tmesg) → left ≡ [
 broken_by out base left before more none so_far = grind (arith, append_assoc, flat_map-append)
 
 pub moves_none : (e : PlainTermEndpoint) → Moves e [] [] e
-moves_none e = grind (arith, append-nil)
+moves_none e = record {
+  composed = [];
+  middle = e.term;
+  receives = (refl, refl);
+  acted = refl;
+  composed_fit = All-nil (FitsT 2);
+  acted_fit = All-nil (FitsT 2);
+  waiting = refl;
+  bytes = grind (arith, append-nil);
+  refusals = sym (append-nil e.refusals);
+  seen = refl;
+  kept = refl;
+  framer = refl;
+  events = refl;
+  broken_by = refl;
+}
 
 -- nothing is to be written
 pub none_written : (e : PlainTermEndpoint) → e.unwritten ≡ [] → e ≡ written e
 none_written e none = grind (arith, append-nil)
 
 pub moves_written : (e g : PlainTermEndpoint) (frames : List HFrame) (acts : List Acted) → Moves e frames acts g → Moves e frames acts (written g)
-moves_written e g frames acts m = grind (arith, append-nil)
+moves_written e g frames acts m = record {
+  composed = m.composed;
+  middle = m.middle;
+  receives = m.receives;
+  acted = m.acted;
+  composed_fit = m.composed_fit;
+  acted_fit = m.acted_fit;
+  waiting = m.waiting;
+  bytes = append-nil (g.pending_bytes ++ stream_of terminal g.unwritten) ∙ m.bytes;
+  refusals = m.refusals;
+  seen = m.seen;
+  kept = m.kept;
+  framer = m.framer;
+  events = m.events;
+  broken_by = m.broken_by;
+}
 
 pub moves_received : (e g k : PlainTermEndpoint) (frames : List HFrame) → Moves e frames [] g → g.unwritten ≡ [] → (r : ReceivesFirst g k) → Moves e (frames ++ r.frame ∷ []) [] k
 moves_received e g k frames m none r = grind (
@@ -67,12 +97,19 @@ moves_received e g k frames m none r = grind (
   (append-nil (e.unwritten ++ (m.composed ++ r.composed))),
   (last-stamp-more e.seen frames r.frame),
   (kept_received-more e.term m.middle frames r.frame m.composed e.kept m.receives),
+  (All-append (FitsT 2) m.composed r.composed m.composed_fit r.composed_fit),
   broken_by,
 )
 
+-- what one event more composed fits, too
+fit_more : (acts : List Acted) (acted : Acted) → FitMessages (composed_by acts) → FitMessages (composed_in acted) → FitMessages (composed_by (acts ++ acted ∷ []))
+fit_more acts acted fit more =
+    subst FitMessages (sym (flat_map-append composed_in acts (acted ∷ []) ∙ ap (λ (ms : List Tmesg). composed_by acts ++ ms) (append-nil (composed_in acted))))
+    (All-append (FitsT 2) (composed_by acts) (composed_in acted) fit more)
+
 pub moves_acted : (e g k : PlainTermEndpoint) (frames : List HFrame) (acts : List Acted) → Moves e frames acts g → g.unwritten ≡ [] → oldest g ≡ oldest e + length acts
     → (a : ActsFirst g k) → Moves e frames (acts ++ a.acted ∷ []) k
-moves_acted e g k frames acts m none number a = search (rules, common_steps, acts-more, refusals-more, (kept_acted-more m.middle g.term acts a.acted (kept_received e.term frames e.kept) m.acted))
+moves_acted e g k frames acts m none number a = search (rules, common_steps, acts-more, refusals-more, (fit_more acts a.acted m.acted_fit a.composed_fit), (kept_acted-more m.middle g.term acts a.acted (kept_received e.term frames e.kept) m.acted))
 
 -- frames are received, and then events act
 pub moves_both : (e m g : PlainTermEndpoint) (frames : List HFrame) (acts : List Acted) → Moves e frames [] m → m.unwritten ≡ [] → oldest m ≡ oldest e → Moves m [] acts g → Moves e frames acts g

@@ -1,5 +1,5 @@
 -- What every run of a terminal end comes to.
-use Rattle.sam_endpoint.proofs.Common.{◌≡◌, ◌⊎◌, refl, sym, ap, subst, ◌∙◌, inl, inr, ℕ, List, [], ◌∷◌, ◌++◌, flat_map, flat_map-append, Option, None, Some, Ok, Err, append_assoc, append-nil, length-append, arith, option_map, Tmesg, HFrame, host, terminal, Splits, stream_of, version_after, Held, stream_of-append, version_after-append, Splits-then, PlainTerminal, Acted, flush_of, composed_in, UserEvent, TermStop, StreamFault, Gives, mesg_fault, PlainTermEndpoint, Acts, Calls, Moves}
+use Rattle.sam_endpoint.proofs.Common.{◌≡◌, ◌⊎◌, refl, sym, ap, subst, ◌∙◌, inl, inr, ℕ, List, [], ◌∷◌, ◌++◌, flat_map, flat_map-append, Option, None, Some, Ok, Err, append_assoc, append-nil, length-append, arith, All-append, All-nil, All-same, FitsT, FitMessages, option_map, Tmesg, HFrame, host, terminal, Splits, stream_of, version_after, Held, stream_of-append, version_after-append, Splits-then, PlainTerminal, Acted, flush_of, composed_in, UserEvent, TermStop, StreamFault, Gives, mesg_fault, PlainTermEndpoint, Acts, Calls, Moves}
 use Rattle.sam_frame.specs.Reading.{IsStream}
 use Rattle.sam_frame.proofs.Cuttings.{Splits-longer}
 use Rattle.sam_term.specs.Term.{new_terminal}
@@ -113,6 +113,8 @@ kept_moves stream events out told e g frames acts m kept =
         leads = leads_more new_terminal e.term g.term d.steps (received frames ++ decided acts) d.composed (m.composed ++ composed_by acts) d.leads
             (leads_more e.term m.middle g.term (received frames) (decided acts) m.composed (composed_by acts)
             (receives_leads e.term m.middle frames m.composed m.receives) (acts_lead m.middle g.term acts m.acted));
+        composed_fit = All-append (FitsT 2) d.composed (m.composed ++ composed_by acts) d.composed_fit
+            (All-append (FitsT 2) m.composed (composed_by acts) m.composed_fit m.acted_fit);
         reads = reads_as stream e g (frames_in d.steps ++ e.waiting) (frames_in steps ++ g.waiting) frames_are m.framer m.broken_by d.reads;
         given = all_events d.steps frames acts ∙ d.given;
         bytes = bytes_on out e g d.composed m.composed (composed_by acts) d.bytes m.bytes;
@@ -205,7 +207,7 @@ kept_piece stream events out told piece e k none (frames, broken_by, rest, gives
     let version : e.framer.version ≡ version_after host 1 (frames_in d.steps) = kept.version ∙ ap (λ (x : List HFrame). version_after host 1 x) all in
     let more = reads_more e.framer rest stream piece (frames_in d.steps) frames broken_by splits version gives in
     subst (λ (x : PlainTermEndpoint). Kept (stream ++ piece) events out told x) (sym is) (record {
-      done = record { steps = d.steps; composed = d.composed; leads = d.leads; reads = more.0; given = d.given; bytes = d.bytes; refused = d.refused };
+      done = record { steps = d.steps; composed = d.composed; leads = d.leads; composed_fit = d.composed_fit; reads = more.0; given = d.given; bytes = d.bytes; refused = d.refused };
       version = more.1;
       count = kept.count;
     })
@@ -225,6 +227,7 @@ kept_held stream events out told e event kept =
         steps = d.steps ++ run.Held event ∷ [];
         composed = d.composed ++ [];
         leads = leads_more new_terminal e.term (with_event e event).term d.steps (run.Held event ∷ []) d.composed [] d.leads (refl, refl);
+        composed_fit = All-same (FitsT 2) (d.composed ++ []) d.composed composed d.composed_fit;
         reads = subst (λ (x : List HFrame). IsStream host 1 stream (x ++ e.waiting) e.framer.bytes (option_map mesg_fault e.broken_by)) (sym frames) d.reads;
         given = flat_map-append event_in d.steps (run.Held event ∷ []) ∙ ap (λ (x : List UserEvent). x ++ event ∷ []) d.given;
         bytes = d.bytes ∙ ap (λ (x : List Tmesg). stream_of terminal x) (sym composed);
@@ -236,8 +239,8 @@ kept_held stream events out told e event kept =
 
 -- the unsent runes were composed
 kept_sent : (stream : List ℕ) (events : List UserEvent) (out : List ℕ) (told : List (ℕ × Refusal)) (e : PlainTermEndpoint) (u : PlainTerminal) (composed : List Tmesg) → e.unwritten ≡ []
-    → flush_of e.term ≡ Ok (u, composed) → Kept stream events out told e → Kept stream events out told (record e { term = u; unwritten = composed })
-kept_sent stream events out told e u composed none flushes kept =
+    → flush_of e.term ≡ Ok (u, composed) → FitMessages composed → Kept stream events out told e → Kept stream events out told (record e { term = u; unwritten = composed })
+kept_sent stream events out told e u composed none flushes fit kept =
     let d = kept.done in
     let frames : frames_in (d.steps ++ run.Sent ∷ []) ≡ frames_in d.steps = flat_map-append frame_in d.steps (run.Sent ∷ []) ∙ append-nil (frames_in d.steps) in
     let acts : acts_in (d.steps ++ run.Sent ∷ []) ≡ acts_in d.steps = flat_map-append act_in d.steps (run.Sent ∷ []) ∙ append-nil (acts_in d.steps) in
@@ -246,6 +249,7 @@ kept_sent stream events out told e u composed none flushes kept =
         steps = d.steps ++ run.Sent ∷ [];
         composed = d.composed ++ composed;
         leads = leads_more new_terminal e.term u d.steps (run.Sent ∷ []) d.composed composed d.leads (u, composed, [], flushes, sym (append-nil composed), (refl, refl));
+        composed_fit = All-append (FitsT 2) d.composed composed d.composed_fit fit;
         reads = subst (λ (x : List HFrame). IsStream host 1 stream (x ++ e.waiting) e.framer.bytes (option_map mesg_fault e.broken_by)) (sym frames) d.reads;
         given = flat_map-append event_in d.steps (run.Sent ∷ []) ∙ append-nil (events_in d.steps) ∙ d.given;
         bytes = bytes_on out e.pending_bytes e.unwritten d.composed composed none d.bytes;
@@ -298,8 +302,8 @@ kept_put stream events out told event e g result goes (inr (inr (is, full, same)
 
 kept_flushed : (stream : List ℕ) (events : List UserEvent) (out : List ℕ) (told : List (ℕ × Refusal)) (e g : PlainTermEndpoint) (result : Answer) → GoesOnAfter result → e.unwritten ≡ []
     → FlushesIdle e result g → Kept stream events out told e → Kept stream events out told g
-kept_flushed stream events out told e g result goes none (inl (u, composed, flushes, on)) kept =
-    kept_goes_on stream events out told (record e { term = u; unwritten = composed }) g result goes on (kept_sent stream events out told e u composed none flushes kept)
+kept_flushed stream events out told e g result goes none (inl (u, composed, flushes, fit, on)) kept =
+    kept_goes_on stream events out told (record e { term = u; unwritten = composed }) g result goes on (kept_sent stream events out told e u composed none flushes fit kept)
 kept_flushed stream events out told e g result goes none (inr (inl (is, counted, same))) kept = subst (λ (x : PlainTermEndpoint). Kept stream events out told x) (sym same) kept
 kept_flushed stream events out told e g result goes none (inr (inr (why, fails, is, same))) kept = absurd (stopped_not result _ is goes)
 
@@ -347,6 +351,7 @@ kept_out stream events out told bytes rest e is kept =
         steps = d.steps;
         composed = d.composed;
         leads = d.leads;
+        composed_fit = d.composed_fit;
         reads = d.reads;
         given = d.given;
         bytes = ap (λ (x : List ℕ). x ++ stream_of terminal e.unwritten) (append_assoc out bytes rest ∙ ap (λ (x : List ℕ). out ++ x) (sym is)) ∙ d.bytes;
@@ -370,6 +375,7 @@ kept_told stream events out told next e is kept =
         steps = d.steps;
         composed = d.composed;
         leads = d.leads;
+        composed_fit = d.composed_fit;
         reads = d.reads;
         given = d.given;
         bytes = d.bytes;
@@ -385,7 +391,7 @@ kept_changed : (stream : List ℕ) (events : List UserEvent) (out : List ℕ) (t
 kept_changed stream events out told e now kept =
     let d = kept.done in
     record {
-      done = record { steps = d.steps; composed = d.composed; leads = d.leads; reads = d.reads; given = d.given; bytes = d.bytes; refused = d.refused };
+      done = record { steps = d.steps; composed = d.composed; leads = d.leads; composed_fit = d.composed_fit; reads = d.reads; given = d.given; bytes = d.bytes; refused = d.refused };
       version = kept.version;
       count = kept.count;
     }
@@ -423,6 +429,7 @@ kept_begun = record {
     steps = [];
     composed = [];
     leads = (refl, refl);
+    composed_fit = All-nil (FitsT 2);
     reads = record { splits = record { whole = refl; fit = tt }; ends = tt };
     given = refl;
     bytes = refl;
@@ -506,15 +513,15 @@ put_stops stream events out told event e g why (inr puts) kept = absurd (grind a
 
 flush_stops : (stream : List ℕ) (events : List UserEvent) (out : List ℕ) (told : List (ℕ × Refusal)) (e g : PlainTermEndpoint) (why : TermStop) → IsDone e
     → FlushesIdle e (Err (fault.Stopped why)) g → Kept stream events out told e → Ended stream events out told why g
-flush_stops stream events out told e g why whole (inl (u, composed, flushes, on)) kept =
-    went_on stream events out told (record e { term = u; unwritten = composed }) g why on (kept_sent stream events out told e u composed whole.0.unwritten flushes kept)
+flush_stops stream events out told e g why whole (inl (u, composed, flushes, fit, on)) kept =
+    went_on stream events out told (record e { term = u; unwritten = composed }) g why on (kept_sent stream events out told e u composed whole.0.unwritten flushes fit kept)
 flush_stops stream events out told e g why whole (inr (inl (is, counted, same))) kept = absurd (cc)
 flush_stops stream events out told e g why whole (inr (inr (who, fails, is, same))) kept =
     let one : stop.Refused who ≡ why = cc in
     let d = kept.done in
     subst (λ (x : PlainTermEndpoint). Ended stream events out told why x) (sym same)
     (subst (λ (w : TermStop). Ended stream events out told w (record e { stop = Some (stop.Refused who) })) one (record {
-      done = record { steps = d.steps; composed = d.composed; leads = d.leads; reads = d.reads; given = d.given; bytes = d.bytes; refused = d.refused };
+      done = record { steps = d.steps; composed = d.composed; leads = d.leads; composed_fit = d.composed_fit; reads = d.reads; given = d.given; bytes = d.bytes; refused = d.refused };
       stops = inr ((record { waiting = whole.0.waiting; unwritten = whole.0.unwritten }, whole.1), inr fails);
       says = refl;
     }))

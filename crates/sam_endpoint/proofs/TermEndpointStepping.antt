@@ -202,7 +202,22 @@ moves_as e l g frames acts m none same = subst (λ (x : PlainTermEndpoint). Move
 
 -- what is said of an end holds of it also once it has stopped
 moves_stopped : (e l : PlainTermEndpoint) (frames : List HFrame) (acts : List Acted) (why : TermStop) → Moves e frames acts l → Moves e frames acts (record l { stop = Some why })
-moves_stopped e l frames acts why m = grind arith
+moves_stopped e l frames acts why m = record {
+  composed = m.composed;
+  middle = m.middle;
+  receives = m.receives;
+  acted = m.acted;
+  composed_fit = m.composed_fit;
+  acted_fit = m.acted_fit;
+  waiting = m.waiting;
+  bytes = m.bytes;
+  refusals = m.refusals;
+  seen = m.seen;
+  kept = m.kept;
+  framer = m.framer;
+  events = m.events;
+  broken_by = m.broken_by;
+}
 
 -- and so does one that could not be made
 pub steps_not : (e l g : PlainTermEndpoint) (why : EndpointFault TermStop) → Went e l → Steps l (Err why) g → GoesOn e (Err why) g

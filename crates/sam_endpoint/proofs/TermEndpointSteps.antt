@@ -1,5 +1,5 @@
 -- One step of a terminal end: what holds of the end after it.
-use Rattle.sam_endpoint.proofs.Common.{◌≡◌, refl, ap, sym, subst, ℕ, ◌-◌, ◌≤◌, false, List, [], ◌∷◌, ◌++◌, length, drop, Option, Some, None, Ok, Err, arith, slice_get, IsTrue, All-tail, fits_h, HFrame, Tmesg, host, Held, composed_in, PlainTerminal, UserEvent, act_of, act_on, flush_of, take_of, Acted, Idle, StreamFault, TermStop, EndpointFault, FitFrames, Gives, PlainTermEndpoint, act_touch, kept_after, IsDecided, oldest, refusals_from, ActsFirst, Receives, Tries, stopped_by, All-nil, FitInTurn}
+use Rattle.sam_endpoint.proofs.Common.{◌≡◌, refl, ap, sym, subst, ℕ, ◌-◌, ◌≤◌, false, List, [], ◌∷◌, ◌++◌, length, drop, Option, Some, None, Ok, Err, arith, slice_get, IsTrue, All-tail, fits_h, HFrame, Tmesg, host, Held, composed_in, PlainTerminal, UserEvent, act_of, act_on, flush_of, take_of, Acted, Idle, StreamFault, TermStop, EndpointFault, CanEncode, FitMessages, Gives, PlainTermEndpoint, act_touch, kept_after, IsDecided, oldest, refusals_from, ActsFirst, Receives, Tries, stopped_by, All-nil, FitInTurn}
 use Rattle.std.proofs.Common.{IsOk}
 use Rattle.sam_term.specs.Taking.{IsFailure}
 use Rattle.sam_term.specs.declared.fault.TermFault.{TermFault}
@@ -13,8 +13,8 @@ first_read frames frame e = grind arith
 
 -- ## Frames
 
-pub rest_fit : (frames : List HFrame) (frame : HFrame) → frames ≡ frame ∷ drop 1 frames → FitFrames frames → FitFrames (drop 1 frames)
-rest_fit frames frame first fit = All-tail (λ (x : HFrame). IsTrue (fits_h 2 x.msg)) frame (drop 1 frames) (subst (λ xs. FitFrames xs) first fit)
+pub rest_fit : (frames : List HFrame) (frame : HFrame) → frames ≡ frame ∷ drop 1 frames → CanEncode host frames → CanEncode host (drop 1 frames)
+rest_fit frames frame first fit = All-tail (λ (x : HFrame). IsTrue (fits_h 2 x.msg)) frame (drop 1 frames) (subst (λ (xs : List HFrame). CanEncode host xs) first fit)
 
 pub given_reads : (h : Held) (piece : List ℕ) (frames : List HFrame) (broken_by : Option StreamFault) (k : Held) → Gives host h piece frames broken_by k → broken_by ≡ None → k.failed ≡ false
 given_reads h piece frames broken_by k e u = grind arith
@@ -40,9 +40,9 @@ acted_is e t u a b one other = grind arith
 pub settled_counted : (e : PlainTermEndpoint) (u : PlainTerminal) (acted : Acted) → IsSound e → act_of e.term ≡ Ok (u, acted) → IsDecided acted → length u.held ≤ e.events
 settled_counted e u acted s act settled = omega (arith, act_held e.term u acted act settled, s.counted)
 
-pub acted_first : (e g : PlainTermEndpoint) (u : PlainTerminal) (acted : Acted) → IsSound e → act_of e.term ≡ Ok (u, acted) → IsDecided acted
+pub acted_first : (e g : PlainTermEndpoint) (u : PlainTerminal) (acted : Acted) → IsSound e → act_of e.term ≡ Ok (u, acted) → IsDecided acted → FitMessages (composed_in acted)
     → g ≡ record e { term = u; unwritten = composed_in acted; refusals = e.refusals ++ refusals_from (oldest e) (acted ∷ []); kept = kept_after e.kept (act_touch e.term acted) } → ActsFirst e g
-acted_first e g u acted s act settled same = grind (arith, act_held)
+acted_first e g u acted s act settled fit same = grind (arith, act_held)
 
 -- the number of an event that is refused, as it is counted
 pub refused_number : (e : PlainTermEndpoint) (u : PlainTerminal) (acted : Acted) → act_of e.term ≡ Ok (u, acted) → IsDecided acted → e.events - length u.held ≡ oldest e
@@ -66,9 +66,9 @@ pub receive_failed : (e h g : PlainTermEndpoint) (frame : HFrame) (rest : List H
 receive_failed e h g frame rest u why w q y z = grind arith
 
 -- frames that a framer gives fit in version 2
-pub frames_fit : (v : ℕ) (frames : List HFrame) → FitInTurn host v frames → FitFrames frames
+pub frames_fit : (v : ℕ) (frames : List HFrame) → FitInTurn host v frames → CanEncode host frames
 frames_fit v [] fit = All-nil (λ (frame : HFrame). IsTrue (fits_h 2 frame.msg))
 frames_fit v (frame ∷ frames) fit = grind (arith, (frames_fit (host.after v frame) frames fit.1))
 
-pub given_fit : (h : Held) (piece : List ℕ) (frames : List HFrame) (broken_by : Option StreamFault) (k : Held) → Gives host h piece frames broken_by k → FitFrames frames
+pub given_fit : (h : Held) (piece : List ℕ) (frames : List HFrame) (broken_by : Option StreamFault) (k : Held) → Gives host h piece frames broken_by k → CanEncode host frames
 given_fit h piece frames broken_by k e = grind (arith, frames_fit)

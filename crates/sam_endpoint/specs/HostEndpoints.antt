@@ -19,7 +19,7 @@ use Rattle.sam_endpoint.specs.declared.fault.EndpointFault.{EndpointFault}
 use Rattle.sam_endpoint.specs.declared.fault.EndpointFault.TheVariants as fault
 use Rattle.sam_endpoint.specs.declared.fault.FinishFault.{FinishFault}
 use Rattle.sam_endpoint.specs.declared.fault.FinishFault.TheVariants as ending
-use Rattle.sam_endpoint.specs.Streams.{Gives}
+use Rattle.sam_endpoint.specs.Streams.{FitFrames, Gives}
 
 pub record PlainHostEndpoint : Type 0 where
   pub framer : Held  -- what came of the terminal's stream and is no whole frame yet
@@ -66,11 +66,12 @@ Serves h (Answered m ∷ steps) frames writes g =
     × (answer h m ≡ Ok (k, first)) × (frames ≡ first ++ rest) × (writes ≡ writes_of h m ++ more) × Serves k steps rest more g
 Serves h (Joined file ∷ steps) frames writes g = MayJoin h file × Serves (with_given h file) steps frames writes g
 
--- of the messages that waited these were answered, and what was answered is written or waits to be
+-- of the messages that waited these were answered, and the frames of the answers are written or wait to be
 pub record Answers (e : PlainHostEndpoint) (messages : List Tmesg) (g : PlainHostEndpoint) : Type 0 where
   pub frames : List HFrame
   pub more : List ℕ
   pub serves : Serves e.host (map Answered messages) frames more g.host
+  pub frames_fit : FitFrames frames
   pub waiting : e.waiting ≡ messages ++ g.waiting
   pub bytes : g.pending_bytes ++ stream_of host g.unwritten ≡ e.pending_bytes ++ stream_of host (e.unwritten ++ frames)
   pub writes : g.writes ≡ e.writes ++ more

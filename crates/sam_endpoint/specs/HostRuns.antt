@@ -11,7 +11,7 @@ use Rattle.sam_endpoint.specs.declared.fault.AddFault.{AddFault}
 use Rattle.sam_endpoint.specs.declared.fault.HostStop.{HostStop}
 use Rattle.sam_endpoint.specs.declared.fault.HostStop.TheVariants as stop
 use Rattle.sam_endpoint.specs.declared.fault.EndpointFault.TheVariants as fault
-use Rattle.sam_endpoint.specs.Streams.{mesg_fault}
+use Rattle.sam_endpoint.specs.Streams.{FitFrames, mesg_fault}
 use Rattle.sam_endpoint.specs.HostEndpoints.{PlainHostEndpoint, Step, Answered, Joined, Adds, Feeds, IsIdle, Serves, new_host_endpoint}
 use Rattle.sam_endpoint.specs.HostSteps.{Answer}
 
@@ -77,14 +77,15 @@ joined_by (AddFile count name text (Ok tag)) = (count, (chars name, chars text))
 joined_by _ = []
 
 -- Of a stream that came in, the host has answered the first messages, and the others wait, with what is wrong after them. These files
--- joined, each after so many answers. All frames of the answers, in order, are what was taken out, what is pending and what is not
--- written yet. All tags that the host was told to write, in order, are those that were handed out and those that wait to be.
+-- joined, each after so many answers. All frames of the answers fit, and in order they are what was taken out, what is pending and what
+-- is not written yet. All tags that the host was told to write, in order, are those that were handed out and those that wait to be.
 pub record HasServed (first : PlainHost) (stream out handed : List ℕ) (joined : List (ℕ × (List ℕ × List ℕ)))
     (e : PlainHostEndpoint) : Type 0 where
   pub steps : List Step
   pub frames : List HFrame
   pub writes : List ℕ
   pub serves : Serves first steps frames writes e.host
+  pub frames_fit : FitFrames frames
   pub files : joined_after first.taken steps ≡ joined
   pub reads : IsStream terminal 1 stream (messages_in steps ++ e.waiting) e.framer.bytes (option_map mesg_fault e.broken_by)
   pub bytes : (out ++ e.pending_bytes) ++ stream_of host e.unwritten ≡ stream_of host frames

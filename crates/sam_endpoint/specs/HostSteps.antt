@@ -2,22 +2,22 @@
 use Rattle.std.specs.Prelude.{◌≡◌, ◌⊎◌, ℕ, ◌+◌, ◌^◌, ◌<◌, ◌≤◌, List, [], ◌∷◌, ◌++◌, length, false, Some, None, Result, Ok, Err}
 use Rattle.sam_mesg.specs.declared.tmesg.Tmesg.{Tmesg}
 use Rattle.sam_mesg.specs.declared.hmesg.HFrame.{HFrame}
-use Rattle.sam_frame.specs.Direction.{host}
+use Rattle.sam_frame.specs.Direction.{host, terminal}
 use Rattle.sam_frame.specs.Framing.{HasRoom}
-use Rattle.sam_frame.specs.Stream.{stream_of}
+use Rattle.sam_frame.specs.Stream.{CanEncode, stream_of}
 use Rattle.sam_host.specs.Edits.{TakesInSilence}
 use Rattle.sam_host.specs.Host.{PlainHost, answer}
 use Rattle.sam_endpoint.specs.declared.fault.HostStop.{HostStop}
 use Rattle.sam_endpoint.specs.declared.fault.HostStop.TheVariants as stop
 use Rattle.sam_endpoint.specs.declared.fault.EndpointFault.{EndpointFault}
 use Rattle.sam_endpoint.specs.declared.fault.EndpointFault.TheVariants as fault
-use Rattle.sam_endpoint.specs.Streams.{FitFrames, FitMessages}
+use Rattle.sam_endpoint.specs.Streams.{FitFrames}
 use Rattle.sam_endpoint.specs.HostEndpoints.{PlainHostEndpoint, TakesIn, writes_of}
 
 -- what holds of every host end
 pub record IsSound (e : PlainHostEndpoint) : Type 0 where
-  pub waiting : FitMessages e.waiting
-  pub unwritten : FitFrames e.unwritten
+  pub waiting : CanEncode terminal e.waiting
+  pub unwritten : CanEncode host e.unwritten
   pub reads : e.broken_by ≡ None → e.framer.failed ≡ false
 
 abbrev pub Answer : Type 0
@@ -45,6 +45,7 @@ pub record AnswersFirst (e : PlainHostEndpoint) (g : PlainHostEndpoint) : Type 0
   pub frames : List HFrame
   pub waited : e.waiting ≡ message ∷ rest
   pub answered : answer e.host message ≡ Ok (host, frames)
+  pub frames_fit : FitFrames frames
   pub after : g ≡ record e { host = host; waiting = rest; unwritten = frames; writes = e.writes ++ writes_of e.host message }
 
 -- it is answered, or all stays, or the host refuses it

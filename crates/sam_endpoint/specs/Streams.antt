@@ -1,12 +1,13 @@
 -- What both ends share: what can be written, and a stream that shows a fault.
-use Rattle.std.specs.Prelude.{◌≡◌, ℕ, ◌+◌, ◌^◌, ◌≤◌, List, length, Option, Some, None, Result, Ok, Err}
+use Rattle.std.specs.Prelude.{◌≡◌, ℕ, ◌+◌, ◌^◌, ◌≤◌, List, length, Option, Some, None, Result, Ok, Err, All}
 use Rattle.std.specs.Global.{Vec}
+use Rattle.sam_mesg.specs.HostKinds.{FitsH}
+use Rattle.sam_mesg.specs.TerminalKinds.{FitsT}
 use Rattle.sam_mesg.specs.declared.hmesg.HFrame.{HFrame}
 use Rattle.sam_mesg.specs.declared.tmesg.Tmesg.{Tmesg}
 use Rattle.sam_mesg.specs.declared.fault.MesgFault.{MesgFault}
 use Rattle.sam_mesg.specs.declared.fault.MesgFault.TheVariants as wrong
-use Rattle.sam_frame.specs.Direction.{Direction, terminal, host}
-use Rattle.sam_frame.specs.Stream.{CanEncode}
+use Rattle.sam_frame.specs.Direction.{Direction}
 use Rattle.sam_frame.specs.Framing.{Held, HasRoom, GaveAll, GaveUp}
 use Rattle.sam_endpoint.specs.declared.fault.EndpointFault.{EndpointFault}
 use Rattle.sam_endpoint.specs.declared.fault.EndpointFault.TheVariants as fault
@@ -15,13 +16,13 @@ use Rattle.sam_endpoint.specs.declared.step.BringFault.{BringFault}
 use Rattle.sam_endpoint.specs.declared.step.BringFault.TheVariants as bring
 use Rattle.sam_endpoint.specs.declared.fault.StreamFault.TheVariants.{BadKind, BadLength, BadText}
 
--- each frame fits in version 2, and so can be written
+-- each frame is a value of its type that is within the limits of version 2
 abbrev pub FitFrames : List HFrame → Type 0
-FitFrames frames = CanEncode host frames
+FitFrames frames = All (FitsH 2) frames
 
--- each message fits in version 2, and so can be written
+-- each message is a value of its type that is within the limits of version 2
 abbrev pub FitMessages : List Tmesg → Type 0
-FitMessages messages = CanEncode terminal messages
+FitMessages messages = All (FitsT 2) messages
 
 abbrev pub mesg_fault : StreamFault → MesgFault
 mesg_fault BadKind = wrong.BadKind

@@ -23,7 +23,7 @@ use Rattle.sam_endpoint.specs.declared.term_endpoint.TermEndpoint.TheInside.{Ins
 use Rattle.sam_endpoint.specs.declared.changes.Change.{Change}
 use Rattle.sam_endpoint.specs.declared.changes.Kept.{Kept}
 use Rattle.sam_endpoint.specs.Changes.{asked, change_of, kept_acted, kept_at, kept_received}
-use Rattle.sam_endpoint.specs.Streams.{Gives}
+use Rattle.sam_endpoint.specs.Streams.{FitMessages, Gives}
 
 pub record PlainTermEndpoint : Type 0 where
   pub framer : Held  -- what came of the host's stream and is no whole frame yet
@@ -126,6 +126,8 @@ pub record Moves (e : PlainTermEndpoint) (frames : List HFrame) (acts : List Act
   pub middle : PlainTerminal
   pub receives : Receives e.term frames composed middle
   pub acted : Acts middle acts g.term
+  pub composed_fit : FitMessages composed
+  pub acted_fit : FitMessages (composed_by acts)
   pub waiting : e.waiting ≡ frames ++ g.waiting
   pub bytes : g.pending_bytes ++ stream_of terminal g.unwritten
       ≡ e.pending_bytes ++ stream_of terminal (e.unwritten ++ composed ++ composed_by acts)
@@ -212,7 +214,7 @@ PutsIdle e event result g =
 -- the unsent runes are composed, where nothing waits
 abbrev pub FlushesIdle : PlainTermEndpoint → Result (Unit {0}) (EndpointFault TermStop) → PlainTermEndpoint → Type 0
 FlushesIdle e result g =
-    ((u : PlainTerminal) × (composed : List Tmesg) × (flush_of e.term ≡ Ok (u, composed))
+    ((u : PlainTerminal) × (composed : List Tmesg) × (flush_of e.term ≡ Ok (u, composed)) × FitMessages composed
     × GoesOn (record e { term = u; unwritten = composed }) result g)
     ⊎ (((result ≡ Err fault.OutOfMemory) × IsOk (flush_of e.term) × (g ≡ e))
     ⊎ ((why : TermFault) × (flush_of e.term ≡ Err why) × (result ≡ Err (fault.Stopped (stop.Refused why)))

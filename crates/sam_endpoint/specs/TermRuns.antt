@@ -14,7 +14,7 @@ use Rattle.sam_endpoint.specs.declared.changes.Kept.{Kept}
 use Rattle.sam_endpoint.specs.declared.fault.TermStop.{TermStop}
 use Rattle.sam_endpoint.specs.declared.fault.TermStop.TheVariants as stop
 use Rattle.sam_endpoint.specs.declared.fault.EndpointFault.TheVariants as fault
-use Rattle.sam_endpoint.specs.Streams.{mesg_fault}
+use Rattle.sam_endpoint.specs.Streams.{FitMessages, mesg_fault}
 use Rattle.sam_endpoint.specs.TermEndpoints.{PlainTermEndpoint, Feeds, Flushes, IsDecided, IsDone, IsIdle, Puts, new_term_endpoint, refusals_from}
 use Rattle.sam_endpoint.specs.TermSteps.{Answer}
 
@@ -128,14 +128,15 @@ handed_out _ = []
 -- ## The laws
 
 -- The terminal has done steps. In them it received the first frames of the stream that came in, and the others wait, with what is wrong
--- after them; and it was given these events, in order. All messages that it composed, in order, are what was taken out, what is pending
--- and what is not written yet. All refusals of events, in order, each with the number of its event, are those that were handed out and
+-- after them; and it was given these events, in order. All messages that it composed fit, and in order they are what was taken out, what
+-- is pending and what is not written yet. All refusals of events, in order, each with the number of its event, are those that were handed out and
 -- those that wait to be.
 pub record HasDone (stream : List ℕ) (events : List UserEvent) (out : List ℕ) (handed : List (ℕ × Refusal)) (e : PlainTermEndpoint)
     : Type 0 where
   pub steps : List Step
   pub composed : List Tmesg
   pub leads : Leads new_terminal steps composed e.term
+  pub composed_fit : FitMessages composed
   pub reads : IsStream host 1 stream (frames_in steps ++ e.waiting) e.framer.bytes (option_map mesg_fault e.broken_by)
   pub given : events_in steps ≡ events
   pub bytes : (out ++ e.pending_bytes) ++ stream_of terminal e.unwritten ≡ stream_of terminal composed

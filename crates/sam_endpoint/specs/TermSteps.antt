@@ -2,9 +2,9 @@
 use Rattle.std.specs.Prelude.{◌≡◌, ℕ, ◌+◌, ◌-◌, ◌^◌, ◌<◌, ◌≤◌, ◌⊎◌, List, [], ◌∷◌, ◌++◌, length, Bool, true, false, Some, None, Result, Ok, Err, IsOk}
 use Rattle.sam_mesg.specs.declared.tmesg.Tmesg.{Tmesg}
 use Rattle.sam_mesg.specs.declared.hmesg.HFrame.{HFrame}
-use Rattle.sam_frame.specs.Direction.{terminal}
+use Rattle.sam_frame.specs.Direction.{host, terminal}
 use Rattle.sam_frame.specs.Framing.{HasRoom}
-use Rattle.sam_frame.specs.Stream.{stream_of}
+use Rattle.sam_frame.specs.Stream.{CanEncode, stream_of}
 use Rattle.sam_term.specs.Fitting.{composed_in}
 use Rattle.sam_term.specs.Term.{PlainTerminal, act_of, flush_of, take_of}
 use Rattle.sam_term.specs.declared.event.Acted.{Acted}
@@ -19,13 +19,13 @@ use Rattle.sam_term.specs.declared.fault.TermFault.TheVariants as refusal
 use Rattle.sam_endpoint.specs.declared.step.Decision.{Decision}
 use Rattle.sam_endpoint.specs.declared.step.Decision.TheVariants as decision
 use Rattle.sam_endpoint.specs.Changes.{act_touch, frame_touch, kept_after}
-use Rattle.sam_endpoint.specs.Streams.{FitFrames, FitMessages}
+use Rattle.sam_endpoint.specs.Streams.{FitMessages}
 use Rattle.sam_endpoint.specs.TermEndpoints.{PlainTermEndpoint, GoesOn, IsIdle, IsQuiet, IsDecided, Moves, TakesIn, oldest, refusals_from, undone, with_event}
 
 -- what holds of every terminal end
 pub record IsSound (e : PlainTermEndpoint) : Type 0 where
-  pub waiting : FitFrames e.waiting
-  pub unwritten : FitMessages e.unwritten
+  pub waiting : CanEncode host e.waiting
+  pub unwritten : CanEncode terminal e.unwritten
   pub counted : length e.term.held ≤ e.events
   pub stamped : e.seen ≤ e.term.sent
   pub reads : e.broken_by ≡ None → e.framer.failed ≡ false
@@ -79,6 +79,7 @@ pub record ReceivesFirst (e : PlainTermEndpoint) (g : PlainTermEndpoint) : Type 
   pub composed : List Tmesg
   pub waited : e.waiting ≡ frame ∷ rest
   pub taken : take_of e.term frame ≡ Ok (term, composed)
+  pub composed_fit : FitMessages composed
   pub after : g ≡ record e {
     term = term;
     waiting = rest;
@@ -105,6 +106,7 @@ pub record ActsFirst (e : PlainTermEndpoint) (g : PlainTermEndpoint) : Type 0 wh
   pub acted : Acted
   pub acts : act_of e.term ≡ Ok (term, acted)
   pub decided : IsDecided acted
+  pub composed_fit : FitMessages (composed_in acted)
   pub after : g ≡ record e {
     term = term;
     unwritten = composed_in acted;
@@ -191,7 +193,7 @@ Holds e event (Err (fault.Stopped why)) g = ⊥
 abbrev pub Composes : PlainTermEndpoint → Answer → PlainTermEndpoint → Type 0
 Composes e (Ok done) g =
     (term : PlainTerminal) × (composed : List Tmesg)
-    × (flush_of e.term ≡ Ok (term, composed)) × (g ≡ record e { term = term; unwritten = composed })
+    × (flush_of e.term ≡ Ok (term, composed)) × FitMessages composed × (g ≡ record e { term = term; unwritten = composed })
 Composes e (Err fault.OutOfMemory) g = IsOk (flush_of e.term) × (g ≡ e)
 Composes e (Err (fault.Stopped (stop.Refused why))) g = (flush_of e.term ≡ Err why) × (g ≡ stopped e (stop.Refused why))
 Composes e (Err (fault.Stopped (stop.Stream why))) g = ⊥

@@ -11,6 +11,7 @@ ghost use Rattle.sam_endpoint.specs.HostSteps.{Brings, Ends, Handles, HandlesNex
 
 use crate::fault::{AddFault, EndpointFault, FinishFault, HostStop, StreamFault};
 use crate::incoming::{drop_first, feed_framer};
+use crate::known::know_frames;
 use sam_frame::{FramerT, PendingBytes};
 use sam_host::{Host, HostFault};
 use sam_mesg::{HFrame, Tmesg};
@@ -348,6 +349,7 @@ impl HostEndpoint {
         let tag = write_in(&self.host, message);
         match self.host.handle_lent(message) {
             Ok(frames) => {
+                know_frames(frames.as_slice());
                 drop_first(&mut self.waiting);
                 note(&mut self.writes, tag);
                 self.unwritten = frames.into_vec();

@@ -9,6 +9,7 @@ mod fault;
 mod host_endpoint;
 mod host_steps;
 mod incoming;
+mod known;
 pub mod laws;
 mod naming;
 mod step;

@@ -1,6 +1,7 @@
 //! A terminal at one end of a stream of bytes each way.
 
 ghost use Rattle.std.specs.Prelude.{◌≡◌, ◌↔◌, IfErr, IfOk, IsOk, IsTrue, None, [], ◌<◌, ◌≤◌, true, false, drop, length, min, option_copied, take, slice_get, ◌++◌};
+ghost use Rattle.sam_endpoint.specs.Streams.{FitMessages};
 ghost use Rattle.sam_endpoint.specs.TermEndpoints.{Asks, Feeds, Finishes, Flushes, GoesOn, IsIdle, Puts, decided, new_term_endpoint, under_way};
 ghost use Rattle.sam_endpoint.specs.TermSteps.{Acts, ActsAll, Composes, Decides, Gains, Holds, Receives, ReceivesAll, Resumes, Tries, Writes, end_fault, stopped_by};
 ghost use Rattle.sam_mesg.specs.HostKinds.{fits_h};
@@ -10,6 +11,7 @@ ghost use Rattle.sam_term.specs.Term.{act_of, flush_of, take_of};
 use crate::changes::{Change, Changes, frame_touch, len_if_open, oldest_touch};
 use crate::fault::{EndpointFault, FinishFault, StreamFault, TermStop};
 use crate::incoming::{drop_first, feed_framer};
+use crate::known::know_messages;
 use crate::step::Decision;
 use sam_frame::{FramerH, PendingBytes};
 use sam_mesg::{Batch, HFrame, Tmesg};
@@ -487,9 +489,13 @@ fn receive_now(term: &mut Terminal, frame: &HFrame) -> Result<Batch, EndpointFau
     requires { IsTrue (fits_h 2 frame.now.msg) }
     ensures tries { Tries term.old (take_of term.old frame.now) result term.new }
     ensures fit { IfOk result AllFit }
+    ensures known { IfOk result FitMessages }
 {
     match term.receive_lent(frame) {
-        Ok(composed) => Ok(composed),
+        Ok(composed) => {
+            know_messages(composed.as_slice());
+            Ok(composed)
+        }
         Err(why) => Err(end_fault(why)),
     }
 }
@@ -498,8 +504,13 @@ fn receive_now(term: &mut Terminal, frame: &HFrame) -> Result<Batch, EndpointFau
 fn act_now(term: &mut Terminal) -> Result<Acted, EndpointFault<TermStop>>
     ensures tries { Tries term.old (act_of term.old) result term.new }
     ensures fit { IfOk result (λ acted. AllFit (composed_in acted)) }
+    ensures known { IfOk result (λ acted. FitMessages (composed_in acted)) }
 {
     match term.act() {
+        Ok(Acted::Done(composed)) => {
+            know_messages(composed.as_slice());
+            Ok(Acted::Done(composed))
+        }
         Ok(acted) => Ok(acted),
         Err(why) => Err(end_fault(why)),
     }
@@ -510,9 +521,13 @@ fn flush_now(term: &mut Terminal) -> Result<Batch, EndpointFault<TermStop>>
     ensures tries { Tries term.old (flush_of term.old) result term.new }
     ensures counted { IfErr result (λ why. why ≡ EndpointFault.Unfinished → IsOk (flush_of term.old)) }
     ensures fit { IfOk result AllFit }
+    ensures known { IfOk result FitMessages }
 {
     match term.flush() {
-        Ok(composed) => Ok(composed),
+        Ok(composed) => {
+            know_messages(composed.as_slice());
+            Ok(composed)
+        }
         Err(why) => Err(end_fault(why)),
     }
 }

@@ -11,4 +11,4 @@ returns-in-Ok c =
     let e : PlainTermEndpoint = shown c.self.inside in
     let u = c.flush_now.new.term in
     let g : PlainTermEndpoint = record e { term = u; unwritten = c.into_vec.result.items } in
-    subst (λ (x : PlainTermEndpoint). Composes x (Ok tt) g) c.self.view_is (u, c.in-Ok.composed, c.in-Ok.ensures.tries, ap (λ ms. record e { term = u; unwritten = ms }) c.into_vec.ensures)
+    subst (λ (x : PlainTermEndpoint). Composes x (Ok tt) g) c.self.view_is (u, c.in-Ok.composed, c.in-Ok.ensures.tries, c.in-Ok.ensures.known, ap (λ ms. record e { term = u; unwritten = ms }) c.into_vec.ensures)

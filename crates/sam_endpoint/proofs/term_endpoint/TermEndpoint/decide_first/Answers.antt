@@ -1,4 +1,4 @@
-use Rattle.sam_endpoint.proofs.Common.{◌≡◌, ◌∙◌, ap, subst, ◌-◌, [], Ok, arith, append-nil, AllFit, composed_in, act_of, idle_still, locked_still, Idle, Locked, Done, Refused, PlainTermEndpoint, oldest, shown, ActsFirst}
+use Rattle.sam_endpoint.proofs.Common.{◌≡◌, ◌∙◌, ap, subst, ◌-◌, [], Ok, arith, append-nil, AllFit, FitMessages, FitsT, All-nil, composed_in, act_of, idle_still, locked_still, Idle, Locked, Done, Refused, PlainTermEndpoint, oldest, shown, ActsFirst}
 use Rattle.sam_endpoint.specs.TermSteps.{Decides}
 use Rattle.sam_endpoint.specs.declared.step.Decision.TheVariants as decision
 use Rattle.sam_endpoint.proofs.TermEndpointSteps.{settled_counted, acted_is, acted_stamped, acted_first, refused_number}
@@ -62,7 +62,8 @@ returns-in-Ok-Done c =
     let act : act_of c.self.inside.term ≡ Ok (u, Done c.in-Ok-Done.composed) = subst (λ a. act_of c.self.inside.term ≡ Ok (u, a)) c.in-Ok-Done.field-0-is c.in-Ok-Done.ensures.tries in
     let g : PlainTermEndpoint = record e { term = u; unwritten = c.into_vec.result.items; refusals = c.reserve.new.self.items; kept = c.note.new.self } in
     subst (λ (x : PlainTermEndpoint). Decides x (Ok decision.Acted) g) c.self.view_is
-    (let first : ActsFirst e g = acted_first e g u (Done c.in-Ok-Done.composed) c.self.invariant act tt
+    (let fit : FitMessages c.in-Ok-Done.composed = subst (λ a. FitMessages (composed_in a)) c.in-Ok-Done.field-0-is c.in-Ok-Done.ensures.known in
+    let first : ActsFirst e g = acted_first e g u (Done c.in-Ok-Done.composed) c.self.invariant act tt fit
     (grind (arith, c.into_vec.ensures, c.reserve.ensures.items, c.note.ensures, c.oldest_touch-touch.ensures, append-nil)) in
     (first, c.in-Ok-Done.composed, acted_is e u first.term (Done c.in-Ok-Done.composed) first.acted act first.acts))
 
@@ -76,6 +77,6 @@ returns-in-Ok-Refused c =
     let none : c.self.inside.unwritten.items ≡ [] = ap (λ (x : PlainTermEndpoint). x.unwritten) c.self.view_is ∙ c.requires in
     let number : c.self.inside.events - c.held.result ≡ oldest e = ap (λ n. c.self.inside.events - n) c.held.ensures ∙ refused_number e u (Refused why) act tt in
     subst (λ (x : PlainTermEndpoint). Decides x (Ok (decision.Refused why)) g) c.self.view_is
-    (let first : ActsFirst e g = acted_first e g u (Refused why) c.self.invariant act tt
+    (let first : ActsFirst e g = acted_first e g u (Refused why) c.self.invariant act tt (All-nil (FitsT 2))
     (grind (arith, none, number, c.push_back_reserved.ensures.items, c.reserve.ensures.items)) in
     (first, acted_is e u first.term (Refused why) first.acted act first.acts))

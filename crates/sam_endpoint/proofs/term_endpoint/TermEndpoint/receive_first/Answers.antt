@@ -26,6 +26,7 @@ returns-in-Ok c =
       composed = c.in-Ok.composed;
       waited = first_read c.self.inside.waiting.items frame (sym c.first_frame.ensures ∙ ap (λ o. option_copied o) c.in-Some.is);
       taken = c.in-Ok.ensures.tries;
+      composed_fit = c.in-Ok.ensures.known;
       after = grind (arith, c.drop_first.ensures, c.into_vec.ensures, c.note.ensures, c.frame_touch-touch.ensures);
     })
 
