@@ -18,7 +18,7 @@ use Rattle.sam_endpoint.specs.declared.fault.TermStop.TheVariants as term_stop
 use Rattle.sam_endpoint.proofs.HostEndpointRuns.{runs_serve, stops_serve}
 use Rattle.sam_endpoint.proofs.TermEndpointRuns.{runs_lead, stops_lead}
 use Rattle.sam_joined.specs.Calls.{Carry, CallsAreCarried, NoCallStopsTheTerminal, NoPieceStopsTheHost}
-use Rattle.sam_joined.specs.Joined.{AreCarried, CanCross}
+use Rattle.sam_joined.specs.Joined.{AreCarried}
 use Rattle.sam_joined.proofs.Joining.{host_stops, term_stops}
 
 with_last : {A B : Type 0} (f : A → List B) (xs : List A) (x : A) → flat_map f (xs ++ x ∷ []) ≡ flat_map f xs ++ f x
@@ -78,13 +78,13 @@ module _ (given : List (List ℕ × List ℕ)) (host_calls : List HostCall) (ter
 
   host_stop_is : (taken : List ℕ) → (taken ≡ piece) ⊎ (taken ≡ [])
       → HasServed (new_host given) (flat_map came_up host_calls ++ taken) (flat_map went_down host_calls) (flat_map handed_tags host_calls) (flat_map joined_by host_calls) e → HostHasStopped e why
-      → (way : List ℕ) × (c : AreCarried given (flat_map joined_by host_calls) (flat_map put_in term_calls) way down e g) × (CanCross c → why ≡ host_stop.Refused host_fault.CountFull)
+      → (way : List ℕ) × AreCarried given (flat_map joined_by host_calls) (flat_map put_in term_calls) way down e g × (why ≡ host_stop.Refused host_fault.CountFull)
   host_stop_is taken (inl all) served stopped =
       let c = host_carried taken up served (ap (λ (l : List ℕ). l ++ up) all) in
-      (up, c, λ x. host_stops given (flat_map joined_by host_calls) (flat_map put_in term_calls) up down e g c x why stopped)
+      (up, c, host_stops given (flat_map joined_by host_calls) (flat_map put_in term_calls) up down e g c why stopped)
   host_stop_is taken (inr none) served stopped =
       let c = host_carried taken (piece ++ up) served (ap (λ (l : List ℕ). l ++ (piece ++ up)) none) in
-      (piece ++ up, c, λ x. host_stops given (flat_map joined_by host_calls) (flat_map put_in term_calls) (piece ++ up) down e g c x why stopped)
+      (piece ++ up, c, host_stops given (flat_map joined_by host_calls) (flat_map put_in term_calls) (piece ++ up) down e g c why stopped)
 
 pub no_piece_stops : NoPieceStopsTheHost
 no_piece_stops given host_calls term_calls piece up down why k e g fit host_runs feeds term_runs carry =
@@ -115,15 +115,18 @@ module _ (given : List (List ℕ × List ℕ)) (host_calls : List HostCall) (ter
 
   term_stop_is : (taken : List TermCall) → (taken ≡ term_calls ++ last ∷ []) ⊎ (taken ≡ term_calls)
       → HasDone (flat_map came_down taken) (flat_map put_in taken) (flat_map went_up taken) (flat_map handed_refusals taken) g → TermHasStopped g why
-      → (said : List UserEvent) × (way : List ℕ) × (c : AreCarried given (flat_map joined_by host_calls) said up way e g) × (CanCross c → why ≡ term_stop.Refused term_fault.CountFull)
+      → (taken : List TermCall) × ((taken ≡ term_calls ++ last ∷ []) ⊎ (taken ≡ term_calls)) × (way : List ℕ)
+      × AreCarried given (flat_map joined_by host_calls) (flat_map put_in taken) up way e g × (why ≡ term_stop.Refused term_fault.CountFull)
   term_stop_is taken (inl all) did stopped =
       let done = subst (λ (calls : List TermCall). HasDone (flat_map came_down calls) (flat_map put_in calls) (flat_map went_up calls) (flat_map handed_refusals calls) g) all did in
-      let c = carried_of given host_calls (term_calls ++ last ∷ []) up down e g fit served done carry in
-      (flat_map put_in (term_calls ++ last ∷ []), down, c, λ x. term_stops given (flat_map joined_by host_calls) (flat_map put_in (term_calls ++ last ∷ [])) up down e g c x why stopped)
+      let calls = term_calls ++ last ∷ [] in
+      let c = carried_of given host_calls calls up down e g fit served done carry in
+      (calls, inl refl, down, c, term_stops given (flat_map joined_by host_calls) (flat_map put_in calls) up down e g c why stopped)
   term_stop_is taken (inr before) did stopped =
       let done = subst (λ (calls : List TermCall). HasDone (flat_map came_down calls) (flat_map put_in calls) (flat_map went_up calls) (flat_map handed_refusals calls) g) before did in
+      let way = came_down last ++ down in
       let c = term_carried done in
-      (flat_map put_in term_calls, came_down last ++ down, c, λ x. term_stops given (flat_map joined_by host_calls) (flat_map put_in term_calls) up (came_down last ++ down) e g c x why stopped)
+      (term_calls, inr refl, way, c, term_stops given (flat_map joined_by host_calls) (flat_map put_in term_calls) up way e g c why stopped)
 
 pub no_call_stops : NoCallStopsTheTerminal
 no_call_stops given host_calls term_calls last up down why e k g fit host_runs term_runs stops carry =

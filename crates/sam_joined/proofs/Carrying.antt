@@ -33,7 +33,7 @@ use Rattle.sam_apart.proofs.ApartLaws.{all_read}
 use Rattle.sam_apart.proofs.ApartJoins.{files-joined}
 use Rattle.sam_apart.proofs.RealLaws.{up_sound, down_sound}
 use Rattle.sam_apart.specs.Apart.{Joined, Joins}
-use Rattle.sam_joined.specs.Joined.{AreAgreed, AreAsIfLocal, AreCarried, CanCross, AreOneRun, IsAllCarried, both}
+use Rattle.sam_joined.specs.Joined.{AreAgreed, AreAsIfLocal, AreCarried, AreOneRun, IsAllCarried, both}
 use Rattle.sam_sides.specs.declared.log.TermLog.{TermLog}
 use Rattle.sam_joined.proofs.Words.{entry_of, none_written}
 use Rattle.sam_joined.proofs.Joining.{joined, one_run, up_read, down_read, host_reads, term_reads}
@@ -82,33 +82,33 @@ stuck_both e g none quiet HostTake next a = absurd (grind (arith, a.stepped))
 stuck_both e g none quiet TermTake next a = absurd (grind (arith, a.stepped))
 
 module _ (given : List (List ℕ × List ℕ)) (late : Joins) (said : List UserEvent) (up down : List ℕ) (e : PlainHostEndpoint) (g : PlainTermEndpoint)
-    (c : AreCarried given late said up down e g) (x : CanCross c) where
+    (c : AreCarried given late said up down e g) where
   abbrev entries : List TermLog
   entries = map entry_of c.did.steps
 
   abbrev two : Joined given late entries e.host g.term c.did.composed (messages_in c.served.steps) c.served.frames (frames_in c.did.steps)
-  two = joined given late said up down e g c x
+  two = joined given late said up down e g c
 
   -- ## All is carried
 
   module _ (all : IsAllCarried up down e g) where
     whole_up : stream_of terminal c.did.composed ≡ stream_of terminal (messages_in c.served.steps ++ e.waiting) ++ e.framer.bytes
     whole_up = all_came _ (stream_of terminal (messages_in c.served.steps ++ e.waiting)) e.framer.bytes up (stream_of terminal g.unwritten)
-        (up_read given late said up down e g c x) all.none_up (ap (λ (ms : List Tmesg). stream_of terminal ms) all.term_idle.unwritten)
+        (up_read given late said up down e g c) all.none_up (ap (λ (ms : List Tmesg). stream_of terminal ms) all.term_idle.unwritten)
 
     whole_down : stream_of host c.served.frames ≡ stream_of host (frames_in c.did.steps ++ g.waiting) ++ g.framer.bytes
     whole_down = all_came _ (stream_of host (frames_in c.did.steps ++ g.waiting)) g.framer.bytes down (stream_of host e.unwritten)
-        (down_read given late said up down e g c x) all.none_down (ap (λ (frames : List HFrame). stream_of host frames) all.host_idle.unwritten)
+        (down_read given late said up down e g c) all.none_down (ap (λ (frames : List HFrame). stream_of host frames) all.host_idle.unwritten)
 
     read_up : messages_in c.served.steps ++ e.waiting ≡ c.did.composed
     read_up = all_read terminal up_sound c.did.composed (messages_in c.served.steps ++ e.waiting) e.framer.bytes two.composed_in_turn c.served.reads.splits.fit whole_up
         (subst (λ (o : Option StreamFault). Ends terminal (version_after terminal 1 (messages_in c.served.steps ++ e.waiting)) e.framer.bytes (option_map mesg_fault o))
-        (host_reads given late said up down e g c x) c.served.reads.ends)
+        (host_reads given late said up down e g c) c.served.reads.ends)
 
     read_down : frames_in c.did.steps ++ g.waiting ≡ c.served.frames
     read_down = all_read host down_sound c.served.frames (frames_in c.did.steps ++ g.waiting) g.framer.bytes two.answered_in_turn c.did.reads.splits.fit whole_down
         (subst (λ (o : Option StreamFault). Ends host (version_after host 1 (frames_in c.did.steps ++ g.waiting)) g.framer.bytes (option_map mesg_fault o))
-        (term_reads given late said up down e g c x) c.did.reads.ends)
+        (term_reads given late said up down e g c) c.did.reads.ends)
 
     half_up : e.framer.bytes ≡ []
     half_up = append_cancel_left (stream_of terminal c.did.composed) e.framer.bytes []
@@ -161,10 +161,10 @@ module _ (given : List (List ℕ × List ℕ)) (late : Joins) (said : List UserE
 
   pub agrees : IsAllCarried up down e g → AreAgreed e g
   agrees all = record {
-    agree = agree (one_run given late said up down e g c x) all;
+    agree = agree (one_run given late said up down e g c) all;
     none_half_up = half_up all;
     none_half_down = half_down all;
   }
 
   pub never_stuck : IsAllCarried up down e g → IsQuiet g.term → HasRoom (both e g) → IsDone (both e g)
-  never_stuck all quiet room = stuck_is_done (both e g) (was_reached (one_run given late said up down e g c x) all) room (stuck_both e g all.none_unsent quiet)
+  never_stuck all quiet room = stuck_is_done (both e g) (was_reached (one_run given late said up down e g c) all) room (stuck_both e g all.none_unsent quiet)

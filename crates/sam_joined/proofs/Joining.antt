@@ -1,5 +1,6 @@
 -- Two endpoints that carry each other's bytes are one run, read no fault and stop for nothing but a full count.
 use Rattle.std.proofs.Common.{◌≡◌, refl, sym, ap, subst, ◌∙◌, inl, inr, ℕ, List, [], ◌∷◌, ◌++◌, map, Option, Some, None, Err, option_map, append_assoc, arith}
+use Rattle.sam_mesg.specs.HostKinds.{FitsH}
 use Rattle.sam_mesg.specs.TerminalKinds.{FitsT}
 use Rattle.sam_mesg.specs.declared.hmesg.HFrame.{HFrame}
 use Rattle.sam_mesg.specs.declared.tmesg.Tmesg.{Tmesg}
@@ -30,9 +31,9 @@ use Rattle.sam_sides.specs.declared.log.TermLog.{TermLog}
 use Rattle.sam_world.specs.Prefixes.{Begins}
 use Rattle.sam_apart.proofs.ApartLaws.{joins, understood, no_fault}
 use Rattle.sam_apart.proofs.ApartTurns.{each_t, front_fits}
-use Rattle.sam_apart.proofs.RealLaws.{up_sound, down_sound}
+use Rattle.sam_apart.proofs.RealLaws.{each_of_all, up_sound, down_sound}
 use Rattle.sam_apart.specs.Apart.{Apart, HostRunsWith, Joined, Joins, Understood}
-use Rattle.sam_joined.specs.Joined.{AreCarried, CanCross, AreOneRun, GoOn}
+use Rattle.sam_joined.specs.Joined.{AreCarried, AreOneRun, GoOn}
 use Rattle.sam_joined.proofs.Words.{entry_of, serves_runs, leads_runs, users_logged, parts_of, read_of, rest_of, behind}
 
 none_of : {A : Type 0} (o : Option A) → ((x : A) → o ≡ Some x → ⊥) → o ≡ None
@@ -46,7 +47,7 @@ next_first : (all front waiting : List Tmesg) (m : Tmesg) (rest : List Tmesg) (h
 next_first all front waiting m rest half way last first bytes = grind (arith, append_assoc)
 
 module _ (given : List (List ℕ × List ℕ)) (late : Joins) (said : List UserEvent) (up down : List ℕ) (e : PlainHostEndpoint) (g : PlainTermEndpoint)
-    (c : AreCarried given late said up down e g) (x : CanCross c) where
+    (c : AreCarried given late said up down e g) where
   abbrev entries : List TermLog
   entries = map entry_of c.did.steps
 
@@ -89,8 +90,8 @@ module _ (given : List (List ℕ × List ℕ)) (late : Joins) (said : List UserE
     host_runs = subst (λ (joins : Joins). HostRunsWith (new_host given) joins handled c.served.frames e.host) c.served.files
         (serves_runs c.served.steps (new_host given) e.host c.served.frames c.served.writes c.served.serves);
     term_runs = leads_runs c.did.steps new_terminal g.term c.did.composed c.did.leads;
-    composed_fit = x.messages;
-    answers_fit = x.frames;
+    composed_fit = each_of_all (FitsT 2) c.did.composed c.did.composed_fit;
+    answers_fit = each_of_all (FitsH 2) c.served.frames c.served.frames_fit;
     handled_fit = front_fits terminal 1 handled e.waiting c.served.reads.splits.fit;
     passed_fit = c.did.reads.splits.fit;
     up = (rest_up, up_is);

@@ -47,6 +47,5 @@ linked_are_one_run given id steps s host_calls term_calls e g fit host_runs term
     let c = calls_are_carried given host_calls term_calls line.0 line.1 e g fit host_runs term_runs line.2 in
     let files = flat_map joined_by host_calls in
     let said = flat_map put_in term_calls in
-    (line.0, line.1, c, λ x.
-        let run = one_run given files said line.0 line.1 e g c x in
-        (run, go_on given files said line.0 line.1 e g c x, as_if_local given files said line.0 line.1 e g c x run))
+    let run = one_run given files said line.0 line.1 e g c in
+    (line.0, line.1, c, run, go_on given files said line.0 line.1 e g c, as_if_local given files said line.0 line.1 e g c run)

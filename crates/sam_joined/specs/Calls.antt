@@ -1,9 +1,8 @@
 -- Two runs of calls, one of each endpoint, and the bytes that were carried between them.
-use Rattle.std.specs.Prelude.{◌≡◌, ℕ, List, [], ◌∷◌, ◌++◌, flat_map, Err}
+use Rattle.std.specs.Prelude.{◌≡◌, ◌⊎◌, ℕ, List, [], ◌∷◌, ◌++◌, flat_map, Err}
 use Rattle.sam_host.specs.Host.{new_host}
 use Rattle.sam_host.specs.Laws.{AreGiven}
 use Rattle.sam_host.specs.declared.fault.HostFault.TheVariants as host_fault
-use Rattle.sam_term.specs.declared.event.UserEvent.{UserEvent}
 use Rattle.sam_term.specs.declared.fault.TermFault.TheVariants as term_fault
 use Rattle.sam_endpoint.specs.HostEndpoints.{PlainHostEndpoint, Feeds}
 use Rattle.sam_endpoint.specs.HostRuns.{Feed, begun_with, Call as HostCall, Runs as HostRuns, came_in as came_up, joined_by, went_out as went_down}
@@ -14,7 +13,7 @@ use Rattle.sam_endpoint.specs.declared.fault.HostStop.{HostStop}
 use Rattle.sam_endpoint.specs.declared.fault.HostStop.TheVariants as host_stop
 use Rattle.sam_endpoint.specs.declared.fault.TermStop.{TermStop}
 use Rattle.sam_endpoint.specs.declared.fault.TermStop.TheVariants as term_stop
-use Rattle.sam_joined.specs.Joined.{AreCarried, CanCross}
+use Rattle.sam_joined.specs.Joined.{AreCarried}
 
 -- All bytes that the one handed out in its calls, or has pending, are those that came in with the calls of the other, and then those that
 -- are on their way
@@ -41,15 +40,16 @@ NoPieceStopsTheHost =
     (k e : PlainHostEndpoint) (g : PlainTermEndpoint)
     → AreGiven given → HostRuns (begun_with (new_host given)) host_calls k → Feeds k piece (Err (fault.Stopped why)) e
     → TermRuns new_term_endpoint term_calls g → Carry (host_calls ++ Feed piece (Err (fault.Stopped why)) ∷ []) term_calls up down e g
-    → (way : List ℕ) × (c : AreCarried given (flat_map joined_by host_calls) (flat_map put_in term_calls) way down e g)
-    × (CanCross c → why ≡ host_stop.Refused host_fault.CountFull)
+    → (way : List ℕ) × AreCarried given (flat_map joined_by host_calls) (flat_map put_in term_calls) way down e g
+    × (why ≡ host_stop.Refused host_fault.CountFull)
 
--- where a call stops the terminal endpoint, all that it brought or nothing of it was taken
+-- where a call stops the terminal endpoint, all that it brought or nothing of it was taken, and of that all may still be on its way
 abbrev pub NoCallStopsTheTerminal : Type 0
 NoCallStopsTheTerminal =
     (given : List (List ℕ × List ℕ)) (host_calls : List HostCall) (term_calls : List TermCall) (last : TermCall) (up down : List ℕ)
     (why : TermStop) (e : PlainHostEndpoint) (k g : PlainTermEndpoint)
     → AreGiven given → HostRuns (begun_with (new_host given)) host_calls e → TermRuns new_term_endpoint term_calls k → Stops k last why g
     → Carry host_calls (term_calls ++ last ∷ []) up down e g
-    → (said : List UserEvent) × (way : List ℕ) × (c : AreCarried given (flat_map joined_by host_calls) said up way e g)
-    × (CanCross c → why ≡ term_stop.Refused term_fault.CountFull)
+    → (taken : List TermCall) × ((taken ≡ term_calls ++ last ∷ []) ⊎ (taken ≡ term_calls))
+    × (way : List ℕ) × AreCarried given (flat_map joined_by host_calls) (flat_map put_in taken) up way e g
+    × (why ≡ term_stop.Refused term_fault.CountFull)

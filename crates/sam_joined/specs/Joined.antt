@@ -1,7 +1,5 @@
 -- A host endpoint and a terminal endpoint that carry each other's bytes: they are one run of a world.
 use Rattle.std.specs.Prelude.{◌≡◌, ℕ, true, false, List, [], ◌++◌, map, Some, None}
-use Rattle.sam_mesg.specs.HostKinds.{FitsH}
-use Rattle.sam_mesg.specs.TerminalKinds.{FitsT}
 use Rattle.sam_frame.specs.Direction.{host, terminal}
 use Rattle.sam_frame.specs.Stream.{stream_of}
 use Rattle.sam_host.specs.Host.{new_host}
@@ -19,7 +17,6 @@ use Rattle.sam_endpoint.specs.declared.fault.HostStop.{HostStop}
 use Rattle.sam_endpoint.specs.declared.fault.HostStop.TheVariants as host_stop
 use Rattle.sam_endpoint.specs.declared.fault.TermStop.{TermStop}
 use Rattle.sam_endpoint.specs.declared.fault.TermStop.TheVariants as term_stop
-use Rattle.sam_sides.specs.Sides.{Each}
 use Rattle.sam_crossing.specs.World.{PlainWorld, SidesAgree, is_locked, new_world, run_of, user_events}
 use Rattle.sam_crossing.specs.declared.event.Event.{Event}
 use Rattle.sam_local.specs.Local.{at_rest, carried_through, events_in, files_in}
@@ -46,13 +43,6 @@ pub record AreCarried (given : List (List ℕ × List ℕ)) (joined : Joins) (sa
   pub did : HasDone came_down said went_up refused g
   pub upwards : went_up ++ g.pending_bytes ≡ came_up ++ up
   pub downwards : went_down ++ e.pending_bytes ≡ came_down ++ down
-
--- Each frame that the host answered, and each message that the terminal composed, is a value of its type and can be written, as all those
--- of endpoints are: its numbers have their widths, and its text is runes and within its limit
-pub record CanCross {given : List (List ℕ × List ℕ)} {joined : Joins} {said : List UserEvent} {up down : List ℕ}
-    {e : PlainHostEndpoint} {g : PlainTermEndpoint} (c : AreCarried given joined said up down e g) : Type 0 where
-  pub frames : Each (FitsH 2) c.served.frames
-  pub messages : Each (FitsT 2) c.did.composed
 
 -- the two sides, with nothing between them
 abbrev pub both : PlainHostEndpoint → PlainTermEndpoint → PlainWorld
@@ -114,26 +104,26 @@ abbrev pub EndpointsJoin : Type 0
 EndpointsJoin =
     (given : List (List ℕ × List ℕ)) (joined : Joins) (said : List UserEvent) (up down : List ℕ)
     (e : PlainHostEndpoint) (g : PlainTermEndpoint)
-    → (c : AreCarried given joined said up down e g) → CanCross c → AreOneRun given joined said up down e g
+    → AreCarried given joined said up down e g → AreOneRun given joined said up down e g
 
 abbrev pub NeitherStops : Type 0
 NeitherStops =
     (given : List (List ℕ × List ℕ)) (joined : Joins) (said : List UserEvent) (up down : List ℕ)
     (e : PlainHostEndpoint) (g : PlainTermEndpoint)
-    → (c : AreCarried given joined said up down e g) → CanCross c → GoOn e g
+    → AreCarried given joined said up down e g → GoOn e g
 
 abbrev pub CarriedAgree : Type 0
 CarriedAgree =
     (given : List (List ℕ × List ℕ)) (joined : Joins) (said : List UserEvent) (up down : List ℕ)
     (e : PlainHostEndpoint) (g : PlainTermEndpoint)
-    → (c : AreCarried given joined said up down e g) → CanCross c → IsAllCarried up down e g → AreAgreed e g
+    → AreCarried given joined said up down e g → IsAllCarried up down e g → AreAgreed e g
 
 -- whichever such run led here
 abbrev pub JoinedAreAsIfLocal : Type 0
 JoinedAreAsIfLocal =
     (given : List (List ℕ × List ℕ)) (joined : Joins) (said : List UserEvent) (up down : List ℕ)
     (e : PlainHostEndpoint) (g : PlainTermEndpoint)
-    → (c : AreCarried given joined said up down e g) → CanCross c → (run : AreOneRun given joined said up down e g)
+    → AreCarried given joined said up down e g → (run : AreOneRun given joined said up down e g)
     → AreAsIfLocal run
 
 -- where all is carried and the terminal can't act, which each call that ends well leaves so, all is done
@@ -141,5 +131,5 @@ abbrev pub NeverStuck : Type 0
 NeverStuck =
     (given : List (List ℕ × List ℕ)) (joined : Joins) (said : List UserEvent) (up down : List ℕ)
     (e : PlainHostEndpoint) (g : PlainTermEndpoint)
-    → (c : AreCarried given joined said up down e g) → CanCross c → IsAllCarried up down e g
+    → AreCarried given joined said up down e g → IsAllCarried up down e g
     → IsQuiet g.term → HasRoom (both e g) → IsDone (both e g)

@@ -2,8 +2,6 @@
 //!
 //! Each but the first speaks of two endpoints between which bytes were carried (`AreCarried`), and of all files that joined the host
 //! endpoint, whenever they did. The first says that all calls come to this.
-//! They ask that the messages and frames are values of their types and can be written (`CanCross`), as all those of endpoints are; no
-//! clause of sam_endpoint says so.
 ghost use Rattle.sam_joined.specs.Calls.{CallsAreCarried, NoCallStopsTheTerminal, NoPieceStopsTheHost};
 ghost use Rattle.sam_joined.specs.Linked.{LinkedAreOneRun, LinksAreOneLine, MovedIsCarried};
 ghost use Rattle.sam_joined.specs.Joined.{CarriedAgree, EndpointsJoin, JoinedAreAsIfLocal, NeitherStops, NeverStuck};
