@@ -5,7 +5,6 @@ use Rattle.sam_host.specs.Host.{new_host}
 use Rattle.sam_host.specs.Laws.{AreGiven}
 use Rattle.sam_endpoint.specs.HostEndpoints.{PlainHostEndpoint}
 use Rattle.sam_host.specs.declared.fault.HostFault.TheVariants as host_fault
-use Rattle.sam_term.specs.declared.event.UserEvent.{UserEvent}
 use Rattle.sam_term.specs.declared.fault.TermFault.TheVariants as term_fault
 use Rattle.sam_endpoint.specs.HostRuns.{Feed, HasServed, HasStopped as HostHasStopped, Call as HostCall, came_in as came_up, handed_out as handed_tags, joined_by, went_out as went_down}
 use Rattle.sam_endpoint.specs.TermEndpoints.{PlainTermEndpoint}

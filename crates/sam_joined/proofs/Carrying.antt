@@ -1,5 +1,5 @@
 -- Where all bytes were carried both sides agree; at any moment it is as if there were no network; and nothing is stuck.
-use Rattle.std.proofs.Common.{◌≡◌, refl, sym, ap, subst, ◌∙◌, inl, inr, true≢false, ℕ, true, List, [], ◌++◌, map, Option, Some, None, append-nil, arith}
+use Rattle.std.proofs.Common.{◌≡◌, sym, ap, subst, ◌∙◌, inl, inr, true≢false, ℕ, true, List, [], ◌++◌, map, Option, Some, None, append-nil, arith}
 use Rattle.std.proofs.lemmas.List.{append_cancel_left}
 use Rattle.std.proofs.lemmas.Option.{same_Some}
 use Rattle.sam_rasp.specs.Rasp.{Agrees}
