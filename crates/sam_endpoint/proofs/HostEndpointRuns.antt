@@ -1,5 +1,5 @@
 -- What every run of a host end comes to.
-use Rattle.sam_endpoint.proofs.Common.{◌≡◌, refl, sym, ap, subst, ◌∙◌, inl, inr, ℕ, ◌+◌, ◌≤◌, ◌⊎◌, List, [], ◌∷◌, ◌++◌, flat_map, Option, Some, None, Result, Ok, Err, length, length-append, append_assoc, append-nil, arith, All-append, All-nil, All-same, FitsH, option_map, map, chars, with_given, Tmesg, HFrame, host, terminal, Splits, stream_of, version_after, Held, stream_of-append, version_after-append, Splits-then, PlainHost, answer, HostStop, StreamFault, Gives, mesg_fault, PlainHostEndpoint, Answers, Feeds, FeedsAfter, GoesOn, IsIdle, Serves, TakesIn, Answer}
+use Rattle.sam_endpoint.proofs.Common.{◌≡◌, refl, sym, ap, subst, ◌∙◌, inl, inr, ℕ, ◌+◌, ◌≤◌, ◌⊎◌, List, [], ◌∷◌, ◌++◌, flat_map, flat_map-append, Option, Some, None, Result, Ok, Err, length, length-append, append_assoc, append-nil, arith, All-append, All-nil, All-same, FitsH, option_map, map, chars, with_given, Tmesg, HFrame, host, terminal, Splits, stream_of, version_after, Held, stream_of-append, version_after-append, Splits-then, PlainHost, answer, HostStop, StreamFault, Gives, mesg_fault, PlainHostEndpoint, Answers, Feeds, FeedsAfter, GoesOn, IsIdle, Serves, TakesIn, Answer}
 use Rattle.sam_mesg.specs.declared.fault.MesgFault.{MesgFault}
 use Rattle.sam_frame.specs.Framing.{HasRoom}
 use Rattle.sam_frame.specs.Reading.{IsStream}
@@ -7,13 +7,21 @@ use Rattle.sam_frame.proofs.Cuttings.{Splits-longer}
 use Rattle.sam_host.specs.declared.fault.HostFault.{HostFault}
 use Rattle.sam_host.proofs.SoundLaws.{answers_are_counted}
 use Rattle.sam_endpoint.specs.declared.fault.AddFault.{AddFault}
+use Rattle.sam_endpoint.specs.declared.fault.EndpointFault.{EndpointFault}
 use Rattle.sam_endpoint.specs.declared.fault.EndpointFault.TheVariants as fault
+use Rattle.sam_endpoint.specs.declared.step.BringFault.{BringFault}
+use Rattle.sam_endpoint.specs.declared.step.BringFault.TheVariants as bring
+use Rattle.sam_endpoint.specs.declared.step.HostStep.{HostStep}
+use Rattle.sam_endpoint.specs.declared.step.HostStep.TheVariants as step
+use Rattle.sam_endpoint.specs.Streams.{GoesOnAfter, if_taken}
+use Rattle.sam_endpoint.specs.HostStepping.{BringsIn, Steps}
 use Rattle.sam_endpoint.specs.declared.fault.HostStop.TheVariants as stop
 use Rattle.sam_runes.specs.Checks.{first_of_checks}
 use Rattle.sam_endpoint.specs.HostEndpoints.{FeedsIdle, IsDone, Adds, MayJoin, Step, Answered, Joined, add_checks}
 use Rattle.std.specs.Prelude.{drop, option_to_list, slice_get}
-use Rattle.sam_endpoint.specs.HostRuns.{Call, Feed, AddFile, TakeOut, NextWritten, GoesOnAfter, HasServed, HasStopped, Runs, begun_with, came_in, went_out, handed_out, joined_by, messages_in, joined_after}
+use Rattle.sam_endpoint.specs.HostRuns.{Call, Feed, Bring, MakeStep, AddFile, TakeOut, NextWritten, HasServed, HasStopped, Runs, Stops, StopsServe, begun_with, came_in, went_out, handed_out, joined_by, messages_in, joined_after}
 use Rattle.sam_endpoint.proofs.HostEndpointGoing.{serves_more}
+use Rattle.sam_endpoint.proofs.HostEndpointStepping.{Went, steps_not, steps_on, went_nowhere}
 
 abbrev pub Files : Type 0
 Files = List (ℕ × (List ℕ × List ℕ))
@@ -166,7 +174,7 @@ kept_idle h stream out handed joined piece e g (Ok done) goes none (inr fed) kep
 kept_idle h stream out handed joined piece e g (Err fault.Unfinished) goes none (inr fed) kept = absurd (grind arith)
 
 stopped_not : (result : Answer) (why : HostStop) → result ≡ Err (fault.Stopped why) → GoesOnAfter result → ⊥
-stopped_not result why is goes = subst GoesOnAfter is goes
+stopped_not result why is goes = subst (λ (x : Answer). GoesOnAfter x) is goes
 
 kept_after : (h : PlainHost) (stream out handed : List ℕ) (joined : Files) (piece : List ℕ) (e k g : PlainHostEndpoint) (first result : Answer) → GoesOnAfter result → GoesOn e first k
     → FeedsAfter first k piece result g → Kept h stream out handed joined e → Kept h (stream ++ came_in (Feed piece result)) out handed joined g
@@ -180,6 +188,34 @@ pub kept_feed : (h : PlainHost) (stream out handed : List ℕ) (joined : Files) 
     → Kept h (stream ++ came_in (Feed piece result)) out handed joined g
 kept_feed h stream out handed joined piece e g result goes (inl (why, stops, is, same)) kept = absurd (stopped_not result why is goes)
 kept_feed h stream out handed joined piece e g result goes (inr (going, k, first, on, after)) kept = kept_after h stream out handed joined piece e k g first result goes on after kept
+
+-- a piece was brought, or was not
+kept_brought : (h : PlainHost) (stream out handed : List ℕ) (joined : Files) (piece : List ℕ) (e k : PlainHostEndpoint) (result : Result (Unit {0}) (BringFault HostStop)) → BringsIn e piece result k
+    → Kept h stream out handed joined e → Kept h (stream ++ came_in (Bring piece result)) out handed joined k
+kept_brought h stream out handed joined piece e k (Ok done) (ready, takes) kept = kept_piece h stream out handed joined piece e k ready.1.0.waiting takes kept
+kept_brought h stream out handed joined piece e k (Err (bring.Stopped why)) (stops, same) kept = kept_same h stream out handed joined e k same kept
+kept_brought h stream out handed joined piece e k (Err bring.Waiting) (goes, waits, same) kept = kept_same h stream out handed joined e k same kept
+kept_brought h stream out handed joined piece e k (Err bring.CountFull) (ready, full, same) kept = kept_same h stream out handed joined e k same kept
+kept_brought h stream out handed joined piece e k (Err bring.OutOfMemory) (ready, room, same) kept = kept_same h stream out handed joined e k same kept
+
+-- an end that makes a step goes on
+step_goes : (e k : PlainHostEndpoint) (done : HostStep) → Steps e (Ok done) k → e.stop ≡ None
+step_goes e k step.Idle steps = steps.0.0
+step_goes e k step.Wrote steps = steps.0
+step_goes e k (step.Edited tag count) steps = steps.0.0
+step_goes e k (step.Answered kind tag) steps = steps.0.0
+
+went : (e k : PlainHostEndpoint) (done : HostStep) → Steps e (Ok done) k → Went e k
+went e k done steps = steps_on e e k done (went_nowhere e (step_goes e k done steps)) steps
+
+kept_stepped : (h : PlainHost) (stream out handed : List ℕ) (joined : Files) (e k : PlainHostEndpoint) (result : Result HostStep (EndpointFault HostStop)) → GoesOnAfter result → Steps e result k
+    → Kept h stream out handed joined e → Kept h stream out handed joined k
+kept_stepped h stream out handed joined e k (Ok done) goes steps kept =
+    let w = went e k done steps in kept_answers h stream out handed joined e k w.messages w.answers kept
+kept_stepped h stream out handed joined e k (Err fault.Unfinished) goes (going, waits, same) kept = subst (λ (x : PlainHostEndpoint). Kept h stream out handed joined x) (sym same) kept
+kept_stepped h stream out handed joined e k (Err fault.OutOfMemory) goes steps kept = absurd steps
+kept_stepped h stream out handed joined e k (Err fault.CountFull) goes steps kept = absurd steps
+kept_stepped h stream out handed joined e k (Err (fault.Stopped why)) goes steps kept = absurd goes
 
 pub kept_out : (h : PlainHost) (stream out handed : List ℕ) (joined : Files) (bytes rest : List ℕ) (e : PlainHostEndpoint) → e.pending_bytes ≡ bytes ++ rest → Kept h stream out handed joined e
     → Kept h (stream ++ []) (out ++ bytes) handed joined (record e { pending_bytes = rest })
@@ -275,9 +311,25 @@ fed_done e g piece (inr (going, k, Err why, on, after)) = absurd (grind arith)
 feed_goes : (e g : PlainHostEndpoint) (piece : List ℕ) (result : Answer) → GoesOnAfter result → Feeds e piece result g → g.stop ≡ None
 feed_goes e g piece result goes feeds = grind arith
 
+bring_goes : (e k : PlainHostEndpoint) (piece : List ℕ) (result : Result (Unit {0}) (BringFault HostStop)) → e.stop ≡ None → BringsIn e piece result k → k.stop ≡ None
+bring_goes e k piece (Ok done) goes (ready, (messages, broken_by, rest, gives, is)) = ap (λ (x : PlainHostEndpoint). x.stop) is ∙ goes
+bring_goes e k piece (Err (bring.Stopped why)) goes (stops, same) = ap (λ (x : PlainHostEndpoint). x.stop) same ∙ goes
+bring_goes e k piece (Err bring.Waiting) goes (going, waits, same) = ap (λ (x : PlainHostEndpoint). x.stop) same ∙ goes
+bring_goes e k piece (Err bring.CountFull) goes (ready, full, same) = ap (λ (x : PlainHostEndpoint). x.stop) same ∙ goes
+bring_goes e k piece (Err bring.OutOfMemory) goes (ready, room, same) = ap (λ (x : PlainHostEndpoint). x.stop) same ∙ goes
+
+stepped_goes : (e k : PlainHostEndpoint) (result : Result HostStep (EndpointFault HostStop)) → GoesOnAfter result → Steps e result k → k.stop ≡ None
+stepped_goes e k (Ok done) goes steps = (went e k done steps).goes
+stepped_goes e k (Err fault.Unfinished) goes (going, waits, same) = ap (λ (x : PlainHostEndpoint). x.stop) same ∙ going
+stepped_goes e k (Err fault.OutOfMemory) goes steps = absurd steps
+stepped_goes e k (Err fault.CountFull) goes steps = absurd steps
+stepped_goes e k (Err (fault.Stopped why)) goes steps = absurd goes
+
 pub run_goes : (e g : PlainHostEndpoint) (calls : List Call) → e.stop ≡ None → Runs e calls g → g.stop ≡ None
 run_goes e g [] goes is = grind arith
 run_goes e g (Feed piece answer ∷ calls) goes (k, feeds, goes_on, runs) = run_goes k g calls (feed_goes e k piece answer goes_on feeds) runs
+run_goes e g (Bring piece result ∷ calls) goes (k, brings, runs) = run_goes k g calls (bring_goes e k piece result goes brings) runs
+run_goes e g (MakeStep result ∷ calls) goes (k, steps, goes_on, runs) = run_goes k g calls (stepped_goes e k result goes_on steps) runs
 run_goes e g (AddFile count name text (Ok tag) ∷ calls) goes (k, then, adds, runs) = run_goes k g calls (ap (λ (x : PlainHostEndpoint). x.stop) adds.2 ∙ goes) runs
 run_goes e g (AddFile count name text (Err why) ∷ calls) goes (k, then, adds, runs) = run_goes k g calls (ap (λ (x : PlainHostEndpoint). x.stop) adds.1 ∙ goes) runs
 run_goes e g (TakeOut bytes ∷ calls) goes (rest, is, runs) = run_goes (record e { pending_bytes = rest }) g calls goes runs
@@ -342,6 +394,12 @@ kept_run h stream out handed joined (Feed piece answer ∷ calls) e g (k, feeds,
     subst (λ (x : List ℕ). Kept h x (out ++ flat_map went_out calls) (handed ++ flat_map handed_out calls) (joined ++ flat_map joined_by calls) g)
     (append_assoc stream (came_in (Feed piece answer)) (flat_map came_in calls))
     (kept_run h (stream ++ came_in (Feed piece answer)) out handed joined calls k g runs (kept_feed h stream out handed joined piece e k answer goes feeds kept))
+kept_run h stream out handed joined (Bring piece result ∷ calls) e g (k, brings, runs) kept =
+    subst (λ (x : List ℕ). Kept h x (out ++ flat_map went_out calls) (handed ++ flat_map handed_out calls) (joined ++ flat_map joined_by calls) g)
+    (append_assoc stream (came_in (Bring piece result)) (flat_map came_in calls))
+    (kept_run h (stream ++ came_in (Bring piece result)) out handed joined calls k g runs (kept_brought h stream out handed joined piece e k result brings kept))
+kept_run h stream out handed joined (MakeStep result ∷ calls) e g (k, steps, goes, runs) kept =
+    kept_run h stream out handed joined calls k g runs (kept_stepped h stream out handed joined e k result goes steps kept)
 kept_run h stream out handed joined (AddFile count name text result ∷ calls) e g (k, then, adds, runs) kept =
     subst (λ (x : Files). Kept h (stream ++ flat_map came_in calls) (out ++ flat_map went_out calls) (handed ++ flat_map handed_out calls) x g)
     (append_assoc joined (joined_by (AddFile count name text result)) (flat_map joined_by calls))
@@ -361,13 +419,51 @@ pub runs_serve : (h : PlainHost) (calls : List Call) (g : PlainHostEndpoint) →
     → HasServed h (flat_map came_in calls) (flat_map went_out calls) (flat_map handed_out calls) (flat_map joined_by calls) g
 runs_serve h calls g runs = (kept_run h [] [] [] [] calls (begun_with h) g runs (kept_begun h)).served
 
-pub stops_serve : (h : PlainHost) (calls : List Call) (e g : PlainHostEndpoint) (piece : List ℕ) (why : HostStop) → Runs (begun_with h) calls e → Feeds e piece (Err (fault.Stopped why)) g
-    → (taken : List ℕ) × ((taken ≡ piece) ⊎ (taken ≡ [])) × HasServed h (flat_map came_in calls ++ taken) (flat_map went_out calls) (flat_map handed_out calls) (flat_map joined_by calls) g
-    × HasStopped g why × (g.stop ≡ Some why)
-stops_serve h calls e g piece why runs feeds =
-    let s = kept_stop h (flat_map came_in calls) (flat_map went_out calls) (flat_map handed_out calls) (flat_map joined_by calls) piece e g why (run_goes (begun_with h) e calls refl runs) feeds
-    (kept_run h [] [] [] [] calls (begun_with h) e runs (kept_begun h)) in
-    (s.taken, s.whole, s.kept.served, s.stops, s.says)
+-- what a run comes to that has stopped
+record Ended (h : PlainHost) (stream out handed : List ℕ) (joined : Files) (why : HostStop) (g : PlainHostEndpoint) : Type 0 where
+  pub served : HasServed h stream out handed joined g
+  pub stops : HasStopped g why
+  pub says : g.stop ≡ Some why
+
+-- what came with the calls, and then with the last
+last_brings : {A : Type 0} (brings : Call → List A) (calls : List Call) (last : Call) → flat_map brings (calls ++ last ∷ []) ≡ flat_map brings calls ++ brings last
+last_brings brings calls last = flat_map-append brings calls (last ∷ []) ∙ ap (λ (x : List _). flat_map brings calls ++ x) (append-nil (brings last))
+
+ended_as : (h : PlainHost) (s r o p m n : List ℕ) (f j : Files) (why : HostStop) (g : PlainHostEndpoint) → r ≡ s → p ≡ o → n ≡ m → j ≡ f → Ended h s o m f why g → Ended h r p n j why g
+ended_as h s r o p m n f j why g a b c d ended = grind arith
+
+-- it was stopped before it took what the last call brought, or after
+last_stops : (h : PlainHost) (stream out handed : List ℕ) (joined : Files) (last : Call) (e g : PlainHostEndpoint) (why : HostStop) → e.stop ≡ None → Stops e last why g → Kept h stream out handed joined e
+    → Ended h stream out handed joined why g ⊎ Ended h (stream ++ came_in last) (out ++ went_out last) (handed ++ handed_out last) (joined ++ joined_by last) why g
+last_stops h stream out handed joined (Feed piece answer) e g why goes (feeds, is) kept =
+    let s = kept_stop h stream out handed joined piece e g why goes (subst (λ (x : Answer). Feeds e piece x g) is feeds) kept in
+    elim s.whole [
+      | inl all ↦ inr (ended_as h (stream ++ s.taken) (stream ++ if_taken answer piece) out (out ++ []) handed (handed ++ []) joined (joined ++ []) why g
+          (ap (λ (x : Answer). stream ++ if_taken x piece) is ∙ ap (λ (x : List ℕ). stream ++ x) (sym all)) (append-nil out) (append-nil handed) (append-nil joined)
+          (record { served = s.kept.served; stops = s.stops; says = s.says }))
+      | inr none ↦ inl (ended_as h (stream ++ s.taken) stream out out handed handed joined joined why g
+          (sym (ap (λ (x : List ℕ). stream ++ x) none ∙ append-nil stream)) refl refl refl (record { served = s.kept.served; stops = s.stops; says = s.says }))
+    ]
+last_stops h stream out handed joined (Bring piece result) e g why goes stops kept = absurd stops
+last_stops h stream out handed joined (MakeStep result) e g why goes (steps, is) kept =
+    let failed : Steps e (Err (fault.Stopped why)) g = subst (λ (x : Result HostStep (EndpointFault HostStop)). Steps e x g) is steps in
+    let s = went_on h stream out handed joined e g why (steps_not e e g (fault.Stopped why) (went_nowhere e goes) failed) kept in
+    inl (record { served = s.0.served; stops = s.1; says = s.2 })
+last_stops h stream out handed joined (AddFile count name text result) e g why goes stops kept = absurd stops
+last_stops h stream out handed joined (TakeOut bytes) e g why goes stops kept = absurd stops
+last_stops h stream out handed joined (NextWritten tag) e g why goes stops kept = absurd stops
+
+pub stops_serve : StopsServe
+stops_serve h calls last e g why runs stops =
+    elim (last_stops h (flat_map came_in calls) (flat_map went_out calls) (flat_map handed_out calls) (flat_map joined_by calls) last e g why
+    (run_goes (begun_with h) e calls refl runs) stops (kept_run h [] [] [] [] calls (begun_with h) e runs (kept_begun h))) [
+      | inl ended ↦ (calls, inr refl, ended.served, ended.stops, ended.says)
+      | inr ended ↦ let all = ended_as h (flat_map came_in calls ++ came_in last) (flat_map came_in (calls ++ last ∷ [])) (flat_map went_out calls ++ went_out last)
+          (flat_map went_out (calls ++ last ∷ [])) (flat_map handed_out calls ++ handed_out last) (flat_map handed_out (calls ++ last ∷ []))
+          (flat_map joined_by calls ++ joined_by last) (flat_map joined_by (calls ++ last ∷ [])) why g
+          (last_brings came_in calls last) (last_brings went_out calls last) (last_brings handed_out calls last) (last_brings joined_by calls last) ended in
+          (calls ++ last ∷ [], inl refl, all.served, all.stops, all.says)
+    ]
 
 -- ## One outcome
 

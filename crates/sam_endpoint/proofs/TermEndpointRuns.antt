@@ -1,9 +1,17 @@
 -- What every run of a terminal end comes to.
-use Rattle.sam_endpoint.proofs.Common.{◌≡◌, ◌⊎◌, refl, sym, ap, subst, ◌∙◌, inl, inr, ℕ, List, [], ◌∷◌, ◌++◌, flat_map, flat_map-append, Option, None, Some, Ok, Err, append_assoc, append-nil, length-append, arith, All-append, All-nil, All-same, FitsT, FitMessages, option_map, Tmesg, HFrame, host, terminal, Splits, stream_of, version_after, Held, stream_of-append, version_after-append, Splits-then, PlainTerminal, Acted, flush_of, composed_in, UserEvent, TermStop, StreamFault, Gives, mesg_fault, PlainTermEndpoint, Acts, Calls, Moves}
+use Rattle.sam_endpoint.proofs.Common.{◌≡◌, ◌⊎◌, refl, sym, ap, subst, ◌∙◌, inl, inr, ℕ, List, [], ◌∷◌, ◌++◌, flat_map, flat_map-append, Option, None, Some, Result, Ok, Err, append_assoc, append-nil, length-append, arith, All-append, All-nil, All-same, FitsT, FitMessages, option_map, Tmesg, HFrame, host, terminal, Splits, stream_of, version_after, Held, stream_of-append, version_after-append, Splits-then, PlainTerminal, Acted, flush_of, composed_in, UserEvent, TermStop, StreamFault, Gives, mesg_fault, PlainTermEndpoint, Acts, Calls, Moves}
 use Rattle.sam_frame.specs.Reading.{IsStream}
 use Rattle.sam_frame.proofs.Cuttings.{Splits-longer}
 use Rattle.sam_term.specs.Term.{new_terminal}
+use Rattle.sam_endpoint.specs.declared.fault.EndpointFault.{EndpointFault}
 use Rattle.sam_endpoint.specs.declared.fault.EndpointFault.TheVariants as fault
+use Rattle.sam_endpoint.specs.declared.step.BringFault.{BringFault}
+use Rattle.sam_endpoint.specs.declared.step.BringFault.TheVariants as bring
+use Rattle.sam_endpoint.specs.declared.step.TermStep.{TermStep}
+use Rattle.sam_endpoint.specs.declared.step.TermStep.TheVariants as step
+use Rattle.sam_endpoint.specs.Streams.{GoesOnAfter, if_taken}
+use Rattle.sam_endpoint.specs.TermStepping.{BringsIn, Steps}
+use Rattle.sam_endpoint.proofs.TermEndpointStepping.{Went, steps_not, steps_on, went_nowhere}
 use Rattle.sam_endpoint.specs.declared.fault.TermStop.TheVariants as stop
 use Rattle.sam_endpoint.specs.TermSteps.{Answer}
 use Rattle.sam_endpoint.specs.TermEndpoints.{Feeds, FeedsIdle, Flushes, FlushesIdle, GoesOn, IsDone, Puts, PutsIdle, Receives, TakesIn, composed_by, new_term_endpoint, oldest, refusals_from, with_event}
@@ -11,7 +19,7 @@ use Rattle.sam_endpoint.proofs.TermEndpointHeld.{act_held, flush_held, take_held
 use Rattle.std.specs.Prelude.{◌+◌, drop, length, option_to_list, slice_get}
 use Rattle.sam_endpoint.specs.declared.changes.Kept as changes
 use Rattle.sam_term.specs.declared.fault.Refusal.{Refusal}
-use Rattle.sam_endpoint.specs.TermRuns.{Call, GoesOnAfter, HasDone, HasStopped, Leads, Runs, Step, Stops, act_in, acts_in, came_in, event_in, events_in, frame_in, frames_in, handed_out, if_taken, put_in, went_out}
+use Rattle.sam_endpoint.specs.TermRuns.{Call, HasDone, HasStopped, Leads, Runs, Step, Stops, act_in, acts_in, came_in, event_in, events_in, frame_in, frames_in, handed_out, put_in, went_out}
 use Rattle.sam_endpoint.specs.TermRuns as run
 
 -- ## Steps one after another
@@ -212,6 +220,9 @@ kept_piece stream events out told piece e k none (frames, broken_by, rest, gives
       count = kept.count;
     })
 
+kept_same : (stream : List ℕ) (events : List UserEvent) (out : List ℕ) (told : List (ℕ × Refusal)) (e k : PlainTermEndpoint) → k ≡ e → Kept stream events out told e → Kept (stream ++ []) events out told k
+kept_same stream events out told e k is kept = grind (arith, append-nil)
+
 -- an event is held
 kept_held : (stream : List ℕ) (events : List UserEvent) (out : List ℕ) (told : List (ℕ × Refusal)) (e : PlainTermEndpoint) (event : UserEvent) → Kept stream events out told e
     → Kept stream (events ++ event ∷ []) out told (with_event e event)
@@ -264,7 +275,7 @@ kept_sent stream events out told e u composed none flushes fit kept =
     bytes_on out pending unwritten composed more none p = grind (arith, append-nil, stream_of-append)
 
 stopped_not : (result : Answer) (why : TermStop) → result ≡ Err (fault.Stopped why) → GoesOnAfter result → ⊥
-stopped_not result why is goes = subst GoesOnAfter is goes
+stopped_not result why is goes = subst (λ (x : Answer). GoesOnAfter x) is goes
 
 as_it_was : {A : Type 0} (result : Answer) (given : List A) → (result ≡ Err fault.OutOfMemory) ⊎ (result ≡ Err fault.CountFull) → if_taken result given ≡ []
 as_it_was result given (inl is) = ap (λ (x : Answer). if_taken x given) is
@@ -318,6 +329,36 @@ kept_feeds stream events out told piece e g result goes (inr (going, k, Err faul
 kept_feeds stream events out told piece e g result goes (inr (going, k, Err (fault.Stopped why), on, (is, same))) kept = absurd (stopped_not result why is goes)
 kept_feeds stream events out told piece e g result goes (inr (going, k, Err fault.OutOfMemory, on, after)) kept = absurd on
 kept_feeds stream events out told piece e g result goes (inr (going, k, Err fault.CountFull, on, after)) kept = absurd on
+
+-- a piece was brought, or was not
+kept_brought : (stream : List ℕ) (events : List UserEvent) (out : List ℕ) (told : List (ℕ × Refusal)) (piece : List ℕ) (e k : PlainTermEndpoint) (result : Result (Unit {0}) (BringFault TermStop))
+    → BringsIn e piece result k → Kept stream events out told e → Kept (stream ++ came_in (run.Bring piece result)) events out told k
+kept_brought stream events out told piece e k (Ok done) (ready, takes) kept = kept_piece stream events out told piece e k ready.1.0.waiting takes kept
+kept_brought stream events out told piece e k (Err (bring.Stopped why)) (stops, same) kept = kept_same stream events out told e k same kept
+kept_brought stream events out told piece e k (Err bring.Waiting) (goes, waits, same) kept = kept_same stream events out told e k same kept
+kept_brought stream events out told piece e k (Err bring.CountFull) (ready, full, same) kept = kept_same stream events out told e k same kept
+kept_brought stream events out told piece e k (Err bring.OutOfMemory) (ready, room, same) kept = kept_same stream events out told e k same kept
+
+-- an end that makes a step goes on
+step_goes : (e k : PlainTermEndpoint) (done : TermStep) → Steps e (Ok done) k → e.stop ≡ None
+step_goes e k step.Idle steps = steps.0.0
+step_goes e k step.Locked steps = steps.0.0
+step_goes e k step.Wrote steps = steps.0
+step_goes e k (step.Received kind tag change) steps = steps.0.0
+step_goes e k (step.Acted number tag change) steps = steps.0.0
+step_goes e k (step.Refused number why) steps = steps.0.0
+
+went : (e k : PlainTermEndpoint) (done : TermStep) → Steps e (Ok done) k → Went e k
+went e k done steps = steps_on e e k done (went_nowhere e (step_goes e k done steps)) steps
+
+kept_stepped : (stream : List ℕ) (events : List UserEvent) (out : List ℕ) (told : List (ℕ × Refusal)) (e k : PlainTermEndpoint) (result : Result TermStep (EndpointFault TermStop))
+    → GoesOnAfter result → Steps e result k → Kept stream events out told e → Kept stream events out told k
+kept_stepped stream events out told e k (Ok done) goes steps kept =
+    let w = went e k done steps in kept_moves stream events out told e k w.frames w.acts w.moves kept
+kept_stepped stream events out told e k (Err fault.Unfinished) goes (going, waits, same) kept = subst (λ (x : PlainTermEndpoint). Kept stream events out told x) (sym same) kept
+kept_stepped stream events out told e k (Err fault.OutOfMemory) goes steps kept = absurd steps
+kept_stepped stream events out told e k (Err fault.CountFull) goes steps kept = absurd steps
+kept_stepped stream events out told e k (Err (fault.Stopped why)) goes steps kept = absurd goes
 
 kept_puts : (stream : List ℕ) (events : List UserEvent) (out : List ℕ) (told : List (ℕ × Refusal)) (event : UserEvent) (e g : PlainTermEndpoint) (result : Answer) → GoesOnAfter result
     → Puts e event result g → Kept stream events out told e → Kept stream (events ++ if_taken result (event ∷ [])) out told g
@@ -405,6 +446,12 @@ kept_run stream events out told (run.Feed piece answer ∷ calls) e g (k, feeds,
     subst (λ (x : List ℕ). Kept x (events ++ flat_map put_in calls) (out ++ flat_map went_out calls) (told ++ flat_map handed_out calls) g)
     (append_assoc stream (if_taken answer piece) (flat_map came_in calls))
     (kept_run (stream ++ if_taken answer piece) events out told calls k g runs (kept_feeds stream events out told piece e k answer goes feeds kept))
+kept_run stream events out told (run.Bring piece result ∷ calls) e g (k, brings, runs) kept =
+    subst (λ (x : List ℕ). Kept x (events ++ flat_map put_in calls) (out ++ flat_map went_out calls) (told ++ flat_map handed_out calls) g)
+    (append_assoc stream (came_in (run.Bring piece result)) (flat_map came_in calls))
+    (kept_run (stream ++ came_in (run.Bring piece result)) events out told calls k g runs (kept_brought stream events out told piece e k result brings kept))
+kept_run stream events out told (run.MakeStep result ∷ calls) e g (k, steps, goes, runs) kept =
+    kept_run stream events out told calls k g runs (kept_stepped stream events out told e k result goes steps kept)
 kept_run stream events out told (run.Put event answer ∷ calls) e g (k, puts, goes, runs) kept =
     subst (λ (x : List UserEvent). Kept (stream ++ flat_map came_in calls) x (out ++ flat_map went_out calls) (told ++ flat_map handed_out calls) g)
     (append_assoc events (if_taken answer (event ∷ [])) (flat_map put_in calls))
@@ -454,9 +501,25 @@ put_goes e g event answer goes puts = grind arith
 flush_goes : (e g : PlainTermEndpoint) (answer : Answer) → GoesOnAfter answer → Flushes e answer g → g.stop ≡ None
 flush_goes e g answer goes flushes = grind arith
 
+bring_goes : (e k : PlainTermEndpoint) (piece : List ℕ) (result : Result (Unit {0}) (BringFault TermStop)) → e.stop ≡ None → BringsIn e piece result k → k.stop ≡ None
+bring_goes e k piece (Ok done) goes (ready, (frames, broken_by, rest, gives, is)) = ap (λ (x : PlainTermEndpoint). x.stop) is ∙ goes
+bring_goes e k piece (Err (bring.Stopped why)) goes (stops, same) = ap (λ (x : PlainTermEndpoint). x.stop) same ∙ goes
+bring_goes e k piece (Err bring.Waiting) goes (going, waits, same) = ap (λ (x : PlainTermEndpoint). x.stop) same ∙ goes
+bring_goes e k piece (Err bring.CountFull) goes (ready, full, same) = ap (λ (x : PlainTermEndpoint). x.stop) same ∙ goes
+bring_goes e k piece (Err bring.OutOfMemory) goes (ready, room, same) = ap (λ (x : PlainTermEndpoint). x.stop) same ∙ goes
+
+stepped_goes : (e k : PlainTermEndpoint) (result : Result TermStep (EndpointFault TermStop)) → GoesOnAfter result → Steps e result k → k.stop ≡ None
+stepped_goes e k (Ok done) goes steps = (went e k done steps).goes
+stepped_goes e k (Err fault.Unfinished) goes (going, waits, same) = ap (λ (x : PlainTermEndpoint). x.stop) same ∙ going
+stepped_goes e k (Err fault.OutOfMemory) goes steps = absurd steps
+stepped_goes e k (Err fault.CountFull) goes steps = absurd steps
+stepped_goes e k (Err (fault.Stopped why)) goes steps = absurd goes
+
 run_goes : (e g : PlainTermEndpoint) (calls : List Call) → e.stop ≡ None → Runs e calls g → g.stop ≡ None
 run_goes e g [] goes is = grind arith
 run_goes e g (run.Feed piece answer ∷ calls) goes (k, feeds, goes_on, runs) = run_goes k g calls (feed_goes e k piece answer goes_on feeds) runs
+run_goes e g (run.Bring piece result ∷ calls) goes (k, brings, runs) = run_goes k g calls (bring_goes e k piece result goes brings) runs
+run_goes e g (run.MakeStep result ∷ calls) goes (k, steps, goes_on, runs) = run_goes k g calls (stepped_goes e k result goes_on steps) runs
 run_goes e g (run.Put event answer ∷ calls) goes (k, puts, goes_on, runs) = run_goes k g calls (put_goes e k event answer goes_on puts) runs
 run_goes e g (run.Flush answer ∷ calls) goes (k, flushes, goes_on, runs) = run_goes k g calls (flush_goes e k answer goes_on flushes) runs
 run_goes e g (run.TakeOut bytes ∷ calls) goes (rest, is, runs) = run_goes (record e { pending_bytes = rest }) g calls goes runs
@@ -545,6 +608,10 @@ last_stops stream events out told (run.Feed piece answer) e g why goes (feeds, i
           (ap (λ (x : Answer). stream ++ if_taken x piece) is) (append-nil events) (append-nil out) (append-nil told)
           (fed_stops stream events out told piece ready.middle g why ready.whole.0.waiting ready.brings ready.kept))
     ]
+last_stops stream events out told (run.Bring piece result) e g why goes stops kept = absurd stops
+last_stops stream events out told (run.MakeStep result) e g why goes (steps, is) kept =
+    let failed : Steps e (Err (fault.Stopped why)) g = subst (λ (x : Result TermStep (EndpointFault TermStop)). Steps e x g) is steps in
+    inl (went_on stream events out told e g why (steps_not e e g (fault.Stopped why) (went_nowhere e goes) failed) kept)
 last_stops stream events out told (run.Put event answer) e g why goes (puts, is) kept =
     elim (call_stops stream events out told e g why (λ middle. PutsIdle middle event (Err (fault.Stopped why)) g) goes (subst (λ (x : Answer). Puts e event x g) is puts) kept) [
       | inl ended ↦ inl ended

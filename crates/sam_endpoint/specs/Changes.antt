@@ -1,16 +1,16 @@
 -- What changed in the texts of a terminal: of each, how much of it is as it was when that was asked last.
 use Rattle.std.specs.Prelude.{◌≡◌, ◌⊎◌, ℕ, ◌+◌, ◌-◌, ◌≤◌, ◌≢◌, min, ◌==◌, ◌&&◌, if◌then◌else◌, List, [], ◌∷◌, ◌++◌, length, take, drop, set, replicate, slice_index_or, slice_get, Option, Some, None, option_and_then, Result, Ok, Err}
 use Rattle.sam_mesg.specs.declared.hmesg.Hmesg.{Hmesg}
-use Rattle.sam_mesg.specs.declared.hmesg.Hmesg.TheVariants.{Hbindname, Hclose, Hcut, Hdata, Hdelname, Hgrow, Hgrowdata, Hnewname}
+use Rattle.sam_mesg.specs.declared.hmesg.Hmesg.TheVariants.{Hversion, Hbindname, Hcurrent, Hnewname, Hmovname, Hgrow, Hcheck, Hunlock, Hdata, Horigin, Hunlockfile, Hsetdot, Hgrowdata, Hmoveto, Hclean, Hdirty, Hcut, Hsetpat, Hdelname, Hclose, Hsetsnarf, Hsnarflen, Hack, Hexit}
 use Rattle.sam_mesg.specs.declared.hmesg.HFrame.{HFrame}
 use Rattle.sam_mesg.specs.declared.tmesg.Tmesg.{Tmesg}
 use Rattle.sam_rasp.specs.Rasp.{PartialText}
 use Rattle.sam_term.specs.Sound.{IsSound}
 use Rattle.sam_term.specs.Term.{PlainTerminal, act_of, flush_of, rasp_at, take_of, window_at}
 use Rattle.sam_term.specs.declared.event.Acted.{Acted}
-use Rattle.sam_term.specs.declared.event.Acted.TheVariants.{Done}
+use Rattle.sam_term.specs.declared.event.Acted.TheVariants.{Idle, Locked, Done, Refused}
 use Rattle.sam_term.specs.declared.event.UserEvent.{UserEvent}
-use Rattle.sam_term.specs.declared.event.UserEvent.TheVariants.{Cut, Edit, Paste, Typed}
+use Rattle.sam_term.specs.declared.event.UserEvent.TheVariants.{Typed, Select, Cut, Paste, Snarf, Look, Search, Send, Dclick, Scroll, View, Load, Edit, Open, Close, Write, Work, OpenCmd, New, Exit, Check, GetSnarf, SetSnarf, Version, Flush}
 use Rattle.sam_term.specs.declared.fault.TermFault.{TermFault}
 use Rattle.sam_endpoint.specs.declared.changes.Change.{Change}
 use Rattle.sam_endpoint.specs.declared.changes.Kept.{Kept}
@@ -79,23 +79,58 @@ whole_touch tag = Some (record { tag = tag; front = 0; back = 0 })
 
 -- a frame loads runes in the place of gaps, brings or cuts some, or begins or ends a text
 abbrev pub frame_touch : PlainTerminal → Hmesg → Option Touch
-frame_touch t (Hdata f p s) = edit_touch f (length (rasp_at t f)) p (length s) (length s)
-frame_touch t (Hgrow f p n) = edit_touch f (length (rasp_at t f)) p 0 n
-frame_touch t (Hgrowdata f p s) = edit_touch f (length (rasp_at t f)) p 0 (length s)
-frame_touch t (Hcut f p n) = edit_touch f (length (rasp_at t f)) p n 0
+frame_touch t (Hversion v) = None
 frame_touch t (Hbindname f) = whole_touch f
-frame_touch t (Hclose f) = whole_touch f
+frame_touch t (Hcurrent f) = None
 frame_touch t (Hnewname f) = whole_touch f
+frame_touch t (Hmovname f s) = None
+frame_touch t (Hgrow f p n) = edit_touch f (length (rasp_at t f)) p 0 n
+frame_touch t (Hcheck f) = None
+frame_touch t Hunlock = None
+frame_touch t (Hdata f p s) = edit_touch f (length (rasp_at t f)) p (length s) (length s)
+frame_touch t (Horigin f p) = None
+frame_touch t (Hunlockfile f) = None
+frame_touch t (Hsetdot f p q) = None
+frame_touch t (Hgrowdata f p s) = edit_touch f (length (rasp_at t f)) p 0 (length s)
+frame_touch t (Hmoveto f p) = None
+frame_touch t (Hclean f) = None
+frame_touch t (Hdirty f) = None
+frame_touch t (Hcut f p n) = edit_touch f (length (rasp_at t f)) p n 0
+frame_touch t (Hsetpat s) = None
 frame_touch t (Hdelname f) = whole_touch f
-frame_touch t m = None
+frame_touch t (Hclose f) = whole_touch f
+frame_touch t (Hsetsnarf s) = None
+frame_touch t (Hsnarflen n) = None
+frame_touch t Hack = None
+frame_touch t Hexit = None
 
 -- the dot gives way to what is typed, or to nothing; the range of an edit to its text
 abbrev pub event_touch : PlainTerminal → UserEvent → Option Touch
 event_touch t (Typed f s) = let d = (window_at t f).dot in edit_touch f (length (rasp_at t f)) d.0 (d.1 - d.0) (length s)
+event_touch t (Select f p q) = None
 event_touch t (Cut f) = let d = (window_at t f).dot in edit_touch f (length (rasp_at t f)) d.0 (d.1 - d.0) 0
 event_touch t (Paste f) = let d = (window_at t f).dot in edit_touch f (length (rasp_at t f)) d.0 (d.1 - d.0) 0
+event_touch t (Snarf f) = None
+event_touch t (Look f) = None
+event_touch t (Search f) = None
+event_touch t (Send f) = None
+event_touch t (Dclick f p) = None
+event_touch t (Scroll f n) = None
+event_touch t (View f p n) = None
+event_touch t (Load f p n) = None
 event_touch t (Edit f p q s) = edit_touch f (length (rasp_at t f)) p (q - p) (length s)
-event_touch t e = None
+event_touch t (Open f) = None
+event_touch t (Close f) = None
+event_touch t (Write f) = None
+event_touch t (Work f) = None
+event_touch t OpenCmd = None
+event_touch t New = None
+event_touch t Exit = None
+event_touch t (Check f) = None
+event_touch t GetSnarf = None
+event_touch t (SetSnarf s) = None
+event_touch t (Version v) = None
+event_touch t Flush = None
 
 -- what the oldest event touches where it acts
 abbrev pub oldest_touch : PlainTerminal → Option Touch
@@ -103,7 +138,9 @@ oldest_touch t = option_and_then (event_touch t) (slice_get t.held 0)
 
 abbrev pub act_touch : PlainTerminal → Acted → Option Touch
 act_touch t (Done ms) = oldest_touch t
-act_touch t acted = None
+act_touch t Idle = None
+act_touch t Locked = None
+act_touch t (Refused why) = None
 
 -- how many members the text has that is touched
 abbrev pub touched_len : PlainTerminal → Option Touch → ℕ

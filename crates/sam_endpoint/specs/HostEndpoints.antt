@@ -4,7 +4,7 @@ use Rattle.std.specs.Str.{chars, is_utf8}
 use Rattle.sam_runes.specs.Checks.{Checks, first_of_checks}
 use Rattle.sam_runes.specs.Texts.{all_tags, max_runes, most_in_name}
 use Rattle.sam_mesg.specs.declared.tmesg.Tmesg.{Tmesg}
-use Rattle.sam_mesg.specs.declared.tmesg.Tmesg.TheVariants.{Twrite}
+use Rattle.sam_mesg.specs.declared.tmesg.Tmesg.TheVariants.{Tversion, Tstartcmdfile, Tcheck, Trequest, Torigin, Tstartfile, Tworkfile, Ttype, Tcut, Tpaste, Tsnarf, Tstartnewfile, Twrite, Tclose, Tlook, Tsearch, Tsend, Tdclick, Tstartsnarf, Tsetsnarf, Tack, Texit}
 use Rattle.sam_mesg.specs.declared.hmesg.HFrame.{HFrame}
 use Rattle.sam_frame.specs.Direction.{host, terminal}
 use Rattle.sam_frame.specs.Stream.{stream_of}
@@ -46,8 +46,28 @@ new_host_endpoint =
 
 -- the tag that a message tells the host to write; a host that is done writes nothing
 abbrev pub writes_of : PlainHost → Tmesg → List ℕ
+writes_of h (Tversion v) = []
+writes_of h Tstartcmdfile = []
+writes_of h (Tcheck f) = []
+writes_of h (Trequest f p n) = []
+writes_of h (Torigin f p n) = []
+writes_of h (Tstartfile f) = []
+writes_of h (Tworkfile f p q) = []
+writes_of h (Ttype f p s) = []
+writes_of h (Tcut f p q) = []
+writes_of h (Tpaste f p) = []
+writes_of h (Tsnarf f p q) = []
+writes_of h Tstartnewfile = []
 writes_of h (Twrite f) = if h.is_done then [] else f ∷ []
-writes_of h m = []
+writes_of h (Tclose f) = []
+writes_of h (Tlook f p q) = []
+writes_of h (Tsearch f p q) = []
+writes_of h (Tsend f p q) = []
+writes_of h (Tdclick f p) = []
+writes_of h Tstartsnarf = []
+writes_of h (Tsetsnarf s) = []
+writes_of h Tack = []
+writes_of h Texit = []
 
 -- what a host does
 pub data Step : Type 0 where

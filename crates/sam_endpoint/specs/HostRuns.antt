@@ -10,9 +10,13 @@ use Rattle.sam_host.specs.Host.{PlainHost, answer}
 use Rattle.sam_endpoint.specs.declared.fault.AddFault.{AddFault}
 use Rattle.sam_endpoint.specs.declared.fault.HostStop.{HostStop}
 use Rattle.sam_endpoint.specs.declared.fault.HostStop.TheVariants as stop
+use Rattle.sam_endpoint.specs.declared.fault.EndpointFault.{EndpointFault}
 use Rattle.sam_endpoint.specs.declared.fault.EndpointFault.TheVariants as fault
-use Rattle.sam_endpoint.specs.Streams.{FitFrames, mesg_fault}
+use Rattle.sam_endpoint.specs.declared.step.BringFault.{BringFault}
+use Rattle.sam_endpoint.specs.declared.step.HostStep.{HostStep}
+use Rattle.sam_endpoint.specs.Streams.{FitFrames, GoesOnAfter, if_brought, if_taken, mesg_fault}
 use Rattle.sam_endpoint.specs.HostEndpoints.{PlainHostEndpoint, Step, Answered, Joined, Adds, Feeds, IsIdle, Serves, new_host_endpoint}
+use Rattle.sam_endpoint.specs.HostStepping.{BringsIn, Steps}
 use Rattle.sam_endpoint.specs.HostSteps.{Answer}
 
 -- ## What a host did
@@ -35,46 +39,68 @@ joined_after count (Joined file ∷ steps) = (count, file) ∷ joined_after coun
 
 pub data Call : Type 0 where
   Feed : List ℕ → Answer → Call  -- a piece was fed
+  Bring : List ℕ → Result (Unit {0}) (BringFault HostStop) → Call  -- a piece was brought
+  MakeStep : Result HostStep (EndpointFault HostStop) → Call  -- the end went on by one step
   AddFile : ℕ → List ℕ → List ℕ → Result ℕ AddFault → Call  -- after so many messages a file of this name and text was to join
   TakeOut : List ℕ → Call  -- these bytes were taken out
   NextWritten : Option ℕ → Call  -- the next tag to write was asked for, and this one was handed out, or none
-
--- the end goes on after this answer
-abbrev pub GoesOnAfter : Answer → Type 0
-GoesOnAfter (Err (fault.Stopped why)) = ⊥
-GoesOnAfter (Err _) = Unit {0}
-GoesOnAfter (Ok done) = Unit {0}
 
 -- these calls lead from one end to the other, and at none of them does it stop
 abbrev pub Runs : PlainHostEndpoint → List Call → PlainHostEndpoint → Type 0
 Runs e [] g = g ≡ e
 Runs e (Feed piece answer ∷ calls) g = (k : PlainHostEndpoint) × Feeds e piece answer k × GoesOnAfter answer × Runs k calls g
+Runs e (Bring piece result ∷ calls) g = (k : PlainHostEndpoint) × BringsIn e piece result k × Runs k calls g
+Runs e (MakeStep result ∷ calls) g = (k : PlainHostEndpoint) × Steps e result k × GoesOnAfter result × Runs k calls g
 Runs e (AddFile count name text result ∷ calls) g =
     (k : PlainHostEndpoint) × (count ≡ e.host.taken) × Adds e name text result k × Runs k calls g
 Runs e (TakeOut bytes ∷ calls) g = (rest : List ℕ) × (e.pending_bytes ≡ bytes ++ rest) × Runs (record e { pending_bytes = rest }) calls g
 Runs e (NextWritten tag ∷ calls) g = (tag ≡ slice_get e.writes 0) × Runs (record e { writes = drop 1 e.writes }) calls g
 
--- the bytes of the call that the end has taken in: those of a piece, unless it was not taken
+-- this call stops the end for this reason
+abbrev pub Stops : PlainHostEndpoint → Call → HostStop → PlainHostEndpoint → Type 0
+Stops e (Feed piece answer) why g = Feeds e piece answer g × (answer ≡ Err (fault.Stopped why))
+Stops e (Bring piece result) why g = ⊥
+Stops e (MakeStep result) why g = Steps e result g × (result ≡ Err (fault.Stopped why))
+Stops e (AddFile count name text result) why g = ⊥
+Stops e (TakeOut bytes) why g = ⊥
+Stops e (NextWritten tag) why g = ⊥
+
+-- the bytes that came in with the call
 abbrev pub came_in : Call → List ℕ
-came_in (Feed piece (Err fault.OutOfMemory)) = []
-came_in (Feed piece (Err fault.CountFull)) = []
-came_in (Feed piece answer) = piece
-came_in _ = []
+came_in (Feed piece answer) = if_taken answer piece
+came_in (Bring piece result) = if_brought result piece
+came_in (MakeStep result) = []
+came_in (AddFile count name text result) = []
+came_in (TakeOut bytes) = []
+came_in (NextWritten tag) = []
 
 -- the bytes that the call took out
 abbrev pub went_out : Call → List ℕ
+went_out (Feed piece answer) = []
+went_out (Bring piece result) = []
+went_out (MakeStep result) = []
+went_out (AddFile count name text result) = []
 went_out (TakeOut bytes) = bytes
-went_out _ = []
+went_out (NextWritten tag) = []
 
 -- the tag that the call handed out
 abbrev pub handed_out : Call → List ℕ
+handed_out (Feed piece answer) = []
+handed_out (Bring piece result) = []
+handed_out (MakeStep result) = []
+handed_out (AddFile count name text result) = []
+handed_out (TakeOut bytes) = []
 handed_out (NextWritten tag) = option_to_list tag
-handed_out _ = []
 
 -- the file that joined by the call, with how many messages the host had answered by then
 abbrev pub joined_by : Call → List (ℕ × (List ℕ × List ℕ))
+joined_by (Feed piece answer) = []
+joined_by (Bring piece result) = []
+joined_by (MakeStep result) = []
 joined_by (AddFile count name text (Ok tag)) = (count, (chars name, chars text)) ∷ []
-joined_by _ = []
+joined_by (AddFile count name text (Err why)) = []
+joined_by (TakeOut bytes) = []
+joined_by (NextWritten tag) = []
 
 -- Of a stream that came in, the host has answered the first messages, and the others wait, with what is wrong after them. These files
 -- joined, each after so many answers. All frames of the answers fit, and in order they are what was taken out, what is pending and what
@@ -108,13 +134,13 @@ RunsServe =
     (h : PlainHost) (calls : List Call) (g : PlainHostEndpoint) → Runs (begun_with h) calls g
     → HasServed h (flat_map came_in calls) (flat_map went_out calls) (flat_map handed_out calls) (flat_map joined_by calls) g
 
--- a run that a piece then stops, of which all was taken in or nothing
+-- a run, and then a call that stops it; all that this call brought was taken in, or nothing of it
 abbrev pub StopsServe : Type 0
 StopsServe =
-    (h : PlainHost) (calls : List Call) (e g : PlainHostEndpoint) (piece : List ℕ) (why : HostStop) → Runs (begun_with h) calls e
-    → Feeds e piece (Err (fault.Stopped why)) g
-    → (taken : List ℕ) × ((taken ≡ piece) ⊎ (taken ≡ []))
-    × HasServed h (flat_map came_in calls ++ taken) (flat_map went_out calls) (flat_map handed_out calls) (flat_map joined_by calls) g
+    (h : PlainHost) (calls : List Call) (last : Call) (e g : PlainHostEndpoint) (why : HostStop)
+    → Runs (begun_with h) calls e → Stops e last why g
+    → (taken : List Call) × ((taken ≡ calls ++ last ∷ []) ⊎ (taken ≡ calls))
+    × HasServed h (flat_map came_in taken) (flat_map went_out taken) (flat_map handed_out taken) (flat_map joined_by taken) g
     × HasStopped g why × (g.stop ≡ Some why)
 
 -- two ends to which the same stream came, and the same files, each after as many messages, in whatever pieces and however often they were

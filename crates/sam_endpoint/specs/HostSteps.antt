@@ -35,7 +35,9 @@ stopped e why = record e { stop = Some why }
 abbrev pub Writes : PlainHostEndpoint → Answer → PlainHostEndpoint → Type 0
 Writes e (Ok done) g = g ≡ written e
 Writes e (Err fault.Unfinished) g = (0 < length e.unwritten) × (g ≡ e)
-Writes e (Err _) g = ⊥
+Writes e (Err fault.OutOfMemory) g = ⊥
+Writes e (Err fault.CountFull) g = ⊥
+Writes e (Err (fault.Stopped why)) g = ⊥
 
 -- the host answered the oldest message that waited
 pub record AnswersFirst (e : PlainHostEndpoint) (g : PlainHostEndpoint) : Type 0 where

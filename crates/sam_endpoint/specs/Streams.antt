@@ -1,5 +1,5 @@
--- What both ends share: what can be written, and a stream that shows a fault.
-use Rattle.std.specs.Prelude.{◌≡◌, ℕ, ◌+◌, ◌^◌, ◌≤◌, List, length, Option, Some, None, Result, Ok, Err, All}
+-- What both ends share: what can be written, a stream that shows a fault, and what a call's answer says.
+use Rattle.std.specs.Prelude.{◌≡◌, ℕ, ◌+◌, ◌^◌, ◌≤◌, List, [], length, Option, Some, None, Result, Ok, Err, All}
 use Rattle.std.specs.Global.{Vec}
 use Rattle.sam_mesg.specs.HostKinds.{FitsH}
 use Rattle.sam_mesg.specs.TerminalKinds.{FitsT}
@@ -41,6 +41,27 @@ GivesAs d h piece (Err fault.OutOfMemory) k = HasRoom h piece × (k ≡ h)
 GivesAs d h piece (Err fault.CountFull) k = (2 ^ 64 ≤ h.offset + length h.bytes + length piece) × (k ≡ h)
 GivesAs d h piece (Err fault.Unfinished) k = ⊥
 GivesAs d h piece (Err (fault.Stopped why)) k = ⊥
+
+-- the end goes on after this answer
+abbrev pub GoesOnAfter : {A S : Type 0} → Result A (EndpointFault S) → Type 0
+GoesOnAfter (Ok done) = Unit {0}
+GoesOnAfter (Err fault.OutOfMemory) = Unit {0}
+GoesOnAfter (Err fault.Unfinished) = Unit {0}
+GoesOnAfter (Err fault.CountFull) = Unit {0}
+GoesOnAfter (Err (fault.Stopped why)) = ⊥
+
+-- what the call brought, if it was taken
+abbrev pub if_taken : {A S : Type 0} → Result (Unit {0}) (EndpointFault S) → List A → List A
+if_taken (Ok done) brought = brought
+if_taken (Err fault.OutOfMemory) brought = []
+if_taken (Err fault.Unfinished) brought = brought
+if_taken (Err fault.CountFull) brought = []
+if_taken (Err (fault.Stopped why)) brought = brought
+
+-- the piece, if it was brought
+abbrev pub if_brought : {S : Type 0} → Result (Unit {0}) (BringFault S) → List ℕ → List ℕ
+if_brought (Ok done) piece = piece
+if_brought (Err why) piece = []
 
 -- out of memory before what the call brought was taken
 abbrev pub not_taken : {S : Type 0} → EndpointFault S → EndpointFault S

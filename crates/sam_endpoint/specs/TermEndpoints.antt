@@ -114,7 +114,9 @@ composed_by acts = flat_map composed_in acts
 abbrev pub refusals_from : ℕ → List Acted → List (ℕ × Refusal)
 refusals_from n [] = []
 refusals_from n (Refused why ∷ rest) = (n, why) ∷ refusals_from (n + 1) rest
-refusals_from n (acted ∷ rest) = refusals_from (n + 1) rest
+refusals_from n (Done ms ∷ rest) = refusals_from (n + 1) rest
+refusals_from n (Idle ∷ rest) = refusals_from (n + 1) rest
+refusals_from n (Locked ∷ rest) = refusals_from (n + 1) rest
 
 -- the number of the oldest event that is held
 abbrev pub oldest : PlainTermEndpoint → ℕ

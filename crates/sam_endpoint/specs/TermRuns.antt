@@ -1,5 +1,5 @@
 -- A run of calls of a terminal end, and what it comes to.
-use Rattle.std.specs.Prelude.{◌≡◌, ◌⊎◌, ℕ, List, [], ◌∷◌, ◌++◌, drop, flat_map, slice_get, Option, Some, option_map, option_to_list, Ok, Err}
+use Rattle.std.specs.Prelude.{◌≡◌, ◌⊎◌, ℕ, List, [], ◌∷◌, ◌++◌, drop, flat_map, slice_get, Option, Some, option_map, option_to_list, Result, Ok, Err}
 use Rattle.sam_mesg.specs.declared.tmesg.Tmesg.{Tmesg}
 use Rattle.sam_mesg.specs.declared.hmesg.HFrame.{HFrame}
 use Rattle.sam_frame.specs.Direction.{host, terminal}
@@ -13,9 +13,13 @@ use Rattle.sam_term.specs.declared.fault.Refusal.{Refusal}
 use Rattle.sam_endpoint.specs.declared.changes.Kept.{Kept}
 use Rattle.sam_endpoint.specs.declared.fault.TermStop.{TermStop}
 use Rattle.sam_endpoint.specs.declared.fault.TermStop.TheVariants as stop
+use Rattle.sam_endpoint.specs.declared.fault.EndpointFault.{EndpointFault}
 use Rattle.sam_endpoint.specs.declared.fault.EndpointFault.TheVariants as fault
-use Rattle.sam_endpoint.specs.Streams.{FitMessages, mesg_fault}
+use Rattle.sam_endpoint.specs.declared.step.BringFault.{BringFault}
+use Rattle.sam_endpoint.specs.declared.step.TermStep.{TermStep}
+use Rattle.sam_endpoint.specs.Streams.{FitMessages, GoesOnAfter, if_brought, if_taken, mesg_fault}
 use Rattle.sam_endpoint.specs.TermEndpoints.{PlainTermEndpoint, Feeds, Flushes, IsDecided, IsDone, IsIdle, Puts, new_term_endpoint, refusals_from}
+use Rattle.sam_endpoint.specs.TermStepping.{BringsIn, Steps}
 use Rattle.sam_endpoint.specs.TermSteps.{Answer}
 
 -- ## What a terminal does
@@ -42,15 +46,21 @@ Leads t (Sent ∷ steps) composed u =
 
 abbrev pub frame_in : Step → List HFrame
 frame_in (Received frame) = frame ∷ []
-frame_in _ = []
+frame_in (Held event) = []
+frame_in (Decided acted) = []
+frame_in Sent = []
 
 abbrev pub event_in : Step → List UserEvent
+event_in (Received frame) = []
 event_in (Held event) = event ∷ []
-event_in _ = []
+event_in (Decided acted) = []
+event_in Sent = []
 
 abbrev pub act_in : Step → List Acted
+act_in (Received frame) = []
+act_in (Held event) = []
 act_in (Decided acted) = acted ∷ []
-act_in _ = []
+act_in Sent = []
 
 -- the frames that were received, in order
 abbrev pub frames_in : List Step → List HFrame
@@ -68,22 +78,20 @@ acts_in steps = flat_map act_in steps
 
 pub data Call : Type 0 where
   Feed : List ℕ → Answer → Call  -- a piece was fed
+  Bring : List ℕ → Result (Unit {0}) (BringFault TermStop) → Call  -- a piece was brought
+  MakeStep : Result TermStep (EndpointFault TermStop) → Call  -- the end went on by one step
   Put : UserEvent → Answer → Call  -- the user did something
   Flush : Answer → Call
   TakeOut : List ℕ → Call  -- these bytes were taken out
   NextRefusal : Option (ℕ × Refusal) → Call  -- the next refusal was asked for, and this one was handed out, or none
   Changed : List Kept → Call  -- what changed was asked for, and from then on so much is kept
 
--- the end goes on after this answer
-abbrev pub GoesOnAfter : Answer → Type 0
-GoesOnAfter (Err (fault.Stopped why)) = ⊥
-GoesOnAfter (Err _) = Unit {0}
-GoesOnAfter (Ok done) = Unit {0}
-
 -- these calls lead from one end to the other, and at none of them does it stop
 abbrev pub Runs : PlainTermEndpoint → List Call → PlainTermEndpoint → Type 0
 Runs e [] g = g ≡ e
 Runs e (Feed piece answer ∷ calls) g = (k : PlainTermEndpoint) × Feeds e piece answer k × GoesOnAfter answer × Runs k calls g
+Runs e (Bring piece result ∷ calls) g = (k : PlainTermEndpoint) × BringsIn e piece result k × Runs k calls g
+Runs e (MakeStep result ∷ calls) g = (k : PlainTermEndpoint) × Steps e result k × GoesOnAfter result × Runs k calls g
 Runs e (Put event answer ∷ calls) g = (k : PlainTermEndpoint) × Puts e event answer k × GoesOnAfter answer × Runs k calls g
 Runs e (Flush answer ∷ calls) g = (k : PlainTermEndpoint) × Flushes e answer k × GoesOnAfter answer × Runs k calls g
 Runs e (TakeOut bytes ∷ calls) g = (rest : List ℕ) × (e.pending_bytes ≡ bytes ++ rest) × Runs (record e { pending_bytes = rest }) calls g
@@ -93,37 +101,57 @@ Runs e (Changed kept ∷ calls) g = Runs (record e { kept = kept }) calls g
 -- this call stops the end for this reason
 abbrev pub Stops : PlainTermEndpoint → Call → TermStop → PlainTermEndpoint → Type 0
 Stops e (Feed piece answer) why g = Feeds e piece answer g × (answer ≡ Err (fault.Stopped why))
+Stops e (Bring piece result) why g = ⊥
+Stops e (MakeStep result) why g = Steps e result g × (result ≡ Err (fault.Stopped why))
 Stops e (Put event answer) why g = Puts e event answer g × (answer ≡ Err (fault.Stopped why))
 Stops e (Flush answer) why g = Flushes e answer g × (answer ≡ Err (fault.Stopped why))
 Stops e (TakeOut bytes) why g = ⊥
 Stops e (NextRefusal told) why g = ⊥
 Stops e (Changed kept) why g = ⊥
 
--- the call brought what it was given, unless it was not taken
-abbrev pub if_taken : {A : Type 0} → Answer → List A → List A
-if_taken (Err fault.OutOfMemory) given = []
-if_taken (Err fault.CountFull) given = []
-if_taken answer given = given
-
 -- the bytes that came in with the call
 abbrev pub came_in : Call → List ℕ
 came_in (Feed piece answer) = if_taken answer piece
-came_in _ = []
+came_in (Bring piece result) = if_brought result piece
+came_in (MakeStep result) = []
+came_in (Put event answer) = []
+came_in (Flush answer) = []
+came_in (TakeOut bytes) = []
+came_in (NextRefusal told) = []
+came_in (Changed kept) = []
 
 -- the event that came in with the call
 abbrev pub put_in : Call → List UserEvent
+put_in (Feed piece answer) = []
+put_in (Bring piece result) = []
+put_in (MakeStep result) = []
 put_in (Put event answer) = if_taken answer (event ∷ [])
-put_in _ = []
+put_in (Flush answer) = []
+put_in (TakeOut bytes) = []
+put_in (NextRefusal told) = []
+put_in (Changed kept) = []
 
 -- the bytes that the call took out
 abbrev pub went_out : Call → List ℕ
+went_out (Feed piece answer) = []
+went_out (Bring piece result) = []
+went_out (MakeStep result) = []
+went_out (Put event answer) = []
+went_out (Flush answer) = []
 went_out (TakeOut bytes) = bytes
-went_out _ = []
+went_out (NextRefusal told) = []
+went_out (Changed kept) = []
 
 -- the refusal that the call handed out
 abbrev pub handed_out : Call → List (ℕ × Refusal)
+handed_out (Feed piece answer) = []
+handed_out (Bring piece result) = []
+handed_out (MakeStep result) = []
+handed_out (Put event answer) = []
+handed_out (Flush answer) = []
+handed_out (TakeOut bytes) = []
 handed_out (NextRefusal told) = option_to_list told
-handed_out _ = []
+handed_out (Changed kept) = []
 
 -- ## The laws
 

@@ -8,17 +8,19 @@ ghost use Rattle.sam_endpoint.specs.TermStepping.{TermStepsFeed};
 
 use sam_frame::one_reading_t;
 
-/// States what every run of a host endpoint that does not stop comes to, whatever the pieces are, whenever memory is refused and wherever
-/// files join. The host has answered the first messages of the stream in order, and the others wait; each file that was added joined
-/// between two answers, in order; the frames of its answers are what was taken out, what is pending, and what is not written yet; the tags
-/// that these messages had it write were handed out, each once, or wait to be.
+/// States what every run of a host endpoint that does not stop comes to, whatever the pieces are, whether they are fed or brought and gone
+/// on with by steps, whenever memory is refused and wherever files join. The host has answered the first messages of the stream in order,
+/// and the others wait; each file that was added joined between two answers, in order; the frames of its answers are what was taken out,
+/// what is pending, and what is not written yet, and each is within its limits; the tags that these messages had it write were handed out,
+/// each once, or wait to be.
 #[tactic(auto, using(crate::proofs::HostEndpointRuns::runs_serve))]
 pub fn host_runs_serve()
     ensures { RunsServe }
 {}
 
-/// States what a run of a host endpoint comes to that a piece stops: the same, with the piece or with none of it, and the endpoint shows
-/// why it stopped. The stream has the fault after messages that are all answered; or the host refuses the oldest message that waits.
+/// States what a run of a host endpoint comes to that its last call stops, a piece or a step: the same, with what this call brought or with
+/// none of it, and the endpoint shows why it stopped. The stream has the fault after messages that are all answered; or the host refuses
+/// the oldest message that waits.
 pub fn host_stops_serve()
     ensures { StopsServe }
 {}
@@ -32,10 +34,11 @@ pub fn host_one_outcome()
     one_reading_t();
 }
 
-/// States what every run of a terminal endpoint that does not stop comes to, whatever the pieces are and whenever memory is refused. The
-/// terminal has received the first frames of the stream in order, and the others wait; it was given each event that was put, in order; the
-/// messages that it composed are what was taken out, what is pending, and what is not written yet; and each refusal of an event, with the
-/// event's number, was handed out once or waits to be.
+/// States what every run of a terminal endpoint that does not stop comes to, whatever the pieces are, whether they are fed or brought and
+/// gone on with by steps, and whenever memory is refused. The terminal has received the first frames of the stream in order, and the others
+/// wait; it was given each event that was put, in order; the messages that it composed are what was taken out, what is pending, and what is
+/// not written yet, and each is within its limits; and each refusal of an event, with the event's number, was handed out once or waits to
+/// be.
 #[tactic(auto, using(crate::proofs::TermEndpointRuns::runs_lead))]
 pub fn term_runs_lead()
     ensures { RunsLead }

@@ -8,7 +8,7 @@ use Rattle.sam_host.specs.declared.fault.HostFault.TheVariants as host_fault
 use Rattle.sam_term.specs.declared.fault.TermFault.TheVariants as term_fault
 use Rattle.sam_endpoint.specs.HostRuns.{Feed, HasServed, HasStopped as HostHasStopped, Call as HostCall, came_in as came_up, handed_out as handed_tags, joined_by, went_out as went_down}
 use Rattle.sam_endpoint.specs.TermEndpoints.{PlainTermEndpoint}
-use Rattle.sam_endpoint.specs.TermRuns.{HasDone, HasStopped as TermHasStopped, Feed as FeedTerm, Put, Flush, TakeOut, NextRefusal, Changed, Stops, put_in, Call as TermCall, came_in as came_down, handed_out as handed_refusals, went_out as went_up}
+use Rattle.sam_endpoint.specs.TermRuns.{HasDone, HasStopped as TermHasStopped, Feed as FeedTerm, Bring, MakeStep, Put, Flush, TakeOut, NextRefusal, Changed, Stops, put_in, Call as TermCall, came_in as came_down, handed_out as handed_refusals, went_out as went_up}
 use Rattle.sam_endpoint.specs.declared.fault.EndpointFault.TheVariants as fault
 use Rattle.sam_endpoint.specs.declared.fault.HostStop.{HostStop}
 use Rattle.sam_endpoint.specs.declared.fault.HostStop.TheVariants as host_stop
@@ -93,6 +93,8 @@ no_piece_stops given host_calls term_calls piece up down why k e g fit host_runs
 -- a call that stops an endpoint takes nothing out
 none_out : (k g : PlainTermEndpoint) (last : TermCall) (why : TermStop) → Stops k last why g → went_up last ≡ []
 none_out k g (FeedTerm piece answer) why s = refl
+none_out k g (Bring piece result) why s = absurd s
+none_out k g (MakeStep result) why s = refl
 none_out k g (Put event answer) why s = refl
 none_out k g (Flush answer) why s = refl
 none_out k g (TakeOut bytes) why s = absurd s

@@ -1,5 +1,5 @@
 use Rattle.std.proofs.Common.{sym, subst, take_all}
-use Rattle.std.proofs.lemmas.List.Elements.{All-get_or, All-more, All-same}
+use Rattle.std.proofs.lemmas.List.Elements.{All-more, All-same}
 use Rattle.sam_mesg.specs.HostKinds.{FitsH, IsHFrame}
 use Rattle.sam_endpoint.proofs.known.know_frames.Goals as goal
 
