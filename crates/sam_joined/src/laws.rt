@@ -2,16 +2,16 @@
 //!
 //! Each but the first speaks of two endpoints between which bytes were carried (`AreCarried`), and of all files that joined the host
 //! endpoint, whenever they did. The first says that all calls come to this.
-ghost use Rattle.sam_joined.specs.Calls.{CallsAreCarried, NoCallStopsTheTerminal, NoPieceStopsTheHost};
+ghost use Rattle.sam_joined.specs.Calls.{CallsAreCarried, NoCallStopsTheHost, NoCallStopsTheTerminal};
 ghost use Rattle.sam_joined.specs.Linked.{LinkedAreOneRun, LinksAreOneLine, MovedIsCarried};
 ghost use Rattle.sam_joined.specs.Joined.{CarriedAgree, EndpointsJoin, JoinedAreAsIfLocal, NeitherStops, NeverStuck};
 
-/// States that whatever calls two endpoints get, in whatever pieces and whenever memory is refused, bytes were carried between them, as
-/// long as what came in at each is the first of what the other handed out or has pending; and files may join at any time. So it is, too,
+/// States that whatever calls two endpoints get, steps among them, in whatever pieces and whenever memory is refused, bytes were carried
+/// between them, as long as what came in at each is the first of what the other handed out or has pending; and files may join at any time. So it is, too,
 /// where a last call stops one of them, and then a count is full.
 pub fn calls_are_carried()
     ensures carried { CallsAreCarried }
-    ensures host { NoPieceStopsTheHost }
+    ensures host { NoCallStopsTheHost }
     ensures terminal { NoCallStopsTheTerminal }
 {}
 
