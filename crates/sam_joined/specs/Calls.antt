@@ -38,7 +38,8 @@ abbrev pub NoCallStopsTheHost : Type 0
 NoCallStopsTheHost =
     (given : List (List ℕ × List ℕ)) (host_calls : List HostCall) (last : HostCall) (term_calls : List TermCall) (up down : List ℕ)
     (why : HostStop) (k e : PlainHostEndpoint) (g : PlainTermEndpoint)
-    → AreGiven given → HostRuns (begun_with (new_host given)) host_calls k → HostStops k last why e → TermRuns new_term_endpoint term_calls g
+    → AreGiven given → HostRuns (begun_with (new_host given)) host_calls k → HostStops k last why e
+    → TermRuns new_term_endpoint term_calls g
     → Carry (host_calls ++ last ∷ []) term_calls up down e g
     → (taken : List HostCall) × ((taken ≡ host_calls ++ last ∷ []) ⊎ (taken ≡ host_calls))
     × (way : List ℕ) × AreCarried given (flat_map joined_by taken) (flat_map put_in term_calls) way down e g
@@ -49,7 +50,8 @@ abbrev pub NoCallStopsTheTerminal : Type 0
 NoCallStopsTheTerminal =
     (given : List (List ℕ × List ℕ)) (host_calls : List HostCall) (term_calls : List TermCall) (last : TermCall) (up down : List ℕ)
     (why : TermStop) (e : PlainHostEndpoint) (k g : PlainTermEndpoint)
-    → AreGiven given → HostRuns (begun_with (new_host given)) host_calls e → TermRuns new_term_endpoint term_calls k → TermStops k last why g
+    → AreGiven given → HostRuns (begun_with (new_host given)) host_calls e
+    → TermRuns new_term_endpoint term_calls k → TermStops k last why g
     → Carry host_calls (term_calls ++ last ∷ []) up down e g
     → (taken : List TermCall) × ((taken ≡ term_calls ++ last ∷ []) ⊎ (taken ≡ term_calls))
     × (way : List ℕ) × AreCarried given (flat_map joined_by host_calls) (flat_map put_in taken) up way e g

@@ -7,8 +7,8 @@ ghost use Rattle.sam_joined.specs.Linked.{LinkedAreOneRun, LinksAreOneLine, Move
 ghost use Rattle.sam_joined.specs.Joined.{CarriedAgree, EndpointsJoin, JoinedAreAsIfLocal, NeitherStops, NeverStuck};
 
 /// States that whatever calls two endpoints get, steps among them, in whatever pieces and whenever memory is refused, bytes were carried
-/// between them, as long as what came in at each is the first of what the other handed out or has pending; and files may join at any time. So it is, too,
-/// where a last call stops one of them, and then a count is full.
+/// between them, as long as what came in at each is the first of what the other handed out or has pending; and files may join at any
+/// time. So it is, too, where a last call stops one of them, and then a count is full.
 pub fn calls_are_carried()
     ensures carried { CallsAreCarried }
     ensures host { NoCallStopsTheHost }
