@@ -1,5 +1,5 @@
 -- What a host answers and what a terminal composes fits at its place of the stream: a case for each message and for each event.
-use Rattle.sam_apart.proofs.Common.{◌≡◌, ℕ, false, List, [], ◌∷◌, ◌++◌, Option, Some, None, Ok, refl, arith, drop, after_h, HFrame, after_t, Tmesg, host, terminal, version_after, PlainHost, Reply, answer, host_checks, told_names, stamped, reply_version, reply_to, IsSound, FitInPlace, frames_fit, reply_stands, stays_sound, PlainTerminal, Made, flushed, sends, sends_all, sends_if, unchanged, requested, request_for, requests_for, gaps_shown, all_wanted, event_outcome, made_by_type, made_by_cut, made_by_paste, made_by_snarf, made_by_view, made_by_load, made_by_edit, event_checks, has_long_text, act_of, act_on, decided, flush_of, take_of, Acted, UserEvent, Each, HostRuns, composed_by, sides}
+use Rattle.sam_apart.proofs.Common.{◌≡◌, ◌≤◌, sym, subst, with_given, may_join, HostRunsWith, Joins, version_after-append, ℕ, false, List, [], ◌∷◌, ◌++◌, Option, Some, None, Ok, refl, arith, drop, after_h, HFrame, after_t, Tmesg, host, terminal, version_after, PlainHost, Reply, answer, host_checks, told_names, stamped, reply_version, reply_to, IsSound, FitInPlace, frames_fit, reply_stands, stays_sound, PlainTerminal, Made, flushed, sends, sends_all, sends_if, unchanged, requested, request_for, requests_for, gaps_shown, all_wanted, event_outcome, made_by_type, made_by_cut, made_by_paste, made_by_snarf, made_by_view, made_by_load, made_by_edit, event_checks, has_long_text, act_of, act_on, decided, flush_of, take_of, Acted, UserEvent, Each, HostRuns, composed_by, sides}
 use Rattle.std.specs.Prelude.{Bool, true, ◌==◌, ◌&&◌, if◌then◌else◌, length}
 use Rattle.sam_runes.specs.Checks.{first_of_checks}
 use Rattle.sam_runes.specs.Texts.{common_version, is_empty}
@@ -16,6 +16,10 @@ use Rattle.sam_term.specs.Editing.{shown_from}
 use Rattle.sam_term.specs.Term.{edit_messages, pieces, replaced, typed_pieces}
 use Rattle.sam_term.specs.declared.event.UserEvent.TheVariants.{Load, Edit}
 use Rattle.sam_apart.proofs.RealLaws.{answered_as}
+use Rattle.sam_text.specs.Files.{PlainFile}
+use Rattle.sam_text.proofs.FitLaws.{all-put, fit-put}
+use Rattle.sam_host.specs.Host.{given_file}
+use Rattle.sam_runes.specs.Texts.{max_runes, most_in_name}
 use Rattle.sam_apart.proofs.ApartTurns.{InTurn, InTurn-append, IsFree, free_turn}
 
 -- ## What the host answers: its version is that after its answers
@@ -74,6 +78,43 @@ answers_turn (m ∷ ms) h k fs s r = grind (
   (InTurn-append host h.version r.1 r.2),
   (answers_turn ms r.0 k r.2),
 )
+
+-- ## Files that join between answers
+
+version_then : (ms : List Tmesg) (h k : PlainHost) (fs : List HFrame) → HostRuns sides h ms fs k → version_after host h.version fs ≡ k.version
+version_then [] h k fs r = grind arith
+version_then (m ∷ ms) h k fs r = grind (
+  arith,
+  (answered_as (answer h m) (r.0, r.1) r.3),
+  (answered h m (r.0, r.1)),
+  (version_after-append host h.version r.1 r.2),
+  (version_then ms r.0 k r.2),
+)
+
+sound_then : (ms : List Tmesg) (h k : PlainHost) (fs : List HFrame) → IsSound h → HostRuns sides h ms fs k → IsSound k
+sound_then [] h k fs s r = grind arith
+sound_then (m ∷ ms) h k fs s r = sound_then ms r.0 k r.2 (stays_sound h r.0 m r.1 (answered_as (answer h m) (r.0, r.1) r.3) s) r.5
+
+-- a host stays sound where a file joins
+sound_joined : (h : PlainHost) (file : List ℕ × List ℕ) → may_join h file.0 file.1 ≡ true → IsSound h → IsSound (with_given h file)
+sound_joined h file may s =
+    let x = given_file file in
+    let short : length file.0 ≤ most_in_name = grind (arith, may) in
+    let fits : length file.1 ≤ max_runes = grind (arith, may) in record {
+      names = all-put (λ (other : PlainFile). length other.name ≤ most_in_name) h.files (length h.files.slots) x s.names short;
+      files = fit-put h.files (length h.files.slots) x s.files (omega arith, omega arith, fits);
+      version = s.version;
+    }
+
+-- what a sound host answers while files join it
+pub joining_turn : (joins : Joins) (ms : List Tmesg) (h k : PlainHost) (fs : List HFrame) → IsSound h → HostRunsWith h joins ms fs k → InTurn host h.version fs
+joining_turn [] ms h k fs s r = answers_turn ms h k fs s r
+joining_turn (j ∷ joins) ms h k fs s (before, after, first, rest, g, whole, frames, runs, count, may, more) =
+    let sound = sound_joined g j.1 may (sound_then before h g first s runs) in
+    let later = joining_turn joins after (with_given g j.1) k rest sound more in
+    subst (InTurn host h.version) (sym frames)
+    (InTurn-append host h.version first rest (answers_turn before h g first s runs)
+    (subst (λ (v : ℕ). InTurn host v rest) (sym (version_then before h g first runs)) later))
 
 -- ## What the terminal composes: only a snarf text has a limit that the version changes, and it is composed where the terminal may act
 

@@ -1,14 +1,15 @@
 -- Two sides that worked apart are one run of the world; each read the other's stream, and neither refused the other.
-use Rattle.sam_apart.proofs.Common.{◌≡◌, ℕ, false, List, [], ◌∷◌, ◌++◌, Some, None, Err, refl, sym, append_assoc, arith, le-ltb, append-nil, or_from, append_cancel_left, MesgFault, FitsT, Tmesg, FitsH, HFrame, Direction, terminal, host, frame_of, FitInTurn, version_after, stream_of, IsOpen, Shows, stream_of-append, stream_of-one, PlainHost, answer, new_host, HostFault, starts_sound, PlainTerminal, new_terminal, take_of, TermFault, TermLog, PlainWorld, new_world, run_of, merged, is_bad_log, IsInOrder, HostRuns, TermRuns, world, Begins, settles, fits, each_append, users_merged_from, files_merged_from, FitsUnder, starts_in_order, reached_in_order, host_never_refuses, terminal_never_refuses, sides, Apart, Joined, Understood}
+use Rattle.sam_apart.proofs.Common.{◌≡◌, ◌∙◌, ap, subst, user_events, HostRunsWith, Joins, ℕ, false, List, [], ◌∷◌, ◌++◌, Some, None, Err, refl, sym, append_assoc, arith, le-ltb, append-nil, or_from, append_cancel_left, MesgFault, FitsT, Tmesg, FitsH, HFrame, Direction, terminal, host, frame_of, FitInTurn, version_after, stream_of, IsOpen, Shows, stream_of-append, stream_of-one, PlainHost, answer, new_host, HostFault, starts_sound, PlainTerminal, new_terminal, take_of, TermFault, TermLog, PlainWorld, merged, is_bad_log, IsInOrder, Begins, each_append, users_merged_from, FitsUnder, starts_in_order, reached_in_order, host_never_refuses, terminal_never_refuses, Apart, Joined, Understood}
 use Rattle.sam_frame.specs.Reading.{IsStream, IsSound}
 use Rattle.sam_frame.proofs.Unique.{one_reading}
 use Rattle.sam_frame.proofs.Cuttings.{Shows-longer}
 use Rattle.sam_host.specs.declared.fault.HostFault.TheVariants as hostfault
 use Rattle.sam_term.specs.declared.fault.TermFault.TheVariants as fault
 use Rattle.sam_world.proofs.Carries.{begins_from_bytes}
-use Rattle.sam_apart.proofs.RealLaws.{counts, up_sound, down_sound, up_free, down_free, plain_run}
-use Rattle.sam_apart.proofs.ApartKinds.{answers_turn}
-use Rattle.sam_apart.proofs.ApartWalk.{composed_turn}
+use Rattle.sam_apart.proofs.RealLaws.{up_sound, down_sound, up_free, down_free}
+use Rattle.sam_apart.proofs.ApartJoins.{none-without, users-without}
+use Rattle.sam_apart.proofs.ApartKinds.{joining_turn}
+use Rattle.sam_apart.proofs.ApartWalk.{Merged, merges}
 use Rattle.sam_apart.proofs.ApartTurns.{in_turn, each_t, each_h}
 
 -- ## Small facts
@@ -37,8 +38,8 @@ all_read d sound whole front rest p q e s = grind (arith, (written d whole p), (
 
 -- ## What was handled and taken are first parts
 
-module _ (given : List (List ℕ × List ℕ)) (entries : List TermLog) (h : PlainHost) (t : PlainTerminal)
-    (composed handled : List Tmesg) (answered passed taken : List HFrame) (a : Apart given entries h t composed handled answered passed taken) where
+module _ (given : List (List ℕ × List ℕ)) (joining : Joins) (entries : List TermLog) (h : PlainHost) (t : PlainTerminal)
+    (composed handled : List Tmesg) (answered passed taken : List HFrame) (a : Apart given joining entries h t composed handled answered passed taken) where
   handled_begins : Begins handled composed
   handled_begins = begins_from_bytes (FitsT 2) (frame_of terminal) up_free handled composed a.up.0 (each_t 1 handled a.handled_fit) a.composed_fit (sym a.up.1)
 
@@ -48,51 +49,45 @@ module _ (given : List (List ℕ × List ℕ)) (entries : List TermLog) (h : Pla
   taken_begins : Begins taken answered
   taken_begins = grind (arith, (append_assoc taken a.passing.rest passed_begins.rest))
 
-  -- the host's run, and the terminal's, as the law of two sides has them
-  host_runs : HostRuns sides (new_host given) handled (taken ++ taken_begins.rest) h
-  host_runs = grind (arith, taken_begins)
-
-  term_runs : TermRuns sides new_terminal entries taken (handled ++ handled_begins.rest) t
-  term_runs = grind (arith, handled_begins)
+  host_runs : HostRunsWith (new_host given) joining handled (taken ++ taken_begins.rest) h
+  host_runs = subst (λ (fs : List HFrame). HostRunsWith (new_host given) joining handled fs h) taken_begins.is a.host_runs
 
   abbrev last : PlainWorld
   last = record { host = h; term = t; up = handled_begins.rest; down = taken_begins.rest }
 
-  replays : run_of (new_world given) (merged entries h.taken) ≡ Some last
-  replays =
-      plain_run (world (new_host given) new_terminal [] []) (world h t handled_begins.rest taken_begins.rest) (merged entries h.taken)
-      (settles sides counts entries (new_host given) h new_terminal t handled handled_begins.rest taken taken_begins.rest refl refl host_runs term_runs)
+  one : Merged joining entries (new_host given) h new_terminal t composed handled_begins.rest taken_begins.rest
+  one = merges joining entries (new_host given) h new_terminal t composed handled handled_begins.rest taken taken_begins.rest refl refl refl
+      (starts_in_order given a.given_fit) host_runs a.term_runs handled_begins.is
 
   in_order : IsInOrder last
-  in_order = reached_in_order given last a.given_fit (merged entries h.taken, replays)
+  in_order = reached_in_order given last a.given_fit (one.events, one.run)
 
   -- ## Each stream fits in turn
 
   composed_in_turn : FitInTurn terminal 1 composed
-  composed_in_turn = grind (
-    arith,
-    (in_turn terminal 1 composed),
-    (composed_turn entries (new_host given) h new_terminal t composed handled handled_begins.rest taken taken_begins.rest),
-    (starts_in_order given),
-    host_runs,
-    handled_begins,
-  )
+  composed_in_turn = in_turn terminal 1 composed one.turn a.composed_fit
 
   answered_in_turn : FitInTurn host 1 answered
-  answered_in_turn = in_turn host 1 answered (answers_turn handled (new_host given) h answered (starts_sound given a.given_fit) a.host_runs) a.answers_fit
+  answered_in_turn = in_turn host 1 answered (joining_turn joining handled (new_host given) h answered (starts_sound given a.given_fit) a.host_runs) a.answers_fit
 
   -- ## The law
 
-  pub joins : Joined given entries h t composed handled answered taken
-  joins = grind (
-    arith,
-    replays,
-    (good_log entries h.taken (fits sides counts entries (new_host given) h new_terminal t handled composed taken taken_begins.rest host_runs a.term_runs)),
-    (users_merged_from 0 entries h.taken),
-    (files_merged_from 0 entries h.taken),
-    composed_in_turn,
-    answered_in_turn,
-  )
+  pub joins : Joined given joining entries h t composed handled answered taken
+  joins = record {
+    events = one.events;
+    world = last;
+    run = one.run;
+    merges = one.merges;
+    joins_are = sym one.are;
+    users_are = sym (users-without one.events) ∙ ap user_events one.merges ∙ users_merged_from 0 entries h.taken;
+    good = good_log entries h.taken one.fitting;
+    host_is = refl;
+    term_is = refl;
+    upwards = handled_begins.is;
+    downwards = taken_begins.is;
+    composed_in_turn = composed_in_turn;
+    answered_in_turn = answered_in_turn;
+  }
 
   -- ## Neither side refused the other
 
@@ -121,3 +116,8 @@ module _ (given : List (List ℕ × List ℕ)) (entries : List TermLog) (h : Pla
     all_upwards = λ rest. all_read terminal up_sound composed handled rest composed_in_turn a.handled_fit;
     all_downwards = λ rest. all_read host down_sound answered passed rest answered_in_turn a.passed_fit;
   }
+
+-- where no file joins, the schedule is the merged one
+pub merges_alone : (given : List (List ℕ × List ℕ)) (entries : List TermLog) (h : PlainHost) (t : PlainTerminal)
+    (composed handled : List Tmesg) (answered taken : List HFrame) (j : Joined given [] entries h t composed handled answered taken) → j.events ≡ merged entries h.taken
+merges_alone given entries h t composed handled answered taken j = sym (none-without 0 j.events j.joins_are) ∙ j.merges

@@ -1,5 +1,5 @@
 -- What the proofs of this crate cite most from its definitions and from the crates below.
-pub use Rattle.std.proofs.Common.{Err, List, None, Ok, Option, Result, Some, [], ap, append-nil, append_assoc, arith, drop, false, le-ltb, refl, subst, suc, sym, true, ℕ, ◌++◌, ◌∙◌, ◌∷◌, ◌≡◌, ◌≤◌}
+pub use Rattle.std.proofs.Common.{Bool, Err, List, None, Ok, Option, Result, Some, [], ap, append-nil, append_assoc, arith, drop, false, if◌then◌else◌, le-ltb, length, map, refl, subst, suc, sym, true, ℕ, ◌++◌, ◌+◌, ◌==◌, ◌∙◌, ◌∷◌, ◌≡◌, ◌≤◌}
 pub use Rattle.std.proofs.lemmas.Bool.{or_from}
 pub use Rattle.std.proofs.lemmas.List.{append_cancel_left}
 pub use Rattle.std.proofs.lemmas.Option.{same_Some}
@@ -7,7 +7,7 @@ pub use Rattle.sam_frame.proofs.Fronts.{stream_of-append, stream_of-one, version
 pub use Rattle.sam_frame.specs.Direction.{Direction, frame_of, host, terminal}
 pub use Rattle.sam_frame.specs.Stream.{FitInTurn, IsOpen, Shows, stream_of, version_after}
 pub use Rattle.sam_host.proofs.SoundLaws.{frames_fit, reply_stands, starts_sound, stays_sound}
-pub use Rattle.sam_host.specs.Host.{PlainHost, Reply, host_checks, new_host, reply_to, stamped, told_names}
+pub use Rattle.sam_host.specs.Host.{PlainHost, Reply, host_checks, new_host, reply_to, stamped, told_names, with_given}
 unfoldable pub use Rattle.sam_host.specs.Host.{answer, reply_version}
 pub use Rattle.sam_host.specs.Laws.{FitInPlace, IsSound}
 pub use Rattle.sam_host.specs.declared.fault.HostFault.{HostFault}
@@ -23,11 +23,12 @@ pub use Rattle.sam_term.specs.declared.event.Acted.{Acted}
 pub use Rattle.sam_term.specs.declared.event.UserEvent.{UserEvent}
 pub use Rattle.sam_term.specs.declared.fault.TermFault.{TermFault}
 pub use Rattle.sam_sides.specs.RealSides.{acted, sides, unless_refused}
-pub use Rattle.sam_apart.specs.Apart.{Apart, Joined, Understood}
+pub use Rattle.sam_apart.specs.Apart.{Apart, HostRunsWith, Joined, Joins, Understood, joins_in, without_joins}
 pub use Rattle.sam_crossing.proofs.OrderLaws.{host_never_refuses, reached_in_order, starts_in_order, steps_in_order, terminal_never_refuses, version_at_its_place}
-pub use Rattle.sam_world.proofs.ComesToSync.{FitsUnder, each_append, fits, settles, users_merged_from, files_merged_from}
+pub use Rattle.sam_world.proofs.ComesToSync.{FitsUnder, each_append, fits, settles, users_merged_from}
 pub use Rattle.sam_crossing.specs.RunOrder.{IsInOrder}
-pub use Rattle.sam_crossing.specs.World.{mesgs, PlainWorld, after_answer, composed_by, host_takes, new_world, run_of, step_of}
+pub use Rattle.sam_crossing.specs.Joining.{may_join}
+pub use Rattle.sam_crossing.specs.World.{mesgs, PlainWorld, after_answer, composed_by, host_takes, joined_files, new_world, run_of, step_of, user_events}
 pub use Rattle.sam_world.specs.Sides.{Counts, Each, HostRuns, Steps, TermRuns, World, if_given, answered, composed, host_take, run, step, term_take, world}
 pub use Rattle.sam_world.specs.Prefixes.{Begins}
 pub use Rattle.sam_world.specs.Merging.{is_bad_log, merged}

@@ -1,13 +1,11 @@
--- The real sides count as the law of two sides asks, their frames are told apart, and their world is the plain world.
-use Rattle.sam_crossing.specs.declared.event.Event.TheVariants.{Add}
-use Rattle.sam_apart.proofs.Common.{◌≡◌, suc, ◌≤◌, List, [], ◌∷◌, Some, Result, Ok, refl, arith, FitsT, Tmesg, FitsH, HFrame, terminal, host, frame_of, PlainHost, PlainTerminal, Made, flush_of, take_of, TermFault, Acted, PlainWorld, composed_by, step_of, run_of, Each, Counts, TermRuns, TermLog, World, step, run, act_of, sides, unless_refused, acted}
-use Rattle.std.proofs.Common.{All, option_map}
+-- The real sides count as the law of two sides asks, and their frames are told apart.
+use Rattle.sam_apart.proofs.Common.{◌≡◌, suc, ◌≤◌, List, [], ◌∷◌, Some, Result, Ok, arith, FitsT, Tmesg, FitsH, HFrame, terminal, host, frame_of, PlainTerminal, Made, flush_of, take_of, TermFault, Acted, composed_by, Each, Counts, TermRuns, TermLog, act_of, sides, unless_refused, acted}
+use Rattle.std.proofs.Common.{All}
 use Rattle.std.proofs.lemmas.Option.{same_Some}
 use Rattle.sam_mesg.proofs.TerminalLaws as upwards
 use Rattle.sam_mesg.proofs.HostLaws as downwards
 use Rattle.sam_frame.specs.Reading.{IsSound}
 use Rattle.sam_host.proofs.SoundLaws.{answers_are_counted}
-use Rattle.sam_crossing.specs.declared.event.Event.{Event}
 use Rattle.sam_sides.specs.declared.log.TermLog.TheVariants as log
 use Rattle.sam_world.proofs.Carries.{PrefixFree}
 use Rattle.sam_sides.specs.RealSides.{at_work, worked}
@@ -60,22 +58,6 @@ up_free = record { free = λ a b x y p q e. (upwards.one_frame 2 a b x y p q e).
 
 pub down_free : PrefixFree (FitsH 2) (frame_of host)
 down_free = record { free = λ a b x y p q e. (downwards.one_frame 2 a b x y p q e).0; some = λ a e. absurd (cc) }
-
--- ## One world
-
--- the same world with both sides told apart
-abbrev pub plain : World PlainHost PlainTerminal Tmesg HFrame → PlainWorld
-plain w = record { host = w.host; term = w.term; up = w.up; down = w.down }
-
--- no file joins two sides, so a step of theirs is one of the plain world
-same_step : (w v : World PlainHost PlainTerminal Tmesg HFrame) (e : Event) → step sides w e ≡ Some v → step_of (plain w) e ≡ Some (plain v)
-same_step w v (Add name text) s = absurd (cc)
-same_step w v e s = grind arith
-
--- a run of the two sides is a run of the plain world
-pub plain_run : (w last : World PlainHost PlainTerminal Tmesg HFrame) (es : List Event) → run sides w es ≡ Some last → run_of (plain w) es ≡ Some (plain last)
-plain_run w last [] r = grind arith
-plain_run w last (e ∷ es) r = grind (arith, same_step, (λ (v : World PlainHost PlainTerminal Tmesg HFrame). plain_run v last es))
 
 -- ## Sides at work
 

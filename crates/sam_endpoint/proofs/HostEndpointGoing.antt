@@ -17,7 +17,7 @@ pub serves_more : (h : PlainHost) (xs : List Step) (first : List HFrame) (writes
 serves_more h [] first writes k ys rest more g p q = grind arith
 serves_more h (Answered m ∷ xs) first writes k ys rest more g (middle, front, back, noted, answered, frames, notes, serves) q =
     grind (arith, append_assoc, (serves_more middle xs back noted k ys rest more g serves q))
-serves_more h (Joined file ∷ xs) first writes k ys rest more g p q = serves_more (with_given h file) xs first writes k ys rest more g p q
+serves_more h (Joined file ∷ xs) first writes k ys rest more g (may, p) q = (may, serves_more (with_given h file) xs first writes k ys rest more g p q)
 
 bytes_more : (e k g : PlainHostEndpoint) (first rest : List HFrame) → k.pending_bytes ++ stream_of host k.unwritten ≡ e.pending_bytes ++ stream_of host (e.unwritten ++ first)
     → g.pending_bytes ++ stream_of host g.unwritten ≡ k.pending_bytes ++ stream_of host (k.unwritten ++ rest)

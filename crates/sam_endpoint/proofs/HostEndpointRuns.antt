@@ -16,7 +16,8 @@ use Rattle.sam_endpoint.specs.declared.step.HostStep.TheVariants as step
 use Rattle.sam_endpoint.specs.Streams.{GoesOnAfter, if_taken}
 use Rattle.sam_endpoint.specs.HostStepping.{BringsIn, Steps}
 use Rattle.sam_endpoint.specs.declared.fault.HostStop.TheVariants as stop
-use Rattle.sam_endpoint.specs.HostEndpoints.{FeedsIdle, IsDone, Adds, Step, Answered, Joined}
+use Rattle.sam_runes.specs.Checks.{first_of_checks}
+use Rattle.sam_endpoint.specs.HostEndpoints.{FeedsIdle, IsDone, Adds, MayJoin, Step, Answered, Joined, add_checks}
 use Rattle.std.specs.Prelude.{drop, option_to_list, slice_get}
 use Rattle.sam_endpoint.specs.HostRuns.{Call, Feed, Bring, MakeStep, AddFile, TakeOut, NextWritten, HasServed, HasStopped, Runs, Stops, StopsServe, begun_with, came_in, went_out, handed_out, joined_by, messages_in, joined_after}
 use Rattle.sam_endpoint.proofs.HostEndpointGoing.{serves_more}
@@ -65,7 +66,7 @@ counted (Answered m ∷ steps) h k frames writes (j, first, rest, more, answered
     let one = (answers_are_counted h j m first answered).0 in
     let others = counted steps j k rest more serves in
     omega (arith, one, others)
-counted (Joined file ∷ steps) h k frames writes s = counted steps (with_given h file) k frames writes s
+counted (Joined file ∷ steps) h k frames writes (may, s) = counted steps (with_given h file) k frames writes s
 
 -- no file joined before counting began
 not_before : (count n : ℕ) (file : List ℕ × List ℕ) (rest : Files) (steps : List Step) → joined_after count steps ≡ (n, file) ∷ rest → count ≤ n
@@ -261,6 +262,10 @@ kept_handed h stream out handed joined tag e is kept =
       place = kept.place;
     })
 
+-- nothing stood against a file that joined
+may_join : (e : PlainHostEndpoint) (name text : List ℕ) → first_of_checks (add_checks e name text) ≡ None → MayJoin e.host (chars name, chars text)
+may_join e name text allowed = grind (arith, allowed)
+
 -- a file joined, or was refused
 pub kept_added : (h : PlainHost) (stream out handed : List ℕ) (joined : Files) (count : ℕ) (name text : List ℕ) (result : Result ℕ AddFault) (e g : PlainHostEndpoint) → count ≡ e.host.taken
     → Adds e name text result g → Kept h stream out handed joined e → Kept h stream out handed (joined ++ joined_by (AddFile count name text result)) g
@@ -274,7 +279,7 @@ kept_added h stream out handed joined count name text (Ok tag) e g then (is, all
         steps = s.steps ++ Joined file ∷ [];
         frames = s.frames ++ [];
         writes = s.writes ++ [];
-        serves = serves_more h s.steps s.frames s.writes e.host (Joined file ∷ []) [] [] (with_given e.host file) s.serves (refl, refl, refl);
+        serves = serves_more h s.steps s.frames s.writes e.host (Joined file ∷ []) [] [] (with_given e.host file) s.serves (may_join e name text allowed, (refl, refl, refl));
         frames_fit = All-same (FitsH 2) (s.frames ++ []) s.frames (append-nil s.frames) s.frames_fit;
         files = joined_last h.taken count s.steps file place ∙ ap (λ (l : Files). l ++ (count, file) ∷ []) s.files;
         reads = grind (arith, same);
@@ -478,7 +483,7 @@ answered_frames (Err why) = []
 one_service : (h : PlainHost) (steps : List Step) (a b : List HFrame) (v w : List ℕ) (g k : PlainHost) → Serves h steps a v g → Serves h steps b w k → (g ≡ k) × (a ≡ b) × (v ≡ w)
 one_service h [] a b v w g k p q = (p.2 ∙ sym q.2, p.0 ∙ sym q.0, p.1 ∙ sym q.1)
 one_service h (Answered m ∷ steps) a b v w g k (h1, a1, a2, v2, ans1, af, vf, p) (k1, b1, b2, w2, ans2, bf, wf, q) = grind (arith, (one_service k1 steps a2 b2 v2 w2 g k))
-one_service h (Joined file ∷ steps) a b v w g k p q = one_service (with_given h file) steps a b v w g k p q
+one_service h (Joined file ∷ steps) a b v w g k (may, p) (also, q) = one_service (with_given h file) steps a b v w g k p q
 
 -- the messages, and where files joined, decide the steps
 same_steps : (count : ℕ) (xs ys : List Step) → messages_in xs ≡ messages_in ys → joined_after count xs ≡ joined_after count ys → xs ≡ ys

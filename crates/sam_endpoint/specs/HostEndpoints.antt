@@ -74,13 +74,17 @@ pub data Step : Type 0 where
   Answered : Tmesg → Step  -- it answered this message
   Joined : List ℕ × List ℕ → Step  -- a file of this name and text joined its files
 
--- the host does these steps in order; its answers are these frames, and it is told to write these tags
+-- a tag is left, and name and text of the file are within their limits
+abbrev pub MayJoin : PlainHost → List ℕ × List ℕ → Type 0
+MayJoin h file = (length h.files.slots < all_tags) × (length file.0 ≤ most_in_name) × (length file.1 ≤ max_runes)
+
+-- the host does these steps in order; its answers are these frames, and it is told to write these tags. A file joins only where it may
 abbrev pub Serves : PlainHost → List Step → List HFrame → List ℕ → PlainHost → Type 0
 Serves h [] frames writes g = (frames ≡ []) × (writes ≡ []) × (g ≡ h)
 Serves h (Answered m ∷ steps) frames writes g =
     (k : PlainHost) × (first : List HFrame) × (rest : List HFrame) × (more : List ℕ)
     × (answer h m ≡ Ok (k, first)) × (frames ≡ first ++ rest) × (writes ≡ writes_of h m ++ more) × Serves k steps rest more g
-Serves h (Joined file ∷ steps) frames writes g = Serves (with_given h file) steps frames writes g
+Serves h (Joined file ∷ steps) frames writes g = MayJoin h file × Serves (with_given h file) steps frames writes g
 
 -- of the messages that waited these were answered, and the frames of the answers are written or wait to be
 pub record Answers (e : PlainHostEndpoint) (messages : List Tmesg) (g : PlainHostEndpoint) : Type 0 where

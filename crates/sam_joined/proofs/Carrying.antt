@@ -1,5 +1,5 @@
 -- Where all bytes were carried both sides agree; at any moment it is as if there were no network; and nothing is stuck.
-use Rattle.std.proofs.Common.{◌≡◌, refl, sym, ap, subst, ◌∙◌, inl, inr, true≢false, ℕ, true, List, [], ◌++◌, map, Option, Some, None, append-nil, arith}
+use Rattle.std.proofs.Common.{◌≡◌, sym, ap, subst, ◌∙◌, inl, inr, true≢false, ℕ, true, List, [], ◌++◌, map, Option, Some, None, append-nil, arith}
 use Rattle.std.proofs.lemmas.List.{append_cancel_left}
 use Rattle.std.proofs.lemmas.Option.{same_Some}
 use Rattle.sam_rasp.specs.Rasp.{Agrees}
@@ -21,29 +21,30 @@ use Rattle.sam_endpoint.specs.declared.fault.StreamFault.{StreamFault}
 use Rattle.std.proofs.Common.{option_map}
 use Rattle.sam_crossing.proofs.OrderLaws.{reached_in_order, quiet_means_agreement}
 use Rattle.sam_crossing.specs.RunOrder.{IsInOrder}
-use Rattle.sam_crossing.specs.World.{PlainWorld, WasReached, is_locked, is_quiet, step_of}
+use Rattle.sam_crossing.specs.World.{PlainWorld, SidesAgree, WasReached, is_locked, is_quiet, step_of}
 use Rattle.sam_crossing.specs.declared.event.Event.TheVariants.{User, Add, Act, Flush, HostTake, TermTake}
-use Rattle.sam_local.proofs.Runs.{runs_are_as_if_local}
-use Rattle.sam_local.specs.Local.{PlainEditor, at_rest, carried_all}
-use Rattle.sam_local.specs.Worlds.{IsAsIfLocal, ShowsFile}
+use Rattle.sam_local.proofs.Runs.{runs_come_in_order}
+use Rattle.sam_local.specs.Local.{PlainEditor, at_rest, carried_through, events_in}
+use Rattle.sam_local.specs.Worlds.{ComesInOrder, ShowsFile, doings_of}
 use Rattle.sam_rest.proofs.Done.{stuck_is_done}
 use Rattle.sam_rest.proofs.Ends.{nothing-flushed}
 use Rattle.sam_rest.specs.Rest.{HasRoom, IsDone, IsStuck}
 use Rattle.sam_apart.proofs.ApartLaws.{all_read}
+use Rattle.sam_apart.proofs.ApartJoins.{files-joined}
 use Rattle.sam_apart.proofs.RealLaws.{up_sound, down_sound}
-use Rattle.sam_apart.specs.Apart.{Joined}
-use Rattle.sam_joined.specs.Joined.{AreAgreed, AreAsIfLocal, AreCarried, CanCross, AreOneRun, IsAllCarried, both}
+use Rattle.sam_apart.specs.Apart.{Joined, Joins}
+use Rattle.sam_joined.specs.Joined.{AreAgreed, AreAsIfLocal, AreCarried, AreOneRun, IsAllCarried, both}
 use Rattle.sam_sides.specs.declared.log.TermLog.{TermLog}
-use Rattle.sam_joined.proofs.Words.{entry_of}
-use Rattle.sam_joined.proofs.Joining.{joined, one_run, one_world, up_read, down_read, host_reads, term_reads}
+use Rattle.sam_joined.proofs.Words.{entry_of, none_written}
+use Rattle.sam_joined.proofs.Joining.{joined, one_run, up_read, down_read, host_reads, term_reads}
 
 -- ## Lists
 
 all_came : (whole read half way last : List ℕ) → whole ≡ (read ++ half) ++ (way ++ last) → way ≡ [] → last ≡ [] → whole ≡ read ++ half
 all_came whole read half way last is p q = grind (arith, append-nil)
 
-none_left : {X : Type 0} (all read front kept rest : List X) → read ≡ front ++ kept → kept ≡ [] → read ≡ all → all ≡ front ++ rest → rest ≡ []
-none_left all read front kept rest p q r s = append_cancel_left front rest [] (sym s ∙ (sym r ∙ (p ∙ ap (λ (l : List _). front ++ l) q)))
+none_between : (all kept half way last : List ℕ) → all ≡ ((kept ++ half) ++ way) ++ last → kept ≡ [] → half ≡ [] → way ≡ [] → last ≡ [] → all ≡ []
+none_between all kept half way last is p q r s = grind arith
 
 -- ## Small facts
 
@@ -80,48 +81,34 @@ stuck_both e g none quiet Flush next a = a.changes (flush_keeps (both e g) next 
 stuck_both e g none quiet HostTake next a = absurd (grind (arith, a.stepped))
 stuck_both e g none quiet TermTake next a = absurd (grind (arith, a.stepped))
 
-module _ (given : List (List ℕ × List ℕ)) (said : List UserEvent) (up down : List ℕ) (e : PlainHostEndpoint) (g : PlainTermEndpoint)
-    (c : AreCarried given said up down e g) (x : CanCross c) where
-  abbrev run : AreOneRun given said up down e g
-  run = one_run given said up down e g c x
-
+module _ (given : List (List ℕ × List ℕ)) (late : Joins) (said : List UserEvent) (up down : List ℕ) (e : PlainHostEndpoint) (g : PlainTermEndpoint)
+    (c : AreCarried given late said up down e g) where
   abbrev entries : List TermLog
   entries = map entry_of c.did.steps
 
-  abbrev two : Joined given entries e.host g.term c.did.composed (messages_in c.served.steps) c.served.frames (frames_in c.did.steps)
-  two = joined given said up down e g c x
-
-  in_order : IsInOrder run.world
-  in_order = reached_in_order given run.world c.given_fit (run.events, run.run)
-
-  local : IsAsIfLocal given said run.world
-  local = subst (λ (events : List UserEvent). IsAsIfLocal given events run.world) run.users (runs_are_as_if_local given run.events run.world c.given_fit run.run run.none_join)
+  abbrev two : Joined given late entries e.host g.term c.did.composed (messages_in c.served.steps) c.served.frames (frames_in c.did.steps)
+  two = joined given late said up down e g c
 
   -- ## All is carried
 
   module _ (all : IsAllCarried up down e g) where
     whole_up : stream_of terminal c.did.composed ≡ stream_of terminal (messages_in c.served.steps ++ e.waiting) ++ e.framer.bytes
     whole_up = all_came _ (stream_of terminal (messages_in c.served.steps ++ e.waiting)) e.framer.bytes up (stream_of terminal g.unwritten)
-        (up_read given said up down e g c x) all.none_up (ap (λ (ms : List Tmesg). stream_of terminal ms) all.term_idle.unwritten)
+        (up_read given late said up down e g c) all.none_up (ap (λ (ms : List Tmesg). stream_of terminal ms) all.term_idle.unwritten)
 
     whole_down : stream_of host c.served.frames ≡ stream_of host (frames_in c.did.steps ++ g.waiting) ++ g.framer.bytes
     whole_down = all_came _ (stream_of host (frames_in c.did.steps ++ g.waiting)) g.framer.bytes down (stream_of host e.unwritten)
-        (down_read given said up down e g c x) all.none_down (ap (λ (frames : List HFrame). stream_of host frames) all.host_idle.unwritten)
+        (down_read given late said up down e g c) all.none_down (ap (λ (frames : List HFrame). stream_of host frames) all.host_idle.unwritten)
 
     read_up : messages_in c.served.steps ++ e.waiting ≡ c.did.composed
     read_up = all_read terminal up_sound c.did.composed (messages_in c.served.steps ++ e.waiting) e.framer.bytes two.composed_in_turn c.served.reads.splits.fit whole_up
         (subst (λ (o : Option StreamFault). Ends terminal (version_after terminal 1 (messages_in c.served.steps ++ e.waiting)) e.framer.bytes (option_map mesg_fault o))
-        (host_reads given said up down e g c x) c.served.reads.ends)
+        (host_reads given late said up down e g c) c.served.reads.ends)
 
     read_down : frames_in c.did.steps ++ g.waiting ≡ c.served.frames
     read_down = all_read host down_sound c.served.frames (frames_in c.did.steps ++ g.waiting) g.framer.bytes two.answered_in_turn c.did.reads.splits.fit whole_down
         (subst (λ (o : Option StreamFault). Ends host (version_after host 1 (frames_in c.did.steps ++ g.waiting)) g.framer.bytes (option_map mesg_fault o))
-        (term_reads given said up down e g c x) c.did.reads.ends)
-
-    world_is : run.world ≡ both e g
-    world_is = same_world run.world (both e g) run.host_is run.term_is
-        (ap (λ (w : PlainWorld). w.up) (one_world given said up down e g c x) ∙ none_left c.did.composed (messages_in c.served.steps ++ e.waiting) (messages_in c.served.steps) e.waiting two.world.up refl all.host_idle.waiting read_up two.upwards)
-        (ap (λ (w : PlainWorld). w.down) (one_world given said up down e g c x) ∙ none_left c.served.frames (frames_in c.did.steps ++ g.waiting) (frames_in c.did.steps) g.waiting two.world.down refl all.term_idle.waiting read_down two.downwards)
+        (term_reads given late said up down e g c) c.did.reads.ends)
 
     half_up : e.framer.bytes ≡ []
     half_up = append_cancel_left (stream_of terminal c.did.composed) e.framer.bytes []
@@ -131,30 +118,53 @@ module _ (given : List (List ℕ × List ℕ)) (said : List UserEvent) (up down 
     half_down = append_cancel_left (stream_of host c.served.frames) g.framer.bytes []
         (sym (whole_down ∙ ap (λ (frames : List HFrame). stream_of host frames ++ g.framer.bytes) read_down) ∙ sym (append-nil (stream_of host c.served.frames)))
 
-    pub agrees : AreAgreed e g
-    agrees = record {
-      agree = quiet_means_agreement (both e g) (subst IsInOrder world_is in_order) (quiet_both e g all.none_unsent);
-      none_half_up = half_up;
-      none_half_down = half_down;
+  -- ## Whichever run led here
+
+  module _ (run : AreOneRun given late said up down e g) where
+    in_order : IsInOrder run.world
+    in_order = reached_in_order given run.world c.given_fit (run.events, run.run)
+
+    local : ComesInOrder given run.events run.world
+    local = runs_come_in_order given run.events run.world c.given_fit run.run
+
+    module _ (all : IsAllCarried up down e g) where
+      world_is : run.world ≡ both e g
+      world_is = same_world run.world (both e g) run.host_is run.term_is
+          (none_written terminal run.world.up
+          (none_between (stream_of terminal run.world.up) (stream_of terminal e.waiting) e.framer.bytes up (stream_of terminal g.unwritten) run.upwards
+          (ap (λ (ms : List Tmesg). stream_of terminal ms) all.host_idle.waiting) (half_up all) all.none_up (ap (λ (ms : List Tmesg). stream_of terminal ms) all.term_idle.unwritten)))
+          (none_written host run.world.down
+          (none_between (stream_of host run.world.down) (stream_of host g.waiting) g.framer.bytes down (stream_of host e.unwritten) run.downwards
+          (ap (λ (frames : List HFrame). stream_of host frames) all.term_idle.waiting) (half_down all) all.none_down
+          (ap (λ (frames : List HFrame). stream_of host frames) all.host_idle.unwritten)))
+
+      agree : SidesAgree (both e g)
+      agree = quiet_means_agreement (both e g) (subst IsInOrder world_is in_order) (quiet_both e g all.none_unsent)
+
+      rests : at_rest e.host g.term ≡ carried_through given (doings_of given run.events)
+      rests = subst (λ (w : PlainWorld). is_quiet w ≡ true → at_rest w.host w.term ≡ carried_through given (doings_of given run.events)) world_is local.quiet (quiet_both e g all.none_unsent)
+
+      was_reached : WasReached (both e g)
+      was_reached = record { given = given; limits = c.given_fit; reached = (run.events, run.run ∙ ap (λ (w : PlainWorld). Some w) world_is) }
+
+    pub as_if_local : AreAsIfLocal run
+    as_if_local = record {
+      events = sym run.users ∙ local.events ∙ ap (λ (t : PlainTerminal). events_in (doings_of given run.events) ++ t.held) run.term_is;
+      files = ap (map (λ (file : ℕ × (List ℕ × List ℕ)). file.1)) (sym run.joins) ∙ sym (files-joined 0 run.events) ∙ local.files;
+      shows = λ f free opened.
+          same_shown run.world (both e g) (carried_through given (doings_of given run.events)) f run.term_is
+          (local.shows f (ap (λ (t : PlainTerminal). is_locked t f) run.term_is ∙ free) (ap (λ (t : PlainTerminal). is_open t f) run.term_is ∙ opened));
+      carried = rests;
     }
 
-    rests : at_rest e.host g.term ≡ carried_all given local.acted
-    rests = subst (λ (w : PlainWorld). is_quiet w ≡ true → at_rest w.host w.term ≡ carried_all given local.acted) world_is local.quiet (quiet_both e g all.none_unsent)
+  -- ## Where all is carried
 
-    was_reached : WasReached (both e g)
-    was_reached = record { given = given; limits = c.given_fit; reached = (run.events, run.run ∙ ap (λ (w : PlainWorld). Some w) world_is) }
-
-    pub never_stuck : IsQuiet g.term → HasRoom (both e g) → IsDone (both e g)
-    never_stuck quiet room = stuck_is_done (both e g) was_reached room (stuck_both e g all.none_unsent quiet)
-
-  -- ## At any moment
-
-  pub as_if_local : AreAsIfLocal given said up down e g
-  as_if_local = record {
-    acted = local.acted;
-    are = local.are ∙ ap (λ (t : PlainTerminal). local.acted ++ t.held) run.term_is;
-    shows = λ f free opened.
-        same_shown run.world (both e g) (carried_all given local.acted) f run.term_is
-        (local.shows f (ap (λ (t : PlainTerminal). is_locked t f) run.term_is ∙ free) (ap (λ (t : PlainTerminal). is_open t f) run.term_is ∙ opened));
-    carried = rests;
+  pub agrees : IsAllCarried up down e g → AreAgreed e g
+  agrees all = record {
+    agree = agree (one_run given late said up down e g c) all;
+    none_half_up = half_up all;
+    none_half_down = half_down all;
   }
+
+  pub never_stuck : IsAllCarried up down e g → IsQuiet g.term → HasRoom (both e g) → IsDone (both e g)
+  never_stuck all quiet room = stuck_is_done (both e g) (was_reached (one_run given late said up down e g c) all) room (stuck_both e g all.none_unsent quiet)

@@ -1,5 +1,6 @@
 -- Two endpoints that carry each other's bytes are one run, read no fault and stop for nothing but a full count.
 use Rattle.std.proofs.Common.{◌≡◌, refl, sym, ap, subst, ◌∙◌, inl, inr, ℕ, List, [], ◌∷◌, ◌++◌, map, Option, Some, None, Err, option_map, append_assoc, arith}
+use Rattle.sam_mesg.specs.HostKinds.{FitsH}
 use Rattle.sam_mesg.specs.TerminalKinds.{FitsT}
 use Rattle.sam_mesg.specs.declared.hmesg.HFrame.{HFrame}
 use Rattle.sam_mesg.specs.declared.tmesg.Tmesg.{Tmesg}
@@ -14,9 +15,8 @@ use Rattle.sam_term.specs.Term.{new_terminal, take_of}
 use Rattle.sam_term.specs.declared.event.UserEvent.{UserEvent}
 use Rattle.sam_term.specs.declared.fault.TermFault.{TermFault}
 use Rattle.sam_term.specs.declared.fault.TermFault.TheVariants as term_fault
-use Rattle.sam_endpoint.specs.HostEndpoints.{PlainHostEndpoint, Serves, Step}
+use Rattle.sam_endpoint.specs.HostEndpoints.{PlainHostEndpoint}
 use Rattle.sam_endpoint.specs.HostRuns.{HasStopped as HostHasStopped, messages_in}
-use Rattle.sam_endpoint.proofs.HostEndpointRuns.{all_answered}
 use Rattle.sam_endpoint.specs.Streams.{mesg_fault}
 use Rattle.sam_endpoint.specs.TermEndpoints.{PlainTermEndpoint}
 use Rattle.sam_endpoint.specs.TermRuns.{HasStopped as TermHasStopped, frames_in}
@@ -28,13 +28,12 @@ use Rattle.sam_endpoint.specs.declared.fault.TermStop.TheVariants as term_stop
 use Rattle.sam_sides.proofs.Refusing.{refused_act, refused_flush}
 use Rattle.sam_sides.specs.Sides.{Each}
 use Rattle.sam_sides.specs.declared.log.TermLog.{TermLog}
-use Rattle.sam_world.specs.Merging.{merged}
 use Rattle.sam_world.specs.Prefixes.{Begins}
 use Rattle.sam_apart.proofs.ApartLaws.{joins, understood, no_fault}
 use Rattle.sam_apart.proofs.ApartTurns.{each_t, front_fits}
-use Rattle.sam_apart.proofs.RealLaws.{up_sound, down_sound}
-use Rattle.sam_apart.specs.Apart.{Apart, Joined, Understood}
-use Rattle.sam_joined.specs.Joined.{AreCarried, CanCross, AreOneRun, GoOn}
+use Rattle.sam_apart.proofs.RealLaws.{each_of_all, up_sound, down_sound}
+use Rattle.sam_apart.specs.Apart.{Apart, HostRunsWith, Joined, Joins, Understood}
+use Rattle.sam_joined.specs.Joined.{AreCarried, AreOneRun, GoOn}
 use Rattle.sam_joined.proofs.Words.{entry_of, serves_runs, leads_runs, users_logged, parts_of, read_of, rest_of, behind}
 
 none_of : {A : Type 0} (o : Option A) → ((x : A) → o ≡ Some x → ⊥) → o ≡ None
@@ -47,8 +46,8 @@ next_first : (all front waiting : List Tmesg) (m : Tmesg) (rest : List Tmesg) (h
     → stream_of terminal all ≡ (stream_of terminal front ++ frame_of terminal m) ++ (((stream_of terminal rest ++ half) ++ way) ++ last)
 next_first all front waiting m rest half way last first bytes = grind (arith, append_assoc)
 
-module _ (given : List (List ℕ × List ℕ)) (said : List UserEvent) (up down : List ℕ) (e : PlainHostEndpoint) (g : PlainTermEndpoint)
-    (c : AreCarried given said up down e g) (x : CanCross c) where
+module _ (given : List (List ℕ × List ℕ)) (late : Joins) (said : List UserEvent) (up down : List ℕ) (e : PlainHostEndpoint) (g : PlainTermEndpoint)
+    (c : AreCarried given late said up down e g) where
   abbrev entries : List TermLog
   entries = map entry_of c.did.steps
 
@@ -85,14 +84,14 @@ module _ (given : List (List ℕ × List ℕ)) (said : List UserEvent) (up down 
 
   -- ## One run
 
-  apart : Apart given entries e.host g.term c.did.composed handled c.served.frames passed taken
+  apart : Apart given late entries e.host g.term c.did.composed handled c.served.frames passed taken
   apart = record {
     given_fit = c.given_fit;
-    host_runs = serves_runs handled (new_host given) e.host c.served.frames c.served.writes
-        (subst (λ (steps : List Step). Serves (new_host given) steps c.served.frames c.served.writes e.host) (all_answered 0 c.served.steps c.served.files) c.served.serves);
+    host_runs = subst (λ (joins : Joins). HostRunsWith (new_host given) joins handled c.served.frames e.host) c.served.files
+        (serves_runs c.served.steps (new_host given) e.host c.served.frames c.served.writes c.served.serves);
     term_runs = leads_runs c.did.steps new_terminal g.term c.did.composed c.did.leads;
-    composed_fit = x.messages;
-    answers_fit = x.frames;
+    composed_fit = each_of_all (FitsT 2) c.did.composed c.did.composed_fit;
+    answers_fit = each_of_all (FitsH 2) c.served.frames c.served.frames_fit;
     handled_fit = front_fits terminal 1 handled e.waiting c.served.reads.splits.fit;
     passed_fit = c.did.reads.splits.fit;
     up = (rest_up, up_is);
@@ -100,28 +99,24 @@ module _ (given : List (List ℕ × List ℕ)) (said : List UserEvent) (up down 
     passing = record { rest = g.waiting; is = refl };
   }
 
-  pub joined : Joined given entries e.host g.term c.did.composed handled c.served.frames taken
-  joined = joins given entries e.host g.term c.did.composed handled c.served.frames passed taken apart
+  pub joined : Joined given late entries e.host g.term c.did.composed handled c.served.frames taken
+  joined = joins given late entries e.host g.term c.did.composed handled c.served.frames passed taken apart
 
   knows : Understood e.host g.term c.did.composed handled c.served.frames passed taken
-  knows = understood given entries e.host g.term c.did.composed handled c.served.frames passed taken apart
+  knows = understood given late entries e.host g.term c.did.composed handled c.served.frames passed taken apart
 
-  pub one_run : AreOneRun given said up down e g
+  pub one_run : AreOneRun given late said up down e g
   one_run = record {
-    events = merged entries e.host.taken;
+    events = joined.events;
     world = joined.world;
     run = joined.run;
     users = joined.users_are ∙ (users_logged c.did.steps ∙ c.did.given);
-    none_join = joined.none_join;
+    joins = joined.joins_are;
     host_is = joined.host_is;
     term_is = joined.term_is;
     upwards = rest_of terminal c.did.composed handled joined.world.up rest_up joined.upwards up_is;
     downwards = rest_of host c.served.frames taken joined.world.down rest_down joined.downwards down_is;
   }
-
-  pub one_world : one_run.world ≡ joined.world
-  unfolding joined one_run
-  one_world = refl
 
   -- ## No fault
 

@@ -1,7 +1,6 @@
 -- Two links between two endpoints are one line.
 use Rattle.std.proofs.Common.{◌≡◌, ap, ◌∙◌, ℕ, List, [], ◌++◌, append_assoc, arith, flat_map}
 use Rattle.std.proofs.lemmas.Grind.{flat_map-append}
-use Rattle.sam_host.specs.Laws.{AddsGiven}
 use Rattle.sam_link.specs.Calls.{Item, byte_of, bytes_of, handed, put, waits}
 use Rattle.sam_link.specs.Sessions.{StartsWith}
 use Rattle.sam_link.proofs.Meeting.{carried_is_all}
@@ -10,6 +9,7 @@ use Rattle.sam_joined.specs.Linked.{LinkedAreOneRun, LinksAreOneLine, MovedIsCar
 use Rattle.sam_joined.proofs.Calling.{calls_are_carried}
 use Rattle.sam_joined.proofs.Carrying.{as_if_local}
 use Rattle.sam_joined.proofs.Joining.{go_on, one_run}
+use Rattle.sam_endpoint.specs.HostRuns.{joined_by}
 use Rattle.sam_endpoint.specs.TermRuns.{put_in}
 
 -- first bytes of what went in at one side, then the link, then first bytes of what comes out at the other side
@@ -41,9 +41,11 @@ moved_is_carried id steps s host_calls term_calls e g fine leads m =
       downwards = all_moved _ _ (put s.host_calls) (handed s.terminal_calls) (waits s.terminal.waiting) m.host_put_all c.down m.none_wait_down m.term_took_all;
     }
 
-pub linked_are_one_run : AddsGiven → LinkedAreOneRun
-linked_are_one_run adds given id steps s host_calls term_calls e g fit host_runs term_runs fine leads l =
+pub linked_are_one_run : LinkedAreOneRun
+linked_are_one_run given id steps s host_calls term_calls e g fit host_runs term_runs fine leads l =
     let line = links_are_one_line id steps s host_calls term_calls e g fine leads l in
-    let c = calls_are_carried adds given host_calls term_calls line.0 line.1 e g fit host_runs term_runs line.2 in
+    let c = calls_are_carried given host_calls term_calls line.0 line.1 e g fit host_runs term_runs line.2 in
+    let files = flat_map joined_by host_calls in
     let said = flat_map put_in term_calls in
-    (line.0, line.1, c, λ x. (one_run given said line.0 line.1 e g c x, go_on given said line.0 line.1 e g c x, as_if_local given said line.0 line.1 e g c x))
+    let run = one_run given files said line.0 line.1 e g c in
+    (line.0, line.1, c, run, go_on given files said line.0 line.1 e g c, as_if_local given files said line.0 line.1 e g c run)

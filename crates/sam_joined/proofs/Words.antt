@@ -1,12 +1,12 @@
 -- What the runs of two endpoints come to, in the words of two sides that worked apart.
-use Rattle.std.proofs.Common.{◌≡◌, refl, sym, ap, ◌∙◌, ℕ, List, [], ◌∷◌, ◌++◌, map, Result, append_assoc, arith}
+use Rattle.std.proofs.Common.{◌≡◌, refl, sym, ap, subst, ◌∙◌, ℕ, ◌+◌, true, List, [], ◌∷◌, ◌++◌, map, Some, Result, append_assoc, arith}
 use Rattle.std.proofs.lemmas.List.{append_cancel_left}
 use Rattle.sam_mesg.specs.declared.hmesg.HFrame.{HFrame}
 use Rattle.sam_mesg.specs.declared.tmesg.Tmesg.{Tmesg}
 use Rattle.sam_frame.proofs.Fronts.{stream_of-append}
 use Rattle.sam_frame.specs.Direction.{Direction}
 use Rattle.sam_frame.specs.Stream.{stream_of}
-use Rattle.sam_host.specs.Host.{PlainHost}
+use Rattle.sam_host.specs.Host.{PlainHost, with_given}
 use Rattle.sam_host.specs.declared.fault.HostFault.{HostFault}
 use Rattle.sam_term.specs.Fitting.{composed_in}
 use Rattle.sam_term.specs.Term.{Made, PlainTerminal}
@@ -14,21 +14,52 @@ use Rattle.sam_term.specs.declared.event.Acted.{Acted}
 use Rattle.sam_term.specs.declared.event.Acted.TheVariants.{Idle, Locked, Done, Refused}
 use Rattle.sam_term.specs.declared.event.UserEvent.{UserEvent}
 use Rattle.sam_term.specs.declared.fault.TermFault.{TermFault}
-use Rattle.sam_endpoint.specs.HostEndpoints.{Answered, Serves}
+use Rattle.sam_endpoint.specs.HostEndpoints.{Step as HostStep, Answered, Joined, MayJoin, Serves}
+use Rattle.sam_endpoint.specs.HostRuns.{joined_after, messages_in}
 use Rattle.sam_endpoint.specs.TermRuns.{Step, Received, Held, Decided, Sent, Leads, events_in, frames_in}
 use Rattle.sam_sides.specs.Logs.{logged_users}
 use Rattle.sam_sides.specs.RealSides.{acted, composed_by, sides, unless_refused}
-use Rattle.sam_sides.specs.Sides.{Each, HostRuns, TermRuns}
+use Rattle.sam_sides.specs.Sides.{Each, TermRuns}
+use Rattle.sam_crossing.specs.Joining.{may_join}
+use Rattle.sam_apart.proofs.RealLaws.{counts}
+use Rattle.sam_apart.specs.Apart.{HostRunsWith, Joins}
 use Rattle.sam_sides.specs.declared.log.TermLog.{TermLog}
 use Rattle.sam_sides.specs.declared.log.TermLog.TheVariants as log
 
 -- ## What each side did
 
--- a host that serves messages handles them
-pub serves_runs : (ms : List Tmesg) (h k : PlainHost) (frames : List HFrame) (writes : List ℕ) → Serves h (map Answered ms) frames writes k → HostRuns sides h ms frames k
+-- a message more, before all others
+handled_first : (joins : Joins) (h j k : PlainHost) (m : Tmesg) (first : List HFrame) (ms : List Tmesg) (frames : List HFrame) → sides.handle h m ≡ Some (j, first)
+    → HostRunsWith j joins ms frames k → HostRunsWith h joins (m ∷ ms) (first ++ frames) k
+handled_first [] h j k m first ms frames handled r = (j, first, frames, handled, refl, r)
+handled_first (x ∷ joins) h j k m first ms frames handled (before, after, front, rest, g, whole, parts, runs, count, may, more) = (
+  m ∷ before,
+  after,
+  first ++ front,
+  rest,
+  g,
+  ap (λ (l : List Tmesg). m ∷ l) whole,
+  ap (λ (l : List HFrame). first ++ l) parts ∙ sym (append_assoc first front rest),
+  (j, first, front, handled, refl, runs),
+  count,
+  may,
+  more,
+)
+
+may_there : (h : PlainHost) (file : List ℕ × List ℕ) → MayJoin h file → may_join h file.0 file.1 ≡ true
+may_there h file may = grind (arith, may)
+
+-- a host that serves handles its messages, and its files join it
+pub serves_runs : (steps : List HostStep) (h k : PlainHost) (frames : List HFrame) (writes : List ℕ) → Serves h steps frames writes k
+    → HostRunsWith h (joined_after h.taken steps) (messages_in steps) frames k
 serves_runs [] h k frames writes s = (s.0, s.2)
-serves_runs (m ∷ ms) h k frames writes s =
-    (s.0, s.1, s.2, ap (λ (r : Result (PlainHost × List HFrame) HostFault). unless_refused r) s.4, s.5, serves_runs ms s.0 k s.2 s.3 s.7)
+serves_runs (Answered m ∷ steps) h k frames writes (j, first, rest, more, answered, parts, noted, s) =
+    let handled : sides.handle h m ≡ Some (j, first) = ap (λ (r : Result (PlainHost × List HFrame) HostFault). unless_refused r) answered in
+    let others = subst (λ (n : ℕ). HostRunsWith j (joined_after n steps) (messages_in steps) rest k) (counts.taken h m j first handled) (serves_runs steps j k rest more s) in
+    subst (λ (l : List HFrame). HostRunsWith h (joined_after (h.taken + 1) steps) (m ∷ messages_in steps) l k) (sym parts)
+    (handled_first (joined_after (h.taken + 1) steps) h j k m first (messages_in steps) rest handled others)
+serves_runs (Joined file ∷ steps) h k frames writes (may, s) =
+    ([], messages_in steps, [], frames, h, refl, refl, (refl, refl), refl, may_there h file may, serves_runs steps (with_given h file) k frames writes s)
 
 -- the entry of a log for a step
 abbrev pub entry_of : Step → TermLog
@@ -86,6 +117,11 @@ pub rest_of : {M : Type 0} (d : Direction M) (all front rest : List M) (way : Li
     → stream_of d all ≡ stream_of d front ++ way → stream_of d rest ≡ way
 rest_of d all front rest way whole bytes =
     append_cancel_left (stream_of d front) (stream_of d rest) way (sym (stream_of-append d front rest) ∙ (sym (ap (stream_of d) whole) ∙ bytes))
+
+-- each frame has bytes
+pub none_written : {M : Type 0} (d : Direction M) (ms : List M) → stream_of d ms ≡ [] → ms ≡ []
+none_written d [] none = refl
+none_written d (m ∷ ms) none = absurd (cc)
 
 -- a member behind others
 pub behind : {X : Type 0} (P : X → Type 0) (xs ys : List X) (y : X) → Each P (xs ++ y ∷ ys) → P y

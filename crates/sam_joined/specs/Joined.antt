@@ -1,7 +1,5 @@
 -- A host endpoint and a terminal endpoint that carry each other's bytes: they are one run of a world.
-use Rattle.std.specs.Prelude.{◌≡◌, ℕ, true, false, List, [], ◌++◌, Some, None}
-use Rattle.sam_mesg.specs.HostKinds.{FitsH}
-use Rattle.sam_mesg.specs.TerminalKinds.{FitsT}
+use Rattle.std.specs.Prelude.{◌≡◌, ℕ, true, false, List, [], ◌++◌, map, Some, None}
 use Rattle.sam_frame.specs.Direction.{host, terminal}
 use Rattle.sam_frame.specs.Stream.{stream_of}
 use Rattle.sam_host.specs.Host.{new_host}
@@ -19,20 +17,20 @@ use Rattle.sam_endpoint.specs.declared.fault.HostStop.{HostStop}
 use Rattle.sam_endpoint.specs.declared.fault.HostStop.TheVariants as host_stop
 use Rattle.sam_endpoint.specs.declared.fault.TermStop.{TermStop}
 use Rattle.sam_endpoint.specs.declared.fault.TermStop.TheVariants as term_stop
-use Rattle.sam_sides.specs.Sides.{Each}
-use Rattle.sam_crossing.specs.World.{PlainWorld, SidesAgree, is_locked, new_world, run_of, user_events, joined_files}
+use Rattle.sam_crossing.specs.World.{PlainWorld, SidesAgree, is_locked, new_world, run_of, user_events}
 use Rattle.sam_crossing.specs.declared.event.Event.{Event}
-use Rattle.sam_local.specs.Local.{at_rest, carried_all}
-use Rattle.sam_local.specs.Worlds.{ShowsFile}
+use Rattle.sam_local.specs.Local.{at_rest, carried_through, events_in, files_in}
+use Rattle.sam_local.specs.Worlds.{ShowsFile, doings_of}
+use Rattle.sam_apart.specs.Apart.{Joins, joins_in}
 use Rattle.sam_rest.specs.Rest.{HasRoom, IsDone}
 
 -- ## What is joined
 
--- A host endpoint that had these files when it answered its first message, and which no file joined later, took in the bytes `came_up`
--- and handed out `went_down`. A terminal endpoint, at which the user did all of `said`, took in `came_down` and handed out `went_up`. All
--- that the terminal endpoint handed out, or has pending, is what the host endpoint took in, and then what is on its way up; and likewise
--- down. What is pending is counted, since a program may show it to the other endpoint before it takes it out
-pub record AreCarried (given : List (List ℕ × List ℕ)) (said : List UserEvent) (up down : List ℕ)
+-- A host endpoint that began with the files `given`, and which those of `joined` joined, each after so many messages, took in the bytes
+-- `came_up` and handed out `went_down`. A terminal endpoint, at which the user did all of `said`, took in `came_down` and handed out
+-- `went_up`. All that the terminal endpoint handed out, or has pending, is what the host endpoint took in, and then what is on its way up;
+-- and likewise down. What is pending is counted, since a program may show it to the other endpoint before it takes it out
+pub record AreCarried (given : List (List ℕ × List ℕ)) (joined : Joins) (said : List UserEvent) (up down : List ℕ)
     (e : PlainHostEndpoint) (g : PlainTermEndpoint) : Type 0 where
   pub came_up : List ℕ
   pub went_down : List ℕ
@@ -41,17 +39,10 @@ pub record AreCarried (given : List (List ℕ × List ℕ)) (said : List UserEve
   pub written : List ℕ
   pub refused : List (ℕ × Refusal)
   pub given_fit : AreGiven given
-  pub served : HasServed (new_host given) came_up went_down written [] e
+  pub served : HasServed (new_host given) came_up went_down written joined e
   pub did : HasDone came_down said went_up refused g
   pub upwards : went_up ++ g.pending_bytes ≡ came_up ++ up
   pub downwards : went_down ++ e.pending_bytes ≡ came_down ++ down
-
--- Each frame that the host answered, and each message that the terminal composed, is a value of its type and can be written, as all those
--- of endpoints are: its numbers have their widths, and its text is runes and within its limit
-pub record CanCross {given : List (List ℕ × List ℕ)} {said : List UserEvent} {up down : List ℕ} {e : PlainHostEndpoint}
-    {g : PlainTermEndpoint} (c : AreCarried given said up down e g) : Type 0 where
-  pub frames : Each (FitsH 2) c.served.frames
-  pub messages : Each (FitsT 2) c.did.composed
 
 -- the two sides, with nothing between them
 abbrev pub both : PlainHostEndpoint → PlainTermEndpoint → PlainWorld
@@ -67,16 +58,16 @@ pub record IsAllCarried (up down : List ℕ) (e : PlainHostEndpoint) (g : PlainT
 
 -- ## What follows
 
--- A run of one world of these files, in which the user did all of `said` and no file joined, leads to the very host and the very terminal.
--- What is under way between them is, in bytes: what waits at the one, the front of a frame that its framer holds, what is on its way, and
--- what the other has not written yet
-pub record AreOneRun (given : List (List ℕ × List ℕ)) (said : List UserEvent) (up down : List ℕ)
+-- A run of one world of the first files, in which the user did all of `said`, and each file of `joined` joined once the host had taken as
+-- many messages as stand beside it, leads to the very host and the very terminal. What is under way between them is, in bytes: what waits
+-- at the one, the front of a frame that its framer holds, what is on its way, and what the other has not written yet
+pub record AreOneRun (given : List (List ℕ × List ℕ)) (joined : Joins) (said : List UserEvent) (up down : List ℕ)
     (e : PlainHostEndpoint) (g : PlainTermEndpoint) : Type 0 where
   pub events : List Event
   pub world : PlainWorld
   pub run : run_of (new_world given) events ≡ Some world
   pub users : user_events events ≡ said
-  pub none_join : joined_files events ≡ []
+  pub joins : joins_in 0 events ≡ joined
   pub host_is : world.host ≡ e.host
   pub term_is : world.term ≡ g.term
   pub upwards : stream_of terminal world.up ≡ ((stream_of terminal e.waiting ++ e.framer.bytes) ++ up) ++ stream_of terminal g.unwritten
@@ -95,41 +86,50 @@ pub record AreAgreed (e : PlainHostEndpoint) (g : PlainTermEndpoint) : Type 0 wh
   pub none_half_up : e.framer.bytes ≡ []
   pub none_half_down : g.framer.bytes ≡ []
 
--- All that the user did, but what is still held, has acted or was refused. An open file that is not locked is shown as these events leave
--- it in the editor without a network. Where all is carried, both sides are where they lead that editor, but for runes that are not loaded
--- and for counts
-pub record AreAsIfLocal (given : List (List ℕ × List ℕ)) (said : List UserEvent) (up down : List ℕ)
-    (e : PlainHostEndpoint) (g : PlainTermEndpoint) : Type 0 where
-  pub acted : List UserEvent
-  pub are : said ≡ acted ++ g.term.held
-  pub shows : (f : ℕ) → is_locked g.term f ≡ false → is_open g.term f ≡ true → ShowsFile (both e g) (carried_all given acted) f
-  pub carried : IsAllCarried up down e g → at_rest e.host g.term ≡ carried_all given acted
+-- What was done in the run stands in one order: all files that joined, and all that the user did but what is still held. There a file
+-- joins just before the first event whose message the host had still to take, as far as any answer can tell. An open file that is not
+-- locked is shown as what was done leaves it in the editor without a network. Where all is carried, both sides are where it leads that
+-- editor, but for runes that are not loaded and for counts
+pub record AreAsIfLocal {given : List (List ℕ × List ℕ)} {joined : Joins} {said : List UserEvent} {up down : List ℕ}
+    {e : PlainHostEndpoint} {g : PlainTermEndpoint} (run : AreOneRun given joined said up down e g) : Type 0 where
+  pub events : said ≡ events_in (doings_of given run.events) ++ g.term.held
+  pub files : map (λ (file : ℕ × (List ℕ × List ℕ)). file.1) joined ≡ files_in (doings_of given run.events)
+  pub shows : (f : ℕ) → is_locked g.term f ≡ false → is_open g.term f ≡ true
+      → ShowsFile (both e g) (carried_through given (doings_of given run.events)) f
+  pub carried : IsAllCarried up down e g → at_rest e.host g.term ≡ carried_through given (doings_of given run.events)
 
 -- ## The laws
 
 abbrev pub EndpointsJoin : Type 0
 EndpointsJoin =
-    (given : List (List ℕ × List ℕ)) (said : List UserEvent) (up down : List ℕ) (e : PlainHostEndpoint) (g : PlainTermEndpoint)
-    → (c : AreCarried given said up down e g) → CanCross c → AreOneRun given said up down e g
+    (given : List (List ℕ × List ℕ)) (joined : Joins) (said : List UserEvent) (up down : List ℕ)
+    (e : PlainHostEndpoint) (g : PlainTermEndpoint)
+    → AreCarried given joined said up down e g → AreOneRun given joined said up down e g
 
 abbrev pub NeitherStops : Type 0
 NeitherStops =
-    (given : List (List ℕ × List ℕ)) (said : List UserEvent) (up down : List ℕ) (e : PlainHostEndpoint) (g : PlainTermEndpoint)
-    → (c : AreCarried given said up down e g) → CanCross c → GoOn e g
+    (given : List (List ℕ × List ℕ)) (joined : Joins) (said : List UserEvent) (up down : List ℕ)
+    (e : PlainHostEndpoint) (g : PlainTermEndpoint)
+    → AreCarried given joined said up down e g → GoOn e g
 
 abbrev pub CarriedAgree : Type 0
 CarriedAgree =
-    (given : List (List ℕ × List ℕ)) (said : List UserEvent) (up down : List ℕ) (e : PlainHostEndpoint) (g : PlainTermEndpoint)
-    → (c : AreCarried given said up down e g) → CanCross c → IsAllCarried up down e g → AreAgreed e g
+    (given : List (List ℕ × List ℕ)) (joined : Joins) (said : List UserEvent) (up down : List ℕ)
+    (e : PlainHostEndpoint) (g : PlainTermEndpoint)
+    → AreCarried given joined said up down e g → IsAllCarried up down e g → AreAgreed e g
 
+-- whichever such run led here
 abbrev pub JoinedAreAsIfLocal : Type 0
 JoinedAreAsIfLocal =
-    (given : List (List ℕ × List ℕ)) (said : List UserEvent) (up down : List ℕ) (e : PlainHostEndpoint) (g : PlainTermEndpoint)
-    → (c : AreCarried given said up down e g) → CanCross c → AreAsIfLocal given said up down e g
+    (given : List (List ℕ × List ℕ)) (joined : Joins) (said : List UserEvent) (up down : List ℕ)
+    (e : PlainHostEndpoint) (g : PlainTermEndpoint)
+    → AreCarried given joined said up down e g → (run : AreOneRun given joined said up down e g)
+    → AreAsIfLocal run
 
 -- where all is carried and the terminal can't act, which each call that ends well leaves so, all is done
 abbrev pub NeverStuck : Type 0
 NeverStuck =
-    (given : List (List ℕ × List ℕ)) (said : List UserEvent) (up down : List ℕ) (e : PlainHostEndpoint) (g : PlainTermEndpoint)
-    → (c : AreCarried given said up down e g) → CanCross c → IsAllCarried up down e g
+    (given : List (List ℕ × List ℕ)) (joined : Joins) (said : List UserEvent) (up down : List ℕ)
+    (e : PlainHostEndpoint) (g : PlainTermEndpoint)
+    → AreCarried given joined said up down e g → IsAllCarried up down e g
     → IsQuiet g.term → HasRoom (both e g) → IsDone (both e g)

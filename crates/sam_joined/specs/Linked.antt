@@ -7,11 +7,11 @@ use Rattle.sam_link.specs.declared.hello.Id.{Id}
 use Rattle.sam_host.specs.Host.{new_host}
 use Rattle.sam_host.specs.Laws.{AreGiven}
 use Rattle.sam_endpoint.specs.HostEndpoints.{PlainHostEndpoint}
-use Rattle.sam_endpoint.specs.HostRuns.{begun_with, Call as HostCall, Runs as HostRuns, came_in as came_up, went_out as went_down}
+use Rattle.sam_endpoint.specs.HostRuns.{begun_with, Call as HostCall, Runs as HostRuns, came_in as came_up, joined_by, went_out as went_down}
 use Rattle.sam_endpoint.specs.TermEndpoints.{PlainTermEndpoint, new_term_endpoint}
 use Rattle.sam_endpoint.specs.TermRuns.{put_in, Call as TermCall, Runs as TermRuns, came_in as came_down, went_out as went_up}
-use Rattle.sam_joined.specs.Calls.{Carry, RunsWith}
-use Rattle.sam_joined.specs.Joined.{AreAsIfLocal, AreCarried, AreOneRun, CanCross, GoOn}
+use Rattle.sam_joined.specs.Calls.{Carry}
+use Rattle.sam_joined.specs.Joined.{AreAsIfLocal, AreCarried, AreOneRun, GoOn}
 
 -- Each program moves bytes between its endpoint and its end of the link: of what the endpoint handed out, or has pending, it put the
 -- first, and of what came out of the link the endpoint took in the first. Notes are no bytes of an endpoint
@@ -57,7 +57,7 @@ abbrev pub LinkedAreOneRun : Type 0
 LinkedAreOneRun =
     (given : List (List ℕ × List ℕ)) (id : Id) (steps : List Step) (s : Session) (host_calls : List HostCall) (term_calls : List TermCall)
     (e : PlainHostEndpoint) (g : PlainTermEndpoint)
-    → AreGiven given → RunsWith given host_calls e → TermRuns new_term_endpoint term_calls g
+    → AreGiven given → HostRuns (begun_with (new_host given)) host_calls e → TermRuns new_term_endpoint term_calls g
     → IsId id → Leads (new_session id) steps s → AreLinked host_calls term_calls e g s
-    → (up : List ℕ) × (down : List ℕ) × (c : AreCarried given (flat_map put_in term_calls) up down e g)
-    × (CanCross c → AreOneRun given (flat_map put_in term_calls) up down e g × GoOn e g × AreAsIfLocal given (flat_map put_in term_calls) up down e g)
+    → (up : List ℕ) × (down : List ℕ) × AreCarried given (flat_map joined_by host_calls) (flat_map put_in term_calls) up down e g
+    × (run : AreOneRun given (flat_map joined_by host_calls) (flat_map put_in term_calls) up down e g) × GoOn e g × AreAsIfLocal run

@@ -1,29 +1,23 @@
 //! The laws of two endpoints, stated by the clauses of functions that do nothing.
 //!
-//! Each but the first speaks of two endpoints between which bytes were carried (`AreCarried`): no file joined the host endpoint after it
-//! answered its first message, and the world begins with all that it had then. The first says that all such calls come to this.
-//! They ask that the messages and frames are values of their types and can be written (`CanCross`), as all those of endpoints are; no
-//! clause of sam_endpoint says so.
-ghost use Rattle.sam_joined.specs.Calls.{CallsAreCarried, NoCallStopsTheTerminal, NoPieceStopsTheHost};
+//! Each but the first speaks of two endpoints between which bytes were carried (`AreCarried`), and of all files that joined the host
+//! endpoint, whenever they did. The first says that all calls come to this.
+ghost use Rattle.sam_joined.specs.Calls.{CallsAreCarried, NoCallStopsTheHost, NoCallStopsTheTerminal};
 ghost use Rattle.sam_joined.specs.Linked.{LinkedAreOneRun, LinksAreOneLine, MovedIsCarried};
 ghost use Rattle.sam_joined.specs.Joined.{CarriedAgree, EndpointsJoin, JoinedAreAsIfLocal, NeitherStops, NeverStuck};
 
-use sam_host::laws::files_can_be_added;
-
-/// States that whatever calls two endpoints get, in whatever pieces and whenever memory is refused, bytes were carried between them, as
-/// long as what came in at each is the first of what the other handed out or has pending, and no file joins once the host endpoint has
-/// answered a message. So it is, too, where a last call stops one of them, and then a count is full.
+/// States that whatever calls two endpoints get, steps among them, in whatever pieces and whenever memory is refused, bytes were carried
+/// between them, as long as what came in at each is the first of what the other handed out or has pending; and files may join at any
+/// time. So it is, too, where a last call stops one of them, and then a count is full.
 pub fn calls_are_carried()
     ensures carried { CallsAreCarried }
-    ensures host { NoPieceStopsTheHost }
+    ensures host { NoCallStopsTheHost }
     ensures terminal { NoCallStopsTheTerminal }
-{
-    files_can_be_added();
-}
+{}
 
 /// States that two endpoints, each of which took in the first of the bytes that the other handed out or has pending, are where one run of
-/// a world of the host's files leaves them. What is under way there is what stands between them: the bytes on their way, and what either
-/// endpoint keeps.
+/// a world of the host's first files leaves them. Each other file joins there once the host has taken as many messages as it had answered
+/// when the file was added. What is under way is what stands between them: the bytes on their way, and what either endpoint keeps.
 pub fn endpoints_join()
     ensures { EndpointsJoin }
 {}
@@ -40,9 +34,11 @@ pub fn carried_endpoints_agree()
     ensures { CarriedAgree }
 {}
 
-/// States that at any moment an open file that is not locked is shown as the events that have acted leave it in the editor without a
-/// network; these are all that the user put but those that are still held. Where all was carried, host and terminal are where they lead
-/// that editor, but for runes that are not loaded and for counts of messages.
+/// States that at any moment an open file that is not locked is shown as all that was done, in its order, leaves it in the editor without
+/// a network: the events that have acted, which are all that the user put but those that are still held, and the files that joined. A file
+/// joins there just before the first event whose message the host had not answered when it was added, as far as any answer can tell: it is
+/// there for that event and all later ones, and for none that was answered. Where all was carried, host and terminal are where this leads
+/// that editor, but for runes that are not loaded and for counts of messages. So it is whichever run led to them.
 pub fn endpoints_are_as_if_local()
     ensures { JoinedAreAsIfLocal }
 {}
@@ -61,6 +57,4 @@ pub fn endpoints_are_linked()
     ensures line { LinksAreOneLine }
     ensures all { MovedIsCarried }
     ensures one_run { LinkedAreOneRun }
-{
-    files_can_be_added();
-}
+{}

@@ -1,5 +1,5 @@
 -- A world with files that join now, and the steps in which the host has no part.
-use Rattle.sam_rest.proofs.Common.{◌≡◌, ℕ, Bool, true, false, List, [], ◌∷◌, ◌++◌, Option, Some, None, Result, Ok, Err, refl, sym, ap, ◌∙◌, subst, PlainHost, PlainTerminal, Made, Acted, TermFault, Tmesg, HFrame, PlainWorld, step_of, after_act, after_compose, term_takes, take_of, mesgs, IsInOrder}
+use Rattle.sam_rest.proofs.Common.{◌≡◌, ℕ, Bool, true, false, List, [], ◌∷◌, ◌++◌, Option, Some, Result, Ok, Err, refl, sym, ap, ◌∙◌, subst, PlainHost, PlainTerminal, Made, Acted, TermFault, HFrame, PlainWorld, step_of, after_act, after_compose, term_takes, take_of, mesgs, IsInOrder}
 unfoldable use Rattle.sam_rest.proofs.Common.{act_of, flush_of}
 use Rattle.sam_crossing.proofs.Common.{append_assoc, option_map, true≢false}
 use Rattle.sam_runes.specs.Slots.{Slots}

@@ -13,3 +13,7 @@ pub mod Done
 pub mod Rule
 pub mod Drains
 pub mod Loaded
+pub mod TermNames
+pub mod HostNames
+pub mod Announced
+pub mod Names

@@ -1,5 +1,6 @@
 //! The laws. Each is the clause of a function that does nothing: a caller who needs the law calls the function.
 ghost use Rattle.sam_rest.specs.Loaded.{ViewsAreLoaded};
+ghost use Rattle.sam_rest.specs.Names.{VersionTellsNames};
 ghost use Rattle.sam_rest.specs.Rest.{DoneIsStuck, StepsEnd, StuckIsDone};
 
 /// Says that where no event but the user's or a file that joins would change anything, all is done: nothing is unsent, under way, held or
@@ -22,4 +23,12 @@ pub fn steps_end()
 /// of any file. Of a view after which other events act it says nothing.
 pub fn views_are_loaded()
     ensures { ViewsAreLoaded }
+{}
+
+/// Says that after a Version the terminal knows every file of the host by its name: where a host that is not done has taken a `Tversion`
+/// and no file has joined since, then, whatever else happened, the names agree wherever no frame is under way to the terminal. The command
+/// file is left out: the answer to `Tstartcmdfile` has its name.
+#[tactic(auto, using(crate::proofs::Names::version_tells_names))]
+pub fn version_tells_names()
+    ensures { VersionTellsNames }
 {}

@@ -15,7 +15,8 @@ use Rattle.sam_ends.specs.declared.stop.Stop.{Stop}
 use Rattle.sam_ends.specs.declared.stop.Stop.TheVariants as stop
 use Rattle.sam_apart.proofs.RealLaws.{each_of_all, works}
 use Rattle.sam_settle.proofs.SettlingLists.{Parts, parts_of, senders_within, nothing_joined, split_map, frames_taken, all_before_mark, none_left, items_mine}
-use Rattle.sam_apart.proofs.ApartLaws.{joins, understood}
+use Rattle.sam_apart.proofs.ApartJoins.{files-joined}
+use Rattle.sam_apart.proofs.ApartLaws.{joins, merges_alone, understood}
 use Rattle.std.proofs.lemmas.List.Sums.{sum_by-cons}
 
 -- ## Plain facts
@@ -128,7 +129,8 @@ module _ (e : Ends) (ends : AreEnds e) (given : LinesGive e) where
     (frames_taken e.term.take.taken keys_taken.0 clicks_taken.0),
   )
 
-  apart : Apart e.host.files.items e.term.log.items e.host.host e.term.term composed handled answered passed frames
+  -- no file joins five threads
+  apart : Apart e.host.files.items [] e.term.log.items e.host.host e.term.term composed handled answered passed frames
   apart = grind (
     arith,
     given_of_files,
@@ -139,11 +141,18 @@ module _ (e : Ends) (ends : AreEnds e) (given : LinesGive e) where
     (works e.term.log.items new_terminal e.term.term frames composed told.term.runs),
   )
 
-  joined : Joined e.host.files.items e.term.log.items e.host.host e.term.term composed handled answered frames
-  joined = joins e.host.files.items e.term.log.items e.host.host e.term.term composed handled answered passed frames apart
+  joined : Joined e.host.files.items [] e.term.log.items e.host.host e.term.term composed handled answered frames
+  joined = joins e.host.files.items [] e.term.log.items e.host.host e.term.term composed handled answered passed frames apart
+
+  -- so the schedule is the merged one
+  schedule : joined.events ≡ merged e.term.log.items e.host.host.taken
+  schedule = merges_alone e.host.files.items e.term.log.items e.host.host e.term.term composed handled answered frames joined
+
+  runs : run_of (new_world e.host.files.items) (merged e.term.log.items e.host.host.taken) ≡ Some joined.world
+  runs = ap (run_of (new_world e.host.files.items)) (sym schedule) ∙ joined.run
 
   read : Understood e.host.host e.term.term composed handled answered passed frames
-  read = understood e.host.files.items e.term.log.items e.host.host e.term.term composed handled answered passed frames apart
+  read = understood e.host.files.items [] e.term.log.items e.host.host e.term.term composed handled answered passed frames apart
 
   -- ## The schedule is a run
 
@@ -151,7 +160,7 @@ module _ (e : Ends) (ends : AreEnds e) (given : LinesGive e) where
   last = joined.world
 
   pub always_replays : IsScheduled e.host.files.items e.term.log.items e.host.host.taken (stops_of e) None → ⊥
-  always_replays r = grind (arith, joined)
+  always_replays r = grind (arith, joined, runs)
 
   -- ## The stops
 
@@ -255,7 +264,7 @@ module _ (e : Ends) (ends : AreEnds e) (given : LinesGive e) where
   -- the two sides are the world where the merged schedule leads
   pub sides_lead : stops_of e ≡ []
       → run_of (new_world e.host.files.items) (merged e.term.log.items e.host.host.taken) ≡ Some (record { host = e.host.host; term = e.term.term; up = []; down = [] })
-  sides_lead none = grind (arith, none_under_way, joined)
+  sides_lead none = grind (arith, none_under_way, joined, runs)
 
   pub sides_kept : stops_of e ≡ [] → IsSoundWorld (record { host = e.host.host; term = e.term.term; up = []; down = [] })
   sides_kept none = record {
@@ -268,14 +277,14 @@ module _ (e : Ends) (ends : AreEnds e) (given : LinesGive e) where
 
   module _ (s : Settled) (c : ComesTo e s) where
     world_is : s.world ≡ last
-    world_is = grind (arith, joined, same_Some)
+    world_is = grind (arith, joined, runs, same_Some)
 
     pub states : (s.world.host ≡ e.host.host) × (s.world.term ≡ e.term.term)
     states = grind (arith, joined, world_is)
 
     -- no file joins in the schedule
     none_joins : joined_files s.schedule.items ≡ []
-    none_joins = grind (arith, joined)
+    none_joins = ap joined_files (c.schedule ∙ sym schedule) ∙ files-joined 0 joined.events ∙ ap (map (λ (j : ℕ × (List ℕ × List ℕ)). j.1)) joined.joins_are
 
     none_in : (done more : List Event) → s.schedule.items ≡ done ++ more → joined_files done ≡ []
     none_in done more parts = first_none (joined_files done) (joined_files more) (sym (files_then done more) ∙ ap joined_files (sym parts) ∙ none_joins)
@@ -296,7 +305,7 @@ module _ (e : Ends) (ends : AreEnds e) (given : LinesGive e) where
     has_streams = grind (arith, joined, apart, told.term.runs, passing, world_is, (map-append Host frames (frames_in told.term.dropped ++ passing.0)))
 
     pub has_users : HasUsers e s
-    has_users = grind (arith, append_assoc, items_of-append, frames_apart, key_parts, mouse_parts, joined)
+    has_users = grind (arith, append_assoc, items_of-append, frames_apart, key_parts, mouse_parts, joined, schedule)
 
     pub are_full : AreFull s
     are_full = grind (arith, states, host_fine, reader_fine, term_fine, count_joined, each_append)
@@ -321,7 +330,7 @@ module _ (e : Ends) (ends : AreEnds e) (given : LinesGive e) where
         let files = e.host.files.items in
         let local : IsAsIfLocal files (user_events s.schedule.items) s.world = runs_are_as_if_local files s.schedule.items s.world apart.given_fit headline.run none_joins in
         record {
-          events = grind (arith, joined, handled_all);
+          events = grind (arith, joined, schedule, handled_all);
           exited = end.exited;
           held = end.held;
           quiet = end.quiet;

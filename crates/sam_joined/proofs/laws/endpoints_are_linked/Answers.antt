@@ -8,4 +8,4 @@ pub returns-clause-all : goal.returns-clause-all
 returns-clause-all c = moved_is_carried
 
 pub returns-clause-one_run : goal.returns-clause-one_run
-returns-clause-one_run c = linked_are_one_run c.files_can_be_added.ensures
+returns-clause-one_run c = linked_are_one_run
