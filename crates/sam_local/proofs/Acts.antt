@@ -27,7 +27,7 @@ use Rattle.sam_local.proofs.Gentle.{CleansGuarded, AreGentle, past-frames}
 use Rattle.sam_local.proofs.Uncounted.{rest, rested, answers-rested, answered-rested}
 use Rattle.sam_local.proofs.Joined.{joined-answers}
 use Rattle.sam_local.proofs.Events.{Turning, turn_of, altered_by, altered, seen-turns, altered-alike, opens-alike, opened-turned, event-alters, tail, told, sent-tail, edit-tail, edit_turn, cuts-tail, cuts-flush, types-apart, types-joined}
-use Rattle.sam_local.proofs.Checks.{any-stands, gentle-ahead, open-ahead, window-rest, passes-rest, stands-rest, term_rest}
+use Rattle.sam_local.proofs.Checks.{gentle-ahead, open-ahead, window-rest, passes-rest, refused-rest, term_rest}
 
 -- ## Nothing is asked for where all is loaded
 
@@ -454,7 +454,6 @@ module _ (h : PlainHost) (t : PlainTerminal) (up : List Tmesg) (down : List Hmes
   pub refuses : (e : UserEvent) (r : Refusal) → first_of_checks (event_checks t e) ≡ Some (Refuses r) → come_to h t up down ≡ carried (come_to h t up down) e
   refuses e r q =
       let u = term_rest h t up down o cleans in
-      let stands = any-stands (event_checks u e) (stands-rest h t up down o cleans e r q) in
       come-to-is h t up down o
-      ∙ sym (ap (λ (v : Option Verdict). carried_unless v (at_rest o.kept.ahead (term_ahead h t up down o)) (event_outcome u e)) stands.1)
+      ∙ sym (ap (λ (v : Option Verdict). carried_unless v (at_rest o.kept.ahead (term_ahead h t up down o)) (event_outcome u e)) (refused-rest h t up down o cleans e r q))
       ∙ sym (ap (λ (x : PlainEditor). carried x e) (come-to-is h t up down o))

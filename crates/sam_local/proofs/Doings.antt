@@ -43,7 +43,7 @@ joined-all [] editor = ap (λ (h : PlainHost). record editor { host = h }) (sym 
 joined-all (x ∷ more) editor = joined-all more (joined editor x) ∙ ap (λ (h : PlainHost). record editor { host = h }) (one_more editor.host x (given_slots more))
 
 -- a file that is open at the terminal has the text that it had
-whole-more : (fs gs : PlainFiles) (n : ℕ) (ss : Slots KnownFile)
+pub whole-more : (fs gs : PlainFiles) (n : ℕ) (ss : Slots KnownFile)
     → ((f : ℕ) → is_some (unwrap_or (slot ss f) blank_known).window ≡ true → file_at gs (n + f) ≡ file_at fs (n + f)) → whole_slots gs n ss ≡ whole_slots fs n ss
 whole-more fs gs n [] same = refl
 whole-more fs gs n (s ∷ ss) same = λ i. first s here i ∷ whole-more fs gs (suc n) ss (λ f e. subst (λ (k : ℕ). file_at gs k ≡ file_at fs k) (omega arith) (same (suc f) e)) i

