@@ -14,8 +14,8 @@ use Rattle.sam_crossing.proofs.Versions.{no_changes, unlock_frames}
 use Rattle.sam_crossing.proofs.Passing.{free_at, opened_at}
 use Rattle.sam_local.specs.Local.{whole_window, whole_file, whole_slots, at_rest}
 use Rattle.sam_local.proofs.Sights.{bare, sight, sight-rest}
-use Rattle.sam_local.proofs.Gentle.{CleansGuarded, AreGentle, gentle_free, window-stays}
-use Rattle.sam_local.proofs.Cleans.{cleans-both, cleans-answers}
+use Rattle.sam_local.proofs.Gentle.{MarksGuarded, AreCalm, AreGentle, calm_free, calm_gentle, known-stays, window-stays}
+use Rattle.sam_local.proofs.Marks.{marks-both, marks-answers}
 use Rattle.sam_local.proofs.Ahead.{term_ahead, run-ahead, synced-ahead, opened-is, window-is, open-view}
 use Rattle.sam_local.proofs.Events.{opens-alike}
 
@@ -155,14 +155,17 @@ waits-is r e = grind arith
 
 -- ## Ahead
 
-module _ (h : PlainHost) (t : PlainTerminal) (up : List Tmesg) (down : List Hmesg) (o : InOrder h t up down) (cleans : (f : ℕ) → CleansGuarded f down) where
+module _ (h : PlainHost) (t : PlainTerminal) (up : List Tmesg) (down : List Hmesg) (o : InOrder h t up down) (marks : (f : ℕ) → MarksGuarded f down) where
   abbrev ahead : PlainTerminal
   ahead = term_ahead h t up down o
 
+  pub calm-ahead : (f : ℕ) → IsFree (view f t) → AreCalm f (down ++ o.kept.frames)
+  calm-ahead f free =
+      calm_free f (down ++ o.kept.frames) (view f t) (o.kept.each f).final free (o.kept.each f).runs (o.kept.each f).guarded
+      (marks-both f down o.kept.frames (marks f) (marks-answers f _ h (o.kept.ahead, o.kept.frames) o.kept.folds))
+
   pub gentle-ahead : (f : ℕ) → IsFree (view f t) → AreGentle f (down ++ o.kept.frames)
-  gentle-ahead f free =
-      gentle_free f (down ++ o.kept.frames) (view f t) (o.kept.each f).final free (o.kept.each f).runs (o.kept.each f).guarded
-      (cleans-both f down o.kept.frames (cleans f) (cleans-answers f _ h (o.kept.ahead, o.kept.frames) o.kept.folds))
+  gentle-ahead f free = calm_gentle f (down ++ o.kept.frames) (calm-ahead f free)
 
   pub still-ahead : (f : ℕ) → IsFree (view f t) → view f (term_ahead h t up down o) ≡ view f t
   still-ahead f free =
@@ -195,6 +198,13 @@ module _ (h : PlainHost) (t : PlainTerminal) (up : List Tmesg) (down : List Hmes
 
   pub open-ahead : (f : ℕ) → IsFree (view f t) → is_open (term_ahead h t up down o) f ≡ is_open t f
   open-ahead f free = ap is_some (window-stays f (down ++ o.kept.frames) t (gentle-ahead f free))
+
+  -- what is kept of a free open file, but for its runes and locks
+  pub kept-rest : (f : ℕ) → IsFree (view f t) → is_open t f ≡ true → known_at term_rest f ≡ whole_file (file_at o.kept.ahead.files f).text (known_at t f)
+  kept-rest f free open_here =
+      rest-known o.kept.ahead (term_ahead h t up down o) f
+      ∙ ap (λ (s : Option KnownFile). unwrap_or (option_map (whole_file (file_at o.kept.ahead.files f).text) s) blank_known) (opened-is (term_ahead h t up down o) f (open-ahead f free ∙ open_here))
+      ∙ ap (whole_file (file_at o.kept.ahead.files f).text) (known-stays f (down ++ o.kept.frames) t (calm-ahead f free))
 
   pub window-rest : (f : ℕ) → IsFree (view f t) → is_open t f ≡ true → window_at term_rest f ≡ whole_window (file_at o.kept.ahead.files f).text (window_at t f)
   window-rest f free open_here =

@@ -5,7 +5,7 @@ pub mod Ahead
 pub mod Steps
 pub mod Takes
 pub mod Gentle
-pub mod Cleans
+pub mod Marks
 pub mod Uncounted
 pub mod Joined
 pub mod Events

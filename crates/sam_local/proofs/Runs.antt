@@ -3,6 +3,7 @@ use Rattle.sam_crossing.proofs.Common.{◌≡◌, ℕ, Bool, true, false, not, L
 use Rattle.std.proofs.Common.{Err, option_and_then}
 use Rattle.std.proofs.Math.Seq.{take-append_seam}
 use Rattle.sam_term.specs.declared.event.Acted.TheVariants.{Done}
+use Rattle.sam_term.specs.declared.records.KnownFile.{KnownFile}
 use Rattle.sam_term.specs.Term.{act_of, act_on, decided, flush_of, take_of, if_countable}
 use Rattle.sam_term.specs.declared.event.Verdict.{Verdict}
 use Rattle.sam_term.specs.declared.event.Acted.{Acted}
@@ -23,13 +24,13 @@ use Rattle.sam_crossing.proofs.MoreFiles.{nothing_more, one_more, given_kept, de
 use Rattle.sam_crossing.proofs.OrderLaws.{Joins, joins_step, answer_gives, starts_in_order, steps_in_order}
 use Rattle.sam_local.specs.Local.{PlainEditor, Doing, Did, Joined, at_rest, answered_with, come_to, carried, carried_on, carried_all, carried_through, done_on, events_in, files_in, new_editor}
 use Rattle.sam_local.specs.Worlds.{outlook, Order, in_order, let_go, hears_first, order_after, order_on, doings_of, ShowsFile, RefusesAs, ComesInOrder, IsAsIfLocal, HasLed, EndsAsIfLocal, ShowsAsIfLocal, WasAsIfLocal, RunsComeInOrder, RunsAreAsIfLocal, RestIsAsIfLocal, OneRestForAll, AloneInOrder}
-use Rattle.sam_local.proofs.Gentle.{CleansGuarded}
-use Rattle.sam_local.proofs.Cleans.{cleans-both, cleans-reply_of}
+use Rattle.sam_local.proofs.Gentle.{MarksGuarded}
+use Rattle.sam_local.proofs.Marks.{marks-both, marks-reply_of}
 use Rattle.sam_local.proofs.Ahead.{come-to-is, window-is}
 use Rattle.sam_local.proofs.Doings.{done-append, events-append, events-did, files-append, files-did, joined-all, come-to-more}
 use Rattle.sam_local.proofs.Steps.{comes-alike, host-takes, flushes}
 use Rattle.sam_local.proofs.Takes.{term-takes}
-use Rattle.sam_local.proofs.Checks.{window-rest, open-rest, verdict-rest}
+use Rattle.sam_local.proofs.Checks.{kept-rest, window-rest, open-rest, verdict-rest}
 use Rattle.sam_local.proofs.Acts.{acts, refuses}
 use Rattle.sam_local.proofs.Held.{event-held, frame-held}
 
@@ -46,7 +47,7 @@ later o more = record o { settled = o.settled ++ map Joined more }
 -- however many files join now, the world comes to what its doings do
 pub record IsKept (given : List (List ℕ × List ℕ)) (w : PlainWorld) (o : Order) : Type 0 where
   pub order : IsInOrder w
-  pub cleans : (f : ℕ) → CleansGuarded f (mesgs w.down)
+  pub marks : (f : ℕ) → MarksGuarded f (mesgs w.down)
   pub comes : (more : List (List ℕ × List ℕ)) → AreGiven more → outlook (with_joined w more) ≡ carried_through given (in_order (later o more))
 
 -- as it is
@@ -62,19 +63,19 @@ record Steps (given : List (List ℕ × List ℕ)) (w next : PlainWorld) (o : Or
   held : w.term.held ≡ more ++ next.term.held
 
 -- a step in which no event acts
-idles : {given : List (List ℕ × List ℕ)} {w next : PlainWorld} {o : Order} → IsKept given w o → IsInOrder next → ((f : ℕ) → CleansGuarded f (mesgs next.down))
+idles : {given : List (List ℕ × List ℕ)} {w next : PlainWorld} {o : Order} → IsKept given w o → IsInOrder next → ((f : ℕ) → MarksGuarded f (mesgs next.down))
     → ((more : List (List ℕ × List ℕ)) → AreGiven more → outlook (with_joined w more) ≡ outlook (with_joined next more)) → IsKept given next o
-idles {given} {w} {next} {o} k i c e = record { order = i; cleans = c; comes = λ more few. sym (e more few) ∙ k.comes more few }
+idles {given} {w} {next} {o} k i c e = record { order = i; marks = c; comes = λ more few. sym (e more few) ∙ k.comes more few }
 
 waits : {given : List (List ℕ × List ℕ)} {w next : PlainWorld} {o : Order} → IsKept given next o → next.term.held ≡ w.term.held → Steps given w next o
 waits {given} {w} {next} {o} k h = record { more = []; kept = subst (λ (l : List UserEvent). IsKept given next (record o { since = l })) (sym (append-nil o.since)) k; held = sym h }
 
 -- a step in which one event acts, or is refused
-does : {given : List (List ℕ × List ℕ)} {w next : PlainWorld} {o : Order} (e : UserEvent) → IsKept given w o → IsInOrder next → ((f : ℕ) → CleansGuarded f (mesgs next.down))
+does : {given : List (List ℕ × List ℕ)} {w next : PlainWorld} {o : Order} (e : UserEvent) → IsKept given w o → IsInOrder next → ((f : ℕ) → MarksGuarded f (mesgs next.down))
     → ((more : List (List ℕ × List ℕ)) → AreGiven more → outlook (with_joined next more) ≡ carried (outlook (with_joined w more)) e) → w.term.held ≡ e ∷ next.term.held → Steps given w next o
 does {given} {w} {next} {o} e k i c q h = record {
   more = e ∷ [];
-  kept = record { order = i; cleans = c; comes = comes };
+  kept = record { order = i; marks = c; comes = comes };
   held = h;
 }
   where
@@ -125,12 +126,12 @@ module _ (given : List (List ℕ × List ℕ)) (w : PlainWorld) (m : Tmesg) (ms 
   took-frames : mesgs (w.down ++ stamped goes.reply.0.taken goes.reply.1) ≡ mesgs w.down ++ goes.reply.1
   took-frames = map-append (λ (f : HFrame). f.msg) w.down (stamped r.0.taken r.1) ∙ ap (λ (fs : List Hmesg). down ++ fs) (mesgs_stamped r.0.taken r.1)
 
-  took-cleans : (f : ℕ) → CleansGuarded f (mesgs (taken w ms goes.reply).down)
-  took-cleans f = subst (CleansGuarded f) (sym took-frames) (cleans-both f down r.1 (k.cleans f) (cleans-reply_of f w.host m r goes.answers_it))
+  took-marks : (f : ℕ) → MarksGuarded f (mesgs (taken w ms goes.reply).down)
+  took-marks f = subst (MarksGuarded f) (sym took-frames) (marks-both f down r.1 (k.marks f) (marks-reply_of f w.host m r goes.answers_it))
 
   -- a message that doesn't hear of files
   took-deaf : is_heard w.host m ≡ false → IsKept given (taken w ms goes.reply) o
-  took-deaf e = idles k i took-cleans same
+  took-deaf e = idles k i took-marks same
     where
       same : (more : List (List ℕ × List ℕ)) → AreGiven more → outlook (with_joined w more) ≡ outlook (with_joined (taken w ms goes.reply) more)
       same more few =
@@ -143,7 +144,7 @@ module _ (given : List (List ℕ × List ℕ)) (w : PlainWorld) (m : Tmesg) (ms 
 
   -- one that does: no other is up, so files may join after all that was done
   took-heard : is_heard w.host m ≡ true → IsKept given (taken w ms goes.reply) (record { settled = in_order o; since = [] })
-  took-heard e = record { order = i; cleans = took-cleans; comes = comes }
+  took-heard e = record { order = i; marks = took-marks; comes = comes }
     where
       after : List Hmesg
       after = down ++ r.1
@@ -200,7 +201,7 @@ term-steps given w next o k i (frame ∷ frames) eu s = by (take_of w.term frame
     before = ap mesgs eu
 
     done : IsInOrder took → IsKept given took o
-    done i = idles k i (λ f. (subst (CleansGuarded f) before (k.cleans f)).1)
+    done i = idles k i (λ f. (subst (MarksGuarded f) before (k.marks f)).1)
         (λ more few. ap (come_to (with_more w.host (given_slots more)) w.term w.up) before
         ∙ term-takes (with_more w.host (given_slots more)) w.term w.up frame.msg (mesgs frames) (order-more w k.order (frame.msg ∷ mesgs frames) before more few) (i.joined more few))
 
@@ -225,7 +226,7 @@ flush-steps given w next o k i s = by (flush_of w.term) refl s
         let same = counted-result (flushed w.term).0.sent (flushed w.term) x q in
         let is : took ≡ next = ap (λ (y : Made). record w { term = y.0; up = w.up ++ y.1 }) same ∙ same_Some _ _ e in
         subst (λ (v : PlainWorld). IsKept given v o × (w.term.held ≡ v.term.held)) is
-        (idles k (subst IsInOrder (sym is) i) k.cleans (λ more few. flushes (with_more w.host (given_slots more)) w.term w.up (mesgs w.down)), sym (flushed-held w.term))
+        (idles k (subst IsInOrder (sym is) i) k.marks (λ more few. flushes (with_more w.host (given_slots more)) w.term w.up (mesgs w.down)), sym (flushed-held w.term))
 
 -- ## An act
 
@@ -257,8 +258,8 @@ act-steps given w next o k i (e ∷ es) eh s = by (first_of_checks (event_checks
     by (Some (Refuses r)) q x =
         let is : record w { term = t } ≡ next = ap (λ (l : List Tmesg). record w { term = t; up = l }) (sym (append-nil w.up)) ∙ same_Some _ _ x in
         subst (λ (v : PlainWorld). Steps given w v o) is
-        (does e k (subst IsInOrder (sym is) i) k.cleans
-        (λ more few. let h = with_more w.host (given_slots more) in refuses h t w.up (mesgs w.down) (there more few) k.cleans e r q ∙ ap (λ (y : PlainEditor). carried y e) (sym (let_loose h))) eh)
+        (does e k (subst IsInOrder (sym is) i) k.marks
+        (λ more few. let h = with_more w.host (given_slots more) in refuses h t w.up (mesgs w.down) (there more few) k.marks e r q ∙ ap (λ (y : PlainEditor). carried y e) (sym (let_loose h))) eh)
     by None q x = go (if_countable made.0.sent (made.0, Done made.1)) refl x
       where
         took : PlainWorld
@@ -271,8 +272,8 @@ act-steps given w next o k i (e ∷ es) eh s = by (first_of_checks (event_checks
             let is : took ≡ next = ap (λ (p : PlainTerminal × Acted). record w { term = p.0; up = w.up ++ composed_by p.1 }) same ∙ same_Some _ _ y in
             let order = subst IsInOrder (sym is) i in
             subst (λ (v : PlainWorld). Steps given w v o) is
-            (does e k order k.cleans
-            (λ more few. let h = with_more w.host (given_slots more) in acts h t w.up (mesgs w.down) (there more few) k.cleans e q (order.joined more few) ∙ ap (λ (y : PlainEditor). carried y e) (sym (let_loose h)))
+            (does e k order k.marks
+            (λ more few. let h = with_more w.host (given_slots more) in acts h t w.up (mesgs w.down) (there more few) k.marks e q (order.joined more few) ∙ ap (λ (y : PlainEditor). carried y e) (sym (let_loose h)))
             (eh ∙ ap (λ (l : List UserEvent). e ∷ l) (sym (event-held t e))))
 
 -- ## Every step
@@ -313,7 +314,7 @@ user-goes given w next e o k i is =
     let t : PlainTerminal = record w.term { held = w.term.held ++ e ∷ [] } in
     subst (λ (v : PlainWorld). Goes given w v (User e) o o) is
     (record {
-      kept = idles k (subst IsInOrder (sym is) i) k.cleans (λ more few. comes-alike (with_more w.host (given_slots more)) w.term t w.up w.up (mesgs w.down) refl refl);
+      kept = idles k (subst IsInOrder (sym is) i) k.marks (λ more few. comes-alike (with_more w.host (given_slots more)) w.term t w.up w.up (mesgs w.down) refl refl);
       said = sym (append_assoc (events_in (in_order o)) w.term.held (e ∷ []));
       joins = sym (append-nil (files_in (in_order o)));
     })
@@ -335,7 +336,7 @@ add-goes given w next name text o k i s = subst (λ (v : PlainWorld). Goes given
         ∙ ap (λ (l : List Doing). carried_through given (l ++ map Did o.since)) (sym (append_assoc o.settled (Joined (name, text) ∷ []) (map Joined more)))
 
     kept : IsKept given (joined_by w name text) p
-    kept = record { order = subst IsInOrder j.is i; cleans = k.cleans; comes = comes }
+    kept = record { order = subst IsInOrder j.is i; marks = k.marks; comes = comes }
 
     said : events_in (in_order p) ++ w.term.held ≡ (events_in (in_order o) ++ w.term.held) ++ []
     said =
@@ -439,7 +440,7 @@ ran given (e ∷ es) w last o k r = by (step_of w e) refl r (ran given es)
 starts : (given : List (List ℕ × List ℕ)) → AreGiven given → IsKept given (new_world given) (record { settled = []; since = [] })
 starts given fit = record {
   order = starts_in_order given fit;
-  cleans = λ f. tt;
+  marks = λ f. tt;
   comes = λ more few. sym (joined-all more (new_editor given)) ∙ ap (carried_through given) (sym (append-nil (map Joined more)));
 }
 
@@ -457,21 +458,25 @@ shows given w order k f locked opened =
     let o = k.order.ordered in
     let free = or-both t.command_lock (is_file_locked t (Some f)) locked in
     let here : IsFree (view f t) = free_at t f free.0 free.1 in
-    let there = window-rest w.host t w.up down o k.cleans f here opened in
+    let there = window-rest w.host t w.up down o k.marks f here opened in
+    let kept = kept-rest w.host t w.up down o k.marks f here opened in
     subst (λ (editor : PlainEditor). ShowsFile w editor f) (sym (come-to-is w.host t w.up down o) ∙ comes-now given w order k)
     (record {
-      opened = open-rest w.host t w.up down o k.cleans f here ∙ opened;
+      opened = open-rest w.host t w.up down o k.marks f here ∙ opened;
       runes = ((free_shows w.host t w.up down o f here).agrees (window_at t f) (window-is t f opened)).1;
       dot = sym (ap (λ (x : Window). x.dot) there);
       view_start = sym (ap (λ (x : Window). x.view_start) there);
       view_length = sym (ap (λ (x : Window). x.view_length) there);
+      name = sym (ap (λ (x : KnownFile). x.name) kept);
+      dirty = sym (ap (λ (x : KnownFile). x.dirty) kept);
+      changed = sym (ap (λ (x : KnownFile). x.changed) kept);
     })
 
 refuses-as : (given : List (List ℕ × List ℕ)) (w : PlainWorld) (order : Order) → IsKept given w order → RefusesAs w (carried_through given (in_order order))
 refuses-as given w order k =
     let down = mesgs w.down in
     let o = k.order.ordered in
-    subst (RefusesAs w) (sym (come-to-is w.host w.term w.up down o) ∙ comes-now given w order k) (verdict-rest w.host w.term w.up down o k.cleans)
+    subst (RefusesAs w) (sym (come-to-is w.host w.term w.up down o) ∙ comes-now given w order k) (verdict-rest w.host w.term w.up down o k.marks)
 
 -- ## Where nothing is under way
 

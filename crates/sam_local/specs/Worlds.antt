@@ -7,7 +7,7 @@ use Rattle.sam_text.specs.Files.{file_at}
 use Rattle.sam_host.specs.Laws.{AreGiven}
 use Rattle.sam_term.specs.declared.event.UserEvent.{UserEvent}
 use Rattle.sam_term.specs.declared.event.Verdict.TheVariants.{Waits}
-use Rattle.sam_term.specs.Term.{event_checks, is_open, window_at}
+use Rattle.sam_term.specs.Term.{event_checks, is_open, known_at, window_at}
 use Rattle.sam_mesg.specs.declared.tmesg.Tmesg.{Tmesg}
 use Rattle.sam_host.specs.Host.{PlainHost}
 use Rattle.sam_crossing.specs.declared.event.Event.{Event}
@@ -24,13 +24,16 @@ outlook w = come_to w.host w.term w.up (mesgs w.down)
 abbrev pub is_at_rest : PlainWorld → Bool
 is_at_rest w = is_quiet w && is_empty w.term.held
 
--- an open file that is not locked is shown as in this editor: its dot and view, and its runes as far as they are loaded
+-- an open file that is not locked is shown as in this editor: its name, marks, dot and view, and its runes as far as they are loaded
 pub record ShowsFile (w : PlainWorld) (editor : PlainEditor) (f : ℕ) : Type 0 where
   pub opened : is_open editor.term f ≡ true
   pub runes : Agrees (window_at w.term f).rasp (file_at editor.host.files f).text
   pub dot : (window_at w.term f).dot ≡ (window_at editor.term f).dot
   pub view_start : (window_at w.term f).view_start ≡ (window_at editor.term f).view_start
   pub view_length : (window_at w.term f).view_length ≡ (window_at editor.term f).view_length
+  pub name : (known_at w.term f).name ≡ (known_at editor.term f).name
+  pub dirty : (known_at w.term f).dirty ≡ (known_at editor.term f).dirty
+  pub changed : (known_at w.term f).changed ≡ (known_at editor.term f).changed
 
 -- an event waits in this world, or just what stands against it in this editor stands against it here: nothing, or the same refusal
 abbrev pub RefusesAs : PlainWorld → PlainEditor → Type 0
