@@ -85,7 +85,7 @@ knows-alike t u f e = sym (seen t) ∙ ap (λ (x : PlainTerminal). is_known x f)
     seen : (x : PlainTerminal) → is_known (sight x) f ≡ is_known x f
     seen x = ap is_some (slot-map bare x.files f) ∙ mapped (slot x.files f)
 
-open-known : (t : PlainTerminal) (f : ℕ) → is_open t f ≡ true → is_known t f ≡ true
+pub open-known : (t : PlainTerminal) (f : ℕ) → is_open t f ≡ true → is_known t f ≡ true
 open-known t f e = grind arith
 
 locked-open : (t : PlainTerminal) (f : ℕ) → nat_lt 0 (window_at t f).locks ≡ true → is_open t f ≡ true

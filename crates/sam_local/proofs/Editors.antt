@@ -194,7 +194,7 @@ module _ (h : PlainHost) (t : PlainTerminal) (o : InOrder (rest h) (at_rest h t)
   abbrev term : PlainTerminal
   term = (at_rest h t).term
 
-  synced-here : (g : ℕ) → IsSynced (view g (at_rest h t).term) h.is_done h.version (file_in h.files.slots g)
+  pub synced-here : (g : ℕ) → IsSynced (view g (at_rest h t).term) h.is_done h.version (file_in h.files.slots g)
   synced-here g =
       subst (λ (r : Reply). IsSynced (view g (all_taken (at_rest h t).term ([] ++ r.1))) r.0.is_done r.0.version (file_in r.0.files.slots g)) (sym (same_Some _ _ o.kept.folds))
       (synced-ahead (rest h) (at_rest h t).term [] [] o g)

@@ -23,3 +23,4 @@ pub mod Lines
 pub mod Opening
 pub mod Looking
 pub mod Replacing
+pub mod Names

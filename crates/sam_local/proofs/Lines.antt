@@ -29,7 +29,7 @@ unfolding line_outcome
 nameless line f e = grind arith
 
 -- it is the work file
-names-work : (fs : PlainFiles) (line : List ℕ) (f : ℕ) → ((g : ℕ) → fs.work ≡ Some g → IsFit (file_at fs g)) → (meaning fs line).file ≡ Some f → fs.work ≡ Some f
+pub names-work : (fs : PlainFiles) (line : List ℕ) (f : ℕ) → ((g : ℕ) → fs.work ≡ Some g → IsFit (file_at fs g)) → (meaning fs line).file ≡ Some f → fs.work ≡ Some f
 names-work fs line f fit e = by_work fs.work refl
   where
     at_slot : (g : ℕ) → fs.work ≡ Some g → (y : Option PlainFile) → slot fs.slots g ≡ y → fs.work ≡ Some f
@@ -87,7 +87,7 @@ settled-host editor s file there = record {
   command = s.command ∙ sym there ∙ sym (ap (λ (y : PlainFile). y.opened) (file-put editor.host.files 0 file));
 }
 
-settled-typing : (editor : PlainEditor) (s : List ℕ) → IsSettled editor → is_open editor.term 0 ≡ true → IsSettled (with_typing editor 0 s)
+pub settled-typing : (editor : PlainEditor) (s : List ℕ) → IsSettled editor → is_open editor.term 0 ≡ true → IsSettled (with_typing editor 0 s)
 settled-typing editor s e opened = by ((dot_in editor 0).0 == (dot_in editor 0).1 && is_empty s)
   where
     file : PlainFile
@@ -108,7 +108,7 @@ settled-typing editor s e opened = by ((dot_in editor 0).0 == (dot_in editor 0).
         settled-put editor e (record file { text = replaced file.text w.dot s; dot = (end, end); dirty = is_changed 0 file })
         (record (known_at editor.term 0) { changed = true; window = Some shown }) refl (sym opened)
 
-settled-printed : (editor : PlainEditor) (s : List ℕ) → IsSettled editor → IsSettled (with_printed editor s)
+pub settled-printed : (editor : PlainEditor) (s : List ℕ) → IsSettled editor → IsSettled (with_printed editor s)
 settled-printed editor s e = by (is_printed editor.host.files s) (file_at editor.host.files 0).opened refl
   where
     file : PlainFile
@@ -333,7 +333,7 @@ outcome-comes k x o opens = by o.file opens
 -- ## A line
 
 -- whether the command file is open, after an outcome
-command-after : (w : Option ℕ) (editor : PlainEditor) (o : PlainOutcome) (pattern : Option (List ℕ)) → ((f : ℕ) → w ≡ Some f → (f == 0) ≡ false)
+pub command-after : (w : Option ℕ) (editor : PlainEditor) (o : PlainOutcome) (pattern : Option (List ℕ)) → ((f : ℕ) → w ≡ Some f → (f == 0) ≡ false)
     → is_open editor.term 0 ≡ (file_at editor.host.files 0).opened
     → is_open (with_pattern (with_outcome w editor o) pattern).term 0 ≡ (file_at (with_pattern (with_outcome w editor o) pattern).host.files 0).opened
 command-after None editor o None other e = e
@@ -466,10 +466,10 @@ module _ (h : PlainHost) (t : PlainTerminal) (o : InOrder (rest h) (at_rest h t)
   again : at_rest (rest h) term ≡ editor
   again = back h t term refl
 
-  steady : IsSteady (rest h)
+  pub steady : IsSteady (rest h)
   steady = subst (λ (r : Reply). IsSteady r.0) (sym (same_Some _ _ o.kept.folds)) o.kept.steady
 
-  settled : h.is_done ≡ false → IsSettled editor
+  pub settled : h.is_done ≡ false → IsSettled editor
   settled running = record {
     running = running;
     works = λ f e.

@@ -1,5 +1,5 @@
 -- What every run keeps: the outlook of the world is what the events that have acted do to the editor without a network.
-use Rattle.sam_crossing.proofs.Common.{◌≡◌, ℕ, Bool, true, false, not, List, [], ◌∷◌, ◌++◌, Option, Some, None, Result, Ok, refl, sym, ap, ◌∙◌, subst, is_some, arith, append-nil, append_assoc, same_Some, map-append, length-append, option_map, unwrap_or, map, take, length, ◌-◌, if◌then◌else◌, at_file, given_slots, is_empty, first_of_checks, PlainHost, Reply, answer, stamped, HostFault, PlainTerminal, Made, flushed, frame_outcome, event_checks, event_outcome, window_at, TermFault, UserEvent, Tmesg, Hmesg, true≢false, and_parts, ◌&&◌, ◌||◌, is_open, is_file_locked, unsent_message, Window, Unsent, answers, reply_of, InOrder, view}
+use Rattle.sam_crossing.proofs.Common.{◌≡◌, ℕ, Bool, true, false, not, List, [], ◌∷◌, ◌++◌, Option, Some, None, Result, Ok, refl, sym, ap, ◌∙◌, subst, is_some, arith, append-nil, append_assoc, same_Some, map-append, length-append, option_map, unwrap_or, map, take, length, ◌-◌, if◌then◌else◌, at_file, given_slots, is_empty, first_of_checks, PlainHost, Reply, answer, stamped, HostFault, PlainTerminal, Made, flushed, frame_outcome, event_checks, event_outcome, window_at, TermFault, UserEvent, Tmesg, Hmesg, true≢false, and_parts, ◌&&◌, ◌||◌, is_open, is_file_locked, unsent_message, Window, Unsent, answers, reply_of, InOrder, view, slot, blank_known, file_at, known_at, is_known}
 use Rattle.std.proofs.Common.{Err, option_and_then}
 use Rattle.std.proofs.Math.Seq.{take-append_seam}
 use Rattle.sam_term.specs.declared.event.Acted.TheVariants.{Done}
@@ -22,7 +22,7 @@ use Rattle.sam_crossing.proofs.RunLaws.{counted-result}
 use Rattle.sam_crossing.proofs.Lenses.{IsFree, frees_command}
 use Rattle.sam_crossing.proofs.MoreFiles.{nothing_more, one_more, given_kept, deaf_reply, frees-behind, answers_behind, heard_frees, unheard_is}
 use Rattle.sam_crossing.proofs.OrderLaws.{Joins, joins_step, answer_gives, starts_in_order, steps_in_order}
-use Rattle.sam_local.specs.Local.{PlainEditor, Doing, Did, Joined, at_rest, answered_with, come_to, carried, carried_on, carried_all, carried_through, done_on, events_in, files_in, new_editor}
+use Rattle.sam_local.specs.Local.{PlainEditor, AreMarkedAlike, whole_file, Doing, Did, Joined, at_rest, answered_with, come_to, carried, carried_on, carried_all, carried_through, done_on, events_in, files_in, new_editor}
 use Rattle.sam_local.specs.Worlds.{outlook, Order, in_order, let_go, hears_first, order_after, order_on, doings_of, ShowsFile, RefusesAs, ComesInOrder, IsAsIfLocal, HasLed, EndsAsIfLocal, ShowsAsIfLocal, WasAsIfLocal, RunsComeInOrder, RunsAreAsIfLocal, RestIsAsIfLocal, OneRestForAll, AloneInOrder}
 use Rattle.sam_local.proofs.Gentle.{MarksGuarded}
 use Rattle.sam_local.proofs.Marks.{marks-both, marks-reply_of}
@@ -30,7 +30,9 @@ use Rattle.sam_local.proofs.Ahead.{come-to-is, window-is}
 use Rattle.sam_local.proofs.Doings.{done-append, events-append, events-did, files-append, files-did, joined-all, come-to-more}
 use Rattle.sam_local.proofs.Steps.{comes-alike, host-takes, flushes}
 use Rattle.sam_local.proofs.Takes.{term-takes}
-use Rattle.sam_local.proofs.Checks.{kept-rest, window-rest, open-rest, verdict-rest}
+use Rattle.sam_local.specs.Editing.{IsReached}
+use Rattle.sam_local.proofs.Names.{names_and_marks_agree}
+use Rattle.sam_local.proofs.Checks.{slot-whole, kept-rest, window-rest, open-rest, verdict-rest}
 use Rattle.sam_local.proofs.Acts.{acts, refuses}
 use Rattle.sam_local.proofs.Held.{event-held, frame-held}
 
@@ -488,13 +490,63 @@ quiet_is w e = by w.up w.down w.term.unsent refl refl refl e
     by [] [] None eu ed en x = λ i. answered_with w.host w.term (mesgs (ed i)) (answers w.host (eu i ++ unsent_message (en i)))
     by up down unsent eu ed en x = absurd (grind arith)
 
+-- ## Names and marks
+
+rest-slot : (h : PlainHost) (t : PlainTerminal) (f : ℕ) → slot (at_rest h t).term.files f ≡ option_map (whole_file (file_at h.files f).text) (slot t.files f)
+rest-slot h t f = slot-whole h.files t.files 0 f f (omega arith)
+
+-- what is known of a file at rest
+known-alike : (text : List ℕ) (s : Option KnownFile)
+    → let known = unwrap_or s blank_known in
+    let whole = unwrap_or (option_map (whole_file text) s) blank_known in
+    (is_some (option_map (whole_file text) s) ≡ is_some s) × (whole.name ≡ known.name) × ((whole.dirty || whole.changed) ≡ (known.dirty || known.changed))
+known-alike text None = (refl, refl, refl)
+known-alike text (Some known) = (refl, refl, refl)
+
+marked-rest : (h : PlainHost) (t : PlainTerminal) → AreMarkedAlike (at_rest h t).host (at_rest h t).term → AreMarkedAlike h t
+marked-rest h t m = record {
+  names = λ f e.
+      let same = known-alike (file_at h.files f).text (slot t.files f) in
+      let here = rest-slot h t f in
+      sym (ap (λ (s : Option KnownFile). (unwrap_or s blank_known).name) here ∙ same.1) ∙ m.names f (ap is_some here ∙ same.0 ∙ e);
+  marks = λ f z.
+      let same = known-alike (file_at h.files f).text (slot t.files f) in
+      sym (ap (λ (s : Option KnownFile). (unwrap_or s blank_known).dirty || (unwrap_or s blank_known).changed) (rest-slot h t f) ∙ same.2) ∙ m.marks f z;
+}
+
+-- files that joined are within the limits
+joins-given : (es : List Event) (w last : PlainWorld) → run_of w es ≡ Some last → AreGiven (joined_files es)
+joins-given [] w last r = tt
+joins-given (Add name text ∷ es) w last r = by (step_of w (Add name text)) refl r (joins-given es)
+  where
+    by : (x : Option PlainWorld) → step_of w (Add name text) ≡ x → option_and_then (λ next. run_of next es) x ≡ Some last → ((v z : PlainWorld) → run_of v es ≡ Some z → AreGiven (joined_files es))
+        → AreGiven ((name, text) ∷ joined_files es)
+    by None q x later = absurd (grind arith)
+    by (Some next) q x later = let j = joins_step w next name text q in (j.short.0, j.short.1, later next last x)
+joins-given (e ∷ es) w last r = by (step_of w e) r (joins-given es)
+  where
+    by : (x : Option PlainWorld) → option_and_then (λ next. run_of next es) x ≡ Some last → ((v z : PlainWorld) → run_of v es ≡ Some z → AreGiven (joined_files es)) → AreGiven (joined_files es)
+    by None x later = absurd (grind arith)
+    by (Some next) x later = later next last x
+
 -- ## The laws
 
 pub runs_come_in_order : RunsComeInOrder
 runs_come_in_order given es w fit r =
     let all = ran given es (new_world given) w (record { settled = []; since = [] }) (starts given fit) r in
     let comes = comes-now given w _ all.kept in
-    record { events = sym all.said; files = sym all.joins; comes = comes; quiet = λ q. sym (quiet_is w q) ∙ comes; shows = shows given w _ all.kept; refuses = refuses-as given w _ all.kept }
+    let reached : IsReached (carried_through given (doings_of given es)) =
+    record { given = given; doings = doings_of given es; limits = fit; joins = subst AreGiven (sym all.joins) (joins-given es (new_world given) w r); is = refl } in
+    let alike = names_and_marks_agree (carried_through given (doings_of given es)) reached in
+    record {
+      events = sym all.said;
+      files = sym all.joins;
+      comes = comes;
+      quiet = λ q. sym (quiet_is w q) ∙ comes;
+      shows = shows given w _ all.kept;
+      refuses = refuses-as given w _ all.kept;
+      marks = λ q. marked-rest w.host w.term (subst (λ (x : PlainEditor). AreMarkedAlike x.host x.term) (sym (sym (quiet_is w q) ∙ comes)) alike);
+    }
 
 -- doings of events alone
 alone : (ds : List Doing) → files_in ds ≡ [] → ds ≡ map Did (events_in ds)
@@ -520,6 +572,7 @@ runs_are_as_if_local given es w fit r none =
       quiet = λ q. x.quiet q ∙ same;
       shows = λ f locked opened. subst (λ (editor : PlainEditor). ShowsFile w editor f) same (x.shows f locked opened);
       refuses = subst (RefusesAs w) same x.refuses;
+      marks = x.marks;
     }
 
 none_held : (held : List UserEvent) → is_empty held ≡ true → held ≡ []

@@ -17,7 +17,7 @@ use Rattle.sam_term.specs.Windows.{blank_known, blank_window}
 use Rattle.sam_term.specs.declared.records.Window.{Window}
 use Rattle.sam_term.specs.declared.records.KnownFile.{KnownFile}
 use Rattle.sam_term.specs.Term.{event_checks, is_open, known_at, put_known, window_at}
-use Rattle.sam_local.specs.Local.{PlainEditor, Doing, carried, carried_through, files_in, joined, whole_file}
+use Rattle.sam_local.specs.Local.{PlainEditor, AreMarkedAlike, Doing, carried, carried_through, files_in, joined, whole_file}
 
 -- ## What is looked at
 
@@ -401,3 +401,7 @@ FileJoins =
     let fs = h.files in
     joined editor (name, text)
     ≡ record editor { host = record h { files = record fs { slots = fs.slots ++ Some (record blank_file { name = name; text = text }) ∷ [] } } }
+
+-- the terminal has the host's names and marks
+abbrev pub NamesAndMarksAgree : Type 0
+NamesAndMarksAgree = (editor : PlainEditor) → IsReached editor → AreMarkedAlike editor.host editor.term

@@ -14,7 +14,7 @@ use Rattle.sam_crossing.specs.declared.event.Event.{Event}
 use Rattle.sam_crossing.specs.declared.event.Event.TheVariants.{User, Add, Act, Flush, HostTake, TermTake}
 use Rattle.sam_crossing.specs.Joining.{is_heard}
 use Rattle.sam_crossing.specs.World.{PlainWorld, WasReached, new_world, step_of, run_of, is_quiet, is_locked, mesgs, user_events, joined_files}
-use Rattle.sam_local.specs.Local.{PlainEditor, Doing, Did, Joined, at_rest, come_to, carried_all, carried_through, events_in, files_in}
+use Rattle.sam_local.specs.Local.{PlainEditor, AreMarkedAlike, Doing, Did, Joined, at_rest, come_to, carried_all, carried_through, events_in, files_in}
 
 -- what the world comes to where nothing new is begun
 abbrev pub outlook : PlainWorld → PlainEditor
@@ -84,8 +84,9 @@ doings_of given es = in_order (order_on (new_world given) es (record { settled =
 
 -- These events led from these files to w. What w comes to is just where its doings, in their order, lead the editor without a network.
 -- They are all files that joined, and all that the user did but what is still held; an event that is refused does nothing there, too.
--- Where nothing is unsent or under way, both sides are that, but for runes that are not loaded and for counts. An open file that is
--- not locked is shown as there. And whatever the user does next waits, or is refused where and for what it is refused there
+-- Where nothing is unsent or under way, both sides are that, but for runes that are not loaded and for counts, and the terminal has the
+-- host's names and marks. An open file that is not locked is shown as there. And whatever the user does next waits, or is refused where
+-- and for what it is refused there
 pub record ComesInOrder (given : List (List ℕ × List ℕ)) (es : List Event) (w : PlainWorld) : Type 0 where
   pub events : user_events es ≡ events_in (doings_of given es) ++ w.term.held
   pub files : joined_files es ≡ files_in (doings_of given es)
@@ -93,6 +94,7 @@ pub record ComesInOrder (given : List (List ℕ × List ℕ)) (es : List Event) 
   pub quiet : is_quiet w ≡ true → at_rest w.host w.term ≡ carried_through given (doings_of given es)
   pub shows : (f : ℕ) → is_locked w.term f ≡ false → is_open w.term f ≡ true → ShowsFile w (carried_through given (doings_of given es)) f
   pub refuses : RefusesAs w (carried_through given (doings_of given es))
+  pub marks : is_quiet w ≡ true → AreMarkedAlike w.host w.term
 
 -- So it is where no file joins: the user has done all of `said` on the way from these files to w, and what has acted of it or was refused,
 -- all but what is still held, has done to what w comes to just what it does to the editor without a network
@@ -103,6 +105,7 @@ pub record IsAsIfLocal (given : List (List ℕ × List ℕ)) (said : List UserEv
   pub quiet : is_quiet w ≡ true → at_rest w.host w.term ≡ carried_all given acted
   pub shows : (f : ℕ) → is_locked w.term f ≡ false → is_open w.term f ≡ true → ShowsFile w (carried_all given acted) f
   pub refuses : RefusesAs w (carried_all given acted)
+  pub marks : is_quiet w ≡ true → AreMarkedAlike w.host w.term
 
 -- ## One world
 

@@ -4,7 +4,7 @@
 //! of the user does to that editor, over its texts and dots alone. These hold of every editor to which events have led from files within
 //! the limits (`IsReached`), where nothing stands against the event (`May`); one that something stands against does nothing.
 ghost use Rattle.sam_local.specs.Worlds.{RunsComeInOrder, RunsAreAsIfLocal, RestIsAsIfLocal, OneRestForAll, AloneInOrder};
-ghost use Rattle.sam_local.specs.Editing.{RefusedDoesNothing, TypingReplaces, SelectSets, CutMoves, PasteReplaces, EditReplaces, EditOfNothingKeeps, SnarfCopies, SetSnarfSets, GetSnarfFetches, EmptyDotKeeps, LookSelects, LookKeeps, SearchSelects, SendRuns, DclickSelects, ScrollShows, ViewShows, LoadShows, CheckAndFlushKeep, OpenOpens, CloseDrops, WriteSaves, WorkSets, CommandFileOpens, NewMakes, ExitEnds, VersionAgrees, FileJoins};
+ghost use Rattle.sam_local.specs.Editing.{RefusedDoesNothing, TypingReplaces, SelectSets, CutMoves, PasteReplaces, EditReplaces, EditOfNothingKeeps, SnarfCopies, SetSnarfSets, GetSnarfFetches, EmptyDotKeeps, LookSelects, LookKeeps, SearchSelects, SendRuns, DclickSelects, ScrollShows, ViewShows, LoadShows, CheckAndFlushKeep, OpenOpens, CloseDrops, WriteSaves, WorkSets, CommandFileOpens, NewMakes, ExitEnds, VersionAgrees, FileJoins, NamesAndMarksAgree};
 
 /// Says that wherever a run stands, what the world comes to with nothing new done is what its doings, in their order, lead the editor
 /// without a network to. The doings are all files that joined, and all events of the user but those that are still held; an event that
@@ -158,4 +158,11 @@ pub fn file_joins()
 #[tactic(auto, using(crate::proofs::Opening::version_agrees))]
 pub fn version_agrees()
     ensures { VersionAgrees }
+{}
+
+/// Says that the terminal has the host's names of all files that it knows, and says of each file but the command file whether it is
+/// dirty.
+#[tactic(auto, using(crate::proofs::Names::names_and_marks_agree))]
+pub fn names_and_marks_agree()
+    ensures { NamesAndMarksAgree }
 {}
