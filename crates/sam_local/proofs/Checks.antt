@@ -1,5 +1,5 @@
 -- What stands against an event at the terminal stands against it ahead, and nothing else.
-use Rattle.sam_crossing.proofs.Common.{◌≡◌, ℕ, zero, suc, ◌+◌, ◌-◌, Bool, true, false, not, ◌||◌, ◌&&◌, if◌then◌else◌, List, [], ◌∷◌, ◌++◌, length, Option, Some, None, is_some, unwrap_or, refl, sym, ap, ◌∙◌, subst, inl, inr, ◌⊎◌, true≢false, arith, and_parts, same_Some, option_map, nat_lt, not-false, length-map, length_agrees, Checks, first_of_checks, Slots, slot, slot-map, PlainFiles, file_at, Tmesg, Hmesg, PlainHost, Window, KnownFile, UserEvent, PlainTerminal, known_at, window_at, is_known, is_open, is_any_locked, is_unknown, is_closed, is_file_locked, has_bad_place, makes_too_long, waits_for_all, is_bad_version, is_for_command_file, needs_open, event_checks, blank_known, blank_window, InOrder, Lens, Unknown, Known, Open, lens, Action, IsGuarded, IsSynced, file_in, view, at_file, run, max_runes}
+use Rattle.sam_crossing.proofs.Common.{◌≡◌, ℕ, zero, suc, ◌+◌, ◌-◌, Bool, true, false, not, ◌||◌, ◌&&◌, if◌then◌else◌, List, [], ◌∷◌, ◌++◌, length, Option, Some, None, is_some, unwrap_or, refl, sym, ap, ◌∙◌, subst, inl, inr, ◌⊎◌, true≢false, arith, same_Some, option_map, nat_lt, not-false, length-map, length_agrees, Checks, first_of_checks, Slots, slot, slot-map, PlainFiles, file_at, Tmesg, Hmesg, PlainHost, Window, KnownFile, UserEvent, PlainTerminal, known_at, window_at, is_known, is_open, is_any_locked, is_unknown, is_closed, is_file_locked, has_bad_place, makes_too_long, waits_for_all, is_bad_version, is_for_command_file, needs_open, event_checks, blank_known, blank_window, InOrder, Lens, Unknown, Known, Open, lens, Action, IsGuarded, IsSynced, file_in, view, at_file, run, max_runes}
 use Rattle.sam_runes.specs.Texts.{snarf_limit, utf8_length}
 use Rattle.sam_term.specs.declared.event.UserEvent.TheVariants.{Typed, Select, Dclick, View, Load, Edit, SetSnarf}
 use Rattle.sam_term.specs.declared.event.Verdict.{Verdict}

@@ -1,15 +1,14 @@
 -- What each event does to the editor without a network: typing and cuts, and what one message does.
-use Rattle.sam_crossing.proofs.Common.{◌≡◌, ℕ, zero, suc, ◌+◌, ◌-◌, ◌≤◌, Bool, true, false, not, ◌==◌, ◌&&◌, ◌||◌, if◌then◌else◌, List, [], ◌∷◌, ◌++◌, length, map, take, drop, Option, Some, None, is_some, unwrap_or, refl, sym, ap, ◌∙◌, subst, true≢false, arith, not-false, eqb-true, append-nil, take-append-drop, length-take-le, length-map, Slots, slot, put_slot, free_slot, slot-put_same, slot-put_other, slot-free_same, slot-free_other, part, ins, del, PlainFile, PlainFiles, blank_file, file_at, put_file, cut_file, typed_file, Tstartfile, Tworkfile, Ttype, Tcut, Tsnarf, Twrite, Tclose, Tsetsnarf, Texit, Hcurrent, Hunlockfile, Hexit, Hclean, eq-eqb, PlainHost, Reply, counted, reply_to, with_file, with_files, reply_type, reply_cut, reply_snarf, reply_setsnarf, reply_write, reply_close, reply_workfile, reply_exit, Window, KnownFile, UserEvent, PlainTerminal, known_at, window_at, is_open, put_known, effect, took_close, took_exit, event_outcome, blank_known, blank_window, place_after_ins, place_after_del, InOrder}
+use Rattle.sam_crossing.proofs.Common.{◌≡◌, ℕ, zero, suc, ◌+◌, ◌-◌, ◌≤◌, Bool, true, false, not, ◌==◌, ◌&&◌, ◌||◌, if◌then◌else◌, List, [], ◌∷◌, ◌++◌, length, take, drop, Option, Some, None, is_some, unwrap_or, refl, sym, ap, ◌∙◌, subst, true≢false, arith, not-false, eqb-true, append-nil, take-append-drop, length-take-le, length-map, Slots, slot, put_slot, free_slot, slot-free_other, part, ins, del, PlainFile, blank_file, file_at, put_file, cut_file, typed_file, Tworkfile, Ttype, Tcut, Tsnarf, Twrite, Tclose, Tsetsnarf, Texit, Hunlockfile, Hexit, eq-eqb, PlainHost, Reply, counted, reply_to, with_file, with_files, reply_type, reply_cut, reply_snarf, reply_setsnarf, reply_write, reply_close, reply_workfile, reply_exit, Window, KnownFile, UserEvent, PlainTerminal, known_at, window_at, is_open, put_known, effect, took_close, took_exit, event_outcome, place_after_ins, place_after_del, InOrder}
 use Rattle.sam_runes.specs.Texts.{is_empty}
 use Rattle.sam_text.specs.Files.{is_changed, with_work, without_file, written_file}
 use Rattle.std.proofs.Math.Seq.{take-append_seam, drop-append_seam}
-use Rattle.sam_mesg.specs.declared.hmesg.Hmesg.TheVariants.{Hsnarflen}
 use Rattle.sam_term.specs.declared.event.UserEvent.TheVariants.{Typed, Select, Cut, Snarf, Close, Write, Work, Exit, SetSnarf}
 use Rattle.sam_term.specs.declared.event.Verdict.{Verdict}
 use Rattle.sam_term.specs.Events.{is_command_line}
 use Rattle.sam_term.specs.Term.{freed_known}
 use Rattle.sam_crossing.proofs.Passing.{passed}
-use Rattle.sam_local.specs.Local.{PlainEditor, whole_slots, whole_window, at_rest, all_taken, carried_unless, carried}
+use Rattle.sam_local.specs.Local.{PlainEditor, at_rest, all_taken, carried_unless, carried}
 use Rattle.sam_local.specs.Editing.{IsReached, text_in, dot_in, May, replaced, moved_window, with_host_file, with_known, with_window, with_edit, with_typing, with_snarf, over, RefusedDoesNothing, SelectSets, CutMoves, SnarfCopies, SetSnarfSets, WriteSaves, CloseDrops, WorkSets, ExitEnds}
 use Rattle.sam_local.proofs.Sights.{bare, sight, rests, turned, map-twice}
 use Rattle.sam_local.proofs.Frames.{bare-freed, turn, known-put_same}
@@ -18,7 +17,7 @@ use Rattle.sam_local.proofs.Checks.{rest-window}
 use Rattle.sam_local.proofs.Uncounted.{rest}
 use Rattle.sam_local.proofs.Events.{is_cut, cut_window, typed_window, turn_nothing}
 use Rattle.sam_local.proofs.Editors.{reached-stands, acted, after-none, after-one, after-two, open-here}
-use Rattle.sam_local.proofs.Whole.{file-put, SameBut, same-but, whole-free, sight-same, stilled, kept-file, kept-all, kept-both, kept-here, back, none-deleted, none-inserted, as-many, file-twice, same-text, same-bare, unlock-sight, part-length}
+use Rattle.sam_local.proofs.Whole.{file-put, SameBut, same-but, whole-free, sight-same, kept-file, kept-all, kept-both, kept-here, back, none-deleted, none-inserted, as-many, file-twice, same-text, same-bare, unlock-sight, part-length}
 
 -- what holds of each pair at rest holds of each editor that was reached
 pub reached : (P : PlainEditor → Type 0) → ((h : PlainHost) (t : PlainTerminal) → InOrder (rest h) (at_rest h t).term [] [] → P (at_rest h t)) → (editor : PlainEditor) → IsReached editor → P editor

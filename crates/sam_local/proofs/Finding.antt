@@ -1,5 +1,5 @@
 -- Events after which the host sets dot: a paste, a double click, a look and a search.
-use Rattle.sam_crossing.proofs.Common.{◌||◌, ◌&&◌, ◌≡◌, ℕ, zero, suc, ◌+◌, ◌-◌, ◌<◌, ◌≤◌, Bool, true, false, not, ◌==◌, if◌then◌else◌, List, [], ◌∷◌, ◌++◌, length, take, drop, Option, Some, None, is_some, refl, sym, ap, ◌∙◌, subst, true≢false, arith, not-false, nat_lt, length-ins, length-del, length-drop, length-take, length-take-le, is_empty, max_runes, part, ins, del, searched, may_look, searched_for, Range, PlainFile, PlainFiles, file_at, put_file, cut_file, pasted_file, Tcut, Tpaste, Tlook, Tsearch, Tdclick, Hmesg, Hcheck, Hdirty, Hsetdot, Hmoveto, Hsetpat, Hunlockfile, PlainHost, Reply, counted, reply_to, reply_found, with_file, with_files, reply_paste, reply_cut, reply_dclick, reply_look, reply_search, grown, when, KnownFile, Window, UserEvent, PlainTerminal, known_at, window_at, window_in, is_open, put_known, effect, Slots, place_after_ins, place_after_del, InOrder}
+use Rattle.sam_crossing.proofs.Common.{◌||◌, ◌&&◌, ◌≡◌, ℕ, zero, suc, ◌+◌, ◌<◌, ◌≤◌, Bool, true, false, not, ◌==◌, if◌then◌else◌, List, [], ◌∷◌, ◌++◌, length, take, drop, Option, Some, None, is_some, refl, sym, ap, ◌∙◌, subst, true≢false, arith, not-false, nat_lt, length-ins, length-del, length-drop, length-take, length-take-le, is_empty, max_runes, part, del, searched, may_look, searched_for, Range, PlainFile, PlainFiles, file_at, put_file, cut_file, pasted_file, Tcut, Tpaste, Tlook, Tsearch, Tdclick, Hcheck, Hsetdot, Hmoveto, Hsetpat, Hunlockfile, PlainHost, Reply, counted, reply_to, reply_found, with_file, with_files, reply_paste, reply_cut, reply_dclick, reply_look, reply_search, grown, KnownFile, Window, PlainTerminal, known_at, window_at, window_in, is_open, put_known, effect, Slots, place_after_ins, InOrder}
 use Rattle.sam_runes.specs.Texts.{either, leftmost, word_at}
 use Rattle.std.specs.Prelude.{nat_eq}
 use Rattle.std.specs.List.{starts_with}
@@ -13,11 +13,10 @@ use Rattle.sam_local.specs.Local.{PlainEditor, at_rest, all_taken, carried}
 use Rattle.sam_local.specs.Editing.{text_in, dot_in, snarf_in, May, replaced, moved_window, with_host_file, with_known, with_window, with_typing, with_paste, with_found, with_pattern, PasteReplaces, DclickSelects, LookSelects, SearchSelects}
 use Rattle.sam_local.proofs.Sights.{bare, sight, turned}
 use Rattle.sam_local.proofs.Frames.{turn, taken-append}
-use Rattle.sam_local.proofs.Ahead.{sight-window}
 use Rattle.sam_local.proofs.Uncounted.{rest}
 use Rattle.sam_local.proofs.Events.{is_cut, cut_window, opened-turned, turn_nothing}
 use Rattle.sam_local.proofs.Editors.{acted, after-one, after-two, opened-same}
-use Rattle.sam_local.proofs.Whole.{file-put, same-but, sight-same, kept-file, kept-all, kept-both, back, file-twice, unlock-sight}
+use Rattle.sam_local.proofs.Whole.{file-put, same-but, kept-file, kept-both, back, file-twice, unlock-sight}
 use Rattle.sam_local.proofs.Seen.{Seen, seen-alike, seen-first, seen-dot, seen-view, seen-unlock, seen-grown, seen-dirty, in_it, ins_window}
 use Rattle.sam_local.proofs.Editing.{tidy, ends, within, reached, edited_here, cut-seen, cut-in, cut-view, cut-length, typing-none, typing-some, replaced-ins, replaced-both}
 

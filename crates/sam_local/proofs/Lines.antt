@@ -1,7 +1,6 @@
 -- Command lines: what is printed, what a line does to its file, and the end of a session.
-use Rattle.sam_crossing.proofs.Common.{◌≡◌, ℕ, zero, suc, ◌+◌, ◌-◌, Bool, true, false, not, ◌==◌, ◌&&◌, ◌||◌, if◌then◌else◌, List, [], ◌∷◌, ◌++◌, length, Option, Some, None, is_some, unwrap_or, refl, sym, ap, ◌∙◌, subst, true≢false, arith, not-false, eq-eqb, eqb-true, same_Some, option_map, Range, part, as_lines, last_line, is_empty, slot, PlainFile, PlainFiles, PlainOutcome, file_at, put_file, cut_file, typed_file, file_after, put_outcome, committed, after_print, is_printed, printed_file, has_room, Tcut, Ttype, Tsend, Hmesg, Hexit, Hunlock, Hcheck, Hdirty, Hmovname, Hsetdot, Hsetpat, PlainHost, Reply, counted, reply_to, reply_line, with_file, with_files, reply_type, reply_cut, reply_send, printed, grown, told_outcome, when, when_given, KnownFile, Window, UserEvent, PlainTerminal, known_at, window_at, is_open, put_known, effect, blank_known, InOrder, IsSteady, IsOpened, file_in, is_command_line, and_parts, append_assoc}
+use Rattle.sam_crossing.proofs.Common.{◌≡◌, ℕ, ◌+◌, ◌-◌, Bool, true, false, not, ◌==◌, ◌&&◌, ◌||◌, if◌then◌else◌, List, [], ◌∷◌, ◌++◌, length, Option, Some, None, is_some, unwrap_or, refl, sym, ap, ◌∙◌, subst, true≢false, arith, not-false, eq-eqb, eqb-true, same_Some, option_map, Range, part, as_lines, last_line, is_empty, slot, PlainFile, PlainFiles, PlainOutcome, file_at, put_file, typed_file, file_after, put_outcome, committed, after_print, is_printed, printed_file, has_room, Tcut, Ttype, Tsend, Hmesg, Hexit, Hunlock, Hcheck, Hdirty, Hmovname, Hsetdot, Hsetpat, PlainHost, Reply, counted, reply_to, reply_line, with_file, with_files, reply_type, reply_cut, reply_send, printed, grown, told_outcome, when, when_given, KnownFile, Window, UserEvent, PlainTerminal, known_at, window_at, is_open, put_known, effect, InOrder, IsSteady, IsOpened, file_in, is_command_line, and_parts, append_assoc}
 use Rattle.sam_runes.specs.Texts.{either, ends_line}
-use Rattle.sam_runes.specs.declared.edit.Edit.{Edit}
 use Rattle.sam_text.specs.Meaning.{WorkFile, meaning, work_on, work_file, line_outcome}
 use Rattle.sam_text.specs.Outcomes.{Fits}
 use Rattle.sam_text.proofs.MeaningLaws.{line_fits}

@@ -1,5 +1,5 @@
 -- Events that only look, and those that find nothing to do.
-use Rattle.sam_crossing.proofs.Common.{◌≡◌, ℕ, ◌-◌, true, false, ◌==◌, [], ◌∷◌, Option, Some, None, refl, ap, ◌∙◌, not-false, part, may_look, first_of_checks, file_at, Tcheck, Torigin, Tlook, Tsend, Tstartsnarf, Hunlock, Hunlockfile, PlainHost, Reply, reply_to, reply_look, reply_send, reply_origin, reply_check, reply_startsnarf, KnownFile, Window, UserEvent, PlainTerminal, known_at, window_at, is_open, put_known, put_window, effect, event_checks, event_outcome, InOrder}
+use Rattle.sam_crossing.proofs.Common.{◌≡◌, ℕ, true, false, ◌==◌, [], ◌∷◌, Option, Some, None, refl, ap, ◌∙◌, not-false, part, may_look, first_of_checks, file_at, Tcheck, Torigin, Tlook, Tsend, Tstartsnarf, Hunlock, Hunlockfile, PlainHost, Reply, reply_to, reply_look, reply_send, reply_origin, reply_check, reply_startsnarf, KnownFile, Window, UserEvent, PlainTerminal, known_at, window_at, is_open, put_window, effect, event_checks, event_outcome, InOrder}
 use Rattle.sam_runes.specs.Texts.{lines_before, prefix_in_bytes, snarf_limit}
 use Rattle.sam_term.specs.declared.event.UserEvent.TheVariants.{Cut, Snarf, Send, Look, Scroll, View, Load, Check, GetSnarf, Flush}
 use Rattle.sam_term.specs.declared.event.Verdict.{Verdict}

@@ -1,5 +1,5 @@
 -- The terminal has the names that the host has, and its marks: each event keeps them so.
-use Rattle.sam_crossing.proofs.Common.{◌≡◌, ℕ, zero, suc, ◌+◌, ◌≤◌, Bool, true, false, not, ◌==◌, ◌&&◌, ◌||◌, if◌then◌else◌, List, [], ◌∷◌, ◌++◌, length, drop, Option, Some, None, is_some, unwrap_or, refl, sym, ap, ◌∙◌, subst, true≢false, arith, not-false, eq-eqb, eqb-true, and_parts, append-nil, same_Some, option_map, Slots, slot, put_slot, free_slot, slot-map, slot-put_same, slot-put_other, slot-free_same, slot-free_other, slot_past, is_empty, given_slots, first_of_checks, part, may_look, nat_le, PlainFile, PlainFiles, PlainOutcome, blank_file, file_at, file_after, command_name, announce_all, announced_file, new_file, printed_file, is_printed, has_room, no_tag_left, as_lines, last_line, searched_for, searched, PlainHost, Reply, Window, KnownFile, UserEvent, PlainTerminal, known_at, window_at, is_known, is_open, is_command_line, event_checks, blank_known, InOrder, IsSynced, IsCommandFile, AllOpenAnnounced, view, ends_line, nat_lt, ◌-◌, blank_window, with_files, put_file}
+use Rattle.sam_crossing.proofs.Common.{◌≡◌, ℕ, zero, suc, ◌+◌, ◌≤◌, Bool, true, false, not, ◌==◌, ◌&&◌, ◌||◌, if◌then◌else◌, List, [], ◌∷◌, ◌++◌, length, drop, Option, Some, None, is_some, unwrap_or, refl, sym, ap, ◌∙◌, subst, true≢false, arith, not-false, eq-eqb, eqb-true, and_parts, append-nil, option_map, Slots, slot, put_slot, free_slot, slot-map, slot-put_same, slot-put_other, slot-free_same, slot-free_other, is_empty, given_slots, first_of_checks, part, may_look, nat_le, PlainFile, PlainFiles, PlainOutcome, blank_file, file_at, file_after, command_name, announce_all, announced_file, new_file, printed_file, is_printed, has_room, no_tag_left, as_lines, last_line, searched_for, searched, Window, KnownFile, UserEvent, PlainTerminal, known_at, window_at, is_known, is_open, is_command_line, event_checks, blank_known, IsSynced, IsCommandFile, AllOpenAnnounced, view, ends_line, nat_lt, ◌-◌, blank_window, with_files, put_file}
 use Rattle.sam_crossing.specs.View.{file_in as host_file_in}
 use Rattle.sam_runes.specs.Texts.{Range, all_tags, lines_before, max_runes, most_in_name, word_at}
 use Rattle.sam_text.specs.Files.{file_in, is_changed, opened_file, written_file}
@@ -11,11 +11,10 @@ use Rattle.sam_term.specs.declared.event.UserEvent.TheVariants.{Typed, Select, C
 use Rattle.sam_term.specs.declared.event.Verdict.{Verdict}
 use Rattle.sam_crossing.proofs.HostFiles.{not_given}
 use Rattle.sam_crossing.proofs.Passing.{passed}
-use Rattle.sam_local.specs.Local.{PlainEditor, Doing, Did, Joined, AreMarkedAlike, at_rest, carried, carried_through, done_on, joined, files_in, new_editor, whole_file}
+use Rattle.sam_local.specs.Local.{PlainEditor, Doing, Did, Joined, at_rest, carried, done_on, joined, files_in, new_editor, whole_file}
 use Rattle.sam_local.specs.Editing.{IsReached, May, dot_in, text_in, with_typing, with_edit, with_paste, with_found, with_outcome, with_pattern, with_printed, with_snarf, with_line, with_host_file, with_known, with_window, with_names, over, edited_window, moved_window, replaced, NamesAndMarksAgree}
 use Rattle.sam_local.proofs.Checks.{open-known}
 use Rattle.sam_local.proofs.Doings.{done-append, files-append}
-use Rattle.sam_local.proofs.Uncounted.{rest}
 use Rattle.sam_local.proofs.Editors.{acted, synced-here}
 use Rattle.sam_local.proofs.Editing.{reached, refused_does_nothing, select_sets, cut_moves, snarf_copies, set_snarf_sets, write_saves, close_drops, work_sets, exit_ends}
 use Rattle.sam_local.proofs.Finding.{paste_replaces, dclick_selects, look_selects, search_selects}

@@ -1,18 +1,17 @@
 -- Files that are opened or made, and names that are told.
-use Rattle.sam_crossing.proofs.Common.{◌≡◌, ℕ, zero, suc, ◌+◌, ◌<◌, ◌≤◌, Bool, true, false, not, ◌==◌, ◌&&◌, if◌then◌else◌, List, [], ◌∷◌, ◌++◌, length, drop, Option, Some, None, is_some, unwrap_or, refl, sym, ap, ◌∙◌, subst, true≢false, arith, not-false, nat_le, option_map, Slots, slot, put_slot, slot-map, slot-put_same, slot-put_other, put_slot-put_slot, is_empty, PlainFile, PlainFiles, blank_file, file_at, after_print, put_file, announce_all, announced_file, command_name, new_file, common_version, no_tag_left, Tversion, Tstartcmdfile, Tstartfile, Tstartnewfile, Hmesg, Hversion, Hbindname, Hcurrent, Hnewname, Hmovname, Hgrow, Hunlock, Hack, PlainHost, Reply, reply_to, with_file, with_files, reply_version, reply_startcmdfile, reply_startfile, reply_startnewfile, told_length, told_names, printed, when, KnownFile, Window, UserEvent, PlainTerminal, known_at, is_known, window_at, is_open, put_known, put_window, blank_known, blank_window, effect, took_bindname, took_grow, window_after_ins, replicate, InOrder}
-use Rattle.sam_runes.specs.Slots.{map_slots}
+use Rattle.sam_crossing.proofs.Common.{◌≡◌, ℕ, zero, suc, ◌+◌, Bool, true, false, not, ◌==◌, if◌then◌else◌, List, [], ◌∷◌, ◌++◌, length, drop, Option, Some, None, unwrap_or, refl, sym, ap, ◌∙◌, arith, not-false, nat_le, option_map, Slots, slot, put_slot, slot-map, is_empty, PlainFile, PlainFiles, blank_file, file_at, after_print, put_file, announce_all, announced_file, command_name, new_file, common_version, no_tag_left, Tversion, Tstartcmdfile, Tstartfile, Tstartnewfile, Hmesg, Hversion, Hbindname, Hcurrent, Hnewname, Hmovname, Hgrow, Hunlock, Hack, PlainHost, Reply, with_file, with_files, reply_version, reply_startcmdfile, reply_startfile, reply_startnewfile, told_length, told_names, printed, when, KnownFile, Window, PlainTerminal, known_at, is_known, is_open, put_known, blank_known, blank_window, effect, took_bindname, took_grow, window_after_ins, replicate, InOrder}
 use Rattle.sam_runes.specs.Texts.{agreed, all_tags}
 use Rattle.sam_text.specs.Files.{opened_file}
 use Rattle.sam_host.specs.Host.{told_at}
 use Rattle.sam_term.specs.declared.event.UserEvent.TheVariants.{Open, OpenCmd, New, Version}
 use Rattle.sam_crossing.proofs.Passing.{passed}
-use Rattle.sam_local.specs.Local.{PlainEditor, whole_file, whole_slots, at_rest, all_taken, carried}
+use Rattle.sam_local.specs.Local.{PlainEditor, whole_slots, at_rest, all_taken, carried}
 use Rattle.sam_local.specs.Editing.{May, with_host_file, with_known, with_window, with_names, with_printed, OpenOpens, CommandFileOpens, NewMakes, VersionAgrees}
 use Rattle.sam_local.proofs.Sights.{sight, put-again, turned}
 use Rattle.sam_local.proofs.Frames.{in_window, taken-append, together}
 use Rattle.sam_local.proofs.Uncounted.{rest}
 use Rattle.sam_local.proofs.Editors.{after-one, opened-same}
-use Rattle.sam_local.proofs.Whole.{file-put, same-but, same-text, whole-put, SameBut, whole-again, kept-file, kept-all, back}
+use Rattle.sam_local.proofs.Whole.{same-but, same-text, whole-put, SameBut, whole-again, kept-file, kept-all, back}
 use Rattle.sam_local.proofs.Seen.{Seen, seen-alike, seen-effect, in_it}
 use Rattle.sam_local.proofs.Lines.{prints-here}
 use Rattle.sam_local.proofs.Editing.{reached}

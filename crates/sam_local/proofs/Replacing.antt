@@ -1,5 +1,5 @@
 -- An edit of any length: its messages do to the host what it does at once.
-use Rattle.sam_crossing.proofs.Common.{◌≡◌, ℕ, zero, suc, ◌+◌, ◌≤◌, Bool, true, false, ◌==◌, ◌&&◌, if◌then◌else◌, List, [], ◌∷◌, ◌++◌, length, map, take, drop, Option, Some, is_some, unwrap_or, option_map, refl, sym, ap, ◌∙◌, subst, true≢false, arith, not-false, append-nil, same_Some, length-map, length-drop, length-ins, length-del, take-append-drop, slot, slot-put_same, has_file, is_empty, most_in_message, ins, PlainFile, PlainFiles, file_at, put_file, cut_file, typed_file, Tmesg, Ttype, Tcut, PlainHost, Reply, counted, reply_to, reply_cut, reply_of, answers, with_file, Window, KnownFile, UserEvent, PlainTerminal, known_at, window_at, is_open, put_known, window_after_del, pieces, typed_pieces, edit_messages, place_after_ins, InOrder}
+use Rattle.sam_crossing.proofs.Common.{◌≡◌, ℕ, zero, suc, ◌+◌, ◌≤◌, Bool, true, false, ◌==◌, ◌&&◌, if◌then◌else◌, List, [], ◌∷◌, ◌++◌, length, map, take, drop, Option, Some, is_some, refl, sym, ap, ◌∙◌, subst, true≢false, arith, not-false, append-nil, same_Some, length-map, length-drop, length-ins, length-del, take-append-drop, slot, slot-put_same, has_file, is_empty, most_in_message, ins, PlainFile, PlainFiles, file_at, put_file, cut_file, typed_file, Tmesg, Ttype, Tcut, PlainHost, Reply, counted, reply_to, reply_cut, reply_of, answers, with_file, Window, KnownFile, UserEvent, PlainTerminal, known_at, window_at, is_open, put_known, window_after_del, pieces, typed_pieces, edit_messages, place_after_ins, InOrder}
 use Rattle.sam_text.proofs.EditSteps.{typed_joined}
 use Rattle.sam_term.specs.declared.event.UserEvent.TheVariants.{Edit}
 use Rattle.sam_runes.specs.Texts.{ends_line}

@@ -1,5 +1,5 @@
 -- What every run keeps: the outlook of the world is what the events that have acted do to the editor without a network.
-use Rattle.sam_crossing.proofs.Common.{◌≡◌, ℕ, Bool, true, false, not, List, [], ◌∷◌, ◌++◌, Option, Some, None, Result, Ok, refl, sym, ap, ◌∙◌, subst, is_some, arith, append-nil, append_assoc, same_Some, map-append, length-append, option_map, unwrap_or, map, take, length, ◌-◌, if◌then◌else◌, at_file, given_slots, is_empty, first_of_checks, PlainHost, Reply, answer, stamped, HostFault, PlainTerminal, Made, flushed, frame_outcome, event_checks, event_outcome, window_at, TermFault, UserEvent, Tmesg, Hmesg, true≢false, and_parts, ◌&&◌, ◌||◌, is_open, is_file_locked, unsent_message, Window, Unsent, answers, reply_of, InOrder, view, slot, blank_known, file_at, known_at, is_known}
+use Rattle.sam_crossing.proofs.Common.{◌≡◌, ℕ, Bool, true, false, not, List, [], ◌∷◌, ◌++◌, Option, Some, None, Result, Ok, refl, sym, ap, ◌∙◌, subst, is_some, arith, append-nil, append_assoc, same_Some, map-append, length-append, option_map, unwrap_or, map, take, length, ◌-◌, if◌then◌else◌, at_file, given_slots, is_empty, first_of_checks, PlainHost, Reply, answer, stamped, HostFault, PlainTerminal, Made, flushed, frame_outcome, event_checks, event_outcome, window_at, TermFault, UserEvent, Tmesg, Hmesg, true≢false, and_parts, ◌&&◌, ◌||◌, is_open, is_file_locked, unsent_message, Window, Unsent, answers, InOrder, view, slot, blank_known, file_at}
 use Rattle.std.proofs.Common.{Err, option_and_then}
 use Rattle.std.proofs.Math.Seq.{take-append_seam}
 use Rattle.sam_term.specs.declared.event.Acted.TheVariants.{Done}
@@ -23,7 +23,7 @@ use Rattle.sam_crossing.proofs.Lenses.{IsFree, frees_command}
 use Rattle.sam_crossing.proofs.MoreFiles.{nothing_more, one_more, given_kept, deaf_reply, frees-behind, answers_behind, heard_frees, unheard_is}
 use Rattle.sam_crossing.proofs.OrderLaws.{Joins, joins_step, answer_gives, starts_in_order, steps_in_order}
 use Rattle.sam_local.specs.Local.{PlainEditor, AreMarkedAlike, whole_file, Doing, Did, Joined, at_rest, answered_with, come_to, carried, carried_on, carried_all, carried_through, done_on, events_in, files_in, new_editor}
-use Rattle.sam_local.specs.Worlds.{outlook, Order, in_order, let_go, hears_first, order_after, order_on, doings_of, ShowsFile, RefusesAs, ComesInOrder, IsAsIfLocal, HasLed, EndsAsIfLocal, ShowsAsIfLocal, WasAsIfLocal, RunsComeInOrder, RunsAreAsIfLocal, RestIsAsIfLocal, OneRestForAll, AloneInOrder}
+use Rattle.sam_local.specs.Worlds.{outlook, Order, in_order, let_go, hears_first, order_after, order_on, doings_of, ShowsFile, RefusesAs, IsAsIfLocal, EndsAsIfLocal, ShowsAsIfLocal, WasAsIfLocal, RunsComeInOrder, RunsAreAsIfLocal, RestIsAsIfLocal, OneRestForAll, AloneInOrder}
 use Rattle.sam_local.proofs.Gentle.{MarksGuarded}
 use Rattle.sam_local.proofs.Marks.{marks-both, marks-reply_of}
 use Rattle.sam_local.proofs.Ahead.{come-to-is, window-is}

@@ -1,15 +1,15 @@
 -- Frames of one file, one after another: what they leave of the file, as far as a sight tells.
-use Rattle.sam_crossing.proofs.Common.{◌≡◌, ℕ, ◌+◌, ◌-◌, ◌<◌, Bool, true, false, not, ◌==◌, ◌&&◌, ◌||◌, if◌then◌else◌, List, [], ◌∷◌, ◌++◌, length, map, replicate, reverse, flat_map, Option, Some, None, unwrap_or, option_map, refl, sym, ap, ◌∙◌, arith, append-nil, nat_le, nat_lt, is_empty, most_in_message, length-map, slot, slot-map, PlainFiles, file_at, grown, printed, told_edit, when, Hmesg, Hgrow, Hgrowdata, Hcut, Hsetdot, Hmoveto, Hcheck, Hdirty, Hmovname, Hunlockfile, KnownFile, Window, PlainTerminal, known_at, window_at, is_open, put_known, window_after_ins, window_after_del, place_after_ins, place_after_del, effect, took_grow, took_growdata, took_cut, took_unlockfile}
+use Rattle.sam_crossing.proofs.Common.{◌≡◌, ℕ, ◌+◌, ◌-◌, Bool, true, false, ◌&&◌, ◌||◌, if◌then◌else◌, List, [], ◌∷◌, ◌++◌, length, map, replicate, reverse, flat_map, Option, Some, None, refl, sym, ap, ◌∙◌, arith, append-nil, nat_le, nat_lt, most_in_message, length-map, PlainFiles, file_at, grown, told_edit, when, Hmesg, Hgrow, Hgrowdata, Hcut, Hsetdot, Hmoveto, Hdirty, Hunlockfile, KnownFile, Window, PlainTerminal, known_at, window_at, is_open, put_known, window_after_ins, window_after_del, place_after_ins, place_after_del, effect, took_grow, took_growdata, took_cut, took_unlockfile}
 use Rattle.std.proofs.lemmas.List.{length-replicate, reverse-append}
 use Rattle.std.proofs.lemmas.List.Concat.{flat_map-append}
 use Rattle.sam_runes.specs.declared.edit.Edit.{Edit}
-use Rattle.sam_host.specs.Host.{told_dirty, told_edits}
+use Rattle.sam_host.specs.Host.{told_edits}
 use Rattle.sam_local.specs.Local.{all_taken}
 use Rattle.sam_local.specs.Editing.{moved_window, edited_window}
-use Rattle.sam_local.proofs.Sights.{bare, sight, sight-put, put-again, turned}
+use Rattle.sam_local.proofs.Sights.{bare, sight, turned}
 use Rattle.sam_local.proofs.Frames.{in_window, sight-taken, taken-append, together}
-use Rattle.sam_local.proofs.Ahead.{opened-is, sight-window}
-use Rattle.sam_local.proofs.Whole.{sight-same, none-inserted, as-many}
+use Rattle.sam_local.proofs.Ahead.{sight-window}
+use Rattle.sam_local.proofs.Whole.{sight-same, none-inserted}
 
 -- a place is where it was where nothing goes
 kept-place : (p q place : ℕ) → nat_lt p q ≡ false → place ≡ place_after_del p q place

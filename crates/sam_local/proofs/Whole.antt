@@ -1,7 +1,7 @@
 -- Editors at rest whose sides differ in a few fields: a change of a host and of a terminal is the change of the editor that they are at rest.
-use Rattle.sam_crossing.proofs.Common.{◌≡◌, ℕ, zero, suc, ◌+◌, ◌≤◌, Bool, true, false, ◌==◌, List, [], ◌∷◌, length, map, Option, Some, None, is_some, unwrap_or, refl, sym, ap, ◌∙◌, subst, true≢false, arith, cases_Bool, inl, inr, option_map, not-false, eqb-true, eq-eqb, length-map, Slots, slot, put_slot, free_slot, slot-put_same, slot-put_other, put_slot-put_slot, length-drop, length-take, length-take-le, part, PlainFile, PlainFiles, blank_file, file_at, put_file, PlainHost, with_file, KnownFile, Window, PlainTerminal, known_at, window_at, is_open, put_known, blank_known, blank_window, place_after_ins, place_after_del, ◌-◌, Hunlockfile, effect, took_unlockfile}
-use Rattle.sam_local.specs.Local.{PlainEditor, whole_window, whole_file, whole_slots, at_rest}
-use Rattle.sam_local.specs.Editing.{text_in, with_host_file, with_known, moved_window}
+use Rattle.sam_crossing.proofs.Common.{◌≡◌, ℕ, zero, suc, ◌+◌, ◌≤◌, Bool, true, false, ◌==◌, List, [], ◌∷◌, length, map, Option, Some, None, unwrap_or, refl, sym, ap, ◌∙◌, subst, true≢false, arith, cases_Bool, inl, inr, option_map, eqb-true, eq-eqb, length-map, Slots, put_slot, free_slot, slot-put_same, slot-put_other, put_slot-put_slot, length-drop, length-take, length-take-le, part, PlainFile, PlainFiles, blank_file, file_at, put_file, PlainHost, with_file, KnownFile, Window, PlainTerminal, window_at, is_open, put_known, blank_window, place_after_ins, place_after_del, ◌-◌, Hunlockfile, effect, took_unlockfile}
+use Rattle.sam_local.specs.Local.{whole_window, whole_file, whole_slots, at_rest}
+use Rattle.sam_local.specs.Editing.{with_host_file, with_known}
 use Rattle.sam_local.proofs.Sights.{bare, sight, sight-rest, rests, sight-put}
 use Rattle.sam_local.proofs.Uncounted.{rest}
 use Rattle.sam_local.proofs.Ahead.{sight-window}

@@ -1,13 +1,13 @@
 -- What each event of the user does to the editor without a network: the editor after it is the one before it with just these changes.
-use Rattle.std.specs.Prelude.{◌≡◌, ℕ, ◌+◌, ◌-◌, true, false, not, ◌==◌, ◌&&◌, ◌||◌, if◌then◌else◌, nat_le, nat_lt, List, [], ◌∷◌, ◌++◌, take, drop, length, map, Option, Some, None, unwrap_or}
+use Rattle.std.specs.Prelude.{◌≡◌, ℕ, ◌+◌, ◌-◌, true, false, not, ◌==◌, ◌&&◌, ◌||◌, if◌then◌else◌, nat_le, nat_lt, List, [], ◌∷◌, ◌++◌, take, drop, length, Option, Some, None, unwrap_or}
 use Rattle.sam_runes.specs.Slots.{Slots, put_slot, free_slot}
 use Rattle.sam_runes.specs.Texts.{Range, part, is_empty, max_runes, all_tags, common_version, searched, word_at, as_lines, last_line, lines_before, prefix_in_bytes, snarf_limit}
 use Rattle.sam_runes.specs.Checks.{first_of_checks}
 use Rattle.sam_runes.specs.declared.edit.Edit.{Edit}
 use Rattle.sam_rasp.specs.Rasp.{place_after_ins, place_after_del}
-use Rattle.sam_text.specs.Files.{PlainFile, PlainFiles, PlainOutcome, announce_all, blank_file, command_name, file_after, file_at, has_room, is_changed, is_printed, may_look, new_file, opened_file, printed_file, put_file, searched_for, with_work, without_file, written_file}
+use Rattle.sam_text.specs.Files.{PlainFile, PlainOutcome, announce_all, blank_file, command_name, file_after, file_at, has_room, is_changed, is_printed, may_look, new_file, opened_file, printed_file, put_file, searched_for, with_work, without_file, written_file}
 use Rattle.sam_text.specs.Meaning.{meaning}
-use Rattle.sam_host.specs.Host.{PlainHost, line_to, no_tag_left, with_file, with_files}
+use Rattle.sam_host.specs.Host.{line_to, no_tag_left, with_file, with_files}
 use Rattle.sam_host.specs.Laws.{AreGiven}
 use Rattle.sam_term.specs.declared.event.UserEvent.{UserEvent}
 use Rattle.sam_term.specs.declared.event.UserEvent.TheVariants as event
