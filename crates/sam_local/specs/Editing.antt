@@ -298,7 +298,8 @@ DclickSelects =
     (editor : PlainEditor) (f p : ℕ) → IsReached editor → May editor (event.Dclick f p)
     → let d = word_at (text_in editor f) p in
     carried editor (event.Dclick f p)
-    ≡ with_window (with_host_file editor f (record (file_at editor.host.files f) { dot = d })) f (record (window_at editor.term f) { dot = d })
+    ≡ with_window (with_host_file editor f (record (file_at editor.host.files f) { dot = d })) f
+    (record (window_at editor.term f) { dot = d })
 
 -- the text of the dot is the pattern, and the next place where it stands is dot
 abbrev pub LookSelects : Type 0
@@ -306,7 +307,8 @@ LookSelects =
     (editor : PlainEditor) (f : ℕ) → IsReached editor → May editor (event.Look f)
     → let d = dot_in editor f in
     let lit = part (text_in editor f) d.0 d.1 in
-    may_look lit ≡ true → carried editor (event.Look f) ≡ with_found (with_pattern editor (Some lit)) f (searched (text_in editor f) lit d.1)
+    may_look lit ≡ true
+    → carried editor (event.Look f) ≡ with_found (with_pattern editor (Some lit)) f (searched (text_in editor f) lit d.1)
 
 -- the next place where the pattern stands is dot, where there is one
 abbrev pub SearchSelects : Type 0
@@ -400,7 +402,7 @@ FileJoins =
     → let h = editor.host in
     let fs = h.files in
     joined editor (name, text)
-    ≡ record editor { host = record h { files = record fs { slots = fs.slots ++ Some (record blank_file { name = name; text = text }) ∷ [] } } }
+    ≡ record editor { host = with_files h (record fs { slots = fs.slots ++ Some (record blank_file { name = name; text = text }) ∷ [] }) }
 
 -- the terminal has the host's names and marks
 abbrev pub NamesAndMarksAgree : Type 0

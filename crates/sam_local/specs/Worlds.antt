@@ -118,7 +118,8 @@ pub record HasLed (given : List (List ℕ × List ℕ)) (es : List Event) (w : P
 -- and for counts
 abbrev pub EndsAsIfLocal : PlainWorld → Type 0
 EndsAsIfLocal w =
-    (given : List (List ℕ × List ℕ)) (es : List Event) → HasLed given es w → at_rest w.host w.term ≡ carried_through given (doings_of given es)
+    (given : List (List ℕ × List ℕ)) (es : List Event) → HasLed given es w
+    → at_rest w.host w.term ≡ carried_through given (doings_of given es)
 
 -- whichever run led to w, an open file that is not locked is shown as what was done in it leaves it in the editor without a network
 abbrev pub ShowsAsIfLocal : PlainWorld → ℕ → Type 0
