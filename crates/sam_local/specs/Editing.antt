@@ -63,6 +63,7 @@ with_host_file editor f file = record editor { host = with_file editor.host f fi
 abbrev pub with_known : PlainEditor → ℕ → KnownFile → PlainEditor
 with_known editor f known = record editor { term = put_known editor.term f (whole_file (text_in editor f) known) }
 
+-- the terminal has this window on the file f
 abbrev pub with_window : PlainEditor → ℕ → Window → PlainEditor
 with_window editor f w = with_known editor f (record (known_at editor.term f) { window = Some w })
 
@@ -125,6 +126,7 @@ with_pattern editor (Some lit) =
       term = record editor.term { pattern = lit };
     }
 
+-- the session is over
 abbrev pub over : PlainEditor → PlainEditor
 over editor = record editor { host = record editor.host { is_done = true }; term = record editor.term { has_exited = true } }
 
