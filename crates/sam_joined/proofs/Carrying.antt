@@ -9,7 +9,7 @@ use Rattle.sam_mesg.specs.declared.tmesg.Tmesg.{Tmesg}
 use Rattle.sam_frame.specs.Direction.{host, terminal}
 use Rattle.sam_frame.specs.Splitting.{Ends}
 use Rattle.sam_frame.specs.Stream.{stream_of, version_after}
-use Rattle.sam_term.specs.Term.{PlainTerminal, is_open, window_at}
+use Rattle.sam_term.specs.Term.{PlainTerminal, is_open, known_at, window_at}
 unfoldable use Rattle.sam_term.specs.Term.{flush_of}
 use Rattle.sam_term.specs.declared.event.UserEvent.{UserEvent}
 use Rattle.sam_endpoint.specs.HostEndpoints.{PlainHostEndpoint}
@@ -61,6 +61,9 @@ same_shown w v editor f same s = record {
   dot = ap (λ (t : PlainTerminal). (window_at t f).dot) (sym same) ∙ s.dot;
   view_start = ap (λ (t : PlainTerminal). (window_at t f).view_start) (sym same) ∙ s.view_start;
   view_length = ap (λ (t : PlainTerminal). (window_at t f).view_length) (sym same) ∙ s.view_length;
+  name = ap (λ (t : PlainTerminal). (known_at t f).name) (sym same) ∙ s.name;
+  dirty = ap (λ (t : PlainTerminal). (known_at t f).dirty) (sym same) ∙ s.dirty;
+  changed = ap (λ (t : PlainTerminal). (known_at t f).changed) (sym same) ∙ s.changed;
 }
 
 -- ## What the terminal can't do

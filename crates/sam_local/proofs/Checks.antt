@@ -1,21 +1,22 @@
 -- What stands against an event at the terminal stands against it ahead, and nothing else.
-use Rattle.sam_crossing.proofs.Common.{◌≡◌, ℕ, zero, suc, ◌+◌, ◌-◌, Bool, true, false, not, ◌||◌, ◌&&◌, if◌then◌else◌, List, [], ◌∷◌, ◌++◌, length, Option, Some, None, is_some, unwrap_or, refl, sym, ap, ◌∙◌, subst, inl, inr, ◌⊎◌, true≢false, arith, and_parts, same_Some, option_map, nat_lt, not-false, length-map, length_agrees, Checks, first_of_checks, Slots, slot, slot-map, PlainFiles, file_at, Tmesg, Hmesg, PlainHost, Window, KnownFile, UserEvent, PlainTerminal, known_at, window_at, is_known, is_open, is_any_locked, is_unknown, is_closed, is_file_locked, has_bad_place, makes_too_long, waits_for_all, is_bad_version, is_for_command_file, needs_open, event_checks, blank_known, blank_window, InOrder, Lens, Unknown, Known, Open, lens, IsSynced, file_in, view, at_file, max_runes}
+use Rattle.sam_crossing.proofs.Common.{◌≡◌, ℕ, zero, suc, ◌+◌, ◌-◌, Bool, true, false, not, ◌||◌, ◌&&◌, if◌then◌else◌, List, [], ◌∷◌, ◌++◌, length, Option, Some, None, is_some, unwrap_or, refl, sym, ap, ◌∙◌, subst, inl, inr, ◌⊎◌, true≢false, arith, same_Some, option_map, nat_lt, not-false, length-map, length_agrees, Checks, first_of_checks, Slots, slot, slot-map, PlainFiles, file_at, Tmesg, Hmesg, PlainHost, Window, KnownFile, UserEvent, PlainTerminal, known_at, window_at, is_known, is_open, is_any_locked, is_unknown, is_closed, is_file_locked, has_bad_place, makes_too_long, waits_for_all, is_bad_version, is_for_command_file, needs_open, event_checks, blank_known, blank_window, InOrder, Lens, Unknown, Known, Open, lens, Action, IsGuarded, IsSynced, file_in, view, at_file, run, max_runes}
 use Rattle.sam_runes.specs.Texts.{snarf_limit, utf8_length}
 use Rattle.sam_term.specs.declared.event.UserEvent.TheVariants.{Typed, Select, Dclick, View, Load, Edit, SetSnarf}
 use Rattle.sam_term.specs.declared.event.Verdict.{Verdict}
 use Rattle.sam_term.specs.declared.event.Verdict.TheVariants.{Waits, Refuses}
 use Rattle.sam_term.specs.declared.fault.Refusal.{Refusal}
+use Rattle.sam_term.specs.declared.fault.Refusal.TheVariants as refusal
 use Rattle.sam_term.specs.Events.{file_of}
 use Rattle.sam_term.specs.Term.{has_long_text}
-use Rattle.sam_crossing.proofs.Lenses.{IsFree, IsAlike}
-use Rattle.sam_crossing.proofs.Runs.{still, exited_after, no_exit, no_unlock, same_version}
+use Rattle.sam_crossing.proofs.Lenses.{IsFree, IsOpen, IsAlike, command_of}
+use Rattle.sam_crossing.proofs.Runs.{stepped, frees_nothing, still, exited_after, no_exit, no_unlock, same_version}
 use Rattle.sam_crossing.proofs.Versions.{no_changes, unlock_frames}
-use Rattle.sam_crossing.proofs.Passing.{passed, free_at}
+use Rattle.sam_crossing.proofs.Passing.{free_at, opened_at}
 use Rattle.sam_local.specs.Local.{whole_window, whole_file, whole_slots, at_rest}
 use Rattle.sam_local.proofs.Sights.{bare, sight, sight-rest}
-use Rattle.sam_local.proofs.Gentle.{CleansGuarded, AreGentle, gentle_free, window-stays}
-use Rattle.sam_local.proofs.Cleans.{cleans-both, cleans-answers}
-use Rattle.sam_local.proofs.Ahead.{term_ahead, run-ahead, synced-ahead, opened-is, window-is}
+use Rattle.sam_local.proofs.Gentle.{MarksGuarded, AreCalm, AreGentle, calm_free, calm_gentle, known-stays, window-stays}
+use Rattle.sam_local.proofs.Marks.{marks-both, marks-answers}
+use Rattle.sam_local.proofs.Ahead.{term_ahead, run-ahead, synced-ahead, opened-is, window-is, open-view}
 use Rattle.sam_local.proofs.Events.{opens-alike}
 
 -- ## Windows at rest
@@ -84,6 +85,17 @@ knows-alike t u f e = sym (seen t) ∙ ap (λ (x : PlainTerminal). is_known x f)
     seen : (x : PlainTerminal) → is_known (sight x) f ≡ is_known x f
     seen x = ap is_some (slot-map bare x.files f) ∙ mapped (slot x.files f)
 
+pub open-known : (t : PlainTerminal) (f : ℕ) → is_open t f ≡ true → is_known t f ≡ true
+open-known t f e = grind arith
+
+locked-open : (t : PlainTerminal) (f : ℕ) → nat_lt 0 (window_at t f).locks ≡ true → is_open t f ≡ true
+locked-open t f e = grind arith
+
+-- what is under way closes no open file while the command lock is free: after the close no lock would be freed
+stays-open : (s : List Action) (v w : Lens) → command_of v ≡ false → IsOpen v → IsGuarded s → run s v ≡ Some w → IsOpen w
+stays-open [] v w c o g r = grind (arith, same_Some)
+stays-open (a ∷ s) v w c o g r = let t = stepped a s v w r in grind (arith, (frees_nothing s t.mid w), (stays-open s t.mid w))
+
 alike-self : (v : Lens) → IsAlike v v
 alike-self v = grind arith
 
@@ -91,124 +103,69 @@ pub agreed-length : (t : PlainTerminal) (fs : PlainFiles) (f : ℕ) (d : Bool) (
     → length (window_at t f).rasp ≡ length (file_at fs f).text
 agreed-length t fs f d n s o = grind (arith, length_agrees)
 
--- ## Lists of tests
+-- ## What stands against an event
 
-abbrev pub AnyHolds : Checks Verdict → Type 0
-AnyHolds [] = ⊥
-AnyHolds (check ∷ checks) = (check.0 ≡ true) ⊎ AnyHolds checks
+-- the tests of the file that an event names, and what comes after them
+abbrev about_file : (bad_version unknown command closed : Bool) → Option Verdict → Option Verdict
+about_file v u c n later =
+    if v then Some (Refuses refusal.BadVersion)
+    else if u then Some (Refuses refusal.NoFile)
+    else if c then Some (Refuses refusal.CommandFile)
+    else if n then Some (Refuses refusal.NotOpen)
+    else later
 
--- the first that holds is found
-pub any-stands : (checks : Checks Verdict) → AnyHolds checks → (why : Verdict) × (first_of_checks checks ≡ Some why)
-any-stands [] a = absurd a
-any-stands (check ∷ checks) (inl e) = (check.1, rw e refl)
-any-stands (check ∷ checks) (inr a) = by check.0 (any-stands checks a)
-  where
-    by : (b : Bool) → (why : Verdict) × (first_of_checks checks ≡ Some why) → (why : Verdict) × ((if b then Some check.1 else first_of_checks checks) ≡ Some why)
-    by true r = (check.1, refl)
-    by false r = r
+-- the tests of places and lengths
+abbrev about_text : PlainTerminal → UserEvent → Checks Verdict
+about_text t e =
+    (has_bad_place t e, Refuses refusal.BadPosition) ∷ (has_long_text t e, Refuses refusal.TextTooLong) ∷ (makes_too_long t e, Refuses refusal.TooLong) ∷ []
 
--- no test holds
-abbrev pub NoneHolds : Checks Verdict → Type 0
-NoneHolds [] = Unit {0}
-NoneHolds (check ∷ checks) = (check.0 ≡ false) × NoneHolds checks
+-- a lock of its file, or one that an event waits for
+abbrev meets_lock : PlainTerminal → UserEvent → Bool
+meets_lock t e = is_file_locked t (file_of e) || (waits_for_all e && is_any_locked t.files)
 
-pub none-stands : (checks : Checks Verdict) → NoneHolds checks → first_of_checks checks ≡ None
-none-stands [] n = refl
-none-stands (check ∷ checks) n = rw n.0 (none-stands checks n.1)
+exited-first : (t : PlainTerminal) (e : UserEvent) → t.has_exited ≡ true → first_of_checks (event_checks t e) ≡ Some (Refuses refusal.Exited)
+exited-first t e x = rw x refl
 
-none-some : (x : Verdict) → None ≡ Some x → ⊥
-none-some x e = grind arith
+waits-first : (t : PlainTerminal) (e : UserEvent) → t.has_exited ≡ false → t.command_lock ≡ true → first_of_checks (event_checks t e) ≡ Some Waits
+waits-first t e x c = rw (x, c) refl
 
--- the test that decides holds, and none before it
-abbrev Stands : Checks Verdict → Verdict → Type 0
-Stands [] x = ⊥
-Stands (check ∷ checks) x = ((check.0 ≡ true) × (check.1 ≡ x)) ⊎ ((check.0 ≡ false) × Stands checks x)
+file-first : (t : PlainTerminal) (e : UserEvent) → t.has_exited ≡ false → t.command_lock ≡ false
+    → first_of_checks (event_checks t e)
+    ≡ about_file (is_bad_version e) (is_unknown t (file_of e)) (is_for_command_file e) (needs_open e && is_closed t (file_of e))
+    (if meets_lock t e then Some Waits else first_of_checks (about_text t e))
+file-first t e x c = rw (x, c) refl
 
-which : (checks : Checks Verdict) (x : Verdict) → first_of_checks checks ≡ Some x → Stands checks x
-which [] x e = absurd (none-some x e)
-which (check ∷ checks) x e = by check.0 refl e (which checks x)
-  where
-    by : (b : Bool) → check.0 ≡ b → (if b then Some check.1 else first_of_checks checks) ≡ Some x → (first_of_checks checks ≡ Some x → Stands checks x)
-        → Stands (check ∷ checks) x
-    by true q e later = inl (q, same_Some _ _ e)
-    by false q e later = inr (q, later e)
+-- the same tests, and after them the same or a lock
+about-same : (v u c n : Bool) (x y : Option Verdict) → (n ≡ false → (x ≡ Some Waits) ⊎ (x ≡ y)) → (about_file v u c n x ≡ Some Waits) ⊎ (about_file v u c n x ≡ about_file v u c n y)
+about-same true u c n x y k = inr refl
+about-same false true c n x y k = inr refl
+about-same false false true n x y k = inr refl
+about-same false false false true x y k = inr refl
+about-same false false false false x y k = k refl
 
 or-none : (a b : Bool) → (a || b) ≡ false → a ≡ false
 or-none true b e = absurd (true≢false e)
 or-none false b e = refl
 
+none-waits : None ≡ Some Waits → ⊥
+none-waits e = grind arith
+
 waits-is : (r : Refusal) → Waits ≡ Refuses r → ⊥
 waits-is r e = grind arith
 
-long-text : (t : PlainTerminal) (e : UserEvent) → first_of_checks (event_checks t e) ≡ None → has_long_text t e ≡ false
-long-text t e q = grind arith
-
-unknown_free : (t : PlainTerminal) (f : ℕ) → t.command_lock ≡ false → not (is_known t f) ≡ true → IsFree (view f t)
-unknown_free t f c e = grind arith
-
-closed_free : (t : PlainTerminal) (f : ℕ) → t.command_lock ≡ false → not (is_open t f) ≡ true → IsFree (view f t)
-closed_free t f c e = grind arith
-
--- which test decides
-data Decided (t : PlainTerminal) (e : UserEvent) : Type 0 where
-  exited : t.has_exited ≡ true → Decided t e
-  version : is_bad_version e ≡ true → Decided t e
-  unknown : t.command_lock ≡ false → is_unknown t (file_of e) ≡ true → Decided t e
-  command : is_for_command_file e ≡ true → Decided t e
-  closed : t.command_lock ≡ false → needs_open e ≡ true → is_closed t (file_of e) ≡ true → Decided t e
-  later : t.command_lock ≡ false → is_file_locked t (file_of e) ≡ false → (needs_open e && is_closed t (file_of e)) ≡ false
-      → (has_bad_place t e ≡ true) ⊎ ((has_long_text t e ≡ true) ⊎ (makes_too_long t e ≡ true)) → Decided t e
-
-decided : (t : PlainTerminal) (e : UserEvent) (r : Refusal) → first_of_checks (event_checks t e) ≡ Some (Refuses r) → Decided t e
-decided t e r q =
-    elim (which (event_checks t e) (Refuses r) q) [
-      | inl x ↦ exited x.0
-      | inr a ↦
-          elim a.1 [
-            | inl x ↦ absurd (waits-is r x.1)
-            | inr b ↦
-                elim b.1 [
-                  | inl x ↦ version x.0
-                  | inr c ↦
-                      elim c.1 [
-                        | inl x ↦ unknown b.0 x.0
-                        | inr d ↦
-                            elim d.1 [
-                              | inl x ↦ command x.0
-                              | inr g ↦
-                                  elim g.1 [
-                                    | inl x ↦ closed b.0 (and_parts _ _ x.0).0 (and_parts _ _ x.0).1
-                                    | inr i ↦
-                                        elim i.1 [
-                                          | inl x ↦ absurd (waits-is r x.1)
-                                          | inr j ↦
-                                              elim j.1 [
-                                                | inl x ↦ later b.0 (or-none _ _ j.0) i.0 (inl x.0)
-                                                | inr l ↦
-                                                    elim l.1 [
-                                                      | inl x ↦ later b.0 (or-none _ _ j.0) i.0 (inr (inl x.0))
-                                                      | inr m ↦
-                                                          elim m.1 [ inl x ↦ later b.0 (or-none _ _ j.0) i.0 (inr (inr x.0)) | inr n ↦ absurd n.1 ]
-                                                    ]
-                                              ]
-                                        ]
-                                  ]
-                            ]
-                      ]
-                ]
-          ]
-    ]
-
 -- ## Ahead
 
-module _ (h : PlainHost) (t : PlainTerminal) (up : List Tmesg) (down : List Hmesg) (o : InOrder h t up down) (cleans : (f : ℕ) → CleansGuarded f down) where
+module _ (h : PlainHost) (t : PlainTerminal) (up : List Tmesg) (down : List Hmesg) (o : InOrder h t up down) (marks : (f : ℕ) → MarksGuarded f down) where
   abbrev ahead : PlainTerminal
   ahead = term_ahead h t up down o
 
+  pub calm-ahead : (f : ℕ) → IsFree (view f t) → AreCalm f (down ++ o.kept.frames)
+  calm-ahead f free =
+      calm_free f (down ++ o.kept.frames) (view f t) (o.kept.each f).final free (o.kept.each f).runs (o.kept.each f).guarded
+      (marks-both f down o.kept.frames (marks f) (marks-answers f _ h (o.kept.ahead, o.kept.frames) o.kept.folds))
+
   pub gentle-ahead : (f : ℕ) → IsFree (view f t) → AreGentle f (down ++ o.kept.frames)
-  gentle-ahead f free =
-      gentle_free f (down ++ o.kept.frames) (view f t) (o.kept.each f).final free (o.kept.each f).runs (o.kept.each f).guarded
-      (cleans-both f down o.kept.frames (cleans f) (cleans-answers f _ h (o.kept.ahead, o.kept.frames) o.kept.folds))
+  gentle-ahead f free = calm_gentle f (down ++ o.kept.frames) (calm-ahead f free)
 
   pub still-ahead : (f : ℕ) → IsFree (view f t) → view f (term_ahead h t up down o) ≡ view f t
   still-ahead f free =
@@ -241,6 +198,13 @@ module _ (h : PlainHost) (t : PlainTerminal) (up : List Tmesg) (down : List Hmes
 
   pub open-ahead : (f : ℕ) → IsFree (view f t) → is_open (term_ahead h t up down o) f ≡ is_open t f
   open-ahead f free = ap is_some (window-stays f (down ++ o.kept.frames) t (gentle-ahead f free))
+
+  -- what is kept of a free open file, but for its runes and locks
+  pub kept-rest : (f : ℕ) → IsFree (view f t) → is_open t f ≡ true → known_at term_rest f ≡ whole_file (file_at o.kept.ahead.files f).text (known_at t f)
+  kept-rest f free open_here =
+      rest-known o.kept.ahead (term_ahead h t up down o) f
+      ∙ ap (λ (s : Option KnownFile). unwrap_or (option_map (whole_file (file_at o.kept.ahead.files f).text) s) blank_known) (opened-is (term_ahead h t up down o) f (open-ahead f free ∙ open_here))
+      ∙ ap (whole_file (file_at o.kept.ahead.files f).text) (known-stays f (down ++ o.kept.frames) t (calm-ahead f free))
 
   pub window-rest : (f : ℕ) → IsFree (view f t) → is_open t f ≡ true → window_at term_rest f ≡ whole_window (file_at o.kept.ahead.files f).text (window_at t f)
   window-rest f free open_here =
@@ -299,22 +263,32 @@ module _ (h : PlainHost) (t : PlainTerminal) (up : List Tmesg) (down : List Hmes
       ap (λ (b : Bool). b || (waits_for_all e && is_any_locked term_rest.files)) (unlocked-rest f)
       ∙ ap (λ (b : Bool). waits_for_all e && b) (none-locked o.kept.ahead.files 0 (term_ahead h t up down o).files) ∙ and-false (waits_for_all e)
 
-  -- where no lock of its file is held, the file is known and open ahead as it is here
-  abbrev FreeFile : Option ℕ → Type 0
-  FreeFile None = Unit {0}
-  FreeFile (Some f) = IsFree (view f t)
+  -- a file that is locked while the command lock is free stays open
+  locked-ahead : (f : ℕ) → t.command_lock ≡ false → is_open t f ≡ true → is_open (term_ahead h t up down o) f ≡ true
+  locked-ahead f c opened =
+      open-view (term_ahead h t up down o) f
+      (stays-open (at_file f (down ++ o.kept.frames)) (view f t) (view f (term_ahead h t up down o)) c (opened_at t f opened) (o.kept.each f).guarded (run-ahead h t up down o f))
 
-  free-file : (f : Option ℕ) → t.command_lock ≡ false → is_file_locked t f ≡ false → FreeFile f
-  free-file None c k = tt
-  free-file (Some f) c k = free_at t f c k
+  -- it is known and open ahead as it is here, where the command lock is free
+  same-known : (f : ℕ) → t.command_lock ≡ false → (is_known term_rest f ≡ is_known t f) × (is_open term_rest f ≡ is_open t f)
+  same-known f c = by (nat_lt 0 (window_at t f).locks) refl
+    where
+      by : (b : Bool) → nat_lt 0 (window_at t f).locks ≡ b → (is_known term_rest f ≡ is_known t f) × (is_open term_rest f ≡ is_open t f)
+      by false k = let free = free_at t f c k in (known-rest f free, open-rest f free)
+      by true k =
+          let opened = locked-open t f k in
+          let z = term_ahead h t up down o in
+          let seen = sight-rest o.kept.ahead z in
+          let there = locked-ahead f c opened in
+          (knows-alike term_rest z f seen ∙ open-known z f there ∙ sym (open-known t f opened), opens-alike term_rest z f seen ∙ there ∙ sym opened)
 
-  same-unknown : (f : Option ℕ) → FreeFile f → is_unknown term_rest f ≡ is_unknown t f
-  same-unknown None free = refl
-  same-unknown (Some f) free = ap not (known-rest f free)
+  same-unknown : (f : Option ℕ) → t.command_lock ≡ false → is_unknown term_rest f ≡ is_unknown t f
+  same-unknown None c = refl
+  same-unknown (Some f) c = ap not (same-known f c).0
 
-  same-closed : (f : Option ℕ) → FreeFile f → is_closed term_rest f ≡ is_closed t f
-  same-closed None free = refl
-  same-closed (Some f) free = ap not (open-rest f free)
+  same-closed : (f : Option ℕ) → t.command_lock ≡ false → is_closed term_rest f ≡ is_closed t f
+  same-closed None c = refl
+  same-closed (Some f) c = ap not (same-known f c).1
 
   handy : (e : UserEvent) → t.command_lock ≡ false → is_file_locked t (file_of e) ≡ false → (needs_open e && is_closed t (file_of e)) ≡ false → IsHandy e
   handy e c k n f ef needs = (
@@ -322,61 +296,41 @@ module _ (h : PlainHost) (t : PlainTerminal) (up : List Tmesg) (down : List Hmes
     not-false (is_open t f) (sym (λ i. needs i && is_closed t (ef i)) ∙ n),
   )
 
+  -- an event waits here, or just what stands against it here stands against it ahead
+  pub verdict-rest : (e : UserEvent) → (first_of_checks (event_checks t e) ≡ Some Waits) ⊎ (first_of_checks (event_checks t e) ≡ first_of_checks (event_checks term_rest e))
+  verdict-rest e = by t.has_exited t.command_lock refl refl
+    where
+      by : (x c : Bool) → t.has_exited ≡ x → t.command_lock ≡ c → (first_of_checks (event_checks t e) ≡ Some Waits) ⊎ (first_of_checks (event_checks t e) ≡ first_of_checks (event_checks term_rest e))
+      by true c x k = inr (exited-first t e x ∙ sym (exited-first term_rest e (exits-ahead x)))
+      by false true x k = inl (waits-first t e x k)
+      by false false x k = elim (about-same (is_bad_version e) (is_unknown t (file_of e)) (is_for_command_file e) (needs_open e && is_closed t (file_of e)) here there (λ n. at_lock n (meets_lock t e) refl)) [
+        | inl w ↦ inl (file-first t e x k ∙ w)
+        | inr same ↦
+            inr
+            (file-first t e x k ∙ same
+            ∙ sym (λ i. about_file (is_bad_version e) (same-unknown (file_of e) k i) (is_for_command_file e) (needs_open e && same-closed (file_of e) k i) there)
+            ∙ sym (file-first term_rest e (stays-ahead x k) refl))
+      ]
+        where
+          here : Option Verdict
+          here = if meets_lock t e then Some Waits else first_of_checks (about_text t e)
+
+          there : Option Verdict
+          there = if meets_lock term_rest e then Some Waits else first_of_checks (about_text term_rest e)
+
+          at_lock : (needs_open e && is_closed t (file_of e)) ≡ false → (b : Bool) → meets_lock t e ≡ b → (here ≡ Some Waits) ⊎ (here ≡ there)
+          at_lock n true l = inl (ap (λ (b : Bool). if b then Some Waits else first_of_checks (about_text t e)) l)
+          at_lock n false l =
+              let open_here = handy e k (or-none (is_file_locked t (file_of e)) _ l) n in
+              inr
+              (ap (λ (b : Bool). if b then Some Waits else first_of_checks (about_text t e)) l
+              ∙ sym (λ i. first_of_checks ((same-place e open_here i, Refuses refusal.BadPosition) ∷ (same-long e k i, Refuses refusal.TextTooLong) ∷ (same-room e open_here i, Refuses refusal.TooLong) ∷ []))
+              ∙ sym (ap (λ (b : Bool). if b then Some Waits else first_of_checks (about_text term_rest e)) (all-unlocked-rest (file_of e) e)))
+
   -- nothing stands against it ahead where nothing stands against it here
   pub passes-rest : (e : UserEvent) → first_of_checks (event_checks t e) ≡ None → first_of_checks (event_checks term_rest e) ≡ None
-  passes-rest e q =
-      let p = passed t e q in
-      let free = free-file (file_of e) p.free p.unlocked in
-      let k = handy e p.free p.unlocked p.opened in
-      none-stands (event_checks term_rest e) (
-        stays-ahead p.here p.free,
-        (
-          refl,
-          (
-            p.version,
-            (
-              same-unknown (file_of e) free ∙ p.known,
-              (
-                p.other,
-                (
-                  ap (λ (b : Bool). needs_open e && b) (same-closed (file_of e) free) ∙ p.opened,
-                  (
-                    all-unlocked-rest (file_of e) e,
-                    (same-place e k ∙ p.place, (same-long e p.free ∙ long-text t e q, (same-room e k ∙ p.room, tt))),
-                  ),
-                ),
-              ),
-            ),
-          ),
-        ),
-      )
-
-  -- an unknown file, and one that is not open, is free where the command lock is
-  free-unknown : (f : Option ℕ) → t.command_lock ≡ false → is_unknown t f ≡ true → FreeFile f
-  free-unknown None c e = tt
-  free-unknown (Some f) c e = unknown_free t f c e
-
-  free-closed : (f : Option ℕ) → t.command_lock ≡ false → is_closed t f ≡ true → FreeFile f
-  free-closed None c e = tt
-  free-closed (Some f) c e = closed_free t f c e
+  passes-rest e q = elim (verdict-rest e) [ inl w ↦ absurd (none-waits (sym q ∙ w)) | inr same ↦ sym same ∙ q ]
 
   -- what is refused here is refused ahead
-  pub stands-rest : (e : UserEvent) (r : Refusal) → first_of_checks (event_checks t e) ≡ Some (Refuses r) → AnyHolds (event_checks term_rest e)
-  stands-rest e r q = by (decided t e r q)
-    where
-      by : Decided t e → AnyHolds (event_checks term_rest e)
-      by (exited x) = inl (exits-ahead x)
-      by (version x) = inr (inr (inl x))
-      by (unknown c x) = inr (inr (inr (inl (same-unknown (file_of e) (free-unknown (file_of e) c x) ∙ x))))
-      by (command x) = inr (inr (inr (inr (inl x))))
-      by (closed c n x) =
-          inr (inr (inr (inr (inr (inl ((λ i. n i && same-closed (file_of e) (free-closed (file_of e) c x) i) ∙ x))))))
-      by (later c k n x) =
-          let here = handy e c k n in
-          inr (inr (inr (inr (inr (inr (inr (last here c x)))))))
-        where
-          last : IsHandy e → t.command_lock ≡ false → (has_bad_place t e ≡ true) ⊎ ((has_long_text t e ≡ true) ⊎ (makes_too_long t e ≡ true))
-              → (has_bad_place term_rest e ≡ true) ⊎ ((has_long_text term_rest e ≡ true) ⊎ ((makes_too_long term_rest e ≡ true) ⊎ ⊥))
-          last k c (inl y) = inl (same-place e k ∙ y)
-          last k c (inr (inl y)) = inr (inl (same-long e c ∙ y))
-          last k c (inr (inr y)) = inr (inr (inl (same-room e k ∙ y)))
+  pub refused-rest : (e : UserEvent) (r : Refusal) → first_of_checks (event_checks t e) ≡ Some (Refuses r) → first_of_checks (event_checks term_rest e) ≡ Some (Refuses r)
+  refused-rest e r q = elim (verdict-rest e) [ inl w ↦ absurd (waits-is r (same_Some _ _ (sym w ∙ q))) | inr same ↦ sym same ∙ q ]

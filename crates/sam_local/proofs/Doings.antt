@@ -1,14 +1,14 @@
 -- Files that join the editor without a network.
-use Rattle.sam_crossing.proofs.Common.{◌≡◌, ℕ, zero, suc, ◌+◌, ◌<◌, Bool, true, false, List, [], ◌∷◌, ◌++◌, length, map, Option, Some, None, is_some, option_map, nat_lt, refl, sym, ap, ◌∙◌, subst, true≢false, arith, Slots, slot, PlainFile, PlainFiles, PlainHost, Reply, given_slots, put_slot-push, file_at, Tmesg, Hmesg, KnownFile, Window, UserEvent, PlainTerminal, is_open, unsent_message, answers, Lens, HFile, Absent, IsOpened, Fits_slot, InOrder, file_in, view}
+use Rattle.sam_crossing.proofs.Common.{◌≡◌, ℕ, suc, ◌+◌, ◌<◌, Bool, true, false, List, [], ◌∷◌, ◌++◌, length, map, Option, Some, None, is_some, option_map, nat_lt, refl, sym, ap, ◌∙◌, subst, arith, Slots, slot, PlainFile, PlainFiles, PlainHost, given_slots, put_slot-push, file_at, Tmesg, Hmesg, KnownFile, Window, UserEvent, PlainTerminal, is_open, unsent_message, answers, Absent, Fits_slot, InOrder, file_in}
 use Rattle.std.specs.Prelude.{unwrap_or}
-use Rattle.sam_host.specs.Host.{with_given, given_file}
+use Rattle.sam_host.specs.Host.{given_file}
 use Rattle.sam_term.specs.Windows.{blank_known}
 use Rattle.sam_crossing.specs.Joining.{more_files, with_more}
 use Rattle.sam_crossing.specs.View.{slot_of}
 use Rattle.sam_crossing.proofs.HostFiles.{not_given}
-use Rattle.sam_crossing.proofs.Joining.{slot-more, file-more}
+use Rattle.sam_crossing.proofs.Joining.{file-more}
 use Rattle.sam_crossing.proofs.MoreFiles.{nothing_more, one_more}
-use Rattle.sam_local.specs.Local.{PlainEditor, Doing, Did, Joined, whole_window, whole_file, whole_slots, at_rest, all_taken, answered_with, come_to, joined, after_doing, done_on, events_in, files_in}
+use Rattle.sam_local.specs.Local.{PlainEditor, Doing, Did, Joined, whole_window, whole_file, whole_slots, at_rest, answered_with, come_to, joined, after_doing, done_on, events_in, files_in}
 use Rattle.sam_local.specs.Editing.{FileJoins}
 use Rattle.sam_local.proofs.Ahead.{term_ahead, synced-ahead, come-to-is}
 
@@ -43,7 +43,7 @@ joined-all [] editor = ap (λ (h : PlainHost). record editor { host = h }) (sym 
 joined-all (x ∷ more) editor = joined-all more (joined editor x) ∙ ap (λ (h : PlainHost). record editor { host = h }) (one_more editor.host x (given_slots more))
 
 -- a file that is open at the terminal has the text that it had
-whole-more : (fs gs : PlainFiles) (n : ℕ) (ss : Slots KnownFile)
+pub whole-more : (fs gs : PlainFiles) (n : ℕ) (ss : Slots KnownFile)
     → ((f : ℕ) → is_some (unwrap_or (slot ss f) blank_known).window ≡ true → file_at gs (n + f) ≡ file_at fs (n + f)) → whole_slots gs n ss ≡ whole_slots fs n ss
 whole-more fs gs n [] same = refl
 whole-more fs gs n (s ∷ ss) same = λ i. first s here i ∷ whole-more fs gs (suc n) ss (λ f e. subst (λ (k : ℕ). file_at gs k ≡ file_at fs k) (omega arith) (same (suc f) e)) i

@@ -1,5 +1,5 @@
 -- Every editor that events lead to stands as both sides do where nothing is under way, and what an event does to it, by its messages.
-use Rattle.sam_crossing.proofs.Common.{◌≡◌, ℕ, ◌+◌, ◌<◌, ◌≤◌, max_runes, Slots, PlainFile, given_slots, unsent_message, Bool, true, false, List, [], ◌∷◌, ◌++◌, length, map, Option, Some, None, is_some, unwrap_or, refl, sym, ap, ◌∙◌, subst, true≢false, arith, same_Some, option_map, not-false, ltb-false, append-nil, length-map, length-append, length-drop, length-take-le, slot, slot-map, slot-free_same, slot-free_other, Agrees, PartialText, load_cells, first_of_checks, Checks, PlainFiles, file_at, Tmesg, Hmesg, PlainHost, Reply, counted, reply_to, answers, reply_of, replied_then, Window, KnownFile, UserEvent, PlainTerminal, known_at, window_at, is_open, put_window, TermFault, frame_checks, event_checks, event_outcome, blank_window, Lens, Open, Fits_slot, HFile, Absent, Hidden, Named, Opened, Gone, IsSynced, InOrder, AllComeToSync, AreTidy, IsTidyWindow, at_file, action, run, effect, view, views, file_in, slot_of_window, took_bindname, took_data, took_grow, took_growdata, took_cut, took_unlockfile, took_close, took_exit}
+use Rattle.sam_crossing.proofs.Common.{◌≡◌, ℕ, ◌+◌, ◌<◌, ◌≤◌, max_runes, Slots, PlainFile, given_slots, unsent_message, Bool, true, false, List, [], ◌∷◌, ◌++◌, length, map, Option, Some, None, is_some, unwrap_or, refl, sym, ap, ◌∙◌, subst, true≢false, arith, same_Some, option_map, not-false, ltb-false, append-nil, length-map, length-append, length-drop, length-take-le, slot, slot-map, slot-free_same, slot-free_other, Agrees, PartialText, load_cells, first_of_checks, Checks, PlainFiles, file_at, has_file, Tmesg, Hmesg, PlainHost, Reply, counted, reply_to, answers, reply_of, replied_then, Window, KnownFile, UserEvent, PlainTerminal, known_at, window_at, is_open, put_window, TermFault, frame_checks, event_checks, event_outcome, blank_window, Lens, Open, Fits_slot, HFile, Absent, Hidden, Named, Opened, Gone, IsSynced, InOrder, AllComeToSync, AreTidy, IsTidyWindow, at_file, action, run, effect, view, views, file_in, slot_of_window, took_bindname, took_data, took_grow, took_growdata, took_cut, took_unlockfile, took_close, took_exit}
 use Rattle.sam_runes.proofs.CheckLaws.{none_holds}
 use Rattle.sam_term.specs.Term.{past_end}
 use Rattle.sam_term.specs.declared.event.UserEvent.TheVariants.{Typed, View, Load}
@@ -180,6 +180,12 @@ reached-stands editor r = subst Stands (sym r.is) (stands-on r.doings (new_edito
 
 -- ## What an event does, by its messages
 
+opens-both : (t : PlainTerminal) (fs : PlainFiles) (f : ℕ) (d : Bool) (n : ℕ) → IsSynced (view f t) d n (file_in fs.slots f) → is_open t f ≡ (file_at fs f).opened
+opens-both t fs f d n s = grind arith
+
+has-opened : (fs : PlainFiles) (f : ℕ) → (file_at fs f).opened ≡ true → has_file fs f ≡ true
+has-opened fs f e = grind arith
+
 -- the reply of a host that goes on, where it doesn't refuse
 pub replied-is : (h : PlainHost) (m : Tmesg) (r : Reply) → h.is_done ≡ false → reply_of h m ≡ Some r → r ≡ (counted (reply_to h m).0, (reply_to h m).1)
 replied-is h m r d e = grind arith
@@ -188,13 +194,20 @@ module _ (h : PlainHost) (t : PlainTerminal) (o : InOrder (rest h) (at_rest h t)
   abbrev term : PlainTerminal
   term = (at_rest h t).term
 
-  synced-here : (g : ℕ) → IsSynced (view g (at_rest h t).term) h.is_done h.version (file_in h.files.slots g)
+  pub synced-here : (g : ℕ) → IsSynced (view g (at_rest h t).term) h.is_done h.version (file_in h.files.slots g)
   synced-here g =
       subst (λ (r : Reply). IsSynced (view g (all_taken (at_rest h t).term ([] ++ r.1))) r.0.is_done r.0.version (file_in r.0.files.slots g)) (sym (same_Some _ _ o.kept.folds))
       (synced-ahead (rest h) (at_rest h t).term [] [] o g)
 
   pub open-here : (f : ℕ) → is_open t f ≡ is_open (at_rest h t).term f
   open-here f = sym (opens-alike (at_rest h t).term t f (sight-rest h t))
+
+  -- a file that is known is open here where it is there, and is there
+  pub opened-same : (f : ℕ) → is_open (at_rest h t).term f ≡ (file_at h.files f).opened
+  opened-same f = opens-both (at_rest h t).term h.files f _ _ (synced-here f)
+
+  pub has-open : (f : ℕ) → is_open (at_rest h t).term f ≡ true → has_file h.files f ≡ true
+  has-open f e = has-opened h.files f (sym (opened-same f) ∙ e)
 
   apart-here : (e : UserEvent) → Passed (at_rest h t).term e → IsApart (at_rest h t).term e
   apart-here (Typed f []) p = tt

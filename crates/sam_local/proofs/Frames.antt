@@ -37,7 +37,7 @@ loaded_window p s w = window_at (took_data (put_window new_terminal 0 w) 0 p s) 
 
 -- ## Frames act on the sight
 
-bare-freed : (known : KnownFile) → bare (freed_known known) ≡ bare known
+pub bare-freed : (known : KnownFile) → bare (freed_known known) ≡ bare known
 bare-freed known = grind arith
 
 pub sight-effect : (t : PlainTerminal) (m : Hmesg) → sight (effect (sight t) m) ≡ sight (effect t m)

@@ -5,7 +5,7 @@ pub mod Ahead
 pub mod Steps
 pub mod Takes
 pub mod Gentle
-pub mod Cleans
+pub mod Marks
 pub mod Uncounted
 pub mod Joined
 pub mod Events
@@ -15,8 +15,12 @@ pub mod Held
 pub mod Doings
 pub mod Runs
 pub mod Editors
+pub mod Whole
+pub mod Seen
 pub mod Editing
 pub mod Finding
 pub mod Lines
+pub mod Opening
 pub mod Looking
 pub mod Replacing
+pub mod Names

@@ -1,8 +1,9 @@
 -- What every run keeps: the outlook of the world is what the events that have acted do to the editor without a network.
-use Rattle.sam_crossing.proofs.Common.{◌≡◌, ℕ, Bool, true, false, not, List, [], ◌∷◌, ◌++◌, Option, Some, None, Result, Ok, refl, sym, ap, ◌∙◌, subst, is_some, arith, append-nil, append_assoc, same_Some, map-append, length-append, option_map, unwrap_or, map, take, length, ◌-◌, if◌then◌else◌, at_file, given_slots, is_empty, first_of_checks, PlainHost, Reply, answer, stamped, HostFault, PlainTerminal, Made, flushed, frame_outcome, event_checks, event_outcome, window_at, TermFault, UserEvent, Tmesg, Hmesg, true≢false, and_parts, ◌&&◌, ◌||◌, is_open, is_file_locked, unsent_message, Window, Unsent, answers, reply_of, InOrder, view}
+use Rattle.sam_crossing.proofs.Common.{◌≡◌, ℕ, Bool, true, false, not, List, [], ◌∷◌, ◌++◌, Option, Some, None, Result, Ok, refl, sym, ap, ◌∙◌, subst, is_some, arith, append-nil, append_assoc, same_Some, map-append, length-append, option_map, unwrap_or, map, take, length, ◌-◌, if◌then◌else◌, at_file, given_slots, is_empty, first_of_checks, PlainHost, Reply, answer, stamped, HostFault, PlainTerminal, Made, flushed, frame_outcome, event_checks, event_outcome, window_at, TermFault, UserEvent, Tmesg, Hmesg, true≢false, and_parts, ◌&&◌, ◌||◌, is_open, is_file_locked, unsent_message, Window, Unsent, answers, InOrder, view, slot, blank_known, file_at}
 use Rattle.std.proofs.Common.{Err, option_and_then}
 use Rattle.std.proofs.Math.Seq.{take-append_seam}
 use Rattle.sam_term.specs.declared.event.Acted.TheVariants.{Done}
+use Rattle.sam_term.specs.declared.records.KnownFile.{KnownFile}
 use Rattle.sam_term.specs.Term.{act_of, act_on, decided, flush_of, take_of, if_countable}
 use Rattle.sam_term.specs.declared.event.Verdict.{Verdict}
 use Rattle.sam_term.specs.declared.event.Acted.{Acted}
@@ -21,15 +22,17 @@ use Rattle.sam_crossing.proofs.RunLaws.{counted-result}
 use Rattle.sam_crossing.proofs.Lenses.{IsFree, frees_command}
 use Rattle.sam_crossing.proofs.MoreFiles.{nothing_more, one_more, given_kept, deaf_reply, frees-behind, answers_behind, heard_frees, unheard_is}
 use Rattle.sam_crossing.proofs.OrderLaws.{Joins, joins_step, answer_gives, starts_in_order, steps_in_order}
-use Rattle.sam_local.specs.Local.{PlainEditor, Doing, Did, Joined, at_rest, answered_with, come_to, carried, carried_on, carried_all, carried_through, done_on, events_in, files_in, new_editor}
-use Rattle.sam_local.specs.Worlds.{outlook, Order, in_order, let_go, hears_first, order_after, order_on, doings_of, ShowsFile, ComesInOrder, IsAsIfLocal, HasLed, EndsAsIfLocal, ShowsAsIfLocal, WasAsIfLocal, RunsComeInOrder, RunsAreAsIfLocal, RestIsAsIfLocal, OneRestForAll, AloneInOrder}
-use Rattle.sam_local.proofs.Gentle.{CleansGuarded}
-use Rattle.sam_local.proofs.Cleans.{cleans-both, cleans-reply_of}
+use Rattle.sam_local.specs.Local.{PlainEditor, AreMarkedAlike, whole_file, Doing, Did, Joined, at_rest, answered_with, come_to, carried, carried_on, carried_all, carried_through, done_on, events_in, files_in, new_editor}
+use Rattle.sam_local.specs.Worlds.{outlook, Order, in_order, let_go, hears_first, order_after, order_on, doings_of, ShowsFile, RefusesAs, IsAsIfLocal, EndsAsIfLocal, ShowsAsIfLocal, WasAsIfLocal, RunsComeInOrder, RunsAreAsIfLocal, RestIsAsIfLocal, OneRestForAll, AloneInOrder}
+use Rattle.sam_local.proofs.Gentle.{MarksGuarded}
+use Rattle.sam_local.proofs.Marks.{marks-both, marks-reply_of}
 use Rattle.sam_local.proofs.Ahead.{come-to-is, window-is}
 use Rattle.sam_local.proofs.Doings.{done-append, events-append, events-did, files-append, files-did, joined-all, come-to-more}
 use Rattle.sam_local.proofs.Steps.{comes-alike, host-takes, flushes}
 use Rattle.sam_local.proofs.Takes.{term-takes}
-use Rattle.sam_local.proofs.Checks.{window-rest, open-rest}
+use Rattle.sam_local.specs.Editing.{IsReached}
+use Rattle.sam_local.proofs.Names.{names_and_marks_agree}
+use Rattle.sam_local.proofs.Checks.{slot-whole, kept-rest, window-rest, open-rest, verdict-rest}
 use Rattle.sam_local.proofs.Acts.{acts, refuses}
 use Rattle.sam_local.proofs.Held.{event-held, frame-held}
 
@@ -46,7 +49,7 @@ later o more = record o { settled = o.settled ++ map Joined more }
 -- however many files join now, the world comes to what its doings do
 pub record IsKept (given : List (List ℕ × List ℕ)) (w : PlainWorld) (o : Order) : Type 0 where
   pub order : IsInOrder w
-  pub cleans : (f : ℕ) → CleansGuarded f (mesgs w.down)
+  pub marks : (f : ℕ) → MarksGuarded f (mesgs w.down)
   pub comes : (more : List (List ℕ × List ℕ)) → AreGiven more → outlook (with_joined w more) ≡ carried_through given (in_order (later o more))
 
 -- as it is
@@ -62,19 +65,19 @@ record Steps (given : List (List ℕ × List ℕ)) (w next : PlainWorld) (o : Or
   held : w.term.held ≡ more ++ next.term.held
 
 -- a step in which no event acts
-idles : {given : List (List ℕ × List ℕ)} {w next : PlainWorld} {o : Order} → IsKept given w o → IsInOrder next → ((f : ℕ) → CleansGuarded f (mesgs next.down))
+idles : {given : List (List ℕ × List ℕ)} {w next : PlainWorld} {o : Order} → IsKept given w o → IsInOrder next → ((f : ℕ) → MarksGuarded f (mesgs next.down))
     → ((more : List (List ℕ × List ℕ)) → AreGiven more → outlook (with_joined w more) ≡ outlook (with_joined next more)) → IsKept given next o
-idles {given} {w} {next} {o} k i c e = record { order = i; cleans = c; comes = λ more few. sym (e more few) ∙ k.comes more few }
+idles {given} {w} {next} {o} k i c e = record { order = i; marks = c; comes = λ more few. sym (e more few) ∙ k.comes more few }
 
 waits : {given : List (List ℕ × List ℕ)} {w next : PlainWorld} {o : Order} → IsKept given next o → next.term.held ≡ w.term.held → Steps given w next o
 waits {given} {w} {next} {o} k h = record { more = []; kept = subst (λ (l : List UserEvent). IsKept given next (record o { since = l })) (sym (append-nil o.since)) k; held = sym h }
 
 -- a step in which one event acts, or is refused
-does : {given : List (List ℕ × List ℕ)} {w next : PlainWorld} {o : Order} (e : UserEvent) → IsKept given w o → IsInOrder next → ((f : ℕ) → CleansGuarded f (mesgs next.down))
+does : {given : List (List ℕ × List ℕ)} {w next : PlainWorld} {o : Order} (e : UserEvent) → IsKept given w o → IsInOrder next → ((f : ℕ) → MarksGuarded f (mesgs next.down))
     → ((more : List (List ℕ × List ℕ)) → AreGiven more → outlook (with_joined next more) ≡ carried (outlook (with_joined w more)) e) → w.term.held ≡ e ∷ next.term.held → Steps given w next o
 does {given} {w} {next} {o} e k i c q h = record {
   more = e ∷ [];
-  kept = record { order = i; cleans = c; comes = comes };
+  kept = record { order = i; marks = c; comes = comes };
   held = h;
 }
   where
@@ -125,12 +128,12 @@ module _ (given : List (List ℕ × List ℕ)) (w : PlainWorld) (m : Tmesg) (ms 
   took-frames : mesgs (w.down ++ stamped goes.reply.0.taken goes.reply.1) ≡ mesgs w.down ++ goes.reply.1
   took-frames = map-append (λ (f : HFrame). f.msg) w.down (stamped r.0.taken r.1) ∙ ap (λ (fs : List Hmesg). down ++ fs) (mesgs_stamped r.0.taken r.1)
 
-  took-cleans : (f : ℕ) → CleansGuarded f (mesgs (taken w ms goes.reply).down)
-  took-cleans f = subst (CleansGuarded f) (sym took-frames) (cleans-both f down r.1 (k.cleans f) (cleans-reply_of f w.host m r goes.answers_it))
+  took-marks : (f : ℕ) → MarksGuarded f (mesgs (taken w ms goes.reply).down)
+  took-marks f = subst (MarksGuarded f) (sym took-frames) (marks-both f down r.1 (k.marks f) (marks-reply_of f w.host m r goes.answers_it))
 
   -- a message that doesn't hear of files
   took-deaf : is_heard w.host m ≡ false → IsKept given (taken w ms goes.reply) o
-  took-deaf e = idles k i took-cleans same
+  took-deaf e = idles k i took-marks same
     where
       same : (more : List (List ℕ × List ℕ)) → AreGiven more → outlook (with_joined w more) ≡ outlook (with_joined (taken w ms goes.reply) more)
       same more few =
@@ -143,7 +146,7 @@ module _ (given : List (List ℕ × List ℕ)) (w : PlainWorld) (m : Tmesg) (ms 
 
   -- one that does: no other is up, so files may join after all that was done
   took-heard : is_heard w.host m ≡ true → IsKept given (taken w ms goes.reply) (record { settled = in_order o; since = [] })
-  took-heard e = record { order = i; cleans = took-cleans; comes = comes }
+  took-heard e = record { order = i; marks = took-marks; comes = comes }
     where
       after : List Hmesg
       after = down ++ r.1
@@ -200,7 +203,7 @@ term-steps given w next o k i (frame ∷ frames) eu s = by (take_of w.term frame
     before = ap mesgs eu
 
     done : IsInOrder took → IsKept given took o
-    done i = idles k i (λ f. (subst (CleansGuarded f) before (k.cleans f)).1)
+    done i = idles k i (λ f. (subst (MarksGuarded f) before (k.marks f)).1)
         (λ more few. ap (come_to (with_more w.host (given_slots more)) w.term w.up) before
         ∙ term-takes (with_more w.host (given_slots more)) w.term w.up frame.msg (mesgs frames) (order-more w k.order (frame.msg ∷ mesgs frames) before more few) (i.joined more few))
 
@@ -225,7 +228,7 @@ flush-steps given w next o k i s = by (flush_of w.term) refl s
         let same = counted-result (flushed w.term).0.sent (flushed w.term) x q in
         let is : took ≡ next = ap (λ (y : Made). record w { term = y.0; up = w.up ++ y.1 }) same ∙ same_Some _ _ e in
         subst (λ (v : PlainWorld). IsKept given v o × (w.term.held ≡ v.term.held)) is
-        (idles k (subst IsInOrder (sym is) i) k.cleans (λ more few. flushes (with_more w.host (given_slots more)) w.term w.up (mesgs w.down)), sym (flushed-held w.term))
+        (idles k (subst IsInOrder (sym is) i) k.marks (λ more few. flushes (with_more w.host (given_slots more)) w.term w.up (mesgs w.down)), sym (flushed-held w.term))
 
 -- ## An act
 
@@ -257,8 +260,8 @@ act-steps given w next o k i (e ∷ es) eh s = by (first_of_checks (event_checks
     by (Some (Refuses r)) q x =
         let is : record w { term = t } ≡ next = ap (λ (l : List Tmesg). record w { term = t; up = l }) (sym (append-nil w.up)) ∙ same_Some _ _ x in
         subst (λ (v : PlainWorld). Steps given w v o) is
-        (does e k (subst IsInOrder (sym is) i) k.cleans
-        (λ more few. let h = with_more w.host (given_slots more) in refuses h t w.up (mesgs w.down) (there more few) k.cleans e r q ∙ ap (λ (y : PlainEditor). carried y e) (sym (let_loose h))) eh)
+        (does e k (subst IsInOrder (sym is) i) k.marks
+        (λ more few. let h = with_more w.host (given_slots more) in refuses h t w.up (mesgs w.down) (there more few) k.marks e r q ∙ ap (λ (y : PlainEditor). carried y e) (sym (let_loose h))) eh)
     by None q x = go (if_countable made.0.sent (made.0, Done made.1)) refl x
       where
         took : PlainWorld
@@ -271,8 +274,8 @@ act-steps given w next o k i (e ∷ es) eh s = by (first_of_checks (event_checks
             let is : took ≡ next = ap (λ (p : PlainTerminal × Acted). record w { term = p.0; up = w.up ++ composed_by p.1 }) same ∙ same_Some _ _ y in
             let order = subst IsInOrder (sym is) i in
             subst (λ (v : PlainWorld). Steps given w v o) is
-            (does e k order k.cleans
-            (λ more few. let h = with_more w.host (given_slots more) in acts h t w.up (mesgs w.down) (there more few) k.cleans e q (order.joined more few) ∙ ap (λ (y : PlainEditor). carried y e) (sym (let_loose h)))
+            (does e k order k.marks
+            (λ more few. let h = with_more w.host (given_slots more) in acts h t w.up (mesgs w.down) (there more few) k.marks e q (order.joined more few) ∙ ap (λ (y : PlainEditor). carried y e) (sym (let_loose h)))
             (eh ∙ ap (λ (l : List UserEvent). e ∷ l) (sym (event-held t e))))
 
 -- ## Every step
@@ -313,7 +316,7 @@ user-goes given w next e o k i is =
     let t : PlainTerminal = record w.term { held = w.term.held ++ e ∷ [] } in
     subst (λ (v : PlainWorld). Goes given w v (User e) o o) is
     (record {
-      kept = idles k (subst IsInOrder (sym is) i) k.cleans (λ more few. comes-alike (with_more w.host (given_slots more)) w.term t w.up w.up (mesgs w.down) refl refl);
+      kept = idles k (subst IsInOrder (sym is) i) k.marks (λ more few. comes-alike (with_more w.host (given_slots more)) w.term t w.up w.up (mesgs w.down) refl refl);
       said = sym (append_assoc (events_in (in_order o)) w.term.held (e ∷ []));
       joins = sym (append-nil (files_in (in_order o)));
     })
@@ -335,7 +338,7 @@ add-goes given w next name text o k i s = subst (λ (v : PlainWorld). Goes given
         ∙ ap (λ (l : List Doing). carried_through given (l ++ map Did o.since)) (sym (append_assoc o.settled (Joined (name, text) ∷ []) (map Joined more)))
 
     kept : IsKept given (joined_by w name text) p
-    kept = record { order = subst IsInOrder j.is i; cleans = k.cleans; comes = comes }
+    kept = record { order = subst IsInOrder j.is i; marks = k.marks; comes = comes }
 
     said : events_in (in_order p) ++ w.term.held ≡ (events_in (in_order o) ++ w.term.held) ++ []
     said =
@@ -439,7 +442,7 @@ ran given (e ∷ es) w last o k r = by (step_of w e) refl r (ran given es)
 starts : (given : List (List ℕ × List ℕ)) → AreGiven given → IsKept given (new_world given) (record { settled = []; since = [] })
 starts given fit = record {
   order = starts_in_order given fit;
-  cleans = λ f. tt;
+  marks = λ f. tt;
   comes = λ more few. sym (joined-all more (new_editor given)) ∙ ap (carried_through given) (sym (append-nil (map Joined more)));
 }
 
@@ -457,15 +460,25 @@ shows given w order k f locked opened =
     let o = k.order.ordered in
     let free = or-both t.command_lock (is_file_locked t (Some f)) locked in
     let here : IsFree (view f t) = free_at t f free.0 free.1 in
-    let there = window-rest w.host t w.up down o k.cleans f here opened in
+    let there = window-rest w.host t w.up down o k.marks f here opened in
+    let kept = kept-rest w.host t w.up down o k.marks f here opened in
     subst (λ (editor : PlainEditor). ShowsFile w editor f) (sym (come-to-is w.host t w.up down o) ∙ comes-now given w order k)
     (record {
-      opened = open-rest w.host t w.up down o k.cleans f here ∙ opened;
+      opened = open-rest w.host t w.up down o k.marks f here ∙ opened;
       runes = ((free_shows w.host t w.up down o f here).agrees (window_at t f) (window-is t f opened)).1;
       dot = sym (ap (λ (x : Window). x.dot) there);
       view_start = sym (ap (λ (x : Window). x.view_start) there);
       view_length = sym (ap (λ (x : Window). x.view_length) there);
+      name = sym (ap (λ (x : KnownFile). x.name) kept);
+      dirty = sym (ap (λ (x : KnownFile). x.dirty) kept);
+      changed = sym (ap (λ (x : KnownFile). x.changed) kept);
     })
+
+refuses-as : (given : List (List ℕ × List ℕ)) (w : PlainWorld) (order : Order) → IsKept given w order → RefusesAs w (carried_through given (in_order order))
+refuses-as given w order k =
+    let down = mesgs w.down in
+    let o = k.order.ordered in
+    subst (RefusesAs w) (sym (come-to-is w.host w.term w.up down o) ∙ comes-now given w order k) (verdict-rest w.host w.term w.up down o k.marks)
 
 -- ## Where nothing is under way
 
@@ -477,13 +490,63 @@ quiet_is w e = by w.up w.down w.term.unsent refl refl refl e
     by [] [] None eu ed en x = λ i. answered_with w.host w.term (mesgs (ed i)) (answers w.host (eu i ++ unsent_message (en i)))
     by up down unsent eu ed en x = absurd (grind arith)
 
+-- ## Names and marks
+
+rest-slot : (h : PlainHost) (t : PlainTerminal) (f : ℕ) → slot (at_rest h t).term.files f ≡ option_map (whole_file (file_at h.files f).text) (slot t.files f)
+rest-slot h t f = slot-whole h.files t.files 0 f f (omega arith)
+
+-- what is known of a file at rest
+known-alike : (text : List ℕ) (s : Option KnownFile)
+    → let known = unwrap_or s blank_known in
+    let whole = unwrap_or (option_map (whole_file text) s) blank_known in
+    (is_some (option_map (whole_file text) s) ≡ is_some s) × (whole.name ≡ known.name) × ((whole.dirty || whole.changed) ≡ (known.dirty || known.changed))
+known-alike text None = (refl, refl, refl)
+known-alike text (Some known) = (refl, refl, refl)
+
+marked-rest : (h : PlainHost) (t : PlainTerminal) → AreMarkedAlike (at_rest h t).host (at_rest h t).term → AreMarkedAlike h t
+marked-rest h t m = record {
+  names = λ f e.
+      let same = known-alike (file_at h.files f).text (slot t.files f) in
+      let here = rest-slot h t f in
+      sym (ap (λ (s : Option KnownFile). (unwrap_or s blank_known).name) here ∙ same.1) ∙ m.names f (ap is_some here ∙ same.0 ∙ e);
+  marks = λ f z.
+      let same = known-alike (file_at h.files f).text (slot t.files f) in
+      sym (ap (λ (s : Option KnownFile). (unwrap_or s blank_known).dirty || (unwrap_or s blank_known).changed) (rest-slot h t f) ∙ same.2) ∙ m.marks f z;
+}
+
+-- files that joined are within the limits
+joins-given : (es : List Event) (w last : PlainWorld) → run_of w es ≡ Some last → AreGiven (joined_files es)
+joins-given [] w last r = tt
+joins-given (Add name text ∷ es) w last r = by (step_of w (Add name text)) refl r (joins-given es)
+  where
+    by : (x : Option PlainWorld) → step_of w (Add name text) ≡ x → option_and_then (λ next. run_of next es) x ≡ Some last → ((v z : PlainWorld) → run_of v es ≡ Some z → AreGiven (joined_files es))
+        → AreGiven ((name, text) ∷ joined_files es)
+    by None q x later = absurd (grind arith)
+    by (Some next) q x later = let j = joins_step w next name text q in (j.short.0, j.short.1, later next last x)
+joins-given (e ∷ es) w last r = by (step_of w e) r (joins-given es)
+  where
+    by : (x : Option PlainWorld) → option_and_then (λ next. run_of next es) x ≡ Some last → ((v z : PlainWorld) → run_of v es ≡ Some z → AreGiven (joined_files es)) → AreGiven (joined_files es)
+    by None x later = absurd (grind arith)
+    by (Some next) x later = later next last x
+
 -- ## The laws
 
 pub runs_come_in_order : RunsComeInOrder
 runs_come_in_order given es w fit r =
     let all = ran given es (new_world given) w (record { settled = []; since = [] }) (starts given fit) r in
     let comes = comes-now given w _ all.kept in
-    record { events = sym all.said; files = sym all.joins; comes = comes; quiet = λ q. sym (quiet_is w q) ∙ comes; shows = shows given w _ all.kept }
+    let reached : IsReached (carried_through given (doings_of given es)) =
+    record { given = given; doings = doings_of given es; limits = fit; joins = subst AreGiven (sym all.joins) (joins-given es (new_world given) w r); is = refl } in
+    let alike = names_and_marks_agree (carried_through given (doings_of given es)) reached in
+    record {
+      events = sym all.said;
+      files = sym all.joins;
+      comes = comes;
+      quiet = λ q. sym (quiet_is w q) ∙ comes;
+      shows = shows given w _ all.kept;
+      refuses = refuses-as given w _ all.kept;
+      marks = λ q. marked-rest w.host w.term (subst (λ (x : PlainEditor). AreMarkedAlike x.host x.term) (sym (sym (quiet_is w q) ∙ comes)) alike);
+    }
 
 -- doings of events alone
 alone : (ds : List Doing) → files_in ds ≡ [] → ds ≡ map Did (events_in ds)
@@ -508,6 +571,8 @@ runs_are_as_if_local given es w fit r none =
       comes = x.comes ∙ same;
       quiet = λ q. x.quiet q ∙ same;
       shows = λ f locked opened. subst (λ (editor : PlainEditor). ShowsFile w editor f) same (x.shows f locked opened);
+      refuses = subst (RefusesAs w) same x.refuses;
+      marks = x.marks;
     }
 
 none_held : (held : List UserEvent) → is_empty held ≡ true → held ≡ []

@@ -1,5 +1,5 @@
 -- The editor without a network: each event of the user is carried through to its end before the next one begins.
-use Rattle.std.specs.Prelude.{ℕ, suc, false, List, [], ◌∷◌, ◌++◌, map, Option, Some, None, option_map}
+use Rattle.std.specs.Prelude.{◌≡◌, ℕ, suc, true, false, ◌==◌, List, [], ◌∷◌, ◌++◌, map, Option, Some, None, option_map}
 use Rattle.sam_runes.specs.Slots.{Slots}
 use Rattle.sam_runes.specs.Checks.{first_of_checks}
 use Rattle.sam_text.specs.Files.{PlainFiles, file_at}
@@ -11,7 +11,7 @@ use Rattle.sam_term.specs.declared.records.KnownFile.{KnownFile}
 use Rattle.sam_term.specs.declared.event.UserEvent.{UserEvent}
 use Rattle.sam_term.specs.declared.event.Verdict.{Verdict}
 use Rattle.sam_term.specs.Windows.{blank_window}
-use Rattle.sam_term.specs.Term.{PlainTerminal, Made, new_terminal, event_checks, event_outcome, unsent_message}
+use Rattle.sam_term.specs.Term.{PlainTerminal, Made, new_terminal, event_checks, event_outcome, is_changed, is_known, known_at, unsent_message}
 use Rattle.sam_crossing.specs.Fold.{answers}
 use Rattle.sam_crossing.specs.View.{effect}
 
@@ -82,6 +82,14 @@ new_editor given = at_rest (new_host given) new_terminal
 -- the editor with files of these names and texts, after these events
 abbrev pub carried_all : List (List ℕ × List ℕ) → List UserEvent → PlainEditor
 carried_all given es = carried_on (new_editor given) es
+
+-- ## Names and marks
+
+-- the terminal has the names that the host has, of all files that it knows. And it says of each file but the command file whether that
+-- is dirty
+pub record AreMarkedAlike (h : PlainHost) (t : PlainTerminal) : Type 0 where
+  pub names : (f : ℕ) → is_known t f ≡ true → (known_at t f).name ≡ (file_at h.files f).name
+  pub marks : (f : ℕ) → (f == 0) ≡ false → is_changed t f ≡ (file_at h.files f).dirty
 
 -- ## Files that join
 

@@ -1,18 +1,20 @@
 -- Runs of the world beside the editor without a network.
-use Rattle.std.specs.Prelude.{◌≡◌, ℕ, ◌-◌, true, false, ◌&&◌, Bool, if◌then◌else◌, List, [], ◌∷◌, ◌++◌, length, map, take, Some, option_map, unwrap_or}
+use Rattle.std.specs.Prelude.{◌≡◌, ◌⊎◌, ℕ, ◌-◌, true, false, ◌&&◌, Bool, if◌then◌else◌, List, [], ◌∷◌, ◌++◌, length, map, take, Some, option_map, unwrap_or}
 use Rattle.sam_runes.specs.Texts.{is_empty}
+use Rattle.sam_runes.specs.Checks.{first_of_checks}
 use Rattle.sam_rasp.specs.Rasp.{Agrees}
 use Rattle.sam_text.specs.Files.{file_at}
 use Rattle.sam_host.specs.Laws.{AreGiven}
 use Rattle.sam_term.specs.declared.event.UserEvent.{UserEvent}
-use Rattle.sam_term.specs.Term.{is_open, window_at}
+use Rattle.sam_term.specs.declared.event.Verdict.TheVariants.{Waits}
+use Rattle.sam_term.specs.Term.{event_checks, is_open, known_at, window_at}
 use Rattle.sam_mesg.specs.declared.tmesg.Tmesg.{Tmesg}
 use Rattle.sam_host.specs.Host.{PlainHost}
 use Rattle.sam_crossing.specs.declared.event.Event.{Event}
 use Rattle.sam_crossing.specs.declared.event.Event.TheVariants.{User, Add, Act, Flush, HostTake, TermTake}
 use Rattle.sam_crossing.specs.Joining.{is_heard}
 use Rattle.sam_crossing.specs.World.{PlainWorld, WasReached, new_world, step_of, run_of, is_quiet, is_locked, mesgs, user_events, joined_files}
-use Rattle.sam_local.specs.Local.{PlainEditor, Doing, Did, Joined, at_rest, come_to, carried_all, carried_through, events_in, files_in}
+use Rattle.sam_local.specs.Local.{PlainEditor, AreMarkedAlike, Doing, Did, Joined, at_rest, come_to, carried_all, carried_through, events_in, files_in}
 
 -- what the world comes to where nothing new is begun
 abbrev pub outlook : PlainWorld → PlainEditor
@@ -22,13 +24,23 @@ outlook w = come_to w.host w.term w.up (mesgs w.down)
 abbrev pub is_at_rest : PlainWorld → Bool
 is_at_rest w = is_quiet w && is_empty w.term.held
 
--- an open file that is not locked is shown as in this editor: its dot and view, and its runes as far as they are loaded
+-- an open file that is not locked is shown as in this editor: its name, marks, dot and view, and its runes as far as they are loaded
 pub record ShowsFile (w : PlainWorld) (editor : PlainEditor) (f : ℕ) : Type 0 where
   pub opened : is_open editor.term f ≡ true
   pub runes : Agrees (window_at w.term f).rasp (file_at editor.host.files f).text
   pub dot : (window_at w.term f).dot ≡ (window_at editor.term f).dot
   pub view_start : (window_at w.term f).view_start ≡ (window_at editor.term f).view_start
   pub view_length : (window_at w.term f).view_length ≡ (window_at editor.term f).view_length
+  pub name : (known_at w.term f).name ≡ (known_at editor.term f).name
+  pub dirty : (known_at w.term f).dirty ≡ (known_at editor.term f).dirty
+  pub changed : (known_at w.term f).changed ≡ (known_at editor.term f).changed
+
+-- an event waits in this world, or just what stands against it in this editor stands against it here: nothing, or the same refusal
+abbrev pub RefusesAs : PlainWorld → PlainEditor → Type 0
+RefusesAs w editor =
+    (e : UserEvent)
+    → (first_of_checks (event_checks w.term e) ≡ Some Waits)
+    ⊎ (first_of_checks (event_checks w.term e) ≡ first_of_checks (event_checks editor.term e))
 
 -- ## The order of what was done
 
@@ -72,14 +84,17 @@ doings_of given es = in_order (order_on (new_world given) es (record { settled =
 
 -- These events led from these files to w. What w comes to is just where its doings, in their order, lead the editor without a network.
 -- They are all files that joined, and all that the user did but what is still held; an event that is refused does nothing there, too.
--- Where nothing is unsent or under way, both sides are that, but for runes that are not loaded and for counts. And an open file that is
--- not locked is shown as there
+-- Where nothing is unsent or under way, both sides are that, but for runes that are not loaded and for counts, and the terminal has the
+-- host's names and marks. An open file that is not locked is shown as there. And whatever the user does next waits, or is refused where
+-- and for what it is refused there
 pub record ComesInOrder (given : List (List ℕ × List ℕ)) (es : List Event) (w : PlainWorld) : Type 0 where
   pub events : user_events es ≡ events_in (doings_of given es) ++ w.term.held
   pub files : joined_files es ≡ files_in (doings_of given es)
   pub comes : outlook w ≡ carried_through given (doings_of given es)
   pub quiet : is_quiet w ≡ true → at_rest w.host w.term ≡ carried_through given (doings_of given es)
   pub shows : (f : ℕ) → is_locked w.term f ≡ false → is_open w.term f ≡ true → ShowsFile w (carried_through given (doings_of given es)) f
+  pub refuses : RefusesAs w (carried_through given (doings_of given es))
+  pub marks : is_quiet w ≡ true → AreMarkedAlike w.host w.term
 
 -- So it is where no file joins: the user has done all of `said` on the way from these files to w, and what has acted of it or was refused,
 -- all but what is still held, has done to what w comes to just what it does to the editor without a network
@@ -89,6 +104,8 @@ pub record IsAsIfLocal (given : List (List ℕ × List ℕ)) (said : List UserEv
   pub comes : outlook w ≡ carried_all given acted
   pub quiet : is_quiet w ≡ true → at_rest w.host w.term ≡ carried_all given acted
   pub shows : (f : ℕ) → is_locked w.term f ≡ false → is_open w.term f ≡ true → ShowsFile w (carried_all given acted) f
+  pub refuses : RefusesAs w (carried_all given acted)
+  pub marks : is_quiet w ≡ true → AreMarkedAlike w.host w.term
 
 -- ## One world
 
@@ -101,7 +118,8 @@ pub record HasLed (given : List (List ℕ × List ℕ)) (es : List Event) (w : P
 -- and for counts
 abbrev pub EndsAsIfLocal : PlainWorld → Type 0
 EndsAsIfLocal w =
-    (given : List (List ℕ × List ℕ)) (es : List Event) → HasLed given es w → at_rest w.host w.term ≡ carried_through given (doings_of given es)
+    (given : List (List ℕ × List ℕ)) (es : List Event) → HasLed given es w
+    → at_rest w.host w.term ≡ carried_through given (doings_of given es)
 
 -- whichever run led to w, an open file that is not locked is shown as what was done in it leaves it in the editor without a network
 abbrev pub ShowsAsIfLocal : PlainWorld → ℕ → Type 0

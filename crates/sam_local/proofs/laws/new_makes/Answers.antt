@@ -1,4 +1,4 @@
-use Rattle.sam_local.proofs.Lines as lemmas
+use Rattle.sam_local.proofs.Opening as lemmas
 use Rattle.sam_local.proofs.laws.new_makes.Goals as goal
 
 pub returns : goal.returns

@@ -1,4 +1,4 @@
-use Rattle.sam_local.proofs.Editing as lemmas
+use Rattle.sam_local.proofs.Opening as lemmas
 use Rattle.sam_local.proofs.laws.open_opens.Goals as goal
 
 pub returns-clause-file : goal.returns-clause-file

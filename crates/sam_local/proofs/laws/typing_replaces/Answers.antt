@@ -1,5 +1,5 @@
-use Rattle.sam_local.proofs.Editing as lemmas
+use Rattle.sam_local.proofs.Lines as lemmas
 use Rattle.sam_local.proofs.laws.typing_replaces.Goals as goal
 
-pub returns-clause-text : goal.returns-clause-text
-returns-clause-text c = lemmas.typing_replaces
+pub returns : goal.returns
+returns c = lemmas.typing_replaces
