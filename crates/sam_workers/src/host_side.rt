@@ -193,7 +193,8 @@ impl HostSide<'_> {
         requires one { take.old.line.senders ≡ 1 }
         ensures line { take.new.line ≡ take.old.line }
         ensures begins { result.0 ≡ false → G.may_refuse gate.now 2 }
-        ensures kept_out { result.0 ≡ false → (result.1 ≡ Some GateStop) × (self.new.post ≡ self.old.post) × (self.new.host ≡ self.old.host) }
+        ensures kept_out { result.0 ≡ false →
+            (result.1 ≡ Some GateStop) × (self.new.post ≡ self.old.post) × (self.new.host ≡ self.old.host) }
         ensures serves { Serves (G.may_refuse gate.now 2) self.old.host self.new.host self.old.post self.new.post take.new.taken result.1 }
         ensures let_in { result.0 ≡ true → G.must_refuse gate.now 2 None → ⊥ }
         ensures let_on { LetOn (G.must_refuse gate.now 2) self.old.host.taken self.new.host.taken }
