@@ -1,7 +1,8 @@
 -- What a gate let a worker do. `must None`: it never lets the worker begin. `must (Some n)`: it never lets it go on once it has done n
 -- steps.
-use Rattle.std.specs.Prelude.{◌≡◌, ℕ, ◌+◌, ◌-◌, ◌^◌, ◌<◌, ◌≤◌, List, ◌++◌, length, min, Option, Some, None}
+use Rattle.std.specs.Prelude.{◌≡◌, ℕ, ◌+◌, ◌-◌, ◌^◌, ◌<◌, ◌≤◌, List, [], ◌++◌, length, min, Option, Some, None}
 use Rattle.sam_mesg.specs.declared.tmesg.Tmesg.{Tmesg}
+use Rattle.sam_host.specs.Host.{new_host}
 use Rattle.sam_term.specs.Term.{new_terminal}
 use Rattle.sam_term.specs.declared.event.UserEvent.{UserEvent}
 use Rattle.sam_sides.specs.Logs.{logged_users}
@@ -11,8 +12,12 @@ use Rattle.sam_sides.specs.RealSides.{at_work}
 use Rattle.sam_ends.specs.Inputs.{frames_in, users_in}
 use Rattle.sam_ends.specs.WorkerEnds.{IsOwnExit}
 use Rattle.sam_ends.specs.declared.input.Input.{Input}
+use Rattle.sam_ends.specs.declared.ends.UserEnd.{UserEnd}
+use Rattle.sam_ends.specs.declared.ends.HostEnd.{HostEnd}
+use Rattle.sam_ends.specs.declared.ends.ReaderEnd.{ReaderEnd}
 use Rattle.sam_ends.specs.declared.ends.TermEnd.{TermEnd}
 use Rattle.sam_ends.specs.declared.ends.Ends.{Ends}
+use Rattle.sam_ends.specs.declared.stop.Stop.TheVariants as stop
 
 -- what the gate is asked with, once so much was done
 abbrev pub IsCount : ℕ → ℕ → Type 0
@@ -52,3 +57,17 @@ pub record GatesLetOn (must : ℕ → Option ℕ → Type 0) (e : Ends) : Type 0
 -- and it let each begin
 abbrev pub GatesLetIn : (ℕ → Option ℕ → Type 0) → Type 0
 GatesLetIn must = (worker : ℕ) → worker < 5 → must worker None → ⊥
+
+-- ## A worker that the gate did not let begin: it stopped there, and has put and handled nothing
+
+abbrev pub UserKeptOut : UserEnd → Type 0
+UserKeptOut e = (e.stop ≡ Some stop.Gate) × (e.post.put ≡ [])
+
+abbrev pub HostKeptOut : HostEnd → Type 0
+HostKeptOut e = (e.stop ≡ Some stop.Gate) × (e.post.put ≡ []) × (e.host ≡ new_host e.files.items)
+
+abbrev pub ReaderKeptOut : ReaderEnd → Type 0
+ReaderKeptOut e = (e.stop ≡ Some stop.Gate) × (e.post.put ≡ [])
+
+abbrev pub TermKeptOut : TermEnd → Type 0
+TermKeptOut e = (e.stop ≡ Some stop.Gate) × (e.post.put ≡ []) × (e.log.items ≡ []) × (e.term ≡ new_terminal)

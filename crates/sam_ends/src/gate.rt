@@ -115,7 +115,10 @@ impl Gate for FlagGate {
     }
 
     /// A worker that has begun goes on.
-    fn go_on(&self, _worker: usize, _handled: u64) -> bool {
+    fn go_on(&self, _worker: usize, _handled: u64) -> bool
+        ensures goes_on { IsTrue result }
+    {
+        // It has passed, so all five flags are up, and they stay up.
         true
     }
 }

@@ -18,7 +18,7 @@ pub use Rattle.sam_term.specs.declared.event.UserEvent.TheVariants.{Exit}
 pub use Rattle.sam_ends.specs.Cutting.{PutSome}
 pub use Rattle.sam_ends.specs.Inputs.{frame_of_load, frames_in, user_of_load, users_in}
 pub use Rattle.sam_sides.specs.RealSides.{at_work}
-pub use Rattle.sam_term_worker.specs.TermMoments.{Did, Goes, IsDone, IsFound, IsOfUser, IsQuiet, LoggedView, MayExit, Ran, SideView, SoFar, WasNotHandled}
+pub use Rattle.sam_term_worker.specs.TermMoments.{Did, Goes, IsDone, IsFound, IsLocked, IsOfUser, IsQuiet, LoggedView, MayExit, Ran, SideView, SoFar, WasNotHandled}
 pub use Rattle.sam_ends.specs.WorkerEnds.{TermTold}
 pub use Rattle.sam_ends.specs.declared.input.Input.{Input}
 pub use Rattle.sam_ends.specs.declared.stop.Stop.{Stop}

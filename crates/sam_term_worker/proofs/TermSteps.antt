@@ -1,5 +1,5 @@
 -- Single steps of the terminal, as parts of its run.
-use Rattle.sam_term_worker.proofs.Common.{◌≡◌, List, [], ◌∷◌, ◌++◌, true, is_some, Ok, append-nil, arith, Tmesg, HFrame, PlainTerminal, act_of, flush_of, take_of, UserEvent, TermLog, LoggedView, Did}
+use Rattle.sam_term_worker.proofs.Common.{◌≡◌, List, [], ◌∷◌, ◌++◌, true, is_some, Ok, append-nil, arith, Tmesg, HFrame, PlainTerminal, act_of, flush_of, take_of, UserEvent, TermLog, LoggedView, Did, IsLocked}
 use Rattle.sam_term.specs.Sound.{IsSound}
 use Rattle.sam_term.specs.declared.event.Acted.TheVariants.{Idle, Locked, Done, Refused}
 use Rattle.sam_term.specs.declared.fault.Refusal.{Refusal}
@@ -41,5 +41,9 @@ pub idle_holds_none : (t u : PlainTerminal) → act_of t ≡ Ok (u, Idle) → u.
 unfolding act_of
 idle_holds_none t u e = grind (arith, (idle_still t u))
 
+-- a locked terminal stays locked
+pub locked_stays : (t u : PlainTerminal) → act_of t ≡ Ok (u, Locked) → IsLocked u
+locked_stays t u e = grind (arith, (locked_still t u))
+
 -- what a logged rests on that tries an event
-pub ruleset acts_kept = (did_done, did_refused, did_idle, did_locked, idle_holds_none)
+pub ruleset acts_kept = (did_done, did_refused, did_idle, did_locked, idle_holds_none, locked_stays)

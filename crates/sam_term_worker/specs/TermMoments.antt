@@ -1,15 +1,16 @@
 -- What the terminal's worker has between two of its steps.
 use Rattle.std.specs.Prelude.{◌≡◌, ◌⊎◌, ◌<◌, ◌+◌, ℕ, length, Bool, true, false, List, [], ◌∷◌, ◌++◌, All, IsTrue, Option, Some, None}
-use Rattle.std.specs.Prelude.{if◌then◌else◌, is_some, Err}
+use Rattle.std.specs.Prelude.{if◌then◌else◌, is_some, Ok, Err}
 use Rattle.std.specs.Global.{Vec}
 use Rattle.sam_mesg.specs.declared.hmesg.HFrame.{HFrame}
 use Rattle.sam_mesg.specs.TerminalKinds.{fits_t, FitsT}
 use Rattle.sam_mesg.specs.declared.tmesg.Tmesg.{Tmesg}
 use Rattle.sam_frame.specs.Direction.{terminal}
 use Rattle.sam_frame.specs.Stream.{stream_of}
-use Rattle.sam_term.specs.Term.{PlainTerminal, new_terminal, take_of}
+use Rattle.sam_term.specs.Term.{PlainTerminal, new_terminal, act_of, take_of}
 use Rattle.sam_term.specs.declared.event.UserEvent.{UserEvent}
 use Rattle.sam_term.specs.declared.event.UserEvent.TheVariants.{Exit}
+use Rattle.sam_term.specs.declared.event.Acted.TheVariants.{Locked}
 use Rattle.sam_term.specs.declared.fault.TermFault.{TermFault}
 use Rattle.sam_sides.specs.declared.log.TermLog.{TermLog}
 use Rattle.sam_sides.specs.Logs.{logged_users}
@@ -113,6 +114,13 @@ pub record Goes (a b : SideView) : Type 0 where
   pub steps : b.steps ≡ a.steps
   pub gate : b.stop ≡ Some stop.Gate → a.stop ≡ Some stop.Gate
 
+-- it took what came, and its post may be closed; all else is as it was
+pub record Rests (a b : SideView) : Type 0 where
+  pub put : b.post.put ≡ a.post.put
+  pub logged : b.logged ≡ a.logged
+  pub steps : b.steps ≡ a.steps
+  pub stop : b.stop ≡ a.stop
+
 -- it has closed and taken all that came, and where nothing stopped it, all is done
 pub record IsDone (v : SideView) : Type 0 where
   pub closed : v.post.closed ≡ true
@@ -141,11 +149,19 @@ IsFound v found.Entry = Unit {0}
 IsFound v found.Nothing = Unit {0}
 IsFound v found.Ended = IsEnded 3 v.take.taken
 
+-- a lock holds the oldest event back
+abbrev pub IsLocked : PlainTerminal → Type 0
+IsLocked t = act_of t ≡ Ok (t, Locked)
+
 abbrev pub IsTried : SideView → Tried → Type 0
 IsTried v tried.Went = Unit {0}
 IsTried v tried.Idle = v.logged.term.held ≡ []
-IsTried v tried.Locked = Unit {0}
-IsTried v tried.Stopped = Unit {0}
+IsTried v tried.Locked = IsLocked v.logged.term
+IsTried v tried.Stopped = is_some v.stop ≡ true
+
+-- no event can act: the worker has stopped, none is held, or a lock holds the oldest back
+abbrev pub HasActed : SideView → Type 0
+HasActed v = (is_some v.stop ≡ true) ⊎ ((v.logged.term.held ≡ []) ⊎ IsLocked v.logged.term)
 
 -- the session is over, and nothing is held, unsent or not put
 pub record IsQuiet (v : SideView) : Type 0 where
@@ -154,9 +170,10 @@ pub record IsQuiet (v : SideView) : Type 0 where
   pub none_unsent : is_some v.logged.term.unsent ≡ false
   pub sent : v.to_send ≡ []
 
--- it is to put an Exit of its own
+-- it is to put an Exit of its own: once keyboard and mouse have left, if the session is not over and none was put before
 pub record MayExit (v : SideView) : Type 0 where
   pub running : is_some v.stop ≡ false
   pub none_put : v.exit_put ≡ false
   pub keyboard : v.keyboard_left ≡ true
   pub mouse : v.mouse_left ≡ true
+  pub goes_on : v.logged.term.has_exited ≡ false

@@ -6,7 +6,7 @@ ghost use Rattle.sam_term.specs.Term.{new_terminal, act_of, take_of};
 ghost use Rattle.sam_sides.specs.RealSides.{composed_by};
 ghost use Rattle.sam_ends.specs.Inputs.{frame_of_load, user_of_load};
 ghost use Rattle.sam_ends.specs.WorkerEnds.{IsFullUp};
-ghost use Rattle.sam_term_worker.specs.TermMoments.{Did, WasNotHandled, IsRefusedWith, IsOfUser};
+ghost use Rattle.sam_term_worker.specs.TermMoments.{Did, WasNotHandled, IsLocked, IsRefusedWith, IsOfUser};
 
 use sam_ends::{Input, Stop};
 use sam_mesg::{Batch, HFrame, fits_h};
@@ -111,6 +111,7 @@ impl LoggedTerminal {
     pub(crate) fn act(&mut self) -> Result<Acted, Stop>
         ensures acted { IfOk result (λ acted. Did self.old self.new [] [] (composed_by acted)) }
         ensures idle { result ≡ Ok Acted.Idle → self.new.term.held ≡ [] }
+        ensures locked { result ≡ Ok Acted.Locked → IsLocked self.new.term }
         ensures refused { IfErr result (λ why. (why ≡ Stop.Memory) ⊎ ((why ≡ Stop.Term 8) × IsFullUp self.old.term)) }
         ensures unchanged { OnErr result (self.new ≡ self.old) }
     {

@@ -4,9 +4,9 @@ ghost use Rattle.std.specs.Prelude.{◌≡◌, ◌⊎◌, ◌<◌, [], IsTrue, S
 ghost use Rattle.sam_term.specs.Term.{new_terminal};
 ghost use Rattle.sam_queue.specs.Views.{new_take, new_post, closed_post};
 ghost use Rattle.sam_queue.specs.History.{IsEnded};
-ghost use Rattle.sam_ends.specs.Gates.{LetOn, TermHandled, TermLetOn};
+ghost use Rattle.sam_ends.specs.Gates.{LetOn, TermHandled, TermKeptOut, TermLetOn};
 ghost use Rattle.sam_ends.specs.WorkerEnds.{TermTold};
-ghost use Rattle.sam_term_worker.specs.TermMoments.{Goes, IsDone, IsFound, IsTried, IsQuiet, MayExit, new_side};
+ghost use Rattle.sam_term_worker.specs.TermMoments.{Goes, HasActed, IsDone, IsFound, IsTried, IsQuiet, MayExit, Rests, new_side};
 
 use crate::logged_terminal::LoggedTerminal;
 use crate::unsent_bytes::UnsentBytes;
@@ -159,12 +159,15 @@ impl<'q> Side<'q> {
     /// Acts until no event is held, a lock holds the oldest back, or something stops it.
     #[tactic(auto, using(crate::proofs::TermKeeping::goes_on))]
     fn act_all<R: Wait>(&mut self, rt: &R)
-        ensures { Goes self.old self.new }
+        ensures goes { Goes self.old self.new }
+        ensures acted { HasActed self.new }
     {
         for _turn in rt.forever() {
             match self.act_once() {
                 Tried::Went => {}
-                _ => return,
+                Tried::Idle => return,
+                Tried::Locked => return,
+                Tried::Stopped => return,
             }
         }
         unreachable!()
@@ -245,6 +248,7 @@ impl<'q> Side<'q> {
     #[tactic(auto, using(crate::proofs::TermKeeping::kept_closed))]
     fn try_close<R: Wait>(&mut self, rt: &R) -> bool
         ensures goes { Goes self.old self.new }
+        ensures rests { Rests self.old self.new }
         ensures closed { IsTrue result → self.new ≡ record self.old { post = closed_post self.old.post } }
     {
         self.post.try_close(rt)
@@ -301,8 +305,7 @@ impl<'q> Side<'q> {
         requires stopped { is_some self.old.stop ≡ true }
         ensures take { self.new.take.line ≡ self.old.take.line }
         ensures post { self.new.post ≡ self.old.post }
-        ensures stop { self.new.stop ≡ self.old.stop }
-        ensures steps { self.new.steps ≡ self.old.steps }
+        ensures rests { Rests self.old self.new }
         ensures ended { IsTrue result → IsEnded 3 self.new.take.taken }
     {
         match self.take.try_recv(rt) {
@@ -411,8 +414,7 @@ impl<'q> Side<'q> {
         requires stopped { is_some self.old.stop ≡ true }
         ensures take { self.new.take.line ≡ self.old.take.line }
         ensures post { self.new.post.line ≡ self.old.post.line }
-        ensures stop { self.new.stop ≡ Some Stop.Gate → self.old.stop ≡ Some Stop.Gate }
-        ensures steps { self.new.steps ≡ self.old.steps }
+        ensures rests { Rests self.old self.new }
         ensures done { IsTrue result → IsDone self.new }
     {
         let ended = self.drop_next(rt, backoff);
@@ -431,6 +433,7 @@ impl<'q> Side<'q> {
         ensures post { self.new.post.line ≡ self.old.post.line }
         ensures gate { self.new.stop ≡ Some Stop.Gate → G.may_refuse gate.now 4 }
         ensures let_on { LetOn (G.must_refuse gate.now 4) self.old.steps self.new.steps }
+        ensures rests { is_some self.old.stop ≡ true → Rests self.old self.new }
         ensures done { IsDone self.new }
     {
         let mut backoff = Backoff::new();
@@ -454,6 +457,8 @@ impl<'q> Side<'q> {
         ensures told { TermTold self.entry.take.line self.entry.post.line result }
         ensures passed { result.passed ≡ passed }
         ensures stop { result.stop ≡ self.entry.stop }
+        ensures post { result.post ≡ self.entry.post }
+        ensures logged { record { term = result.term; log = result.log.items } ≡ self.entry.logged }
         ensures handled { TermHandled self.entry.steps result }
     {
         let Side {
@@ -510,6 +515,7 @@ pub fn run_terminal<'q, R: Wait, G: Gate>(
     requires post { post ≡ new_post post.line 0 }
     ensures told { TermTold take.entry.line post.entry.line result }
     ensures begins { result.passed ≡ false → G.may_refuse gate.now 4 }
+    ensures kept_out { result.passed ≡ false → TermKeptOut result }
     ensures way { result.stop ≡ Some Stop.Gate → G.may_refuse gate.now 4 }
     ensures let_in { result.passed ≡ true → G.must_refuse gate.now 4 None → ⊥ }
     ensures let_on { TermLetOn (G.must_refuse gate.now 4) result }

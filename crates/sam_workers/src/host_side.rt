@@ -15,7 +15,7 @@ ghost use Rattle.sam_queue.specs.Views.{new_take, new_post};
 ghost use Rattle.sam_sides.specs.Given.{IsFile};
 ghost use Rattle.sam_sides.specs.Sides.{Each};
 ghost use Rattle.sam_ends.specs.Cutting.{Puts};
-ghost use Rattle.sam_ends.specs.Gates.{LetOn};
+ghost use Rattle.sam_ends.specs.Gates.{LetOn, HostKeptOut};
 ghost use Rattle.sam_workers.specs.Handling.{HandlesAll, TakesPiece, Serves};
 ghost use Rattle.sam_ends.specs.WorkerEnds.{HostTold};
 ghost use Rattle.sam_ends.specs.declared.stop.Stop.TheVariants.{Gate as GateStop};
@@ -193,6 +193,8 @@ impl HostSide<'_> {
         requires one { take.old.line.senders ≡ 1 }
         ensures line { take.new.line ≡ take.old.line }
         ensures begins { result.0 ≡ false → G.may_refuse gate.now 2 }
+        ensures kept_out { result.0 ≡ false →
+            (result.1 ≡ Some GateStop) × (self.new.post ≡ self.old.post) × (self.new.host ≡ self.old.host) }
         ensures serves { Serves (G.may_refuse gate.now 2) self.old.host self.new.host self.old.post self.new.post take.new.taken result.1 }
         ensures let_in { result.0 ≡ true → G.must_refuse gate.now 2 None → ⊥ }
         ensures let_on { LetOn (G.must_refuse gate.now 2) self.old.host.taken self.new.host.taken }
@@ -240,6 +242,7 @@ pub fn serve_host<'q, R: Wait, G: Gate>(
     ensures told { HostTold task.entry.take.line task.entry.post.line result }
     ensures files { result.files.items ≡ task.entry.files.items }
     ensures begins { result.passed ≡ false → G.may_refuse gate.now 2 }
+    ensures kept_out { result.passed ≡ false → HostKeptOut result }
     ensures way { result.stop ≡ Some GateStop → G.may_refuse gate.now 2 }
     ensures let_in { result.passed ≡ true → G.must_refuse gate.now 2 None → ⊥ }
     ensures let_on { LetOn (G.must_refuse gate.now 2) 0 result.host.taken }

@@ -2,7 +2,7 @@
 
 ghost use Rattle.std.specs.Prelude.{◌≡◌, true, false, length, None, Some};
 ghost use Rattle.sam_queue.specs.Views.{new_post, new_take};
-ghost use Rattle.sam_ends.specs.Gates.{IsCount, LetOn};
+ghost use Rattle.sam_ends.specs.Gates.{IsCount, LetOn, ReaderKeptOut};
 ghost use Rattle.sam_workers.specs.Passing.{Sends, PassesPiece, Passes};
 ghost use Rattle.sam_ends.specs.WorkerEnds.{ReaderTold};
 
@@ -33,6 +33,7 @@ pub fn pass_frames<'q, R: Wait, G: Gate>(
     requires post { post ≡ new_post post.line 2 }
     ensures told { ReaderTold take.entry.line post.entry.line result }
     ensures begins { result.passed ≡ false → G.may_refuse gate.now 3 }
+    ensures kept_out { result.passed ≡ false → ReaderKeptOut result }
     ensures way { result.stop ≡ Some Stop.Gate → G.may_refuse gate.now 3 }
     ensures let_in { result.passed ≡ true → G.must_refuse gate.now 3 None → ⊥ }
     ensures let_on { LetOn (G.must_refuse gate.now 3) 0 (length result.post.put) }

@@ -2,7 +2,7 @@
 
 ghost use Rattle.std.specs.Prelude.{◌≡◌, ℕ, ◌<◌, true, false, length, map, take, MatchBool, None, Some};
 ghost use Rattle.sam_queue.specs.Views.{new_post};
-ghost use Rattle.sam_ends.specs.Gates.{LetOn};
+ghost use Rattle.sam_ends.specs.Gates.{LetOn, UserKeptOut};
 ghost use Rattle.sam_ends.specs.WorkerEnds.{UserTold};
 ghost use Rattle.sam_ends.specs.declared.input.Input.TheVariants.{User};
 
@@ -27,6 +27,7 @@ pub fn send_events<'q, R: Wait, G: Gate>(
     requires post { post ≡ new_post post.line worker }
     ensures told { UserTold worker events.items post.entry.line result }
     ensures begins { result.passed ≡ false → G.may_refuse gate.now worker }
+    ensures kept_out { result.passed ≡ false → UserKeptOut result }
     ensures way { result.stop ≡ Some Stop.Gate → G.may_refuse gate.now worker }
     ensures let_in { result.passed ≡ true → G.must_refuse gate.now worker None → ⊥ }
     ensures let_on { LetOn (G.must_refuse gate.now worker) 0 (length result.post.put) }
