@@ -494,7 +494,9 @@ SAM_MUST_USE sam_status sam_term_set_snarf(sam_term *term, const uint8_t *text, 
 /* Shows at most len runes from a place on, and asks for those that are not loaded: at most 512 at a time, and then for the next. */
 SAM_MUST_USE sam_status sam_term_view(sam_term *term, uint16_t tag, uint32_t place, uint32_t len);
 
-/* Shows the same, and asks for all that is not loaded at once, in at most 64 stretches of 512 runes: so a page comes in one round trip. */
+/* Shows the same, and asks for all that is not loaded at once, in at most 1,954 stretches of 512 runes: so the longest text comes in one
+ * round trip. Each is a message of 11 bytes, and the file is locked until all are answered: ask for a long text in parts where the user may
+ * want to type meanwhile. */
 SAM_MUST_USE sam_status sam_term_load(sam_term *term, uint16_t tag, uint32_t place, uint32_t len);
 
 /* Shows the file from that many lines further up. */
@@ -605,7 +607,7 @@ SAM_MUST_USE sam_status sam_term_name(sam_term *term, uint16_t tag, uint8_t *int
 SAM_MUST_USE sam_status sam_term_is_dirty(sam_term *term, uint16_t tag, bool *dirty);
 
 /* Whether a file may differ from what was written last: the host said that it is dirty, or the user typed into it or cut from it here
- * since. An event that is held has changed nothing yet. The command file, which is never written, stays changed. */
+ * since. An event that is held has changed nothing yet. The command file is never written, and never changed. */
 SAM_MUST_USE sam_status sam_term_is_changed(sam_term *term, uint16_t tag, bool *changed);
 
 /* The file that the host's answer to sam_term_work or sam_term_new_file named last, SAM_NONE before the first. It may be closed since.

@@ -19,11 +19,19 @@ def test_load_asks_for_all_gaps():
     expect_equal((locks_of(terminal, 1), terminal.held), (2, 0))
 
 
-def test_load_asks_for_64_stretches_at_most():
-    terminal = with_gaps(65 * 512)
-    terminal.load(1, 0, 65 * 512)
-    expect_sent(terminal, *(("Trequest", 1, place, 512) for place in range(0, 64 * 512, 512)))
-    expect_equal(locks_of(terminal, 1), 64)
+def test_load_asks_for_the_longest_text_whole():
+    terminal = with_gaps(1_000_000)
+    terminal.load(1, 0, 1_000_000)
+    expect_sent(terminal, *(("Trequest", 1, place, min(512, 1_000_000 - place)) for place in range(0, 1_000_000, 512)))
+    expect_equal(locks_of(terminal, 1), 1954)
+
+
+def test_load_asks_for_1954_stretches_at_most():
+    terminal = with_gaps(2 * 1955)
+    take_all(terminal, *(("Hdata", 1, place, "x") for place in range(1, 2 * 1955, 2)))
+    terminal.load(1, 0, 2 * 1955)
+    expect_sent(terminal, *(("Trequest", 1, place, 1) for place in range(0, 2 * 1954, 2)))
+    expect_equal(locks_of(terminal, 1), 1954)
 
 
 def test_nothing_more_is_asked_for_until_all_came():

@@ -7,7 +7,7 @@ from .trying import expect_equal, expect_sent, refused, take, take_all, with_gap
 
 MOST = 1_000_000  # runes and gaps of a file
 MOST_IN_MESSAGE = 512  # runes
-MOST_REQUESTS = 64
+MOST_REQUESTS = 1954
 TURNS = 2_000
 BLOCKS = 1_000
 BAD_POSITION, TOO_LONG = "TERM_BAD_POSITION", "TERM_TOO_LONG"
@@ -88,7 +88,7 @@ def asked(terminal):
 
 
 def holes(cells, place, end):
-    """The stretches of gaps from a place to an end, of 512 at most each, and 64 of them at most."""
+    """The stretches of gaps from a place to an end, of 512 at most each, and 1,954 of them at most."""
     found = []
     for at in range(place, end):
         if cells[at] is not None:

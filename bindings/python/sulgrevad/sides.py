@@ -464,7 +464,7 @@ class Terminal(_Side):
         self._call("view", tag, place, length)
 
     def load(self, tag: int, place: int, length: int) -> None:
-        """Shows the same as `view`, and asks for all that is not loaded at once, in at most 64 stretches of 512 runes: so a page comes
+        """Shows the same as `view`, and asks for all that is not loaded at once, in at most 1,954 stretches of 512 runes: so a page comes
         in one round trip."""
         self._call("load", tag, place, length)
 

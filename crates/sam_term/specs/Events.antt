@@ -6,9 +6,9 @@ use Rattle.sam_runes.specs.Slots.{Slots}
 use Rattle.sam_mesg.specs.declared.tmesg.Tmesg.{Tmesg}
 use Rattle.sam_mesg.specs.declared.tmesg.Tmesg.TheVariants.{Tversion, Tstartcmdfile, Tcheck, Trequest, Torigin, Tstartfile, Tworkfile, Ttype, Tcut, Tpaste, Tsnarf, Tstartnewfile, Twrite, Tclose, Tlook, Tsearch, Tsend, Tdclick, Tstartsnarf, Tsetsnarf, Tack, Texit}
 use Rattle.sam_mesg.specs.declared.hmesg.Hmesg.{Hmesg}
-use Rattle.sam_mesg.specs.declared.hmesg.Hmesg.TheVariants.{Hunlock, Hunlockfile, Hexit}
+use Rattle.sam_mesg.specs.declared.hmesg.Hmesg.TheVariants.{Hack, Hbindname, Hcheck, Hclean, Hclose, Hcurrent, Hcut, Hdata, Hdelname, Hdirty, Hexit, Hgrow, Hgrowdata, Hmoveto, Hmovname, Hnewname, Horigin, Hsetdot, Hsetpat, Hsetsnarf, Hsnarflen, Hunlock, Hunlockfile, Hversion}
 use Rattle.sam_term.specs.declared.event.UserEvent.{UserEvent}
-use Rattle.sam_term.specs.declared.event.UserEvent.TheVariants.{Typed, Select, Cut, Paste, Snarf, Look, Search, Send, Dclick, Scroll, View, Load, Edit, Open, Close, Write, Work, OpenCmd, New, Exit, Check, GetSnarf, SetSnarf, Version, Flush}
+use Rattle.sam_term.specs.declared.event.UserEvent.TheVariants.{Check, Close, Cut, Dclick, Edit, Exit, Flush, GetSnarf, Load, Look, New, Open, OpenCmd, Paste, Scroll, Search, Select, Send, SetSnarf, Snarf, Typed, Version, View, Work, Write}
 use Rattle.sam_term.specs.declared.lock.Lock.{Lock}
 use Rattle.sam_term.specs.declared.lock.Lock.TheVariants.{NoLock, CommandLock, FileLock}
 use Rattle.sam_term.specs.declared.records.KnownFile.{KnownFile}
@@ -58,11 +58,50 @@ waits_for_all OpenCmd = true
 waits_for_all New = true
 waits_for_all Exit = true
 waits_for_all (Version v) = true
-waits_for_all _ = false
+waits_for_all (Select f p q) = false
+waits_for_all (Cut f) = false
+waits_for_all (Paste f) = false
+waits_for_all (Snarf f) = false
+waits_for_all (Look f) = false
+waits_for_all (Search f) = false
+waits_for_all (Dclick f p) = false
+waits_for_all (Scroll f n) = false
+waits_for_all (View f p n) = false
+waits_for_all (Load f p n) = false
+waits_for_all (Edit f p q s) = false
+waits_for_all (Write f) = false
+waits_for_all (Work f) = false
+waits_for_all (Check f) = false
+waits_for_all GetSnarf = false
+waits_for_all (SetSnarf s) = false
+waits_for_all Flush = false
 
 abbrev pub is_bad_version : UserEvent → Bool
 is_bad_version (Version v) = v == 0
-is_bad_version _ = false
+is_bad_version (Typed f s) = false
+is_bad_version (Select f p q) = false
+is_bad_version (Cut f) = false
+is_bad_version (Paste f) = false
+is_bad_version (Snarf f) = false
+is_bad_version (Look f) = false
+is_bad_version (Search f) = false
+is_bad_version (Send f) = false
+is_bad_version (Dclick f p) = false
+is_bad_version (Scroll f n) = false
+is_bad_version (View f p n) = false
+is_bad_version (Load f p n) = false
+is_bad_version (Edit f p q s) = false
+is_bad_version (Open f) = false
+is_bad_version (Close f) = false
+is_bad_version (Write f) = false
+is_bad_version (Work f) = false
+is_bad_version OpenCmd = false
+is_bad_version New = false
+is_bad_version Exit = false
+is_bad_version (Check f) = false
+is_bad_version GetSnarf = false
+is_bad_version (SetSnarf s) = false
+is_bad_version Flush = false
 
 -- the event names the command file, which takes none of its kind
 abbrev pub is_for_command_file : UserEvent → Bool
@@ -71,11 +110,53 @@ is_for_command_file (Close f) = f == 0
 is_for_command_file (Write f) = f == 0
 is_for_command_file (Work f) = f == 0
 is_for_command_file (Edit f p q s) = f == 0
-is_for_command_file _ = false
+is_for_command_file (Typed f s) = false
+is_for_command_file (Select f p q) = false
+is_for_command_file (Cut f) = false
+is_for_command_file (Paste f) = false
+is_for_command_file (Snarf f) = false
+is_for_command_file (Look f) = false
+is_for_command_file (Search f) = false
+is_for_command_file (Send f) = false
+is_for_command_file (Dclick f p) = false
+is_for_command_file (Scroll f n) = false
+is_for_command_file (View f p n) = false
+is_for_command_file (Load f p n) = false
+is_for_command_file OpenCmd = false
+is_for_command_file New = false
+is_for_command_file Exit = false
+is_for_command_file (Check f) = false
+is_for_command_file GetSnarf = false
+is_for_command_file (SetSnarf s) = false
+is_for_command_file (Version v) = false
+is_for_command_file Flush = false
 
 abbrev pub needs_open : UserEvent → Bool
 needs_open (Open f) = false
-needs_open _ = true
+needs_open (Typed f s) = true
+needs_open (Select f p q) = true
+needs_open (Cut f) = true
+needs_open (Paste f) = true
+needs_open (Snarf f) = true
+needs_open (Look f) = true
+needs_open (Search f) = true
+needs_open (Send f) = true
+needs_open (Dclick f p) = true
+needs_open (Scroll f n) = true
+needs_open (View f p n) = true
+needs_open (Load f p n) = true
+needs_open (Edit f p q s) = true
+needs_open (Close f) = true
+needs_open (Write f) = true
+needs_open (Work f) = true
+needs_open OpenCmd = true
+needs_open New = true
+needs_open Exit = true
+needs_open (Check f) = true
+needs_open GetSnarf = true
+needs_open (SetSnarf s) = true
+needs_open (Version v) = true
+needs_open Flush = true
 
 -- a message about the dot of f
 abbrev pub about_dot : Slots KnownFile → ℕ → (ℕ → ℕ → ℕ → Tmesg) → Tmesg
@@ -98,7 +179,16 @@ message_of files Exit = Some Texit
 message_of files (Check f) = Some (Tcheck f)
 message_of files GetSnarf = Some Tstartsnarf
 message_of files (Version v) = Some (Tversion v)
-message_of files _ = None
+message_of files (Typed f s) = None
+message_of files (Select f p q) = None
+message_of files (Cut f) = None
+message_of files (Paste f) = None
+message_of files (Snarf f) = None
+message_of files (View f p n) = None
+message_of files (Load f p n) = None
+message_of files (Edit f p q s) = None
+message_of files (SetSnarf s) = None
+message_of files Flush = None
 
 -- ## Locks
 
@@ -132,7 +222,27 @@ abbrev pub freed_by : Hmesg → Lock
 freed_by Hunlock = CommandLock
 freed_by (Hunlockfile f) = FileLock f
 freed_by Hexit = CommandLock
-freed_by _ = NoLock
+freed_by (Hversion v) = NoLock
+freed_by (Hbindname f) = NoLock
+freed_by (Hcurrent f) = NoLock
+freed_by (Hnewname f) = NoLock
+freed_by (Hmovname f s) = NoLock
+freed_by (Hgrow f p n) = NoLock
+freed_by (Hcheck f) = NoLock
+freed_by (Hdata f p s) = NoLock
+freed_by (Horigin f p) = NoLock
+freed_by (Hsetdot f p q) = NoLock
+freed_by (Hgrowdata f p s) = NoLock
+freed_by (Hmoveto f p) = NoLock
+freed_by (Hclean f) = NoLock
+freed_by (Hdirty f) = NoLock
+freed_by (Hcut f p n) = NoLock
+freed_by (Hsetpat s) = NoLock
+freed_by (Hdelname f) = NoLock
+freed_by (Hclose f) = NoLock
+freed_by (Hsetsnarf s) = NoLock
+freed_by (Hsnarflen n) = NoLock
+freed_by Hack = NoLock
 
 -- the lock, if it is one
 abbrev pub one_lock : Lock → List Lock

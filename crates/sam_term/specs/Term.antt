@@ -9,9 +9,9 @@ use Rattle.sam_term.specs.declared.lock.Lock.TheVariants.{NoLock, CommandLock, F
 use Rattle.sam_term.specs.Windows.{blank_window, blank_known, known_in}
 use Rattle.sam_term.specs.Events.{file_of, is_command_line, waits_for_all, is_bad_version, is_for_command_file, needs_open, message_of, lock_of}
 use Rattle.sam_term.specs.declared.event.UserEvent.{UserEvent}
-use Rattle.sam_term.specs.declared.event.UserEvent.TheVariants.{Typed, Select, Cut, Paste, Snarf, Look, Search, Send, Dclick, Scroll, View, Load, Edit, Open, Close, Write, Work, OpenCmd, New, Exit, Check, GetSnarf, SetSnarf, Version, Flush}
+use Rattle.sam_term.specs.declared.event.UserEvent.TheVariants.{Check, Close, Cut, Dclick, Edit, Exit, Flush, GetSnarf, Load, Look, New, Open, OpenCmd, Paste, Scroll, Search, Select, Send, SetSnarf, Snarf, Typed, Version, View, Work, Write}
 use Rattle.sam_mesg.specs.declared.tmesg.Tmesg.{Tmesg}
-use Rattle.sam_mesg.specs.declared.tmesg.Tmesg.TheVariants.{Trequest, Ttype, Tcut, Tpaste, Tsnarf, Tsetsnarf, Tack}
+use Rattle.sam_mesg.specs.declared.tmesg.Tmesg.TheVariants.{Tack, Tcheck, Tclose, Tcut, Tdclick, Texit, Tlook, Torigin, Tpaste, Trequest, Tsearch, Tsend, Tsetsnarf, Tsnarf, Tstartcmdfile, Tstartfile, Tstartnewfile, Tstartsnarf, Ttype, Tversion, Tworkfile, Twrite}
 use Rattle.sam_mesg.specs.declared.hmesg.Hmesg.{Hmesg}
 use Rattle.sam_mesg.specs.declared.hmesg.Hmesg.TheVariants.{Hversion, Hbindname, Hcurrent, Hnewname, Hmovname, Hgrow, Hcheck, Hunlock, Hdata, Horigin, Hunlockfile, Hsetdot, Hgrowdata, Hmoveto, Hclean, Hdirty, Hcut, Hsetpat, Hdelname, Hclose, Hsetsnarf, Hsnarflen, Hack, Hexit}
 use Rattle.sam_mesg.specs.declared.hmesg.HFrame.{HFrame}
@@ -80,9 +80,10 @@ put_known t f known = record t { files = put_slot t.files f known }
 abbrev pub put_window : PlainTerminal → ℕ → Window → PlainTerminal
 put_window t f w = put_known t f (record (known_at t f) { window = Some w })
 
--- the file may differ from what was written last: the host's mark says so, or the user changed it here since
+-- the file may differ from what was written last: the host's mark says so, or the user changed it here since; the command file, which is
+-- never written, never does
 abbrev pub is_changed : PlainTerminal → ℕ → Bool
-is_changed t f = (known_at t f).dirty || (known_at t f).changed
+is_changed t f = not (f == 0) && ((known_at t f).dirty || (known_at t f).changed)
 
 -- ## Partial texts, and the places that move with them
 
@@ -162,7 +163,27 @@ made_then made next = ((next made.0).0, made.1 ++ (next made.0).1)
 -- one more request awaits its data
 abbrev pub asked : Tmesg → PlainTerminal → PlainTerminal
 asked (Trequest f p n) t = put_window t f (record (window_at t f) { awaited = (window_at t f).awaited + 1 })
-asked _ t = t
+asked (Tversion v) t = t
+asked Tstartcmdfile t = t
+asked (Tcheck f) t = t
+asked (Torigin f p n) t = t
+asked (Tstartfile f) t = t
+asked (Tworkfile f p q) t = t
+asked (Ttype f p s) t = t
+asked (Tcut f p q) t = t
+asked (Tpaste f p) t = t
+asked (Tsnarf f p q) t = t
+asked Tstartnewfile t = t
+asked (Twrite f) t = t
+asked (Tclose f) t = t
+asked (Tlook f p q) t = t
+asked (Tsearch f p q) t = t
+asked (Tsend f p q) t = t
+asked (Tdclick f p) t = t
+asked Tstartsnarf t = t
+asked (Tsetsnarf s) t = t
+asked Tack t = t
+asked Texit t = t
 
 -- one message is composed: it is counted, and takes its lock
 abbrev pub composed : PlainTerminal → Tmesg → PlainTerminal
@@ -214,9 +235,9 @@ requested t f = sends_if (wanted t f) t
 
 -- ## Asking for all gaps at once
 
--- the most requests that one event composes
+-- the most requests that one event composes: as many as the longest text wants
 abbrev pub most_requests : ℕ
-most_requests = 64
+most_requests = 1954
 
 -- the front of a stretch, of which one message can ask, by its start and its length
 abbrev pub front_of : ℕ × ℕ → ℕ × ℕ
@@ -388,12 +409,53 @@ has_bad_place t (Dclick f p) = nat_lt (length (window_at t f).rasp) p
 has_bad_place t (View f p n) = nat_lt (length (window_at t f).rasp) p
 has_bad_place t (Load f p n) = nat_lt (length (window_at t f).rasp) p
 has_bad_place t (Edit f p q s) = nat_lt q p || nat_lt (length (window_at t f).rasp) q
-has_bad_place t _ = false
+has_bad_place t (Typed f s) = false
+has_bad_place t (Cut f) = false
+has_bad_place t (Paste f) = false
+has_bad_place t (Snarf f) = false
+has_bad_place t (Look f) = false
+has_bad_place t (Search f) = false
+has_bad_place t (Send f) = false
+has_bad_place t (Scroll f n) = false
+has_bad_place t (Open f) = false
+has_bad_place t (Close f) = false
+has_bad_place t (Write f) = false
+has_bad_place t (Work f) = false
+has_bad_place t OpenCmd = false
+has_bad_place t New = false
+has_bad_place t Exit = false
+has_bad_place t (Check f) = false
+has_bad_place t GetSnarf = false
+has_bad_place t (SetSnarf s) = false
+has_bad_place t (Version v) = false
+has_bad_place t Flush = false
 
 abbrev pub has_long_text : PlainTerminal → UserEvent → Bool
 has_long_text t (Typed f s) = nat_lt most_in_message (length s)
 has_long_text t (SetSnarf s) = nat_lt (snarf_limit t.version) (utf8_length s)
-has_long_text t _ = false
+has_long_text t (Select f p q) = false
+has_long_text t (Cut f) = false
+has_long_text t (Paste f) = false
+has_long_text t (Snarf f) = false
+has_long_text t (Look f) = false
+has_long_text t (Search f) = false
+has_long_text t (Send f) = false
+has_long_text t (Dclick f p) = false
+has_long_text t (Scroll f n) = false
+has_long_text t (View f p n) = false
+has_long_text t (Load f p n) = false
+has_long_text t (Edit f p q s) = false
+has_long_text t (Open f) = false
+has_long_text t (Close f) = false
+has_long_text t (Write f) = false
+has_long_text t (Work f) = false
+has_long_text t OpenCmd = false
+has_long_text t New = false
+has_long_text t Exit = false
+has_long_text t (Check f) = false
+has_long_text t GetSnarf = false
+has_long_text t (Version v) = false
+has_long_text t Flush = false
 
 -- what is left of the file's text beside the dot or the range, with the new runes, would be too long
 abbrev pub makes_too_long : PlainTerminal → UserEvent → Bool
@@ -401,7 +463,29 @@ makes_too_long t (Typed f s) =
     let w = window_at t f in
     nat_lt max_runes (length w.rasp - (w.dot.1 - w.dot.0) + length s)
 makes_too_long t (Edit f p q s) = nat_lt max_runes (length (window_at t f).rasp - (q - p) + length s)
-makes_too_long t _ = false
+makes_too_long t (Select f p q) = false
+makes_too_long t (Cut f) = false
+makes_too_long t (Paste f) = false
+makes_too_long t (Snarf f) = false
+makes_too_long t (Look f) = false
+makes_too_long t (Search f) = false
+makes_too_long t (Send f) = false
+makes_too_long t (Dclick f p) = false
+makes_too_long t (Scroll f n) = false
+makes_too_long t (View f p n) = false
+makes_too_long t (Load f p n) = false
+makes_too_long t (Open f) = false
+makes_too_long t (Close f) = false
+makes_too_long t (Write f) = false
+makes_too_long t (Work f) = false
+makes_too_long t OpenCmd = false
+makes_too_long t New = false
+makes_too_long t Exit = false
+makes_too_long t (Check f) = false
+makes_too_long t GetSnarf = false
+makes_too_long t (SetSnarf s) = false
+makes_too_long t (Version v) = false
+makes_too_long t Flush = false
 
 -- what stands against an event, in its order
 abbrev pub event_checks : PlainTerminal → UserEvent → Checks Verdict

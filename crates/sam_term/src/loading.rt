@@ -20,8 +20,8 @@ use sam_mesg::Tmesg;
 use sam_rasp::Rasp;
 use sam_runes::MOST_IN_MESSAGE;
 
-/// The most requests that one `Load` composes. Each asks for at most `MOST_IN_MESSAGE` gaps.
-pub const MOST_REQUESTS: usize = 64;
+/// The most requests that one `Load` composes: as many as the longest text wants. Each asks for at most `MOST_IN_MESSAGE` gaps.
+pub const MOST_REQUESTS: usize = 1954;
 
 impl Terminal {
     /// Does a `Load`: shows a file from `p` on, `n` runes and gaps at most, and composes a request for each stretch of gaps that is then

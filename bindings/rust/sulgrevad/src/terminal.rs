@@ -206,7 +206,7 @@ impl Terminal {
         done(unsafe { sys::sam_term_view(self.at(), tag, place, len) })
     }
 
-    /// Shows the same as `view`, and asks for all that is not loaded at once, in at most 64 stretches of 512 runes: so a page comes in one
+    /// Shows the same as `view`, and asks for all that is not loaded at once, in at most 1,954 stretches of 512 runes: so a page comes in one
     /// round trip.
     pub fn load(&mut self, tag: u16, place: u32, len: u32) -> Result<(), Error> {
         done(unsafe { sys::sam_term_load(self.at(), tag, place, len) })
