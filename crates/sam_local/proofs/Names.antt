@@ -581,4 +581,9 @@ marked-reached editor r =
 -- ## The law
 
 pub names_and_marks_agree : NamesAndMarksAgree
-names_and_marks_agree editor r = let m = marked-reached editor r in record { names = m.names; marks = m.marks }
+names_and_marks_agree editor r =
+    let m = marked-reached editor r in
+    record {
+      names = m.names;
+      marks = λ f z. ap (λ (b : Bool). not b && ((known_at editor.term f).dirty || (known_at editor.term f).changed)) z ∙ m.marks f z;
+    }

@@ -511,7 +511,8 @@ marked-rest h t m = record {
       sym (ap (λ (s : Option KnownFile). (unwrap_or s blank_known).name) here ∙ same.1) ∙ m.names f (ap is_some here ∙ same.0 ∙ e);
   marks = λ f z.
       let same = known-alike (file_at h.files f).text (slot t.files f) in
-      sym (ap (λ (s : Option KnownFile). (unwrap_or s blank_known).dirty || (unwrap_or s blank_known).changed) (rest-slot h t f) ∙ same.2) ∙ m.marks f z;
+      let whole = ap (λ (s : Option KnownFile). (unwrap_or s blank_known).dirty || (unwrap_or s blank_known).changed) (rest-slot h t f) in
+      ap (λ (x : Bool). not (f == 0) && x) (sym (whole ∙ same.2)) ∙ m.marks f z;
 }
 
 -- files that joined are within the limits
