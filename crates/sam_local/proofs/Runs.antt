@@ -1,5 +1,5 @@
 -- What every run keeps: the outlook of the world is what the events that have acted do to the editor without a network.
-use Rattle.sam_crossing.proofs.Common.{◌≡◌, ℕ, Bool, true, false, not, List, [], ◌∷◌, ◌++◌, Option, Some, None, Result, Ok, refl, sym, ap, ◌∙◌, subst, is_some, arith, append-nil, append_assoc, same_Some, map-append, length-append, option_map, unwrap_or, map, take, length, ◌-◌, if◌then◌else◌, at_file, given_slots, is_empty, first_of_checks, PlainHost, Reply, answer, stamped, HostFault, PlainTerminal, Made, flushed, frame_outcome, event_checks, event_outcome, window_at, TermFault, UserEvent, Tmesg, Hmesg, true≢false, and_parts, ◌&&◌, ◌||◌, is_open, is_file_locked, unsent_message, Window, Unsent, answers, InOrder, view, slot, blank_known, file_at}
+use Rattle.sam_crossing.proofs.Common.{◌≡◌, ℕ, Bool, true, false, not, ◌==◌, List, [], ◌∷◌, ◌++◌, Option, Some, None, Result, Ok, refl, sym, ap, ◌∙◌, subst, is_some, arith, append-nil, append_assoc, same_Some, map-append, length-append, option_map, unwrap_or, map, take, length, ◌-◌, if◌then◌else◌, at_file, given_slots, is_empty, first_of_checks, PlainHost, Reply, answer, stamped, HostFault, PlainTerminal, Made, flushed, frame_outcome, event_checks, event_outcome, window_at, TermFault, UserEvent, Tmesg, Hmesg, true≢false, and_parts, ◌&&◌, ◌||◌, is_open, is_file_locked, unsent_message, Window, Unsent, answers, InOrder, view, slot, blank_known, file_at}
 use Rattle.std.proofs.Common.{Err, option_and_then}
 use Rattle.std.proofs.Math.Seq.{take-append_seam}
 use Rattle.sam_term.specs.declared.event.Acted.TheVariants.{Done}
