@@ -80,15 +80,6 @@ all_answered count [] none = refl
 all_answered count (Answered m ∷ steps) none = ap (λ (l : List Step). Answered m ∷ l) (all_answered (count + 1) steps none)
 all_answered count (Joined file ∷ steps) none = absurd (cc)
 
--- where all files joined before the first answer, they come first
-pub joined_first : (count : ℕ) (files : List (List ℕ × List ℕ)) (steps : List Step) → joined_after count steps ≡ map (λ (file : List ℕ × List ℕ). (count, file)) files
-    → steps ≡ map Joined files ++ map Answered (messages_in steps)
-joined_first count [] steps are = all_answered count steps are
-joined_first count (file ∷ files) [] are = absurd (cc)
-joined_first count (file ∷ files) (Answered m ∷ steps) are =
-    let late = not_before (count + 1) count file (map (λ (file : List ℕ × List ℕ). (count, file)) files) steps are in absurd (omega (arith, late))
-joined_first count (file ∷ files) (Joined first ∷ steps) are = grind (arith, (joined_first count files steps))
-
 -- ## Steps
 
 kept_answers : (h : PlainHost) (stream out handed : List ℕ) (joined : Files) (e g : PlainHostEndpoint) (ms : List Tmesg) → Answers e ms g → Kept h stream out handed joined e → Kept h stream out handed joined g
