@@ -1,9 +1,8 @@
 -- Packets that stand one behind the other in the bytes of an inbox.
-use Rattle.std.proofs.Common.{◌≡◌, ℕ, zero, suc, ◌+◌, ◌*◌, ◌-◌, ◌<◌, ◌≤◌, ◌^◌, List, [], ◌∷◌, ◌++◌, length, take, drop, slice_index, refl, sym, ap, subst, ◌∙◌, arith, append_assoc, append-nil, length-append, length-drop, length-take, drop-drop}
+use Rattle.std.proofs.Common.{◌≡◌, ℕ, suc, ◌+◌, ◌-◌, ◌<◌, ◌≤◌, List, [], ◌∷◌, ◌++◌, length, take, drop, slice_index, refl, sym, ap, subst, ◌∙◌, arith, append_assoc, append-nil, length-append, drop-drop}
 use Rattle.std.proofs.Math.Seq.{drop-append_seam, take-append_seam}
-use Rattle.sam_mesg.specs.Spelling.{frame}
 use Rattle.sam_frame.specs.Direction.{frame_of}
-use Rattle.sam_frame.specs.Stream.{FitInTurn, Splits, stream_of}
+use Rattle.sam_frame.specs.Stream.{FitInTurn, stream_of}
 use Rattle.sam_frame.specs.Splitting.{Front}
 use Rattle.sam_frame.proofs.Fronts.{FitInTurn-append, stream_of-append}
 use Rattle.sam_link.specs.Inbox.{IsRow, Stands, body_len, item_at, item_of, items_among, items_of}

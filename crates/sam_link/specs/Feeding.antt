@@ -1,5 +1,5 @@
 -- What feeding a piece of the other side's stream does.
-use Rattle.std.specs.Prelude.{◌≡◌, ℕ, ◌+◌, ◌-◌, ◌^◌, ◌<◌, ◌≤◌, List, [], ◌∷◌, ◌++◌, length, drop, Bool, true, false, ◌&&◌, ◌||◌, ◌==◌, nat_le, nat_lt, if◌then◌else◌, None, Some, Result, Ok, Err}
+use Rattle.std.specs.Prelude.{◌≡◌, ℕ, ◌+◌, ◌-◌, ◌^◌, ◌<◌, ◌≤◌, List, ◌++◌, length, drop, Bool, true, false, ◌&&◌, ◌||◌, ◌==◌, nat_le, nat_lt, if◌then◌else◌, None, Some, Result, Ok, Err}
 use Rattle.sam_mesg.specs.Spelling.{eight, frame}
 use Rattle.sam_frame.specs.Splitting.{Front}
 use Rattle.sam_frame.specs.Stream.{IsOpen, Shows}

@@ -22,7 +22,7 @@ pub use fault::{AnswerFault, CallFault, FeedFault, NotOpen, NoteFault, WelcomeFa
 pub use hello::{HELLO_BYTES, Hello, Id, Refusal, What, read_hello};
 pub use keeping::{Kept, PutFault};
 pub use laws::{carried_is_all, honest_meet, links_carry, one_hello};
-pub use link::Link;
+pub use link::{Counts, Link};
 pub use packet::MOST_BODY;
 pub use phase::{Phase, Role};
 pub use reading::PacketFault;

@@ -68,6 +68,17 @@ impl Model for Link {
     ghost invariant = { λ a. (a.hello_gone ≤ 42) × (length a.hello ≡ 42) × (a.told ≤ a.received) };
 }
 
+/// How far an end has come.
+#[derive(Clone, Copy, Drop)]
+pub struct Counts {
+    /// The number of its newest connection.
+    pub attempt: u64,
+    /// How many bytes it has put.
+    pub put: u64,
+    /// How many bytes have come to it.
+    pub received: u64,
+}
+
 /// Returns whether the ids are equal.
 pub fn same_id(a: Id, b: Id) -> bool
     ensures { result ≡ same_id a b }
@@ -80,17 +91,35 @@ impl Link {
     pub fn new(alloc: Global, role: Role, id: Id) -> Link
         ensures { result ≡ fresh role id }
     {
+        let counts = Counts {
+            attempt: 0,
+            put: 0,
+            received: 0,
+        };
+        Link::with_counts(alloc, role, id, counts)
+    }
+
+    /// Makes an end that has come so far, between two connections, and of which the other side has got all: for tests of the last counts,
+    /// to which no session comes. It takes no memory.
+    pub fn with_counts(alloc: Global, role: Role, id: Id, counts: Counts) -> Link
+        ensures { result ≡ record (fresh role id) {
+          attempt = counts.attempt;
+          keeps = record { base = counts.put; kept = []; sent = 0 };
+          received = counts.received;
+          told = counts.received;
+        } }
+    {
         Link {
             role,
             id,
-            attempt: 0,
+            attempt: counts.attempt,
             phase: Phase::Down,
             is_known: false,
             hello: [0; HELLO_BYTES],
             hello_gone: HELLO_BYTES,
-            kept: Kept::new(alloc),
-            received: 0,
-            told: 0,
+            kept: Kept::after(alloc, counts.put),
+            received: counts.received,
+            told: counts.received,
             inbox: Inbox::new(alloc),
         }
     }
