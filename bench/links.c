@@ -7,7 +7,10 @@
 #include <sys/socket.h>
 #include <unistd.h>
 
-enum { PIECE = 65536 };
+enum {
+    PIECE = 65536,    /* bytes that a program sends or takes at once */
+    ROOM = PIECE + 64 /* and the heads of the packets that they become */
+};
 
 /* Ends the program where the system doesn't do what it was asked. */
 static void need(int is_done, const char *what)
@@ -70,7 +73,7 @@ static uint64_t take_in(sam_link *link, uint64_t check)
 /* Carries what one end has for a connection to the other. */
 static void carry_end(const int line[2], sam_link *from, sam_link *to, uint64_t attempt)
 {
-    uint8_t piece[PIECE];
+    uint8_t piece[ROOM];
     size_t count;
     for (;;) {
         WANT(sam_link_take_out(from, attempt, piece, sizeof piece, &count));

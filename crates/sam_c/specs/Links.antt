@@ -1,5 +1,5 @@
 -- What the calls of a link do.
-use Rattle.std.specs.Prelude.{◌≡◌, ◌⊎◌, ℕ, List, ◌++◌, length, Bool, true, false, nat_lt, Option, Some, None, Result, Ok, Err}
+use Rattle.std.specs.Prelude.{◌≡◌, ◌⊎◌, ℕ, List, ◌++◌, length, drop, Bool, true, false, nat_lt, Option, Some, None, Result, Ok, Err}
 use Rattle.sam_mesg.specs.Bounds.{entry}
 use Rattle.sam_mesg.specs.Spelling.{eight, frame}
 use Rattle.sam_link.specs.End.{Answers, Calls, End, TakesOut, Welcomes, broken, fresh}
@@ -160,7 +160,7 @@ LinkTakenIn (Some e) before after old status new g =
 -- the note that was next stands in the buffer: no note is longer than the room that the call wants
 abbrev pub HandsNote : Option (List ℕ) → List ℕ → List ℕ → ℕ → ℕ → ℕ → Type 0
 HandsNote None before after old status new = (status ≡ nothing) × (after ≡ before) × (new ≡ old)
-HandsNote (Some note) before after old status new = (left : List ℕ) × (status ≡ ok) × Takes note before after new left
+HandsNote (Some note) before after old status new = (status ≡ ok) × (new ≡ length note) × (after ≡ note ++ drop (length note) before)
 
 abbrev pub NextNote : End → Bool → List ℕ → List ℕ → ℕ → ℕ → ℕ → End → Type 0
 NextNote e true before after old status new n = (status ≡ no_room) × (after ≡ before) × (new ≡ old) × (n ≡ e)

@@ -306,9 +306,9 @@ fn hand_note(end: &mut Link, into: &mut [u8], len: &mut usize) -> u32
     requires { 4096 ≤ length into.old }
     ensures { NextNote end.old false into.old into.new len.old result len.new end.new }
 {
-    match end.next_note() {
-        Some(mut note) => {
-            *len = note.take_into(into);
+    match end.next_note(into) {
+        Some(count) => {
+            *len = count;
             OK
         }
         None => NONE,

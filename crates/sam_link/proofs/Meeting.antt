@@ -13,11 +13,11 @@ use Rattle.sam_frame.proofs.Unique.{one_reading}
 use Rattle.sam_link.specs.Calls.{Call, Does, fed, handed, items_in, out, put, waits}
 use Rattle.sam_link.specs.Calls.Call.{Answer, Feed, Welcome}
 use Rattle.sam_link.specs.End.{AnswersBy, End, WelcomesBy, fault_by_word, is_asking, is_call, is_resume, may_send, refusal_of, same_id, welcome_count, welcome_refusal}
-use Rattle.sam_link.specs.Feeding.{Feeds, has_room, is_open, top_of}
+use Rattle.sam_link.specs.Feeding.{Feeds, has_room, is_open}
 use Rattle.sam_link.specs.Hellos.{IsHello, spelled}
 use Rattle.sam_link.specs.Keeping.{MayHave, may_have}
 use Rattle.sam_link.specs.Meeting.{CarriedIsAll, FindsNoFault, HonestMeet, LacksAreKept}
-use Rattle.sam_link.specs.Packets.{mesg_fault, packets}
+use Rattle.sam_link.specs.Packets.{Packet, mesg_fault, packets, top_of}
 use Rattle.sam_link.specs.Sessions.{IsFrom, Session, StartsWith, WasCarried}
 use Rattle.sam_link.specs.declared.fault.AnswerFault.{AnswerFault}
 use Rattle.sam_link.specs.declared.fault.AnswerFault.TheVariants as answers
@@ -30,7 +30,6 @@ use Rattle.sam_link.specs.declared.hello.Id.{Id}
 use Rattle.sam_link.specs.declared.hello.Refusal.{Refusal}
 use Rattle.sam_link.specs.declared.hello.Refusal.TheVariants.{BadHello, NoSession, OtherSession, OldAttempt, WrongCount}
 use Rattle.sam_link.specs.declared.hello.What.TheVariants as word
-use Rattle.sam_link.specs.declared.packet.Packet.{Packet}
 use Rattle.sam_link.specs.declared.phase.Phase.{Phase}
 use Rattle.sam_link.specs.declared.phase.Phase.TheVariants.{Down, Asking, Open}
 use Rattle.sam_link.specs.declared.phase.Role.{Role}

@@ -13,7 +13,7 @@ use Rattle.sam_link.specs.Feeding.{Feeds, PutsNote}
 use Rattle.sam_link.specs.Inbox.{GivesNote, Waiting, note_of, ready, ready_of}
 use Rattle.sam_link.specs.Keeping.{HasRoom, Keeps, Puts}
 use Rattle.sam_link.specs.Keeping.{put as put_bytes}
-use Rattle.sam_link.specs.Packets.{packets}
+use Rattle.sam_link.specs.Packets.{Packet, packets}
 use Rattle.sam_link.specs.Putting.{data_stream}
 use Rattle.sam_link.specs.declared.fault.AnswerFault.{AnswerFault}
 use Rattle.sam_link.specs.declared.fault.AnswerFault.TheVariants as answers
@@ -31,8 +31,7 @@ use Rattle.sam_link.specs.declared.hello.What.{What}
 use Rattle.sam_link.specs.declared.hello.What.TheVariants as word
 use Rattle.sam_link.specs.declared.keeping.PutFault.{PutFault}
 use Rattle.sam_link.specs.declared.keeping.PutFault.TheVariants as puts
-use Rattle.sam_link.specs.declared.packet.Packet.{Packet}
-use Rattle.sam_link.specs.declared.packet.Packet.TheVariants as packet
+use Rattle.sam_link.specs.Packets.{Packet as packet}
 use Rattle.sam_link.specs.declared.phase.Role.{Role}
 use Rattle.sam_link.specs.declared.phase.Role.TheVariants.{Terminal, Host}
 use Rattle.sam_link.proofs.OwnMoves.{Stepped, adds, answers as own_answers, dials, over, refused, stays, takes, takes_out, took_front, welcomed_first, welcomed_later}

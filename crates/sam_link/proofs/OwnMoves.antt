@@ -11,14 +11,13 @@ use Rattle.sam_frame.proofs.Fronts.{stream_of-append}
 use Rattle.sam_link.specs.Calls.{Call, Item, Byte, fed, fed_by, handed, handed_by, items_in, out, out_by, put_by, waits}
 use Rattle.sam_link.specs.Calls.Call.{Feed, TakeOut}
 use Rattle.sam_link.specs.End.{End, called, ended, first_word, from_hello, from_kept, going, gone, is_asking, is_call, is_resume, is_up, may_send, says}
-use Rattle.sam_link.specs.Feeding.{asks, fed_to, owes, has_room, is_open, tells, top_of}
+use Rattle.sam_link.specs.Feeding.{fed_to, owes, has_room, is_open, tells}
 use Rattle.sam_link.specs.Inbox.{Waiting, items_of}
 use Rattle.sam_link.specs.Keeping.{Keeps, acknowledged, begun, HasRoom}
 use Rattle.sam_link.specs.Keeping.{put as put_bytes}
-use Rattle.sam_link.specs.Packets.{packets}
+use Rattle.sam_link.specs.Packets.{Packet, asks, packets, top_of}
 use Rattle.sam_link.specs.Sessions.{IsFrom, StartsWith, WasCarried, is_taken}
 use Rattle.sam_link.specs.declared.hello.Hello.{Hello}
-use Rattle.sam_link.specs.declared.packet.Packet.{Packet}
 use Rattle.sam_link.specs.declared.phase.Phase.TheVariants.{Open}
 use Rattle.sam_link.specs.declared.phase.Role.TheVariants.{Terminal, Host}
 use Rattle.sam_link.specs.declared.hello.What.TheVariants as word

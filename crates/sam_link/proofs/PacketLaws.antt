@@ -1,5 +1,5 @@
 -- No packet begins another, so a front of a stream of packets has a front of its packets.
-use Rattle.std.proofs.Common.{◌≡◌, ℕ, ◌<◌, ◌^◌, List, [], ◌++◌, None, true, length, w64, refl, sym, ap, ◌∙◌, append_assoc, append-nil, arith}
+use Rattle.std.proofs.Common.{◌≡◌, ℕ, ◌<◌, ◌^◌, List, [], ◌++◌, ◌∷◌, None, true, length, w64, refl, sym, ap, ◌∙◌, append_assoc, append-nil, arith}
 use Rattle.std.proofs.lemmas.Nat.{from_be_bytes-to_be_bytes_8}
 use Rattle.std.specs.Int.{from_be_bytes}
 use Rattle.sam_mesg.specs.Bounds.{may_be}
@@ -9,9 +9,8 @@ use Rattle.sam_frame.specs.Direction.{frame_of}
 use Rattle.sam_frame.specs.Reading.{IsSound}
 use Rattle.sam_frame.specs.Stream.{FitInTurn, Splits, stream_of}
 use Rattle.sam_frame.proofs.Unique.{reads_on}
-use Rattle.sam_link.specs.Packets.{IsPacket, body_of, bounds, kind_of, packets}
-use Rattle.sam_link.specs.declared.packet.Packet.{Packet}
-use Rattle.sam_link.specs.declared.packet.Packet.TheVariants.{Data, Note, Acknowledge, Ask}
+use Rattle.sam_link.specs.Packets.{IsPacket, Packet, body_of, bounds, kind_of, packets}
+use Rattle.sam_link.specs.Packets.Packet.{Data, Note, Acknowledge, Ask}
 
 allowed : (p : Packet) → IsPacket p → may_be (bounds (kind_of p)) (length (body_of p)) ≡ true
 allowed (Data bytes) good = grind arith
@@ -19,7 +18,7 @@ allowed (Note bytes) good = grind arith
 allowed (Acknowledge count) good = refl
 allowed Ask good = refl
 
-short : (p : Packet) → IsPacket p → length (body_of p) < 2 ^ 16
+pub short : (p : Packet) → IsPacket p → length (body_of p) < 2 ^ 16
 short (Data bytes) good = omega (arith, good.1)
 short (Note bytes) good = omega (arith, good)
 short (Acknowledge count) good = omega arith
@@ -54,3 +53,7 @@ front_read ps qs came rest held fit whole splits =
     reads_on packets packets_sound 1 (stream_of packets ps) qs ps (held ++ rest) [] None
     (record { whole = whole ∙ ap (λ b. b ++ rest) splits.whole ∙ append_assoc (stream_of packets qs) held rest; fit = splits.fit })
     (record { whole = sym (append-nil (stream_of packets ps)); fit = fit }) tt
+
+pub no_bytes : (bytes : List ℕ) → length bytes ≡ 0 → [] ≡ bytes
+no_bytes [] is = refl
+no_bytes (byte ∷ bytes) is = absurd (omega (arith, is))

@@ -9,13 +9,12 @@ use Rattle.sam_mesg.specs.Spelling.{eight, frame}
 use Rattle.sam_frame.specs.Stream.{FitInTurn, stream_of, version_after}
 use Rattle.sam_frame.proofs.Fronts.{FitInTurn-append, stream_of-one}
 use Rattle.sam_link.specs.Calls.{Byte, Note, items_in}
-use Rattle.sam_link.specs.Feeding.{told, tells, top_of}
+use Rattle.sam_link.specs.Feeding.{told, tells}
 use Rattle.sam_link.specs.Inbox.{items_of}
 use Rattle.sam_link.specs.Keeping.{Keeps, put}
-use Rattle.sam_link.specs.Packets.{packets}
+use Rattle.sam_link.specs.Packets.{Packet, packets, top_of}
 use Rattle.sam_link.specs.Putting.{data_packets, data_stream, packets_needed}
-use Rattle.sam_link.specs.declared.packet.Packet.{Packet}
-use Rattle.sam_link.specs.declared.packet.Packet.TheVariants as packet
+use Rattle.sam_link.specs.Packets.{Packet as packet}
 
 pub take_all : {A : Type 0} (n : ℕ) (l : List A) → length l ≤ n → take n l ≡ l
 take_all n l long = let all : min n (length l) ≡ length l = omega (arith, long) in sym (take_min n l) ∙ ap (λ k. take k l) all ∙ take-length l

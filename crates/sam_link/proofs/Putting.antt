@@ -9,7 +9,7 @@ use Rattle.sam_frame.proofs.Fronts.{stream_of-append, stream_of-one}
 use Rattle.sam_mesg.specs.Spelling.{frame}
 use Rattle.sam_link.specs.Packets.{packets}
 use Rattle.sam_link.specs.Putting.{data_packets, data_stream, packets_needed}
-use Rattle.sam_link.specs.declared.packet.Packet.TheVariants.{Data}
+use Rattle.sam_link.specs.Packets.Packet.{Data}
 
 abbrev part : List ℕ → ℕ → List ℕ
 part bytes n = take 4096 (drop (n * 4096) bytes)

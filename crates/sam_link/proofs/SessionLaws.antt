@@ -4,14 +4,12 @@ use Rattle.std.specs.List.{flat_map}
 use Rattle.sam_frame.specs.Stream.{stream_of}
 use Rattle.sam_link.specs.Calls.{Call, handed, items_in, put, waits}
 use Rattle.sam_link.specs.End.{End, fresh}
-use Rattle.sam_link.specs.Feeding.{top_of}
 use Rattle.sam_link.specs.Hellos.{IsHello, spelled}
-use Rattle.sam_link.specs.Packets.{packets}
+use Rattle.sam_link.specs.Packets.{Packet, packets, top_of}
 use Rattle.sam_link.specs.Sessions.{ByHost, ByTerminal, IsId, Leads, LinksCarry, Session, StartsWith, Step, WasCarried, host_did, is_taken, new_session, terminal_did}
 use Rattle.sam_link.specs.declared.hello.Hello.{Hello}
 use Rattle.sam_link.specs.declared.hello.Id.{Id}
 use Rattle.sam_link.specs.declared.hello.What.TheVariants as word
-use Rattle.sam_link.specs.declared.packet.Packet.{Packet}
 use Rattle.sam_link.specs.declared.phase.Role.{Role}
 use Rattle.sam_link.specs.declared.phase.Role.TheVariants.{Terminal, Host}
 use Rattle.sam_link.proofs.HostMoves as host

@@ -4,11 +4,10 @@ use Rattle.std.specs.Prelude.{max, ◌==◌, if◌then◌else◌}
 use Rattle.sam_frame.specs.Stream.{FitInTurn, IsOpen, stream_of}
 use Rattle.sam_link.specs.Calls.{Call, fed, handed, items_in, out, put, waits}
 use Rattle.sam_link.specs.End.{End}
-use Rattle.sam_link.specs.Feeding.{has_room, top_of}
+use Rattle.sam_link.specs.Feeding.{has_room}
 use Rattle.sam_link.specs.Hellos.{spelled}
-use Rattle.sam_link.specs.Packets.{packets}
+use Rattle.sam_link.specs.Packets.{Packet, packets, top_of}
 use Rattle.sam_link.specs.declared.hello.Hello.{Hello}
-use Rattle.sam_link.specs.declared.packet.Packet.{Packet}
 use Rattle.sam_link.specs.declared.phase.Phase.{Phase}
 use Rattle.sam_link.specs.declared.phase.Phase.TheVariants.{Down, Asking, Open}
 use Rattle.std.specs.List.{flat_map}

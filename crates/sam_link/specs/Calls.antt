@@ -1,5 +1,5 @@
 -- A call of an end with its answer, and what it brought.
-use Rattle.std.specs.Prelude.{◌≡◌, ℕ, List, [], ◌∷◌, ◌++◌, length, take, drop, map, min, flat_map, Bool, ◌==◌, if◌then◌else◌, Option, Some, Result, Ok, Err}
+use Rattle.std.specs.Prelude.{◌≡◌, ℕ, List, [], ◌∷◌, ◌++◌, length, take, drop, map, min, flat_map, Bool, ◌==◌, if◌then◌else◌, Option, None, Some, Result, Ok, Err}
 use Rattle.sam_mesg.specs.Spelling.{eight, frame}
 use Rattle.sam_link.specs.End.{Answers, Calls, End, TakesOut, Welcomes, broken}
 use Rattle.sam_link.specs.Feeding.{Feeds, PutsNote}
@@ -14,8 +14,8 @@ use Rattle.sam_link.specs.declared.fault.NoteFault.{NoteFault}
 use Rattle.sam_link.specs.declared.fault.WelcomeFault.{WelcomeFault}
 use Rattle.sam_link.specs.declared.hello.Hello.{Hello}
 use Rattle.sam_link.specs.declared.keeping.PutFault.{PutFault}
-use Rattle.sam_link.specs.declared.packet.Packet.{Packet}
-use Rattle.sam_link.specs.declared.packet.Packet.TheVariants as packet
+use Rattle.sam_link.specs.Packets.{Packet}
+use Rattle.sam_link.specs.Packets.{Packet as packet}
 
 -- what was given, and what came of it
 pub data Call : Type 0 where
@@ -77,15 +77,36 @@ waits w = map Byte w.part ++ flat_map items_in w.packets
 
 -- what the call put for the other program
 abbrev pub put_by : Call → List Item
+put_by (Dial take_over answer) = []
+put_by (Answer hello answer) = []
+put_by (Welcome hello answer) = []
+put_by (Break attempt) = []
 put_by (Put bytes (Ok done)) = map Byte bytes
+put_by (Put bytes (Err why)) = []
 put_by (PutNote bytes (Ok done)) = Note bytes ∷ []
-put_by _ = []
+put_by (PutNote bytes (Err why)) = []
+put_by (Ask answer) = []
+put_by (Acknowledge answer) = []
+put_by (TakeOut n old answer new) = []
+put_by (Feed n piece answer) = []
+put_by (TakeIn old count new) = []
+put_by (NextNote answer) = []
 
 -- what the call handed to this program
 abbrev pub handed_by : Call → List Item
+handed_by (Dial take_over answer) = []
+handed_by (Answer hello answer) = []
+handed_by (Welcome hello answer) = []
+handed_by (Break attempt) = []
+handed_by (Put bytes answer) = []
+handed_by (PutNote bytes answer) = []
+handed_by (Ask answer) = []
+handed_by (Acknowledge answer) = []
+handed_by (TakeOut n old answer new) = []
+handed_by (Feed n piece answer) = []
 handed_by (TakeIn old count new) = map Byte (take count new)
 handed_by (NextNote (Some bytes)) = Note bytes ∷ []
-handed_by _ = []
+handed_by (NextNote None) = []
 
 abbrev pub put : List Call → List Item
 put calls = flat_map put_by calls
@@ -105,13 +126,35 @@ bytes_of items = flat_map byte_of items
 
 -- on which connection the call took bytes out, and which
 abbrev pub out_by : ℕ → Call → List ℕ
+out_by attempt (Dial take_over answer) = []
+out_by attempt (Answer hello answer) = []
+out_by attempt (Welcome hello answer) = []
+out_by attempt (Break n) = []
+out_by attempt (Put bytes answer) = []
+out_by attempt (PutNote bytes answer) = []
+out_by attempt (Ask answer) = []
+out_by attempt (Acknowledge answer) = []
 out_by attempt (TakeOut n old (Ok count) new) = if n == attempt then take count new else []
-out_by attempt _ = []
+out_by attempt (TakeOut n old (Err why) new) = []
+out_by attempt (Feed n piece answer) = []
+out_by attempt (TakeIn old count new) = []
+out_by attempt (NextNote answer) = []
 
 -- the piece of the connection that the call took; one that is refused may be fed again
 abbrev pub fed_by : ℕ → Call → List ℕ
+fed_by attempt (Dial take_over answer) = []
+fed_by attempt (Answer hello answer) = []
+fed_by attempt (Welcome hello answer) = []
+fed_by attempt (Break n) = []
+fed_by attempt (Put bytes answer) = []
+fed_by attempt (PutNote bytes answer) = []
+fed_by attempt (Ask answer) = []
+fed_by attempt (Acknowledge answer) = []
+fed_by attempt (TakeOut n old answer new) = []
 fed_by attempt (Feed n piece (Ok done)) = if n == attempt then piece else []
-fed_by attempt _ = []
+fed_by attempt (Feed n piece (Err why)) = []
+fed_by attempt (TakeIn old count new) = []
+fed_by attempt (NextNote answer) = []
 
 -- all that was taken out on a connection: a hello, and the stream behind it
 abbrev pub out : ℕ → List Call → List ℕ

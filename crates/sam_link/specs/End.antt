@@ -70,8 +70,10 @@ called e take_over =
 abbrev pub CallsBy : Role → End → Bool → Result ℕ CallFault → End → Type 0
 CallsBy Terminal e take_over (Ok attempt) n = (attempt ≡ e.attempt + 1) × (attempt < 2 ^ 64) × (n ≡ called e take_over)
 CallsBy Terminal e take_over (Err calls.CountFull) n = (e.attempt ≡ 2 ^ 64 - 1) × (n ≡ e)
+CallsBy Terminal e take_over (Err calls.WrongRole) n = ⊥
 CallsBy Host e take_over (Err calls.WrongRole) n = n ≡ e
-CallsBy role e take_over result n = ⊥
+CallsBy Host e take_over (Err calls.CountFull) n = ⊥
+CallsBy Host e take_over (Ok attempt) n = ⊥
 
 abbrev pub Calls : End → Bool → Result ℕ CallFault → End → Type 0
 Calls e take_over result n = CallsBy e.role e take_over result n
@@ -89,8 +91,11 @@ is_call Welcome = false
 is_call (Refused why) = false
 
 abbrev pub is_resume : What → Bool
+is_resume Begin = false
 is_resume Resume = true
-is_resume w = false
+is_resume TakeOver = false
+is_resume Welcome = false
+is_resume (Refused why) = false
 
 -- why a host refuses a terminal's hello, in this order
 abbrev pub refusal_of : End → Hello → Option Refusal
@@ -108,8 +113,10 @@ answered e h = says (record e { attempt = h.attempt; phase = Open; is_known = tr
 abbrev pub AnswersBy : Role → End → Hello → Result (Unit {0}) AnswerFault → End → Type 0
 AnswersBy Host e h (Ok done) n = (refusal_of e h ≡ None) × (n ≡ answered e h)
 AnswersBy Host e h (Err (answers.Refused why)) n = (refusal_of e h ≡ Some why) × (n ≡ e)
+AnswersBy Host e h (Err answers.WrongRole) n = ⊥
 AnswersBy Terminal e h (Err answers.WrongRole) n = n ≡ e
-AnswersBy role e h result n = ⊥
+AnswersBy Terminal e h (Err (answers.Refused why)) n = ⊥
+AnswersBy Terminal e h (Ok done) n = ⊥
 
 abbrev pub Answers : End → Hello → Result (Unit {0}) AnswerFault → End → Type 0
 Answers e h result n = AnswersBy e.role e h result n
@@ -133,7 +140,9 @@ welcome_refusal e h =
 abbrev pub fault_by_word : End → Hello → What → Option WelcomeFault
 fault_by_word e h (Refused why) = Some (welcomes.ByHost why)
 fault_by_word e h Welcome = welcome_refusal e h
-fault_by_word e h word = Some (welcomes.Here BadHello)
+fault_by_word e h Begin = Some (welcomes.Here BadHello)
+fault_by_word e h Resume = Some (welcomes.Here BadHello)
+fault_by_word e h TakeOver = Some (welcomes.Here BadHello)
 
 -- why a terminal does not take a host's hello, in this order
 abbrev pub welcome_fault : End → Hello → Option WelcomeFault
@@ -144,9 +153,12 @@ welcomed e h = record e { phase = Open; is_known = true; keeps = if e.attempt ==
 
 abbrev pub WelcomesBy : Role → End → Hello → Result (Unit {0}) WelcomeFault → End → Type 0
 WelcomesBy Terminal e h (Ok done) n = (welcome_fault e h ≡ None) × (n ≡ welcomed e h)
-WelcomesBy Host e h (Err welcomes.WrongRole) n = n ≡ e
 WelcomesBy Terminal e h (Err fault) n = (welcome_fault e h ≡ Some fault) × (n ≡ e)
-WelcomesBy role e h result n = ⊥
+WelcomesBy Host e h (Err welcomes.WrongRole) n = n ≡ e
+WelcomesBy Host e h (Err welcomes.NotOpen) n = ⊥
+WelcomesBy Host e h (Err (welcomes.ByHost why)) n = ⊥
+WelcomesBy Host e h (Err (welcomes.Here why)) n = ⊥
+WelcomesBy Host e h (Ok done) n = ⊥
 
 abbrev pub Welcomes : End → Hello → Result (Unit {0}) WelcomeFault → End → Type 0
 Welcomes e h result n = WelcomesBy e.role e h result n

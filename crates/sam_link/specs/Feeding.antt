@@ -1,39 +1,20 @@
 -- What feeding a piece of the other side's stream does.
-use Rattle.std.specs.Prelude.{◌≡◌, ℕ, ◌+◌, ◌-◌, ◌^◌, ◌<◌, ◌≤◌, List, [], ◌∷◌, ◌++◌, length, drop, max, Bool, true, false, ◌&&◌, ◌||◌, ◌==◌, nat_le, nat_lt, if◌then◌else◌, None, Some, Result, Ok, Err}
+use Rattle.std.specs.Prelude.{◌≡◌, ℕ, ◌+◌, ◌-◌, ◌^◌, ◌<◌, ◌≤◌, List, ◌++◌, length, drop, Bool, true, false, ◌&&◌, ◌||◌, ◌==◌, nat_le, nat_lt, if◌then◌else◌, None, Some, Result, Ok, Err}
 use Rattle.sam_mesg.specs.Spelling.{eight, frame}
 use Rattle.sam_frame.specs.Splitting.{Front}
 use Rattle.sam_frame.specs.Stream.{IsOpen, Shows}
 use Rattle.sam_link.specs.End.{End, ended}
-use Rattle.sam_link.specs.Inbox.{items_of}
+use Rattle.sam_link.specs.Inbox.{items_among, items_of}
 use Rattle.sam_link.specs.Keeping.{Keeps, Puts, acknowledged, put}
-use Rattle.sam_link.specs.Packets.{mesg_fault, packets}
+use Rattle.sam_link.specs.Packets.{Packet, asks, mesg_fault, packets, top_of}
 use Rattle.sam_link.specs.declared.fault.FeedFault.{FeedFault}
 use Rattle.sam_link.specs.declared.fault.FeedFault.TheVariants.{NotOpen, CountFull, OutOfMemory, Wrong, AckAhead}
 use Rattle.sam_link.specs.declared.fault.NoteFault.{NoteFault}
 use Rattle.sam_link.specs.declared.fault.NoteFault.TheVariants as notes
 use Rattle.sam_link.specs.declared.keeping.PutFault.TheVariants as puts
 use Rattle.sam_link.specs.declared.reading.Split.{Split}
-use Rattle.sam_link.specs.declared.packet.Packet.{Packet}
-use Rattle.sam_link.specs.declared.packet.Packet.TheVariants.{Acknowledge, Ask}
 use Rattle.sam_link.specs.declared.phase.Phase.{Phase}
 use Rattle.sam_link.specs.declared.phase.Phase.TheVariants.{Down, Asking, Open}
-
-abbrev pub count_of : Packet → ℕ
-count_of (Acknowledge count) = count
-count_of p = 0
-
--- the greatest count that is acknowledged
-abbrev pub top_of : List Packet → ℕ
-top_of [] = 0
-top_of (p ∷ ps) = max (count_of p) (top_of ps)
-
-abbrev pub is_ask : Packet → Bool
-is_ask Ask = true
-is_ask p = false
-
-abbrev pub asks : List Packet → Bool
-asks [] = false
-asks (p ∷ ps) = is_ask p || asks ps
 
 abbrev pub is_open : Phase → Bool
 is_open Down = false
@@ -70,14 +51,25 @@ fed e piece ps len = fed_to e ps (drop len (e.held ++ piece)) (e.received + leng
 abbrev pub MayFeed : End → ℕ → List ℕ → Type 0
 MayFeed e attempt piece = ((is_open e.phase && (attempt == e.attempt)) ≡ true) × (e.received + length piece < 2 ^ 64)
 
+-- the packets that were read of what is held are taken, up to this count of all bytes
+abbrev pub read_to : End → Split → ℕ → End
+read_to e s count =
+    record e {
+      received = count;
+      told = if tells e.keeps (s.said.asked || nat_le 16384 (count - e.told)) then count else e.told;
+      keeps = acknowledged (told e.keeps (s.said.asked || nat_le 16384 (count - e.told)) count) s.said.top;
+      held = drop s.len e.held;
+      waiting = record e.waiting { packets = e.waiting.packets ++ items_among s.count e.held };
+    }
+
 -- what taking the packets of a piece that is held may answer, and leave as n
 abbrev pub TakesSplit : End → Split → ℕ → Result (Unit {0}) FeedFault → End → Type 0
-TakesSplit e s count (Ok done) n =
-    (s.fault ≡ None) × (top_of s.packets.items ≤ e.keeps.base + e.keeps.sent) × (n ≡ fed_to e s.packets.items (drop s.len e.held) count)
+TakesSplit e s count (Ok done) n = (s.fault ≡ None) × (s.said.top ≤ e.keeps.base + e.keeps.sent) × (n ≡ read_to e s count)
 TakesSplit e s count (Err (Wrong fault)) n = (s.fault ≡ Some fault) × (n ≡ e)
-TakesSplit e s count (Err AckAhead) n = (s.fault ≡ None) × (e.keeps.base + e.keeps.sent < top_of s.packets.items) × (n ≡ e)
+TakesSplit e s count (Err AckAhead) n = (s.fault ≡ None) × (e.keeps.base + e.keeps.sent < s.said.top) × (n ≡ e)
 TakesSplit e s count (Err OutOfMemory) n = n ≡ e
-TakesSplit e s count (Err fault) n = ⊥
+TakesSplit e s count (Err NotOpen) n = ⊥
+TakesSplit e s count (Err CountFull) n = ⊥
 
 -- a fault of the other side ends the connection
 abbrev pub ended_for : FeedFault → End → End

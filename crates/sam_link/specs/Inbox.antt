@@ -1,8 +1,13 @@
 -- What came and was not taken yet.
-use Rattle.std.specs.Prelude.{◌≡◌, ℕ, List, [], ◌∷◌, Option, None, Some, Bool, true, false, if◌then◌else◌}
+use Rattle.std.specs.Prelude.{◌≡◌, ℕ, zero, suc, ◌+◌, ◌*◌, ◌-◌, ◌≤◌, List, [], ◌∷◌, ◌++◌, length, take, drop, slice_index, Option, None, Some, Bool, true, false, ◌==◌, if◌then◌else◌, option_map}
 use Rattle.std.specs.List.{flat_map}
-use Rattle.sam_link.specs.declared.packet.Packet.{Packet}
-use Rattle.sam_link.specs.declared.packet.Packet.TheVariants.{Data, Note, Acknowledge, Ask}
+use Rattle.sam_frame.specs.Splitting.{Front}
+use Rattle.sam_link.specs.Packets.{Packet, packets}
+use Rattle.sam_link.specs.Packets.Packet.{Data, Note, Acknowledge, Ask}
+use Rattle.sam_link.specs.declared.inbox.Body.{Body}
+use Rattle.sam_link.specs.declared.inbox.Found.{Found}
+use Rattle.sam_link.specs.declared.inbox.Found.TheVariants.{Nothing}
+use Rattle.sam_link.specs.declared.inbox.Found.TheVariants as found
 
 -- the rest of the data whose first bytes were taken, and the packets after it
 pub record Waiting : Type 0 where
@@ -24,30 +29,84 @@ items_of ps = flat_map item_of ps
 
 -- the data of the first packet, if nothing is left of what was begun and data is first
 abbrev pub ready_of : List ℕ → List Packet → Waiting
+ready_of (byte ∷ part) ps = record { part = byte ∷ part; packets = ps }
+ready_of [] [] = record { part = []; packets = [] }
 ready_of [] (Data bytes ∷ ps) = record { part = bytes; packets = ps }
-ready_of part ps = record { part = part; packets = ps }
+ready_of [] (Note bytes ∷ ps) = record { part = []; packets = Note bytes ∷ ps }
+ready_of [] (Acknowledge count ∷ ps) = record { part = []; packets = Acknowledge count ∷ ps }
+ready_of [] (Ask ∷ ps) = record { part = []; packets = Ask ∷ ps }
 
 abbrev pub ready : Waiting → Waiting
 ready w = ready_of w.part w.packets
 
 -- the note that is first, once all bytes before it are taken
 abbrev pub note_of : List ℕ → List Packet → Option (List ℕ × List Packet)
+note_of (byte ∷ part) ps = None
+note_of [] [] = None
 note_of [] (Note bytes ∷ ps) = Some (bytes, ps)
-note_of part ps = None
+note_of [] (Data bytes ∷ ps) = None
+note_of [] (Acknowledge count ∷ ps) = None
+note_of [] (Ask ∷ ps) = None
 
 abbrev pub GivesNote : Waiting → Option (List ℕ) → Waiting → Type 0
 GivesNote w (Some bytes) n = (note_of w.part w.packets ≡ Some (bytes, n.packets)) × (n.part ≡ w.part)
 GivesNote w None n = (note_of w.part w.packets ≡ None) × (n ≡ w)
 
--- the first packet is of that kind, and these are its bytes and the packets after it
-abbrev pub data_first : List Packet → Option (List ℕ × List Packet)
-data_first (Data bytes ∷ ps) = Some (bytes, ps)
-data_first ps = None
+-- a note that was moved into a buffer, which had so many bytes
+abbrev pub note_in : Option ℕ → List ℕ → Option (List ℕ)
+note_in count bytes = option_map (λ n. take n bytes) count
 
-abbrev pub note_first : List Packet → Option (List ℕ × List Packet)
-note_first (Note bytes ∷ ps) = Some (bytes, ps)
-note_first ps = None
+-- only the note's bytes of the buffer changed
+abbrev pub RestStays : Option ℕ → List ℕ → List ℕ → Type 0
+RestStays None old new = new ≡ old
+RestStays (Some count) old new = (count ≤ 4096) × (new ≡ take count new ++ drop count old)
 
-abbrev pub Pops : Option (List ℕ × List Packet) → List Packet → Option (List ℕ) → List Packet → Type 0
-Pops first ps (Some bytes) rest = first ≡ Some (bytes, rest)
-Pops first ps None rest = (first ≡ None) × (rest ≡ ps)
+-- ## Where it lies
+
+-- all that came and was not taken: bytes that are no whole packet yet, and what waits
+pub record Arrived : Type 0 where
+  pub held : List ℕ
+  pub waiting : Waiting
+
+-- the length of the body of the packet that stands first
+abbrev pub body_len : List ℕ → ℕ
+body_len bytes = slice_index bytes 1 * 256 + slice_index bytes 2
+
+-- the packet of this kind with this body, if it is for the program
+abbrev pub item_at : ℕ → List ℕ → List Packet
+item_at kind body = if kind == 1 then Data body ∷ [] else if kind == 2 then Note body ∷ [] else []
+
+-- those for the program among so many packets that stand first
+unfoldable pub items_among : ℕ → List ℕ → List Packet
+items_among zero bytes = []
+items_among (suc n) bytes =
+    item_at (slice_index bytes 0) (take (body_len bytes) (drop 3 bytes)) ++ items_among n (drop (3 + body_len bytes) bytes)
+
+-- so many packets stand at the front of the bytes, and take so many of them
+pub record IsRow (bytes : List ℕ) (count len : ℕ) : Type 0 where
+  pub ps : List Packet
+  pub front : Front packets 1 bytes ps 1 len
+  pub count_is : count ≡ length ps
+
+-- so many bytes from there on are the body of the first packet for the program, and these packets stand behind it
+pub record Stands (bytes : List ℕ) (count len : ℕ) (b : Body) (item : List ℕ → Packet) : Type 0 where
+  pub inside : b.start + b.len ≤ len
+  pub brief : b.len ≤ 4096
+  pub behind : IsRow (drop (b.start + b.len) bytes) b.left (len - (b.start + b.len))
+  pub items : items_among count bytes ≡ item (take b.len (drop b.start bytes)) ∷ items_among b.left (drop (b.start + b.len) bytes)
+
+abbrev pub Finds : List ℕ → ℕ → ℕ → Found → Type 0
+Finds bytes count len Nothing = items_among count bytes ≡ []
+Finds bytes count len (found.Data b) = Stands bytes count len b Data
+Finds bytes count len (found.Note b) = Stands bytes count len b Note
+
+-- what was begun lies from `gone` on, packets from `next` on, and from `whole` on what is no packet yet
+pub record IsInbox (bytes : List ℕ) (gone next whole count : ℕ) : Type 0 where
+  pub begun : gone ≤ next
+  pub behind : next ≤ whole
+  pub inside : whole ≤ length bytes
+  pub row : IsRow (drop next bytes) count (whole - next)
+
+abbrev pub arrived : List ℕ → ℕ → ℕ → ℕ → ℕ → Arrived
+arrived bytes gone next whole count =
+    record { held = drop whole bytes; waiting = record { part = take (next - gone) (drop gone bytes); packets = items_among count (drop next bytes) } }

@@ -1,32 +1,48 @@
 -- What two ends of one session may answer each other, and what is there once all was carried.
-use Rattle.std.specs.Prelude.{◌≡◌, ◌<◌, List, [], ◌++◌, length, drop, true, Err}
+use Rattle.std.specs.Prelude.{◌≡◌, ◌<◌, List, [], ◌++◌, length, drop, true, Ok, Err}
 use Rattle.std.specs.List.{flat_map}
 use Rattle.sam_frame.specs.Stream.{stream_of}
 use Rattle.sam_link.specs.Calls.{Call, Does, fed, handed, items_in, out, put, waits}
-use Rattle.sam_link.specs.Calls.Call.{Answer, Feed, Welcome}
+use Rattle.sam_link.specs.Calls.Call.{Acknowledge, Answer, Ask, Break, Dial, Feed, NextNote, Put, PutNote, TakeIn, TakeOut, Welcome}
 use Rattle.sam_link.specs.End.{End}
 use Rattle.sam_link.specs.Feeding.{has_room, is_open}
 use Rattle.sam_link.specs.Keeping.{MayHave}
-use Rattle.sam_link.specs.Packets.{packets}
+use Rattle.sam_link.specs.Packets.{Packet, packets}
 use Rattle.sam_link.specs.Sessions.{IsId, Leads, Session, Step, WasCarried, new_session}
 use Rattle.sam_link.specs.declared.fault.AnswerFault.TheVariants as answers
 use Rattle.sam_link.specs.declared.fault.FeedFault.TheVariants as feeds
 use Rattle.sam_link.specs.declared.fault.WelcomeFault.TheVariants as welcomes
 use Rattle.sam_link.specs.declared.hello.Id.{Id}
 use Rattle.sam_link.specs.declared.hello.Refusal.TheVariants.{OldAttempt}
-use Rattle.sam_link.specs.declared.packet.Packet.{Packet}
 
 -- ## What is refused
 
 -- The end finds no fault in what the other end sent: it takes a hello, or the connection is an old one; and no piece is wrong, or
 -- acknowledges what did not go
 abbrev pub FindsNoFault : Call → Type 0
+FindsNoFault (Dial take_over answer) = Unit {0}
+FindsNoFault (Answer hello (Ok done)) = Unit {0}
+FindsNoFault (Answer hello (Err answers.WrongRole)) = Unit {0}
 FindsNoFault (Answer hello (Err (answers.Refused why))) = why ≡ OldAttempt
-FindsNoFault (Welcome hello (Err (welcomes.Here why))) = why ≡ OldAttempt
+FindsNoFault (Welcome hello (Ok done)) = Unit {0}
+FindsNoFault (Welcome hello (Err welcomes.WrongRole)) = Unit {0}
+FindsNoFault (Welcome hello (Err welcomes.NotOpen)) = Unit {0}
 FindsNoFault (Welcome hello (Err (welcomes.ByHost why))) = ⊥
+FindsNoFault (Welcome hello (Err (welcomes.Here why))) = why ≡ OldAttempt
+FindsNoFault (Break attempt) = Unit {0}
+FindsNoFault (Put bytes answer) = Unit {0}
+FindsNoFault (PutNote bytes answer) = Unit {0}
+FindsNoFault (Ask answer) = Unit {0}
+FindsNoFault (Acknowledge answer) = Unit {0}
+FindsNoFault (TakeOut n old answer new) = Unit {0}
+FindsNoFault (Feed attempt piece (Ok done)) = Unit {0}
+FindsNoFault (Feed attempt piece (Err feeds.NotOpen)) = Unit {0}
+FindsNoFault (Feed attempt piece (Err feeds.CountFull)) = Unit {0}
+FindsNoFault (Feed attempt piece (Err feeds.OutOfMemory)) = Unit {0}
 FindsNoFault (Feed attempt piece (Err (feeds.Wrong fault))) = ⊥
 FindsNoFault (Feed attempt piece (Err feeds.AckAhead)) = ⊥
-FindsNoFault _ = Unit {0}
+FindsNoFault (TakeIn old count new) = Unit {0}
+FindsNoFault (NextNote answer) = Unit {0}
 
 -- after any calls, the next call of either end, where what it brings was carried
 abbrev pub HonestMeet : Type 0

@@ -1,9 +1,8 @@
 -- How what a program puts becomes packets.
 use Rattle.std.specs.Prelude.{ℕ, suc, zero, ◌+◌, ◌*◌, ◌/◌, List, [], ◌∷◌, ◌++◌, length, take, drop}
 use Rattle.sam_frame.specs.Stream.{stream_of}
-use Rattle.sam_link.specs.Packets.{packets}
-use Rattle.sam_link.specs.declared.packet.Packet.{Packet}
-use Rattle.sam_link.specs.declared.packet.Packet.TheVariants.{Data}
+use Rattle.sam_link.specs.Packets.{Packet, packets}
+use Rattle.sam_link.specs.Packets.Packet.{Data}
 
 -- the first of the packets of these bytes, which are all full but for the last
 unfoldable pub data_packets : ℕ → List ℕ → List Packet

@@ -1,7 +1,7 @@
 -- A terminal end and a host end of one session, in any calls of both, over connections that break.
-use Rattle.std.specs.Prelude.{◌≡◌, ◌<◌, ◌^◌, List, [], ◌∷◌, ◌++◌, drop, Bool, true, false, Ok}
+use Rattle.std.specs.Prelude.{◌≡◌, ◌<◌, ◌^◌, List, [], ◌∷◌, ◌++◌, drop, Bool, true, false, Ok, Err}
 use Rattle.sam_link.specs.Calls.{Call, Does, fed, handed, out, put}
-use Rattle.sam_link.specs.Calls.Call.{Answer, Feed, Welcome}
+use Rattle.sam_link.specs.Calls.Call.{Acknowledge, Answer, Ask, Break, Dial, Feed, NextNote, Put, PutNote, TakeIn, TakeOut, Welcome}
 use Rattle.sam_link.specs.End.{End, fresh}
 use Rattle.sam_link.specs.Hellos.{IsHello, spelled}
 use Rattle.sam_link.specs.declared.hello.Hello.{Hello}
@@ -26,14 +26,33 @@ abbrev pub WasCarried : List Call → List Call → Call → Type 0
 WasCarried mine theirs (Answer hello answer) = IsFrom theirs hello
 WasCarried mine theirs (Welcome hello answer) = IsFrom theirs hello
 WasCarried mine theirs (Feed attempt piece answer) = StartsWith (drop 42 (out attempt theirs)) (fed attempt mine ++ piece)
-WasCarried mine theirs _ = Unit {0}
+WasCarried mine theirs (Dial take_over answer) = Unit {0}
+WasCarried mine theirs (Break attempt) = Unit {0}
+WasCarried mine theirs (Put bytes answer) = Unit {0}
+WasCarried mine theirs (PutNote bytes answer) = Unit {0}
+WasCarried mine theirs (Ask answer) = Unit {0}
+WasCarried mine theirs (Acknowledge answer) = Unit {0}
+WasCarried mine theirs (TakeOut n old answer new) = Unit {0}
+WasCarried mine theirs (TakeIn old count new) = Unit {0}
+WasCarried mine theirs (NextNote answer) = Unit {0}
 
 -- the end took what the call brought
 abbrev pub is_taken : Call → Bool
+is_taken (Dial take_over answer) = false
 is_taken (Answer hello (Ok done)) = true
+is_taken (Answer hello (Err why)) = false
 is_taken (Welcome hello (Ok done)) = true
+is_taken (Welcome hello (Err why)) = false
+is_taken (Break attempt) = false
+is_taken (Put bytes answer) = false
+is_taken (PutNote bytes answer) = false
+is_taken (Ask answer) = false
+is_taken (Acknowledge answer) = false
+is_taken (TakeOut n old answer new) = false
 is_taken (Feed attempt piece (Ok done)) = true
-is_taken _ = false
+is_taken (Feed attempt piece (Err why)) = false
+is_taken (TakeIn old count new) = false
+is_taken (NextNote answer) = false
 
 -- ## A session
 

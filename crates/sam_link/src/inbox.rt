@@ -1,142 +1,265 @@
 //! What came and was not taken yet.
 
-ghost use Rattle.std.specs.Prelude.{◌≡◌, ◌++◌, [], OnOk, OnErr, drop, length, min, take};
-ghost use Rattle.sam_link.specs.Inbox.{GivesNote, Pops, data_first, is_item, items_of, note_first, ready};
+ghost use Rattle.std.specs.Prelude.{◌≡◌, ◌≤◌, ◌<◌, ◌+◌, ◌-◌, ◌++◌, [], OnOk, OnErr, drop, length, min, slice_index, take};
+ghost use Rattle.sam_link.specs.Inbox.{GivesNote, Finds, IsRow, RestStays, items_among, note_in, ready};
 
-use crate::packet::{Bytes, Packet};
+use crate::reading::head_of;
 use std::alloc::{AllocError, Global};
-use std::collections::VecDeque;
 use std::marker::Model;
 
-/// The data and the notes that came, in order. Contracts see the rest of the data whose first bytes were taken (`part`), and the packets
-/// after it.
+/// The bytes that came, up to those that were taken. Contracts see those that are no whole packet yet (`held`) and what waits for the
+/// program: the rest of the data whose first bytes were taken (`part`), and the data and notes after it (`packets`).
+///
+/// The bytes stay where they came until they are taken: packets are found by their heads. What was taken leaves memory once it is half of
+/// all: that moves at most one byte for each that was taken.
 #[derive(Drop)]
 pub struct Inbox {
-    part: Bytes,
-    packets: VecDeque<Packet>,
+    bytes: Vec<u8>,
+    /// Where the rest of the data begins that was begun.
+    gone: usize,
+    /// Where it ends, and the packets begin.
+    next: usize,
+    /// Where these end, and what is held begins.
+    whole: usize,
+    /// How many packets there are, those counted that are not for the program.
+    count: usize,
 }
 
 impl Model for Inbox {
-    ghost use Rattle.sam_link.specs.Inbox.{Waiting};
+    ghost use Rattle.sam_link.specs.Inbox.{Arrived, IsInbox, arrived};
 
-    ghost Value = { Waiting };
+    ghost Value = { Arrived };
 
-    ghost view = { λ a. record { part = a.part; packets = a.packets.items } };
+    ghost view = { λ a. arrived a.bytes.items a.gone a.next a.whole a.count };
+
+    ghost invariant = { λ a. IsInbox a.bytes.items a.gone a.next a.whole a.count };
 }
 
-/// Takes the first packet if it is data, and returns its bytes.
-fn pop_data(packets: &mut VecDeque<Packet>) -> Option<Bytes>
-    ensures { Pops (data_first packets.old.items) packets.old.items result packets.new.items }
+/// Of so many packets that take so many bytes at the front of the bytes, finds the first that is for the program. Returns where it stands,
+/// and how many packets there are from it on: none if there is no such packet.
+fn pass_others(row: &[u8], count: usize, len: usize) -> (usize, usize)
+    requires { IsRow row.now count len }
+    ensures inside { result.0 ≤ len }
+    ensures row { IsRow (drop result.0 row.now) result.1 (len - result.0) }
+    ensures items { items_among result.1 (drop result.0 row.now) ≡ items_among count row.now }
+    ensures first { 0 < result.1 → slice_index (drop result.0 row.now) 0 ≤ 2 }
 {
-    let Some(Packet::Data(_)) = packets.front() else {
-        return None;
-    };
-    match packets.pop_front() {
-        Some(Packet::Data(bytes)) => Some(bytes),
-        _ => None,
-    }
-}
-
-/// Takes the first packet if it is a note, and returns its bytes.
-fn pop_note(packets: &mut VecDeque<Packet>) -> Option<Bytes>
-    ensures { Pops (note_first packets.old.items) packets.old.items result packets.new.items }
-{
-    let Some(Packet::Note(_)) = packets.front() else {
-        return None;
-    };
-    match packets.pop_front() {
-        Some(Packet::Note(bytes)) => Some(bytes),
-        _ => None,
-    }
-}
-
-/// Returns whether the packet is for the program.
-fn is_item(packet: &Packet) -> bool
-    ensures { result ≡ is_item packet.now }
-{
-    match packet {
-        Packet::Data(_) | Packet::Note(_) => true,
-        Packet::Acknowledge(_) | Packet::Ask => false,
-    }
-}
-
-/// Adds those of the packets that are for the program, all or none. The only error is out of memory.
-fn add_items(waiting: &mut VecDeque<Packet>, packets: Vec<Packet>) -> Result<(), AllocError>
-    ensures added { OnOk result (waiting.new.items ≡ waiting.old.items ++ items_of packets.items) }
-    ensures unchanged { OnErr result (waiting.new.items ≡ waiting.old.items) }
-{
-    let before = waiting.len();
-    for packet in packets {
-        if is_item(&packet) && waiting.push_back(packet).is_err() {
-            waiting.truncate(before);
-            return Err(AllocError);
+    let mut at = 0;
+    let mut left = count;
+    while left > 0 {
+        let (_, rest) = row.split_at(at);
+        let head = head_of(rest);
+        if head.kind <= 2 {
+            break;
         }
+        at += 3 + head.len;
+        left -= 1;
     }
-    Ok(())
+    (at, left)
+}
+
+/// Where the body of a packet stands in bytes.
+#[derive(Clone, Copy, Drop)]
+struct Body {
+    /// Where it begins.
+    start: usize,
+    /// How many bytes it has.
+    len: usize,
+    /// How many packets stand behind it.
+    left: usize,
+}
+
+/// The first packet for the program.
+#[derive(Clone, Copy, Drop)]
+enum Found {
+    Nothing,
+    Data(Body),
+    Note(Body),
+}
+
+/// Finds the first packet for the program among so many that take so many bytes at the front of the bytes.
+fn first_item(row: &[u8], count: usize, len: usize) -> Found
+    requires { IsRow row.now count len }
+    ensures { Finds row.now count len result }
+{
+    let (at, left) = pass_others(row, count, len);
+    if left == 0 {
+        return Found::Nothing;
+    }
+    let (_, rest) = row.split_at(at);
+    let head = head_of(rest);
+    let body = Body {
+        start: at + 3,
+        len: head.len,
+        left: left - 1,
+    };
+    if head.kind == 1 {
+        Found::Data(body)
+    } else {
+        Found::Note(body)
+    }
+}
+
+/// Copies so many bytes, from there on, to the front of the buffer.
+fn copy_part(bytes: &[u8], start: usize, len: usize, into: &mut [u8])
+    requires inside { start + len ≤ length bytes.now }
+    requires room { len ≤ length into.old }
+    ensures { into.new ≡ take len (drop start bytes.now) ++ drop len into.old }
+{
+    let end = start + len;
+    into[..len].copy_from_slice(&bytes[start..end]);
 }
 
 impl Inbox {
     /// Nothing came. It takes no memory.
     pub fn new(alloc: Global) -> Inbox
-        ensures { result ≡ record { part = []; packets = [] } }
+        ensures { result ≡ record { held = []; waiting = record { part = []; packets = [] } } }
     {
         Inbox {
-            part: Bytes::none(alloc),
-            packets: VecDeque::new(alloc),
+            bytes: Vec::new(alloc),
+            gone: 0,
+            next: 0,
+            whole: 0,
+            count: 0,
         }
     }
 
-    /// Adds those of the packets that are for the program, all or none. The only error is out of memory.
-    pub fn add(&mut self, packets: Vec<Packet>) -> Result<(), AllocError>
-        ensures added { OnOk result (self.new ≡ record self.old { packets = self.old.packets ++ items_of packets.items }) }
+    /// Passes packets that are first and not for the program.
+    fn pass(&mut self)
+        ensures { self.new ≡ self.old }
+    {
+        if self.gone == self.next {
+            let (_, row) = self.bytes.split_at(self.next);
+            let (at, left) = pass_others(row, self.count, self.whole - self.next);
+            self.next += at;
+            self.gone = self.next;
+            self.count = left;
+        }
+    }
+
+    /// Forgets in memory what was taken, once it is half of all.
+    fn compact(&mut self)
+        ensures { self.new ≡ self.old }
+    {
+        let rest = self.bytes.len() - self.gone;
+        if self.gone >= rest && self.gone > 0 {
+            self.bytes.copy_within(self.gone.., 0);
+            self.bytes.truncate(rest);
+            self.next -= self.gone;
+            self.whole -= self.gone;
+            self.gone = 0;
+        }
+    }
+
+    /// Puts the piece behind what is held. The only error is out of memory, after which all is as before.
+    pub fn hold(&mut self, piece: &[u8]) -> Result<(), AllocError>
+        ensures held { OnOk result (self.new ≡ record self.old { held = self.old.held ++ piece.now }) }
         ensures unchanged { OnErr result (self.new ≡ self.old) }
     {
-        add_items(&mut self.packets, packets)
+        self.pass();
+        self.compact();
+        self.bytes.extend_from_slice(piece)
     }
 
-    /// Returns how many packets wait behind what was begun.
-    pub fn len(&self) -> usize
-        ensures { result ≡ length self.now.packets }
+    /// Lends the bytes that are no whole packet yet.
+    pub fn held(&self) -> &[u8]
+        ensures { result.now ≡ self.now.held }
     {
-        self.packets.len()
+        &self.bytes[self.whole..]
     }
 
-    /// Keeps the first packets, so many.
-    pub fn cut(&mut self, len: usize)
-        ensures { self.new ≡ record self.old { packets = take len self.old.packets } }
+    /// Holds the first bytes alone of those that are held, so many.
+    pub fn cut_held(&mut self, len: usize)
+        requires { len ≤ length self.old.held }
+        ensures { self.new ≡ record self.old { held = take len self.old.held } }
     {
-        self.packets.truncate(len);
+        self.bytes.truncate(self.whole + len);
+    }
+
+    /// The first bytes that are held are so many whole packets, which now wait.
+    pub fn take_whole(&mut self, count: usize, len: usize)
+        requires { IsRow self.old.held count len }
+        ensures { self.new ≡ record {
+          held = drop len self.old.held;
+          waiting = record self.old.waiting { packets = self.old.waiting.packets ++ items_among count self.old.held };
+        } }
+    {
+        self.whole += len;
+        self.count += count;
     }
 
     /// Begins the next packet, if it is data and all of the one before was taken.
     fn make_ready(&mut self)
-        ensures { self.new ≡ ready self.old }
+        ensures { self.new ≡ record self.old { waiting = ready self.old.waiting } }
     {
-        if self.part.is_empty() {
-            if let Some(bytes) = pop_data(&mut self.packets) {
-                self.part = bytes;
+        if self.gone < self.next {
+            return;
+        }
+        let (_, row) = self.bytes.split_at(self.next);
+        match first_item(row, self.count, self.whole - self.next) {
+            Found::Data(body) => {
+                self.gone = self.next + body.start;
+                self.next = self.gone + body.len;
+                self.count = body.left;
             }
+            Found::Note(_) => {}
+            Found::Nothing => {}
         }
     }
 
     /// Moves the next bytes into the buffer, as many as one packet has left and have room there, and returns how many. The rest of the
     /// buffer stays as it was. It is 0 where a note is next, or nothing.
     pub fn take_into(&mut self, into: &mut [u8]) -> usize
-        ensures count { result ≡ min (length (ready self.old).part) (length into.old) }
-        ensures bytes { into.new ≡ take result (ready self.old).part ++ drop result into.old }
-        ensures rest { self.new ≡ record { part = drop result (ready self.old).part; packets = (ready self.old).packets } }
+        ensures count { result ≡ min (length (ready self.old.waiting).part) (length into.old) }
+        ensures bytes { into.new ≡ take result (ready self.old.waiting).part ++ drop result into.old }
+        ensures rest { self.new ≡ record self.old {
+          waiting = record {
+            part = drop result (ready self.old.waiting).part;
+            packets = (ready self.old.waiting).packets;
+          };
+        } }
     {
+        self.pass();
         self.make_ready();
-        self.part.take_into(into)
+        self.take_part(into)
     }
 
-    /// Takes the note that is next. There is none where bytes before it are not taken yet.
-    pub fn next_note(&mut self) -> Option<Bytes>
-        ensures { GivesNote self.old result self.new }
+    /// Moves the next bytes of what was begun into the buffer.
+    fn take_part(&mut self, into: &mut [u8]) -> usize
+        ensures count { result ≡ min (length self.old.waiting.part) (length into.old) }
+        ensures bytes { into.new ≡ take result self.old.waiting.part ++ drop result into.old }
+        ensures rest { self.new ≡ record self.old { waiting = record self.old.waiting { part = drop result self.old.waiting.part } } }
     {
-        if !self.part.is_empty() {
+        let count = (self.next - self.gone).min(into.len());
+        copy_part(self.bytes.as_slice(), self.gone, count, into);
+        self.gone += count;
+        count
+    }
+
+    /// Moves the note that is next into the buffer, which has room for any, and returns its length. The rest of the buffer stays as it was.
+    /// There is none where bytes before it are not taken yet.
+    pub fn next_note(&mut self, into: &mut [u8]) -> Option<usize>
+        requires { 4096 ≤ length into.old }
+        ensures note { GivesNote self.old.waiting (note_in result into.new) self.new.waiting }
+        ensures rest { RestStays result into.old into.new }
+        ensures held { self.new.held ≡ self.old.held }
+    {
+        self.pass();
+        if self.gone < self.next {
             return None;
         }
-        pop_note(&mut self.packets)
+        let (_, row) = self.bytes.split_at(self.next);
+        match first_item(row, self.count, self.whole - self.next) {
+            Found::Note(body) => {
+                let start = self.next + body.start;
+                copy_part(self.bytes.as_slice(), start, body.len, into);
+                self.gone = start + body.len;
+                self.next = self.gone;
+                self.count = body.left;
+                Some(body.len)
+            }
+            Found::Data(_) => None,
+            Found::Nothing => None,
+        }
     }
 }

@@ -48,14 +48,14 @@ impl Model for Kept {
 }
 
 impl Kept {
-    /// Nothing was put. It takes no memory.
-    pub fn new(alloc: Global) -> Kept
-        ensures { result ≡ record { base = 0; kept = []; sent = 0 } }
+    /// Nothing is kept of so many bytes that were put. It takes no memory.
+    pub fn after(alloc: Global, base: u64) -> Kept
+        ensures { result ≡ record { base = base; kept = []; sent = 0 } }
     {
         Kept {
             bytes: Vec::new(alloc),
             gone: 0,
-            base: 0,
+            base,
             sent: 0,
         }
     }

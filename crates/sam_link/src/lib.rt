@@ -20,10 +20,9 @@ mod writing;
 
 pub use fault::{AnswerFault, CallFault, FeedFault, NotOpen, NoteFault, WelcomeFault};
 pub use hello::{HELLO_BYTES, Hello, Id, Refusal, What, read_hello};
-pub use inbox::Inbox;
 pub use keeping::{Kept, PutFault};
 pub use laws::{carried_is_all, honest_meet, links_carry, one_hello};
-pub use link::Link;
-pub use packet::{Bytes, MOST_BODY, Packet};
+pub use link::{Counts, Link};
+pub use packet::MOST_BODY;
 pub use phase::{Phase, Role};
-pub use reading::{PacketFault, Split, split_packets};
+pub use reading::PacketFault;

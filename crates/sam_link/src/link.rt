@@ -5,21 +5,21 @@ ghost use Rattle.std.specs.Prelude.{◌&&◌, ◌==◌, true, if◌then◌else�
 ghost use Rattle.sam_link.specs.End.{Calls, TakesOut, broken, ended, fresh, is_up, may_send, same_id, says};
 ghost use Rattle.sam_link.specs.declared.hello.What.TheVariants as What;
 ghost use Rattle.sam_link.specs.declared.phase.Phase.TheVariants as Phase;
-ghost use Rattle.sam_link.specs.Feeding.{Feeds, PutsNote, TakesSplit, asks, ended_for, fed_to, is_open, top_of};
-ghost use Rattle.sam_link.specs.Inbox.{GivesNote, ready};
+ghost use Rattle.sam_link.specs.Feeding.{Feeds, PutsNote, TakesSplit, ended_for, is_open, read_to};
+ghost use Rattle.sam_link.specs.Inbox.{GivesNote, IsRow, RestStays, note_in, ready};
 ghost use Rattle.sam_link.specs.Keeping.{MayHave, Puts, begun, may_have};
 ghost use Rattle.sam_mesg.specs.Spelling.{eight, frame};
 ghost use Rattle.sam_link.specs.Packets.{IsSplit};
 ghost use Rattle.sam_link.specs.Putting.{data_stream};
 
 use crate::fault::{CallFault, FeedFault, NotOpen, NoteFault};
-use crate::feeding::{Said, forget, read_piece, said_by, take_packets};
+use crate::feeding::tell;
 use crate::hello::{HELLO_BYTES, Hello, Id, What};
 use crate::inbox::Inbox;
 use crate::keeping::{Kept, PutFault};
-use crate::packet::{Bytes, MOST_BODY, Packet};
+use crate::packet::MOST_BODY;
 use crate::phase::{Phase, Role};
-use crate::reading::Split;
+use crate::reading::{Split, split_packets};
 use std::alloc::{AllocError, Global};
 use std::marker::Model;
 
@@ -31,7 +31,6 @@ const TELL_AFTER: u64 = 16_384;
 /// newest connection between it and the transport.
 #[derive(Drop)]
 pub struct Link {
-    alloc: Global,
     role: Role,
     id: Id,
     attempt: u64,
@@ -43,7 +42,6 @@ pub struct Link {
     kept: Kept,
     received: u64,
     told: u64,
-    held: Vec<u8>,
     inbox: Inbox,
 }
 
@@ -63,11 +61,22 @@ impl Model for Link {
       keeps = a.kept;
       received = a.received;
       told = a.told;
-      held = a.held.items;
-      waiting = a.inbox;
+      held = a.inbox.held;
+      waiting = a.inbox.waiting;
     } };
 
     ghost invariant = { λ a. (a.hello_gone ≤ 42) × (length a.hello ≡ 42) × (a.told ≤ a.received) };
+}
+
+/// How far an end has come.
+#[derive(Clone, Copy, Drop)]
+pub struct Counts {
+    /// The number of its newest connection.
+    pub attempt: u64,
+    /// How many bytes it has put.
+    pub put: u64,
+    /// How many bytes have come to it.
+    pub received: u64,
 }
 
 /// Returns whether the ids are equal.
@@ -82,19 +91,35 @@ impl Link {
     pub fn new(alloc: Global, role: Role, id: Id) -> Link
         ensures { result ≡ fresh role id }
     {
+        let counts = Counts {
+            attempt: 0,
+            put: 0,
+            received: 0,
+        };
+        Link::with_counts(alloc, role, id, counts)
+    }
+
+    /// Makes an end that has come so far, between two connections, and of which the other side has got all: for tests of the last counts,
+    /// to which no session comes. It takes no memory.
+    pub fn with_counts(alloc: Global, role: Role, id: Id, counts: Counts) -> Link
+        ensures { result ≡ record (fresh role id) {
+          attempt = counts.attempt;
+          keeps = record { base = counts.put; kept = []; sent = 0 };
+          received = counts.received;
+          told = counts.received;
+        } }
+    {
         Link {
-            alloc,
             role,
             id,
-            attempt: 0,
+            attempt: counts.attempt,
             phase: Phase::Down,
             is_known: false,
             hello: [0; HELLO_BYTES],
             hello_gone: HELLO_BYTES,
-            kept: Kept::new(alloc),
-            received: 0,
-            told: 0,
-            held: Vec::new(alloc),
+            kept: Kept::after(alloc, counts.put),
+            received: counts.received,
+            told: counts.received,
             inbox: Inbox::new(alloc),
         }
     }
@@ -222,26 +247,18 @@ impl Link {
         }
     }
 
-    /// Takes packets that have come whole, of which so many bytes are held, up to this count of all. The only error is out of memory, after
-    /// which all is as before.
-    fn take_packets(
-        &mut self,
-        packets: Vec<Packet>,
-        said: Said,
-        len: usize,
-        count: u64,
-    ) -> Result<(), AllocError>
+    /// Takes the packets of what is held, up to this count of all bytes. The only error is out of memory, after which all is as before.
+    fn take_packets(&mut self, split: &Split, count: u64) -> Result<(), AllocError>
         requires told { self.old.told ≤ count }
-        requires said { (said.top ≡ top_of packets.items) × (said.asked ≡ asks packets.items) }
-        requires sent { top_of packets.items ≤ self.old.keeps.base + self.old.keeps.sent }
-        requires held { len ≤ length self.old.held }
-        ensures taken { OnOk result (self.new ≡ fed_to self.old packets.items (drop len self.old.held) count) }
+        requires read { IsRow self.old.held split.now.count split.now.len }
+        requires sent { split.now.said.top ≤ self.old.keeps.base + self.old.keeps.sent }
+        ensures taken { OnOk result (self.new ≡ read_to self.old split.now count) }
         ensures unchanged { OnErr result (self.new ≡ self.old) }
     {
-        let owes = said.asked || count - self.told >= TELL_AFTER;
-        let did = take_packets(&mut self.kept, &mut self.inbox, packets, owes, count)?;
-        self.kept.acknowledge(said.top);
-        forget(&mut self.held, len);
+        let owes = split.said.asked || count - self.told >= TELL_AFTER;
+        let did = tell(&mut self.kept, owes, count)?;
+        self.kept.acknowledge(split.said.top);
+        self.inbox.take_whole(split.count, split.len);
         self.received = count;
         if did {
             self.told = count;
@@ -250,24 +267,18 @@ impl Link {
     }
 
     /// Takes what was read of a piece, which is held, up to this count of all bytes.
-    fn take_split(&mut self, split: Split, count: u64) -> Result<(), FeedFault>
+    fn take_split(&mut self, split: &Split, count: u64) -> Result<(), FeedFault>
         requires told { self.old.told ≤ count }
-        requires split { IsSplit self.old.held split }
-        ensures { TakesSplit self.old split count result self.new }
+        requires split { IsSplit self.old.held split.now }
+        ensures { TakesSplit self.old split.now count result self.new }
     {
-        let Split {
-            packets,
-            len,
-            fault,
-        } = split;
-        if let Some(fault) = fault {
+        if let Some(fault) = split.fault {
             return Err(FeedFault::Wrong(fault));
         }
-        let said = said_by(packets.as_slice());
-        if self.kept.is_ahead(said.top) {
+        if self.kept.is_ahead(split.said.top) {
             return Err(FeedFault::AckAhead);
         }
-        match self.take_packets(packets, said, len, count) {
+        match self.take_packets(split, count) {
             Ok(()) => Ok(()),
             Err(_) => Err(FeedFault::OutOfMemory),
         }
@@ -287,15 +298,16 @@ impl Link {
         if piece.len() as u64 > u64::MAX - self.received {
             return Err(FeedFault::CountFull);
         }
-        let before = self.held.len();
-        let Ok(split) = read_piece(self.alloc, &mut self.held, piece) else {
+        let before = self.inbox.held().len();
+        if self.inbox.hold(piece).is_err() {
             return Err(FeedFault::OutOfMemory);
-        };
+        }
+        let split = split_packets(self.inbox.held());
         let count = self.received + piece.len() as u64;
-        match self.take_split(split, count) {
+        match self.take_split(&split, count) {
             Ok(()) => Ok(()),
             Err(fault) => {
-                self.held.truncate(before);
+                self.inbox.cut_held(before);
                 self.end_for(fault);
                 Err(fault)
             }
@@ -330,12 +342,15 @@ impl Link {
         self.inbox.take_into(into)
     }
 
-    /// Takes the note that is next, once all bytes in front of it are taken.
-    pub fn next_note(&mut self) -> Option<Bytes>
-        ensures note { GivesNote self.old.waiting result self.new.waiting }
+    /// Moves the note that is next, once all bytes in front of it are taken, into the buffer, which has room for the longest. Returns its
+    /// length. The rest of the buffer stays as it was.
+    pub fn next_note(&mut self, into: &mut [u8]) -> Option<usize>
+        requires { 4096 ≤ length into.old }
+        ensures note { GivesNote self.old.waiting (note_in result into.new) self.new.waiting }
+        ensures rest { RestStays result into.old into.new }
         ensures others { self.new ≡ record self.old { waiting = self.new.waiting } }
     {
-        self.inbox.next_note()
+        self.inbox.next_note(into)
     }
 
     /// Moves the next bytes of the hello into the buffer, and returns how many.

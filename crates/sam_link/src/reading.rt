@@ -1,12 +1,12 @@
-//! How packets are read from bytes.
+//! How packets are read from bytes. It takes no memory: a packet's body stays where it is.
 
-ghost use Rattle.std.specs.Prelude.{◌≡◌, length, IfOk, true};
+ghost use Rattle.std.specs.Prelude.{◌≡◌, ◌≤◌, length, slice_index, max, ◌||◌, true};
 ghost use Rattle.sam_mesg.specs.Bounds.{may_be};
-ghost use Rattle.sam_frame.specs.Direction.{spells};
-ghost use Rattle.sam_link.specs.Packets.{FirstIs, IsSplit, bounds, packets};
+ghost use Rattle.sam_mesg.specs.Spelling.{eight};
+ghost use Rattle.sam_link.specs.Inbox.{body_len};
+ghost use Rattle.sam_link.specs.Packets.{FirstIs, IsSplit, Says, bounds};
 
-use crate::packet::{Bytes, Packet, bounds};
-use std::alloc::{AllocError, Global};
+use crate::packet::bounds;
 use thiserror::Error;
 
 /// Why bytes are no packet.
@@ -20,13 +20,22 @@ pub enum PacketFault {
     BadLength,
 }
 
+/// What packets say of the other side's stream.
+#[derive(Clone, Copy, Drop)]
+pub struct Said {
+    /// The greatest count that they acknowledge; 0 if they acknowledge none.
+    pub top: u64,
+    /// Whether one of them asks.
+    pub asked: bool,
+}
+
 /// What stands at the front of some bytes.
 #[derive(Drop)]
 pub enum First {
     /// No whole packet as yet.
     Open,
-    /// A packet, and how many bytes it takes with its head.
-    Whole(Packet, usize),
+    /// A packet that says so much, and how many bytes it takes with its head.
+    Whole(Said, usize),
     /// Bytes that begin no packet.
     Wrong(PacketFault),
 }
@@ -34,81 +43,138 @@ pub enum First {
 /// The packets at the front of some bytes, and what stands after them.
 #[derive(Drop)]
 pub struct Split {
-    /// The packets, in order.
-    pub packets: Vec<Packet>,
+    /// How many packets there are.
+    pub count: usize,
     /// How many bytes they take.
     pub len: usize,
+    /// What they say.
+    pub said: Said,
     /// What is wrong after them; `None` if no whole packet stands there as yet.
     pub fault: Option<PacketFault>,
 }
 
-/// Makes the packet of this kind with this body, whose length the kind allows. The only error is out of memory.
-fn packet_of(alloc: Global, kind: u8, body: &[u8]) -> Result<Packet, AllocError>
-    requires { may_be (bounds kind) (length body.now) ≡ true }
-    ensures { IfOk result (λ packet. spells packets 1 kind body.now packet) }
+/// Reads the number of eight bytes.
+fn number_of(bytes: &[u8]) -> u64
+    requires { length bytes.now ≡ 8 }
+    ensures { eight result ≡ bytes.now }
 {
+    u64::from_be_bytes([
+        bytes[0], bytes[1], bytes[2], bytes[3], bytes[4], bytes[5], bytes[6], bytes[7],
+    ])
+}
+
+/// Returns what the packet of this kind with this body says, whose length the kind allows.
+fn said_in(kind: u8, body: &[u8]) -> Said
+    requires { may_be (bounds kind) (length body.now) ≡ true }
+    ensures { Says kind body.now result }
+{
+    let nothing = Said {
+        top: 0,
+        asked: false,
+    };
     match kind {
-        1 => Ok(Packet::Data(Bytes::of(alloc, body)?)),
-        2 => Ok(Packet::Note(Bytes::of(alloc, body)?)),
-        3 => Ok(Packet::Acknowledge(u64::from_be_bytes([
-            body[0], body[1], body[2], body[3], body[4], body[5], body[6], body[7],
-        ]))),
-        _ => Ok(Packet::Ask),
+        1 => nothing,
+        2 => nothing,
+        3 => Said {
+            top: number_of(body),
+            asked: false,
+        },
+        _ => Said {
+            top: 0,
+            asked: true,
+        },
     }
 }
 
-/// Reads the packet at the front of the bytes, if it is whole. The only error is out of memory.
-fn first_packet(alloc: Global, bytes: &[u8]) -> Result<First, AllocError>
-    ensures { IfOk result (λ first. FirstIs bytes.now first) }
+/// Reads the packet at the front of the bytes, if it is whole.
+fn first_packet(bytes: &[u8]) -> First
+    ensures { FirstIs bytes.now result }
 {
     let [kind, behind @ ..] = bytes else {
-        return Ok(First::Open);
+        return First::Open;
     };
     let Some((least, most)) = bounds(*kind) else {
-        return Ok(First::Wrong(PacketFault::BadKind));
+        return First::Wrong(PacketFault::BadKind);
     };
     let [high, low, rest @ ..] = behind else {
-        return Ok(First::Open);
+        return First::Open;
     };
     let len = *high as usize * 256 + *low as usize;
     if len < least || most < len {
-        return Ok(First::Wrong(PacketFault::BadLength));
+        return First::Wrong(PacketFault::BadLength);
     }
     if rest.len() < len {
-        return Ok(First::Open);
+        return First::Open;
     }
     let (body, _) = rest.split_at(len);
-    let packet = packet_of(alloc, *kind, body)?;
-    Ok(First::Whole(packet, 3 + len))
+    First::Whole(said_in(*kind, body), 3 + len)
 }
 
-/// Splits bytes into the packets at their front, up to a fault or to a packet that is not whole. The only error is out of memory.
-pub fn split_packets(alloc: Global, bytes: &[u8]) -> Result<Split, AllocError>
-    ensures { IfOk result (λ split. IsSplit bytes.now split) }
+/// Returns what packets and one more say.
+fn both(said: Said, more: Said) -> Said
+    ensures { (result.top ≡ max said.top more.top) × (result.asked ≡ (said.asked || more.asked)) }
 {
-    let mut packets = Vec::new(alloc);
+    Said {
+        top: said.top.max(more.top),
+        asked: said.asked || more.asked,
+    }
+}
+
+/// Splits bytes into the packets at their front, up to a fault or to a packet that is not whole.
+pub fn split_packets(bytes: &[u8]) -> Split
+    ensures { IsSplit bytes.now result }
+{
+    let mut count = 0;
     let mut len = 0;
+    let mut said = Said {
+        top: 0,
+        asked: false,
+    };
     'packets: loop {
         let (_, rest) = bytes.split_at(len);
-        match first_packet(alloc, rest)? {
-            First::Whole(packet, more) => {
-                packets.push(packet)?;
+        match first_packet(rest) {
+            First::Whole(next, more) => {
+                count += 1;
                 len += more;
+                said = both(said, next);
             }
             First::Open => {
-                return Ok(Split {
-                    packets,
+                return Split {
+                    count,
                     len,
+                    said,
                     fault: None,
-                });
+                };
             }
             First::Wrong(fault) => {
-                return Ok(Split {
-                    packets,
+                return Split {
+                    count,
                     len,
+                    said,
                     fault: Some(fault),
-                });
+                };
             }
         }
+    }
+}
+
+/// The head of a packet.
+#[derive(Drop)]
+pub struct Head {
+    /// Its kind.
+    pub kind: u8,
+    /// How many bytes its body has.
+    pub len: usize,
+}
+
+/// Returns the head of the packet that stands first.
+pub fn head_of(bytes: &[u8]) -> Head
+    requires { 3 ≤ length bytes.now }
+    ensures kind { result.kind ≡ slice_index bytes.now 0 }
+    ensures len { result.len ≡ body_len bytes.now }
+{
+    Head {
+        kind: bytes[0],
+        len: bytes[1] as usize * 256 + bytes[2] as usize,
     }
 }

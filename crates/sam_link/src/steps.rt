@@ -1,13 +1,14 @@
 //! Each call of an end is a step of a session: what the laws of two ends suppose of a call is what its own clauses say.
 
+ghost use Rattle.std.specs.Prelude.{◌≤◌, length};
 ghost use Rattle.sam_link.specs.Calls.{Does};
 ghost use Rattle.sam_link.specs.Calls.Call.{Acknowledge, Answer, Ask, Break, Dial, Feed, NextNote, Put, PutNote, TakeIn, TakeOut, Welcome};
+ghost use Rattle.sam_link.specs.Inbox.{note_in};
 
 use crate::fault::{AnswerFault, CallFault, FeedFault, NotOpen, NoteFault, WelcomeFault};
 use crate::hello::Hello;
 use crate::keeping::PutFault;
 use crate::link::Link;
-use crate::packet::Bytes;
 
 /// `Link::call`.
 pub fn call(link: &mut Link, take_over: bool) -> Result<u64, CallFault>
@@ -87,8 +88,9 @@ pub fn take_in(link: &mut Link, into: &mut [u8]) -> usize
 }
 
 /// `Link::next_note`.
-pub fn next_note(link: &mut Link) -> Option<Bytes>
-    ensures { Does link.old (NextNote result) link.new }
+pub fn next_note(link: &mut Link, into: &mut [u8]) -> Option<usize>
+    requires { 4096 ≤ length into.old }
+    ensures { Does link.old (NextNote (note_in result into.new)) link.new }
 {
-    link.next_note()
+    link.next_note(into)
 }
