@@ -219,7 +219,7 @@
     (kill-buffer)
     (write-region (substring long 6) nil other nil 'silent)
     (lose-host)
-    (check "the text of a file without a buffer is here" (equal (kept (file-name-nondirectory one)) (list text)))
+    (check "the text of a file without a buffer is here" (equal (kept (file-name-nondirectory one)) (list text)) text)
     (check "that of a file that is not changed is not" (null (kept (file-name-nondirectory other))))
     (sulgrevad-start host one other)
     (sulgrevad--open sulgrevad--term 2)
@@ -236,7 +236,7 @@
     (insert "bad ")
     (sulgrevad--wait (lambda () (sulgrevad-line-has-all sulgrevad--line)))
     (setf (sulgrevad-line-ended-with sulgrevad--line) 5)
-    (sulgrevad--receive 'lost "the session is over")
+    (sulgrevad-line--lose sulgrevad--line "the session is over")
     (check "a text that the host has not saved is here" (equal (kept (file-name-nondirectory one)) (list text))))
   (sulgrevad-start (last host) one)
   (check-not-kept))
@@ -273,7 +273,7 @@
   (let* ((text (disk file)) (name (file-name-nondirectory file)) (saved (concat file ".sam-saved")))
     (mapc #'delete-file (directory-files room t "\\.sam-saved")) ; of earlier sessions
     (child nil host file '(insert "leaves ") '(kill-emacs))
-    (check "the host has saved what was on its way when Emacs ended" (equal (disk saved) (concat "leaves " text)))
+    (check "the host has saved what was on its way when Emacs ended" (equal (disk saved) (concat "leaves " text)) (disk saved) text)
     (check "so it is not here" (null (kept name)))
     (delete-file saved)
     (child "ready" host file '(insert "ends ") '(princ "ready\n") '(sleep-for 20))
@@ -399,7 +399,7 @@
                                                                 (sulgrevad-line-has-all sulgrevad--line)))))
     (sulgrevad-save)
     (check "and all is there" (equal (disk (expand-file-name "one.txt" room)) (sulgrevad--text)) (sulgrevad--text))
-    (sulgrevad-quit)))
+    (asked t (sulgrevad-quit))))
 
 (defun check-next-session (host file line)
   "What is left of a lost session, the current buffer and its LINE, does nothing to one of HOST with FILE."

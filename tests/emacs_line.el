@@ -3,6 +3,9 @@
 
 (load (expand-file-name "emacs_support.el" (file-name-directory load-file-name)) nil t)
 
+(require 'bytecomp)
+(require 'checkdoc)
+
 (defvar samhost nil "The program.")
 
 (defun path (name)
@@ -255,6 +258,7 @@
     (asked t (revert-buffer))
     (check "a file is read anew" (equal (sulgrevad--text) "x = 2\n") (sulgrevad--text))
     (check "in its mode" (and (eq major-mode 'python-mode) (not buffer-read-only) (not (buffer-modified-p))))
+    (goto-char (point-min))
     (keys "z")
     (same "and goes on")
     (let ((path (path "under.c")))
@@ -299,12 +303,12 @@
           (delete-region (point) (1+ end))
           (insert (substring new from to)))
         (check (format "noted changes are those that were made, run %d" run) (equal (buffer-string) new) text new changes (buffer-string)))))
-  (sulgrevad-quit))
+  (asked t (sulgrevad-quit)))
 
 (defun check-passwords ()
   "What asks on its terminal asks the user, but only where he waits for it."
   (let* ((file (made "p.txt" "p\n")) (sulgrevad-line-pauses '(0.1)) (asked nil)
-         (asks (append (list "/bin/sh" "-c" "{ printf 'me@box password: '; stty -echo; read -r word; stty echo; echo; } <>/dev/tty >&0 || exit 1
+         (asks (append (list "/bin/sh" "-c" "{ stty -echo; printf 'me@box password: '; read -r word; stty echo; echo; } <>/dev/tty >&0 || exit 1
 [ \"$word\" = secret ] || { echo wrong >&2; exit 1; }
 exec \"$@\"" "sh") (relayed))))
     (cl-letf (((symbol-function 'read-passwd) (lambda (question &rest _) (push question asked) (copy-sequence "secret"))))
@@ -332,7 +336,6 @@ exec \"$@\"" "sh") (relayed))))
             (byte-compile-log-warning-function (lambda (text &rest _) (push text warnings))))
         (byte-compile-file file))
       (with-current-buffer (find-file-noselect file)
-        (require 'checkdoc)
         (let ((sentence-end-double-space t) (checkdoc-create-error-function (lambda (text &rest _) (push (list file text) warnings) nil)))
           (checkdoc-current-buffer t))
         (kill-buffer)))
@@ -360,15 +363,8 @@ exec \"$@\"" "sh") (relayed))))
   (let ((words command-line-args-left))
     (setq command-line-args-left nil)
     (if (equal what "long") (check-long (append words (list samhost)))
-      (check-breaks)
-      (check-many-breaks)
-      (check-stalled)
-      (check-take)
-      (check-one-buffer)
-      (check-paths)
-      (check-wishes)
-      (check-keys)
-      (check-steps)
-      (check-passwords)
-      (check-sources))
+      (dolist (one '(check-breaks check-many-breaks check-stalled check-take check-one-buffer check-paths check-wishes check-keys
+                                  check-steps check-passwords check-sources))
+        (when (memq one (or (bound-and-true-p only) (list one)))
+          (funcall one))))
     (princ (format "%d passed, %d failed\n" passed failed))))

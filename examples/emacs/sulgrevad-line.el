@@ -15,7 +15,6 @@
 ;;; Code:
 
 (require 'cl-lib)
-(require 'comint)                       ; for what a question for a password looks like
 (require 'subr-x)
 
 (declare-function sulgrevad--link-acknowledge "ext:sulgrevad-module" (link))
@@ -84,7 +83,7 @@ Each time after that they are twice as many.")
   (round-trip 0) (is-measured t) ; seconds that the last question took, and whether its answer has come
   (told "") last-told      ; of standard error: a line that has begun, and the last one
   (asks "")                ; what stands on the terminal
-  ended-with               ; the status with which the session has ended
+  ended-with is-taken      ; the status with which the session has ended; whether another terminal has it
   why                      ; why no connection comes any more
   timer)
 
@@ -132,8 +131,9 @@ With IN-FRONT it gets a terminal."
           (sulgrevad-line-tty line)
           (make-process :name "sulgrevad-tty" :command nil :connection-type 'pty :noquery t :coding 'utf-8-unix :sentinel #'ignore
                         :filter (lambda (_ text) (setf (sulgrevad-line-asks line) (concat (sulgrevad-line-asks line) text))))
-          ;; A process leads a session of its own, so the first terminal that it opens is the one on which its programs ask.
-          words (append (list "/bin/sh" "-c" "exec 9<>\"$0\" 9>&-; exec \"$@\"" (process-tty-name (sulgrevad-line-tty line))) words)))
+          ;; A process leads a session of its own, so the first terminal that it opens is the one on which its programs ask.  It stays open,
+          ;; since Emacs reads nothing more of a terminal that nobody has open.
+          words (append (list "/bin/sh" "-c" "exec 9<>\"$0\"; exec \"$@\"" (process-tty-name (sulgrevad-line-tty line))) words)))
   (let ((default-directory (if (file-remote-p default-directory) temporary-file-directory default-directory)))
     (setf (sulgrevad-line-errors line)
           (make-pipe-process :name "samhost-errors" :noquery t :coding 'utf-8-unix :sentinel #'ignore
@@ -357,6 +357,7 @@ Other programs may have written something before its hello."
      (sulgrevad-line--push line)
      (sulgrevad-line--lose-later line "the session is over"))
     (`("gone" . ,machine)
+     (setf (sulgrevad-line-is-taken line) t)
      (sulgrevad-line--lose-later line (concat "another terminal has taken the session over: " (string-join machine " "))))
     (_ (funcall (sulgrevad-line-receive line) 'note note))))
 
@@ -419,17 +420,19 @@ A line is told once, however many connections fail by the same."
         (funcall (sulgrevad-line-receive line) 'told told)))))
 
 (defun sulgrevad-line-question (line)
-  "What a program of LINE asks on its terminal, or nil."
+  "What a program of LINE asks on its terminal, or nil.
+Such a line ends in a colon or a question mark, and in no newline."
   (let ((asked (car (last (split-string (sulgrevad-line-asks line) "[\r\n]+")))))
     (and (sulgrevad-line-tty line)
-         (string-match-p (concat comint-password-prompt-regexp "\\|[?:>][[:space:]]*\\'") asked)
+         (string-match-p "[:?：] *\\'" asked)
          (string-trim asked))))
 
 (defun sulgrevad-line-answer (line)
   "Ask the user what a program of LINE asks on its terminal."
-  (let* ((question (sulgrevad-line-question line))
-         (answer (cond ((string-match-p comint-password-prompt-regexp question) (read-passwd (concat question " ")))
-                       (t (read-string (concat question " "))))))
+  (let* ((question (concat (sulgrevad-line-question line) " "))
+         (case-fold-search t)
+         (is-secret (string-match-p (regexp-opt password-word-equivalents) question))
+         (answer (if is-secret (read-passwd question) (read-string question))))
     (setf (sulgrevad-line-asks line) "")
     (when (process-live-p (sulgrevad-line-tty line))
       (process-send-string (sulgrevad-line-tty line) (concat answer "\n")))

@@ -4,7 +4,7 @@
 
 ;;; Commentary:
 
-;; Build the module by examples/emacs/build (which has a word on licences), and run emacs -L examples/emacs -l sulgrevad.  M-x
+;; Build the module by examples/emacs/build (which has a word on licences), and begin Emacs with -L examples/emacs -l sulgrevad.  M-x
 ;; sulgrevad-start begins a session, whose host a command runs, as "ssh box samhost".  It stays at the host when its line breaks: Emacs goes
 ;; on with it by itself, and M-x sulgrevad-take takes it up again later, or from another machine.  docs/EDITOR.md says who may do that.
 ;;
@@ -194,7 +194,7 @@ the first learns after them, the second before them.")
   :lighter (:eval (sulgrevad--lighter)))
 
 (defun sulgrevad--lighter ()
-  "What the mode line says: how the line is, or that the file is locked."
+  "The mode line's word on how the line is, or that the file is locked."
   (let ((state (and sulgrevad--line (sulgrevad-line-told-state sulgrevad--line))))
     (cond (state (format " Sam[%s]" state))
           (sulgrevad--is-locked " Sam[locked]")
@@ -214,7 +214,7 @@ the first learns after them, the second before them.")
     (if (eq found t) (length one) (1- (abs found)))))
 
 (defun sulgrevad--difference ()
-  "Where the buffer differs from the terminal's text, after unknown changes.
+  "Where the buffer differs from the terminal's text, after unknown edits.
 nil, or a list: where that begins, where it ends in the buffer and at the
 terminal, and what the buffer has between."
   (let ((mine (sulgrevad--text))
@@ -292,7 +292,7 @@ it is."
   (= (buffer-size) (+ (sulgrevad--len sulgrevad--term sulgrevad--tag) (- end start old))))
 
 (defun sulgrevad--kill-text (text)
-  "Have the kill ring hold TEXT, though functions that `kill-new' calls fail."
+  "Have the kill ring hold TEXT, though `kill-new' may fail for others."
   (ignore-errors (kill-new text))
   (unless (equal (car kill-ring) text)
     (push text kill-ring)
@@ -375,7 +375,7 @@ Functions of others may change the buffer meanwhile: then it drifts."
   (setq sulgrevad--tick (buffer-chars-modified-tick)))
 
 (defun sulgrevad--with-change (changes start gone came)
-  "CHANGES, and another in the terminal's text as it is with them.
+  "Add to CHANGES another of the terminal's text, as it is with them.
 From START on GONE runes gave way to CAME."
   (let ((end (+ start gone)) (more (- came gone)) after first last)
     (while (and changes (< end (nth 2 (car changes))))
@@ -391,7 +391,7 @@ From START on GONE runes gave way to CAME."
       (nconc (nreverse after) (cons joined changes)))))
 
 (defun sulgrevad--with-one-change (changes)
-  "One change that holds all of CHANGES."
+  "Make one of all CHANGES."
   (let ((first (car (last changes))) (last (car changes)))
     (list (list (nth 0 first) (nth 1 last) (nth 2 first) (nth 3 last)))))
 
@@ -407,7 +407,7 @@ So they do in the buffer, now or once the text is loaded."
         (t (sulgrevad--put-each (list (list start (+ start gone) start (+ start came)))))))
 
 (defun sulgrevad--take-over ()
-  "Make the changes that waited, and say whether the buffer may be edited."
+  "Make each change that waited, and say whether the buffer may be edited."
   (sulgrevad--before-change) ; when another buffer was changed, a hook may have changed this one
   (cond ((not (sulgrevad--is-known sulgrevad--term sulgrevad--tag)) (sulgrevad--let-go))
         ((sulgrevad--is-open sulgrevad--term sulgrevad--tag)
@@ -458,13 +458,13 @@ Of a long path NAME is only the end, after three dots."
 ;;; What can't go to the host
 
 (defun sulgrevad--waits ()
-  "Whether the terminal may not know all changes of the buffer.
+  "Whether the terminal may not know each edit of the buffer.
 The command file is nobody's text."
   (when (sulgrevad--is-ours) (sulgrevad--before-change))
   (and (eq sulgrevad--self (current-buffer)) (not (eql sulgrevad--tag 0)) sulgrevad--has-drifted))
 
 (defun sulgrevad--is-handed-over ()
-  "Whether the terminal knows all changes of all buffers."
+  "Whether the terminal knows each edit of all buffers."
   (cl-notany (lambda (buffer) (and (buffer-live-p buffer) (with-current-buffer buffer (sulgrevad--waits)))) sulgrevad--buffers))
 
 (defun sulgrevad--write-new (path text)
@@ -536,10 +536,12 @@ Return what to say of them."
                        (sulgrevad--keep-file name tag)))))
 
 (defun sulgrevad--host-has-all ()
-  "Whether the host has all that was handed over, and saves or keeps it.
+  "Whether the host has all that was handed over, and will keep it.
 It doesn't where it ends badly, or refuses us."
-  (and (sulgrevad-line-has-all sulgrevad--line)
-       (eql 0 (or (sulgrevad-line-ended-with sulgrevad--line) (if (sulgrevad-line-why sulgrevad--line) 1 0)))))
+  (let ((has-ended-well (eql 0 (sulgrevad-line-ended-with sulgrevad--line))))
+    (or (and has-ended-well (sulgrevad--exited sulgrevad--term)) ; it has answered what came last
+        (and (sulgrevad-line-has-all sulgrevad--line)
+             (or has-ended-well (null (sulgrevad-line-why sulgrevad--line)) (sulgrevad-line-is-taken sulgrevad--line))))))
 
 (defun sulgrevad--keep-modified ()
   "Keep here each modified buffer, where the terminal can't be asked.
@@ -559,7 +561,7 @@ What waits goes to the host first, or the user says so."
         ((sulgrevad--waits)
          (yes-or-no-p (format "Edits of %s did not get to the host; kill it all the same? " (buffer-name))))
         ((and (sulgrevad--is-ours) (/= sulgrevad--tag 0) (sulgrevad--is-unwritten sulgrevad--tag))
-         (yes-or-no-p (format "%s was not written; kill its buffer? (the host keeps its text) " (buffer-name))))
+         (yes-or-no-p (format "%s was not written, and the host keeps its text; kill its buffer? " (buffer-name))))
         (t)))
 
 (defun sulgrevad--at-kill ()
@@ -617,7 +619,7 @@ Then signal the first error of it."
     (when first (signal (car first) (cdr first)))))
 
 (defun sulgrevad--hook-up ()
-  "Have the hooks of the buffer call what follows its changes."
+  "Have the hooks of the buffer follow each edit."
   (dolist (hook sulgrevad--hooks)
     (unless (and (eql sulgrevad--tag 0) (eq (car hook) 'write-contents-functions))
       (add-hook (car hook) (cadr hook) (caddr hook) t))))
@@ -671,7 +673,7 @@ With IS-PAUSING what was typed is sent, too."
       (error (message "Sulgrevad: %s" (error-message-string why)))))) ; a hook that signals one is not called again
 
 (defun sulgrevad--take-in ()
-  "Take in what has come, and go on by single steps.
+  "Take in what has come, and go on step by step.
 Return whether anything came.  Where memory is out, what is left of it
 stays the first."
   (let (has-come)
@@ -688,7 +690,7 @@ stays the first."
     has-come))
 
 (defun sulgrevad--go-on ()
-  "Make single steps until nothing waits, and do what each says."
+  "Go on step by step until nothing waits, and do as each has told."
   (let (did)
     (while (setq did (sulgrevad--step sulgrevad--term))
       (pcase-let* ((`(,_ ,_ ,tag ,start ,gone ,came) did) (buffer (and (< 0 (+ gone came)) (sulgrevad--buffer-of tag))))
@@ -706,7 +708,7 @@ stays the first."
       (sulgrevad-line-put sulgrevad--line bytes))))
 
 (defun sulgrevad--receive (event what)
-  "What the line tells: an EVENT of `sulgrevad-line-make', and WHAT."
+  "An EVENT of `sulgrevad-line-make' has come, and WHAT."
   (pcase event
     ('bytes (setq sulgrevad--inbox (nconc sulgrevad--inbox (list what))))
     ((or 'note 'lost) (setq sulgrevad--inbox (nconc sulgrevad--inbox (list (cons event what)))))
@@ -716,7 +718,7 @@ stays the first."
   (sulgrevad--pump))
 
 (defun sulgrevad--meet (note)
-  "Do what a NOTE of the host says."
+  "Do as a NOTE of the host has told."
   (pcase-let* ((`(,verb ,rest) (sulgrevad--cut note)) (`(,word ,more) (sulgrevad--cut rest)))
     (pcase verb
       ("told" (sulgrevad--hear rest))
@@ -756,13 +758,13 @@ Not while the line is lost, since that would lock them until it is back."
 ;;; Waiting
 
 (defun sulgrevad--wait (is-there &optional most tell)
-  "Take in and send until IS-THERE returns non-nil, and return what it does.
+  "Take in and send until IS-THERE is non-nil, and return what that is.
 Give up where the session is over; after MOST seconds where that is a
 number; where it is nil, once the host is silent for
 `sulgrevad-patience'.  Meanwhile TELL is called now and then."
   (let ((begun (float-time)) (told (float-time)) found)
     (sulgrevad--pump t)
-    (while (and (not (setq found (funcall is-there))) sulgrevad--term (not sulgrevad--is-pumping)
+    (while (and sulgrevad--term (not (setq found (funcall is-there))) (not sulgrevad--is-pumping)
                 (sulgrevad--has-patience most begun))
       (when (sulgrevad-line-question sulgrevad--line) (sulgrevad-line-answer sulgrevad--line))
       (accept-process-output nil 0.05)
@@ -797,10 +799,10 @@ answer is waited for: the buffer is read-only then."
   (sulgrevad--pump (not (input-pending-p))))
 
 (defun sulgrevad--settle (what)
-  "Wait until all changes are handed over and more may be made.
+  "Wait until each edit is handed over and more may be made.
 WHAT is to be done needs that."
   (unless (sulgrevad--is-ours) (user-error "The buffer is not that of a file of the session"))
-  (unless (sulgrevad--wait (lambda () (and (sulgrevad--is-free) (not (sulgrevad--waits)))))
+  (unless (sulgrevad--wait (lambda () (and (sulgrevad--is-free) (not (sulgrevad--waits)) (not (sulgrevad--is-late)))))
     (sulgrevad--refuse what)))
 
 (defun sulgrevad--refuse (what)
@@ -811,12 +813,12 @@ WHAT is to be done needs that."
 (defun sulgrevad--need-host (what)
   "Refuse WHAT where there is no session, or its host does not answer."
   (unless sulgrevad--term (user-error "There is no session; M-x sulgrevad-start begins one"))
-  (when (sulgrevad--is-late) (sulgrevad--refuse what)))
+  (unless (sulgrevad--wait (lambda () (not (sulgrevad--is-late)))) (sulgrevad--refuse what)))
 
 ;;; Sessions
 
 (defun sulgrevad--begin (command words takes-over)
-  "Begin a session, whose host COMMAND runs with WORDS after it.
+  "Begin a session with a host of COMMAND and WORDS after it.
 WORDS is a function of the session's name.  TAKES-OVER says that it was
 another terminal's."
   (when sulgrevad--term (user-error "There is a session already"))
@@ -851,7 +853,7 @@ another terminal's."
           ((not noninteractive) (call-interactively #'sulgrevad-find-file)))))
 
 (defun sulgrevad--read-command ()
-  "Read the command that runs samhost."
+  "Read the command for samhost."
   (read-string "Command that runs samhost: " nil 'sulgrevad--history (or (car sulgrevad--history) sulgrevad-command)))
 
 ;;;###autoload
