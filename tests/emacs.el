@@ -466,7 +466,7 @@
       (check "each error of an edit is met"
              (cl-some (lambda (why) (and (eq (car why) (car kind)) (string-prefix-p (cdr kind) (cadr why)))) kinds) kind))
     (check "that is said" (is-said ": out of memory" words) words)
-    (check "nothing else is" (cl-every (lambda (one) (string-search "out of memory" one)) words) words)
+    (check "nothing else is" (cl-every (lambda (one) (string-match-p "out of memory\\|\\`Waiting for the host" one)) words) words)
     (check "no text goes into the kill ring" (equal (car kill-ring) killed)))
   (let ((text (sulgrevad--text)))
     (sulgrevad-save)

@@ -48,7 +48,7 @@
 (defun said (act)
   "What is said while ACT is called, last first."
   (let (words)
-    (cl-letf (((symbol-function 'message) (lambda (&rest more) (push (apply #'format-message more) words) nil)))
+    (cl-letf (((symbol-function 'message) (lambda (&rest more) (when (car more) (push (apply #'format-message more) words)) nil)))
       (funcall act))
     words))
 

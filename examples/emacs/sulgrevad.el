@@ -374,25 +374,26 @@ Functions of others may change the buffer meanwhile: then it drifts."
       (insert (sulgrevad--part sulgrevad--term sulgrevad--tag 0 (sulgrevad--len sulgrevad--term sulgrevad--tag)))))
   (setq sulgrevad--tick (buffer-chars-modified-tick)))
 
-(defun sulgrevad--with-change (changes start gone came)
-  "Add to CHANGES another of the terminal's text, as it is with them.
-From START on GONE runes gave way to CAME."
+(defun sulgrevad--with-change (stretches start gone came)
+  "Join another change of the terminal's text to those in STRETCHES.
+In the text as it is with these, from START on GONE runes gave way to
+CAME."
   (let ((end (+ start gone)) (more (- came gone)) after first last)
-    (while (and changes (< end (nth 2 (car changes))))
-      (pcase-let ((`(,from ,to ,place ,rest) (pop changes)))
+    (while (and stretches (< end (nth 2 (car stretches))))
+      (pcase-let ((`(,from ,to ,place ,rest) (pop stretches)))
         (push (list from to (+ place more) (+ rest more)) after)))
-    (while (and changes (<= start (nth 3 (car changes)))) ; those that it touches become one with it
-      (setq first (pop changes) last (or last first)))
-    (let* ((shift (if changes (- (nth 1 (car changes)) (nth 3 (car changes))) 0))
+    (while (and stretches (<= start (nth 3 (car stretches)))) ; those that it touches become one with it
+      (setq first (pop stretches) last (or last first)))
+    (let* ((shift (if stretches (- (nth 1 (car stretches)) (nth 3 (car stretches))) 0))
            (joined (if first
                        (list (- (nth 0 first) (max 0 (- (nth 2 first) start))) (+ (nth 1 last) (max 0 (- end (nth 3 last))))
                              (min start (nth 2 first)) (+ more (max end (nth 3 last))))
                      (list (+ start shift) (+ end shift) start (+ start came)))))
-      (nconc (nreverse after) (cons joined changes)))))
+      (nconc (nreverse after) (cons joined stretches)))))
 
-(defun sulgrevad--with-one-change (changes)
-  "Make one of all CHANGES."
-  (let ((first (car (last changes))) (last (car changes)))
+(defun sulgrevad--with-one-change (stretches)
+  "Join all that stand in STRETCHES to one."
+  (let ((first (car (last stretches))) (last (car stretches)))
     (list (list (nth 0 first) (nth 1 last) (nth 2 first) (nth 3 last)))))
 
 (defun sulgrevad--note-change (start gone came)
@@ -674,10 +675,9 @@ With IS-PAUSING what was typed is sent, too."
 
 (defun sulgrevad--take-in ()
   "Take in what has come, and go on step by step.
-Return whether anything came.  Where memory is out, what is left of it
-stays the first."
-  (let (has-come)
-    (sulgrevad--go-on)
+Return whether anything was done.  Where memory is out, what is left of
+it stays the first."
+  (let ((has-come (sulgrevad--go-on)))
     (while (and sulgrevad--term sulgrevad--inbox)
       (let ((item (car sulgrevad--inbox)))
         (when (stringp item) (sulgrevad--bring sulgrevad--term item))
@@ -690,11 +690,14 @@ stays the first."
     has-come))
 
 (defun sulgrevad--go-on ()
-  "Go on step by step until nothing waits, and do as each has told."
-  (let (did)
+  "Go on step by step until nothing waits, and do as each has told.
+Return whether there was any."
+  (let (did has-come)
     (while (setq did (sulgrevad--step sulgrevad--term))
+      (setq has-come t)
       (pcase-let* ((`(,_ ,_ ,tag ,start ,gone ,came) did) (buffer (and (< 0 (+ gone came)) (sulgrevad--buffer-of tag))))
-        (when buffer (with-current-buffer buffer (sulgrevad--note-change start gone came)))))))
+        (when buffer (with-current-buffer buffer (sulgrevad--note-change start gone came)))))
+    has-come))
 
 (defun sulgrevad--report-refusals ()
   "Say why events were refused."
@@ -969,14 +972,14 @@ Not one whose text stands nowhere else."
 
 (defun sulgrevad--await-whole ()
   "Load the buffer's file, and say how far that is.  \\[keyboard-quit] stops it."
-  (let* ((buffer (current-buffer)) (name (buffer-name))
-         (reporter (make-progress-reporter (format "Loading %s..." name) 0 100))
+  (let* ((buffer (current-buffer)) (name (buffer-name)) (reporter nil)
          (tell (lambda ()
+                 (unless reporter (setq reporter (make-progress-reporter (format "Loading %s..." name) 0 100)))
                  (let ((state (and sulgrevad--line (sulgrevad-line-told-state sulgrevad--line))))
                    (progress-reporter-force-update reporter (sulgrevad--percent buffer) nil (and state (format "%s; C-g stops" state)))))))
     (unless (sulgrevad--wait (lambda () (with-current-buffer buffer (and (sulgrevad--is-free) (null sulgrevad--changes)))) t tell)
       (error "%s is not loaded: the host does not answer" name))
-    (message nil)))
+    (when reporter (progress-reporter-done reporter))))
 
 (defun sulgrevad--percent (buffer)
   "How much of the file of BUFFER is loaded."
