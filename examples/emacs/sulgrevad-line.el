@@ -71,7 +71,7 @@ Each time after that they are twice as many.")
   command                  ; a function that makes a list of words of others, which stand after it: the host's command
   receive                  ; a function that is told what comes: see `sulgrevad-line-make'
   takes-over               ; whether the session was another terminal's
-  link name machine        ; the end, and as what the host knows the session
+  link name                ; the end, and the session's name
   (attempt 0) process errors tty ; the newest connection, its standard error, and its terminal where it has one
   (begun "")               ; what has come of a connection before it was welcomed
   (unput "") (unfed "")    ; for which there was no memory
@@ -227,11 +227,10 @@ It is a second at most, since the mode line has the time."
 
 (defun sulgrevad-line--schedule (line)
   "Have `sulgrevad-line--go-on' be called when something is due for LINE."
-  (let ((delay (and (null (sulgrevad-line-why line)) (sulgrevad-line--delay line))))
-    (cond ((null delay))
-          ((null (sulgrevad-line-timer line))
-           (setf (sulgrevad-line-timer line) (run-with-timer (max 0.01 delay) nil #'sulgrevad-line--go-on line)))
-          (t (timer-set-time (sulgrevad-line-timer line) (timer-relative-time nil (max 0.01 delay)))))))
+  (let ((delay (and (null (sulgrevad-line-why line)) (sulgrevad-line--delay line))) (timer (sulgrevad-line-timer line)))
+    (when (and delay (or (null timer) (< (+ delay (float-time)) (float-time (timer--time timer))))) ; a later one puts off none
+      (when timer (cancel-timer timer))
+      (setf (sulgrevad-line-timer line) (run-with-timer (max 0.01 delay) nil #'sulgrevad-line--go-on line)))))
 
 ;;; Bytes
 
@@ -291,13 +290,15 @@ There are none where its pipe may take no more."
 (defun sulgrevad-line--came (line process bytes)
   "BYTES of PROCESS have come, which may be the newest connection of LINE."
   (when (and (eq process (sulgrevad-line-process line)) (null (sulgrevad-line-why line)))
-    (setf (sulgrevad-line-heard-at line) (float-time))
-    (if (sulgrevad-line-is-open line)
-        (setf (sulgrevad-line-unfed line) (concat (sulgrevad-line-unfed line) bytes))
-      (sulgrevad-line--greet line bytes))
-    (when (sulgrevad-line-is-open line)
-      (sulgrevad-line--feed line)
-      (sulgrevad-line-put line ""))))
+    (let ((was-late (sulgrevad-line-is-late line)))
+      (setf (sulgrevad-line-heard-at line) (float-time))
+      (if (sulgrevad-line-is-open line)
+          (setf (sulgrevad-line-unfed line) (concat (sulgrevad-line-unfed line) bytes))
+        (sulgrevad-line--greet line bytes))
+      (when (sulgrevad-line-is-open line)
+        (sulgrevad-line--feed line)
+        (sulgrevad-line-put line ""))
+      (when (and was-late (not (sulgrevad-line-is-late line))) (funcall (sulgrevad-line-receive line) 'state nil)))))
 
 (defun sulgrevad-line--greet (line bytes)
   "BYTES have come on a connection of LINE that no host has welcomed.
@@ -349,8 +350,7 @@ Other programs may have written something before its hello."
 (defun sulgrevad-line--meet (line note)
   "A NOTE has come on LINE."
   (pcase (split-string note " ")
-    (`("session" ,name . ,machine)
-     (setf (sulgrevad-line-name line) name (sulgrevad-line-machine line) (string-join machine " ")))
+    (`("session" ,name . ,_) (setf (sulgrevad-line-name line) name))
     (`("ended" ,status . ,_)
      (setf (sulgrevad-line-ended-with line) (string-to-number status))
      (ignore-errors (sulgrevad--link-acknowledge (sulgrevad-line-link line))) ; so that the host need not wait

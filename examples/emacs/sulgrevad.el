@@ -255,7 +255,7 @@ may signal `sulgrevad-no-memory'."
 
 (defun sulgrevad--before-change (&rest _)
   "Note a change that `after-change-functions' has not reported."
-  (unless (eql sulgrevad--tick (buffer-chars-modified-tick))
+  (unless (or (eq sulgrevad--changes t) (eql sulgrevad--tick (buffer-chars-modified-tick))) ; of all that is to come nothing is ours
     (setq sulgrevad--has-drifted t)))
 
 (defun sulgrevad--after-change (start end old)
@@ -939,7 +939,7 @@ Not one whose text stands nowhere else."
         sulgrevad--is-locked t
         buffer-read-only t
         buffer-undo-list t)
-  (push (current-buffer) sulgrevad--buffers))
+  (cl-pushnew (current-buffer) sulgrevad--buffers))
 
 (defun sulgrevad--show (tag)
   "The buffer of the file TAG, which is opened and loaded where it is not."
@@ -1049,7 +1049,7 @@ argument, read a file name of this machine."
   (when (or kills (not (sulgrevad--is-unwritten sulgrevad--tag))
             (yes-or-no-p (format "%s was not written; close it all the same? " (buffer-name))))
     (sulgrevad--close sulgrevad--term sulgrevad--tag)
-    (setq sulgrevad--tag nil)
+    (sulgrevad--let-go)
     (kill-buffer)
     (sulgrevad--pump t)))
 
@@ -1074,8 +1074,8 @@ there first."
     (when (string-prefix-p "…" path) (user-error "Only the end of its path is known"))
     (when (or noconfirm
               (yes-or-no-p (format "Read %s anew at the host%s? " path (if (buffer-modified-p) ", and drop its changes" ""))))
-      (setq sulgrevad--tag nil)
       (sulgrevad--close sulgrevad--term tag)
+      (sulgrevad--let-go)
       (sulgrevad--fill (sulgrevad--open-path path) path)
       (setq buffer-undo-list nil)
       (goto-char (min place (point-max))))))
@@ -1233,7 +1233,10 @@ Where it does not answer, the file is written once it does."
   "Have the host write the buffer to PATH, which becomes the file's name."
   (interactive (progn (sulgrevad--settle "That")
                       (list (sulgrevad--read-path "Write file at the host: "))))
-  (let* ((path (sulgrevad--plain path)) (printed (save-mark-and-excursion (sulgrevad-command (concat "f " path)))))
+  (let* ((plain (sulgrevad--plain path))
+         (path (if (string-suffix-p "/" plain) (concat plain (sulgrevad--base sulgrevad--path)) plain))
+         (printed (if (or (string-empty-p path) (string-search "\n" path)) "the name is wrong"
+                    (save-mark-and-excursion (sulgrevad-command (concat "f " path))))))
     (unless (equal (sulgrevad--name sulgrevad--term sulgrevad--tag) path)
       (user-error "The file can't be called %s: %s" path (string-trim printed)))
     (sulgrevad--set-mode path)
