@@ -236,6 +236,7 @@
     (insert "bad ")
     (sulgrevad--wait (lambda () (sulgrevad-line-has-all sulgrevad--line)))
     (setf (sulgrevad-line-ended-with sulgrevad--line) 5)
+    (kill-host)
     (sulgrevad-line--lose sulgrevad--line "the session is over")
     (check "a text that the host has not saved is here" (equal (kept (file-name-nondirectory one)) (list text))))
   (sulgrevad-start (last host) one)

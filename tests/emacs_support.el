@@ -60,11 +60,15 @@
   "The folder of the session at the host."
   (expand-file-name (sulgrevad-line-name sulgrevad--line) (expand-file-name "sulgrevad" (getenv "XDG_STATE_HOME"))))
 
+(defun kill-host ()
+  "Have the host and all that it has of the session be gone."
+  (signal-process (string-to-number (disk (expand-file-name "lock" (home)))) 'KILL)
+  (delete-directory (home) t))
+
 (defun lose-host ()
-  "Have the host and all that it has of the session be gone, and wait until that is known."
+  "Kill the host, and wait until that is known."
   (let ((sulgrevad-line-pauses '(0.1)))
-    (signal-process (string-to-number (disk (expand-file-name "lock" (home)))) 'KILL)
-    (delete-directory (home) t)
+    (kill-host)
     (wait-for (lambda () (null sulgrevad--term)))))
 
 (defun process ()

@@ -105,6 +105,8 @@ Those of four bytes have room, too.")
   "How many seconds at most each step takes when the session is to end.")
 (defconst sulgrevad-most-unsent 0.5
   "After how many seconds an edit is sent that no command has made.")
+(defconst sulgrevad-most-unkept 10
+  "How many seconds of a lost line pass until a text is kept here again.")
 (defconst sulgrevad-retry 0.1
   "After how many seconds that is tried again for which memory was out.")
 (defconst sulgrevad-most-silent 60
@@ -129,6 +131,9 @@ Each is a pair of a tag and what the host told, or of nil and that, where
 no file of the name is known.")
 (defvar sulgrevad--number 0 "The number of the last question to the host.")
 (defvar sulgrevad--answers nil "Answers, in pairs with such numbers.")
+(defvar sulgrevad--copies nil
+  "Tags of files whose text is kept here while the line is lost, and where.")
+(defvar sulgrevad--copied-at 0 "When that was done last.")
 (defvar sulgrevad--wishes nil
   "Files that somebody wishes shown: a tag and a line each.")
 (defvar sulgrevad--buffers nil "The buffers of open files.")
@@ -477,12 +482,24 @@ Return `written'; `there' where another is there; nil where it can't be."
       (file-already-exists 'there)
       (error (ignore-errors (delete-file path))))))
 
-(defun sulgrevad--keep (name text)
-  "Write TEXT to a new file of this machine, NAME.sam-here.
-It is in the session's folder, else in that for temporary files.  Return
-its path, or nil where none can be written."
-  (let* ((inhibit-quit t)
-         (last (remq 0 (append (car (last (split-string name "/"))) nil))) ; no name of a file has a NUL
+(defun sulgrevad--keep (name text tag)
+  "Write TEXT to a file of this machine, NAME.sam-here.
+It is in the session's folder, else in that for temporary files.  It is
+new, but for one in which the text of the file TAG was kept before: a new
+one takes its place.  Return its path, or nil where none can be written."
+  (let* ((inhibit-quit t) (before (assq tag sulgrevad--copies))
+         (path (sulgrevad--keep-new name text)))
+    (setq sulgrevad--copies (delq before sulgrevad--copies))
+    (when (and before path)             ; the old one stays until the new one is whole
+      (condition-case nil (progn (rename-file path (cdr before) t)
+                                 (setq path (cdr before)))
+        (error nil)))
+    (when path (push (cons tag path) sulgrevad--copies))
+    path))
+
+(defun sulgrevad--keep-new (name text)
+  "Write TEXT to a new file NAME.sam-here.  Return its path, or nil."
+  (let* ((last (remq 0 (append (car (last (split-string name "/"))) nil))) ; no name of a file has a NUL
          (base (concat (or (seq-take last sulgrevad-most-in-base) "unnamed") ".sam-here")))
     (cl-loop for folder in (cl-remove-if #'file-remote-p (list sulgrevad--folder temporary-file-directory))
              thereis (cl-loop for number from 1 to sulgrevad-most-names
@@ -506,7 +523,7 @@ its path, or nil where none can be written."
 (defun sulgrevad--keep-buffer (name)
   "Keep here the text of the buffer, that of the file NAME.
 Return what to say of it."
-  (let* ((text (sulgrevad--text)) (path (sulgrevad--keep name text)))
+  (let* ((text (sulgrevad--text)) (path (sulgrevad--keep name text sulgrevad--tag)))
     (setq sulgrevad--has-drifted (null path))
     (unless path
       (sulgrevad--kill-text text)
@@ -516,7 +533,7 @@ Return what to say of it."
 (defun sulgrevad--keep-file (name tag)
   "Keep here the text of the file NAME, which has the TAG and no buffer.
 Return what to say of it."
-  (let* ((text (sulgrevad--loaded tag)) (path (sulgrevad--keep name text)))
+  (let* ((text (sulgrevad--loaded tag)) (path (sulgrevad--keep name text tag)))
     (unless path (sulgrevad--kill-text text))
     (format (if path "what is loaded of %s is here in %s" "no file can be written here; the kill ring has what is loaded of %s")
             name path)))
@@ -535,6 +552,22 @@ Return what to say of them."
              collect (if (and is-shown (with-current-buffer buffer (or (sulgrevad--waits) (null sulgrevad--changes))))
                          (with-current-buffer buffer (sulgrevad--keep-buffer name))
                        (sulgrevad--keep-file name tag)))))
+
+(defun sulgrevad--keep-meanwhile ()
+  "While the line is lost keep here what the host may not have.
+Where Emacs is killed then it is not lost.  It goes once the host has
+all."
+  (let ((has-all (and (sulgrevad-line-has-all sulgrevad--line) (sulgrevad--is-handed-over))) (now (float-time)))
+    (cond ((and has-all (sulgrevad-line-is-open sulgrevad--line))
+           (dolist (copy sulgrevad--copies) (ignore-errors (delete-file (cdr copy))))
+           (setq sulgrevad--copies nil))
+          ((and (not has-all) (sulgrevad--is-late)
+                (<= sulgrevad-most-unkept (min (sulgrevad-line-silence sulgrevad--line) (- now sulgrevad--copied-at))))
+           (setq sulgrevad--copied-at now)
+           (cl-loop for (name . tag) in (sulgrevad--names)
+                    for buffer = (sulgrevad--buffer-of tag)
+                    when (and buffer (buffer-modified-p buffer) (not (eq t (buffer-local-value 'sulgrevad--changes buffer))))
+                    do (sulgrevad--keep name (with-current-buffer buffer (sulgrevad--text)) tag))))))
 
 (defun sulgrevad--host-has-all ()
   "Whether the host has all that was handed over, and will keep it.
@@ -641,7 +674,7 @@ Then signal the first error of it."
 What the host may not have is kept here."
   (when sulgrevad--term
     (let ((kept (condition-case nil (sulgrevad--keep-all) (error (sulgrevad--keep-modified)))) (line sulgrevad--line))
-      (setq sulgrevad--term nil)
+      (setq sulgrevad--term nil sulgrevad--copies nil)
       (dolist (hook sulgrevad--global-hooks) (remove-hook (car hook) (cadr hook)))
       (advice-remove 'kill-emacs #'sulgrevad--leave)
       (sulgrevad--each #'sulgrevad--let-go)
@@ -667,7 +700,8 @@ With IS-PAUSING what was typed is sent, too."
               (sulgrevad--load-more)
               (sulgrevad--write-next)
               (when is-pausing (sulgrevad--flush-now sulgrevad--term))
-              (sulgrevad--send))))
+              (sulgrevad--send)
+              (sulgrevad--keep-meanwhile))))
       (sulgrevad-no-memory (message "Sulgrevad: %s" (cadr why))
                            (sulgrevad--pump-after sulgrevad-retry))
       (sulgrevad-error (sulgrevad--lose (cadr why)))
@@ -826,7 +860,7 @@ WORDS is a function of the session's name.  TAKES-OVER says that it was
 another terminal's."
   (when sulgrevad--term (user-error "There is a session already"))
   (setq sulgrevad--inbox nil sulgrevad--buffers nil sulgrevad--told nil sulgrevad--writes nil sulgrevad--writing nil
-        sulgrevad--complaint nil sulgrevad--unwritten nil sulgrevad--answers nil sulgrevad--wishes nil
+        sulgrevad--complaint nil sulgrevad--unwritten nil sulgrevad--answers nil sulgrevad--wishes nil sulgrevad--copies nil
         sulgrevad--folder default-directory)
   (let (line)
     (setq line (sulgrevad-line-make
