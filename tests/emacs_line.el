@@ -44,8 +44,10 @@
 
 (defun check-breaks ()
   "A broken line is told and comes again; what is typed meanwhile gets to the host, and what needs that says so."
-  (let ((file (made "b.txt" "text\n")) (sulgrevad-line-pauses '(0.1 0.2 0.4)))
+  (let* ((file (made "b.txt" "text\n")) (sulgrevad-line-pauses '(0.1 0.2 0.4)) (pauses nil)
+         (note (lambda (line) (push (/ (round (* 10 (- (sulgrevad-line-again-at line) (float-time)))) 10.0) pauses))))
     (sulgrevad-start (relayed) file)
+    (advice-add 'sulgrevad-line--pause :after note)
     (check "a line that is there is not told of" (equal (sulgrevad--lighter) " Sam") (sulgrevad--lighter))
     (insert "before ")
     (cut-line t)
@@ -54,8 +56,9 @@
     (keys "d e a d SPC")
     (check "what is typed stands" (string-prefix-p "before dead text" (sulgrevad--text)) (sulgrevad--text))
     (same "and the terminal has it")
-    (check "pauses grow" (wait-for (lambda () (< 3 (sulgrevad-line-failures sulgrevad--line)))))
-    (check "up to the last" (< 0.2 (- (sulgrevad-line-again-at sulgrevad--line) (float-time) -0.2)) (sulgrevad-line-again-at sulgrevad--line))
+    (wait-for (lambda () (nthcdr 3 pauses)))
+    (advice-remove 'sulgrevad-line--pause note)
+    (check "pauses grow up to the last" (equal (seq-take (reverse pauses) 4) '(0.1 0.2 0.4 0.4)) pauses)
     (let ((sulgrevad-patience 0.1))
       (check "a write waits" (string-search "once it answers" (or (car (said #'save-buffer)) "")))
       (check "the buffer stays writable then" (not buffer-read-only))
@@ -296,7 +299,7 @@
     (check "undo takes back all of it" (equal (sulgrevad--text) "one two one\n") (sulgrevad--text))
     (run-hooks 'post-command-hook)
     (same "and the terminal follows"))
-  (dolist (run (number-sequence 1 40))
+  (dolist (run (number-sequence 1 200))
     ;; Random changes of a text that is not all loaded, put in at the end: as if each had been made at once.
     (let* ((text (apply #'string (cl-loop repeat 20 collect (+ ?a (random 26))))) (new text) (changes nil))
       (dotimes (_ (1+ (random 6)))
@@ -305,7 +308,7 @@
                 new (concat (substring new 0 start) (apply #'string (cl-loop repeat came collect (+ ?A (random 26)))) (substring new (+ start gone))))))
       (with-temp-buffer
         (insert text)
-        (pcase-dolist (`(,start ,end ,from ,to) changes)
+        (pcase-dolist (`(,start ,end ,from ,to) (sulgrevad--places (if (= 0 (% run 4)) (sulgrevad--with-one-change changes) changes)))
           (goto-char (1+ start))
           (delete-region (point) (1+ end))
           (insert (substring new from to)))

@@ -16,8 +16,8 @@
 ;; Each buffer is a copy of the terminal's text, a character for each rune.  The two don't drift apart:
 ;; - `after-change-functions' hands each edit to the terminal at once, so that it stands there before the next bytes are taken in.  It goes
 ;;   by sam_term_edit, a single key too: what a command did is sent when it ends.
-;; - The host's bytes are taken in by single steps, and each says what changed: that stretch of the buffer is changed.  While some of a text
-;;   is not loaded such changes are noted, and made once it is.
+;; - The host's bytes are taken in by single steps, and each says what changed: that stretch of the buffer is changed once the file is free
+;;   and loaded again.
 ;; - Some code changes a buffer without that hook (`inhibit-modification-hooks').  So the buffer's tick is compared before each change and
 ;;   round each step.  What was not handed over is found by comparing the buffer with the terminal's text, then and before a file is
 ;;   written, and goes as one edit.
@@ -94,8 +94,8 @@ nil is samhost's own choice."
 (defconst sulgrevad-most-typed 512 "How many runes are typed at once.")
 (defconst sulgrevad-most-runes 1000000 "How many runes a text has at most.")
 (defconst sulgrevad-most-load 32768 "How many runes are loaded at once.")
-(defconst sulgrevad-most-changes 1000
-  "How many changes of a text that is not all loaded are kept apart.")
+(defconst sulgrevad-most-changes 200
+  "How many changes that come together are made apart; more are made one.")
 (defconst sulgrevad-most-names 1000
   "How many names are tried for a file that keeps a text here.")
 (defconst sulgrevad-most-in-base 50
@@ -157,8 +157,11 @@ A clone of it has its variables, and is no buffer of the file.")
   "The buffer's tick after the last change that the terminal knows.")
 (defvar-local sulgrevad--changes nil
   "What changed in the terminal's text and not in the buffer yet.
-t is all of it; else a list, the last first, of where each stretch
-begins and ends in the buffer, and in the terminal's text.")
+t is all of it; else a list of stretches: how many runes stand before
+each, after the one before; how many it has in the buffer, and how many
+at the terminal.")
+(defvar-local sulgrevad--is-joined nil
+  "Whether they were too many, and are one.")
 (defvar-local sulgrevad--is-bounded nil
   "Whether undo goes back to before the host began to change the buffer.")
 (defvar-local sulgrevad--is-locked nil "Whether we made it read-only.")
@@ -168,8 +171,8 @@ begins and ends in the buffer, and in the terminal's text.")
   "Whether the terminal may not know all changes of the buffer.
 When the session is over: whether its text stands nowhere else.")
 ;; They outlive a change of the major mode.
-(dolist (name '(sulgrevad--tag sulgrevad--path sulgrevad--self sulgrevad--tick sulgrevad--changes sulgrevad--is-bounded
-                sulgrevad--is-locked sulgrevad--is-held sulgrevad--has-drifted sulgrevad-mode))
+(dolist (name '(sulgrevad--tag sulgrevad--path sulgrevad--self sulgrevad--tick sulgrevad--changes sulgrevad--is-joined
+                sulgrevad--is-bounded sulgrevad--is-locked sulgrevad--is-held sulgrevad--has-drifted sulgrevad-mode))
   (put name 'permanent-local t))
 (defconst sulgrevad--hooks
   '((before-change-functions sulgrevad--before-change 100) (after-change-functions sulgrevad--after-change -100)
@@ -235,9 +238,11 @@ terminal, and what the buffer has between."
   (and sulgrevad--term sulgrevad--tag (eq sulgrevad--self (current-buffer))))
 
 (defun sulgrevad--is-whole ()
-  "Whether all of the buffer's file is loaded."
+  "Whether all of the buffer's file is loaded.
+So it is where no change waits; to look for a gap takes longer."
   (and (sulgrevad--is-open sulgrevad--term sulgrevad--tag)
-       (not (sulgrevad--first-gap sulgrevad--term sulgrevad--tag))))
+       (or (null sulgrevad--changes)
+           (not (sulgrevad--first-gap sulgrevad--term sulgrevad--tag)))))
 
 (defun sulgrevad--is-free ()
   "Whether an edit of the buffer acts at once, and its file is loaded."
@@ -358,11 +363,11 @@ FROM and TO are where it begins and ends."
                 (pcase (sulgrevad--difference)
                   (`(,start ,end ,to ,_) (sulgrevad--put start end start to)))))))))
 
-(defun sulgrevad--put-each (stretches)
-  "Change STRETCHES of the buffer to what the terminal has, the last first.
+(defun sulgrevad--put-each (places)
+  "Change PLACES of the buffer to what the terminal has, the last first.
 Functions of others may change the buffer meanwhile: then it drifts."
   (condition-case nil
-      (pcase-dolist (`(,start ,end ,from ,to) stretches)
+      (pcase-dolist (`(,start ,end ,from ,to) places)
         (sulgrevad--put start end from to))
     (error (sulgrevad--put-back)        ; a function of another has failed
            (setq sulgrevad--tick (buffer-chars-modified-tick))))
@@ -382,45 +387,63 @@ Functions of others may change the buffer meanwhile: then it drifts."
 (defun sulgrevad--with-change (stretches start gone came)
   "Join another change of the terminal's text to those in STRETCHES.
 In the text as it is with these, from START on GONE runes gave way to
-CAME."
-  (let ((end (+ start gone)) (more (- came gone)) after first last)
-    (while (and stretches (< end (nth 2 (car stretches))))
-      (pcase-let ((`(,from ,to ,place ,rest) (pop stretches)))
-        (push (list from to (+ place more) (+ rest more)) after)))
-    (while (and stretches (<= start (nth 3 (car stretches)))) ; those that it touches become one with it
-      (setq first (pop stretches) last (or last first)))
-    (let* ((shift (if stretches (- (nth 1 (car stretches)) (nth 3 (car stretches))) 0))
-           (joined (if first
-                       (list (- (nth 0 first) (max 0 (- (nth 2 first) start))) (+ (nth 1 last) (max 0 (- end (nth 3 last))))
-                             (min start (nth 2 first)) (+ more (max end (nth 3 last))))
-                     (list (+ start shift) (+ end shift) start (+ start came)))))
-      (nconc (nreverse after) (cons joined stretches)))))
+CAME.  The host makes the last change of a command line first, so that
+each stands at the front."
+  (let ((place 0) (end (+ start gone)) before)
+    (while (and stretches (< (+ place (nth 0 (car stretches)) (nth 2 (car stretches))) start))
+      (push (pop stretches) before)
+      (setq place (+ place (nth 0 (car before)) (nth 2 (car before)))))
+    (let ((skip (- start place)) (old 0) (at start))
+      (when (and stretches (<= (+ place (nth 0 (car stretches))) start)) ; it touches one that begins before it
+        (setq skip (nth 0 (car stretches)) at (+ place skip)))
+      (let ((reach at))                 ; up to where OLD counts
+        (while (and stretches (<= (+ place (nth 0 (car stretches))) end)) ; those that it touches become one with it
+          (setq place (+ place (nth 0 (car stretches)))
+                old (+ old (- place reach) (nth 1 (car stretches)))
+                place (+ place (nth 2 (car stretches)))
+                reach place)
+          (pop stretches))
+        (let ((last (max end reach)))
+          (setq old (+ old (- last reach)))
+          (when stretches
+            (push (cons (- (+ place (nth 0 (car stretches))) last) (cdr (pop stretches))) stretches))
+          (nconc (nreverse before) (list (list skip old (+ (- last at gone) came))) stretches))))))
 
 (defun sulgrevad--with-one-change (stretches)
   "Join all that stand in STRETCHES to one."
-  (let ((first (car (last stretches))) (last (car stretches)))
-    (list (list (nth 0 first) (nth 1 last) (nth 2 first) (nth 3 last)))))
+  (let ((between (apply #'+ (mapcar #'car (cdr stretches)))))
+    (list (list (caar stretches) (apply #'+ between (mapcar #'cadr stretches)) (apply #'+ between (mapcar #'caddr stretches))))))
+
+(defun sulgrevad--places (stretches)
+  "Where STRETCHES are, the last first.
+Of each where it begins and ends in the buffer, and in the terminal's
+text."
+  (let ((mine 0) (theirs 0) places)
+    (pcase-dolist (`(,skip ,old ,new) stretches)
+      (setq mine (+ mine skip) theirs (+ theirs skip))
+      (push (list mine (+ mine old) theirs (+ theirs new)) places)
+      (setq mine (+ mine old) theirs (+ theirs new)))
+    places))
 
 (defun sulgrevad--note-change (start gone came)
   "From START on GONE runes of the terminal's text gave way to CAME.
-So they do in the buffer, now or once the text is loaded."
-  (sulgrevad--before-change)
-  (cond ((eq sulgrevad--changes t))
-        ((or sulgrevad--changes sulgrevad--has-drifted (not (sulgrevad--is-whole)))
-         (setq sulgrevad--changes (sulgrevad--with-change sulgrevad--changes start gone came))
-         (when (nthcdr sulgrevad-most-changes sulgrevad--changes)
-           (setq sulgrevad--changes (sulgrevad--with-one-change sulgrevad--changes))))
-        (t (sulgrevad--put-each (list (list start (+ start gone) start (+ start came)))))))
+So they will in the buffer, once the file is free."
+  (unless (eq sulgrevad--changes t)
+    (setq sulgrevad--is-joined (and sulgrevad--changes
+                                    (or sulgrevad--is-joined (nthcdr sulgrevad-most-changes sulgrevad--changes)))
+          sulgrevad--changes (sulgrevad--with-change sulgrevad--changes start gone came))
+    (when sulgrevad--is-joined
+      (setq sulgrevad--changes (sulgrevad--with-one-change sulgrevad--changes)))))
 
 (defun sulgrevad--take-over ()
   "Make each change that waited, and say whether the buffer may be edited."
   (sulgrevad--before-change) ; when another buffer was changed, a hook may have changed this one
   (cond ((not (sulgrevad--is-known sulgrevad--term sulgrevad--tag)) (sulgrevad--let-go))
         ((sulgrevad--is-open sulgrevad--term sulgrevad--tag)
-         (when (and sulgrevad--changes (not sulgrevad--has-drifted) (sulgrevad--is-whole))
+         (when (and sulgrevad--changes (not sulgrevad--has-drifted) (sulgrevad--is-free))
            (let ((changes sulgrevad--changes))
              (setq sulgrevad--changes nil)
-             (if (eq changes t) (sulgrevad--put-all) (sulgrevad--put-each changes))))
+             (if (eq changes t) (sulgrevad--put-all) (sulgrevad--put-each (sulgrevad--places changes)))))
          (sulgrevad--take-name)
          (unless (or sulgrevad--has-drifted sulgrevad--changes)
            (restore-buffer-modified-p (and (/= sulgrevad--tag 0) (sulgrevad--is-unwritten sulgrevad--tag))))
@@ -821,7 +844,7 @@ number; where it is nil, once the host is silent for
 (defun sulgrevad--tell-of-waiting ()
   "Say that something waits for the host."
   (let ((state (and sulgrevad--line (sulgrevad-line-told-state sulgrevad--line))) (message-log-max nil))
-    (message "Waiting for the host%s; C-g doesn't" (if state (format " (%s)" state) ""))))
+    (message "Waiting for the host%s; C-g stops" (if state (format " (%s)" state) ""))))
 
 (defun sulgrevad--before-command ()
   "Wait until the buffer may be edited, so that no key is lost.
@@ -891,7 +914,8 @@ another terminal's."
 
 (defun sulgrevad--read-command ()
   "Read the command for samhost."
-  (read-string "Command that runs samhost: " nil 'sulgrevad--history (or (car sulgrevad--history) sulgrevad-command)))
+  (let ((usual (or (car sulgrevad--history) sulgrevad-command)))
+    (read-string (format-prompt "Command that runs samhost" usual) nil 'sulgrevad--history usual)))
 
 ;;;###autoload
 (defun sulgrevad-start (command &rest files)
@@ -1196,7 +1220,8 @@ What an event changes at once no step tells."
              for place = from then (+ from at)
              do (sulgrevad--type sulgrevad--term 0 text)
              if (= 0 (sulgrevad--held sulgrevad--term))
-             do (sulgrevad--note-change place (if (= at 0) (- len from) 0) (length text)))))
+             do (sulgrevad--note-change place (if (= at 0) (- len from) 0) (length text)))
+    (sulgrevad--take-over)))
 
 ;;; Writing
 
