@@ -20,17 +20,18 @@
 
 (defun relayed ()
   "A command whose line can be cut off and stalled, and is not there while the file `down' is."
-  (list "/bin/sh" "-c" (format "cd %s; [ ! -e down ] || exit 1; exec 3<&0; \"$@\" <&3 & echo $! >relay; wait $!" (shell-quote-argument room))
-        "sh" samhost))
+  (list "/bin/sh" "-c" "cd \"$0\"; [ ! -e down ] || exit 1; exec 3<&0; \"$@\" <&3 & echo $! >relay; wait $!" room samhost))
 
 (defun signal-line (signal)
-  "Send SIGNAL to what relays behind the process of the line."
-  (signal-process (string-to-number (disk (path "relay"))) signal))
+  "Send SIGNAL to what relays behind the process of the line, if that runs.  A number of a process that has ended may be another's."
+  (let ((relay (string-to-number (disk (path "relay")))) (line (process)))
+    (when (and line (eql (process-id line) (alist-get 'ppid (process-attributes relay))))
+      (signal-process relay signal))))
 
 (defun cut-line (&optional stays)
   "Have the line break; with STAYS none comes after it."
   (when stays (made "down" ""))
-  (signal-line 'KILL)
+  (wait-for (lambda () (signal-line 'KILL)))
   (wait-for (lambda () (sulgrevad-line-lost-at sulgrevad--line))))
 
 (defun mend-line ()
@@ -90,14 +91,16 @@
       (goto-char (point-max))
       (insert (format "%d " number) (if (= 0 (% number 5)) long ""))
       (sulgrevad--pump t)
-      (when (= 1 (% number 2)) (accept-process-output nil 0.02))
-      (ignore-errors (signal-line 'KILL)))
+      (when (= 1 (% number 2)) (mend-line))
+      (signal-line 'KILL))
     (mend-line)
+    (check "it broke often" (< 10 (sulgrevad-line-attempt sulgrevad--line)) (sulgrevad-line-attempt sulgrevad--line))
     (sulgrevad--wait (lambda () (sulgrevad-line-has-all sulgrevad--line)) 20)
     (sulgrevad-save)
     (wait-for (lambda () (equal (disk file) (sulgrevad--text))))
     (check "nothing is lost or twice there"
-           (equal (disk file) (mapconcat (lambda (number) (format "%d %s" number (if (= 0 (% number 5)) long ""))) (number-sequence 0 19) ""))
+           (equal (disk file)
+                  (apply #'concat (cl-loop for number to 19 collect (format "%d %s" number (if (= 0 (% number 5)) long "")))))
            (disk file))
     (sulgrevad-quit)))
 
@@ -131,8 +134,7 @@
       (signal-line 'STOP)
       (sulgrevad-save)
       (setq began (float-time))
-      (check "the file of a write under way is read-only" (refused (lambda () (condition-case why (keys "z") (buffer-read-only (user-error "%s" why)))))
-             buffer-read-only)
+      (check "the file of a write under way is read-only" (condition-case nil (ignore (keys "z")) (buffer-read-only t)))
       (with-current-buffer (get-buffer "o.txt") (condition-case nil (insert "z") (error nil)) (same "another goes on then, too"))
       (check "no key waits for long" (< (- (float-time) began) 5) (- (float-time) began))
       (signal-line 'CONT)
@@ -172,7 +174,7 @@
                                                               (save-buffer)
                                                               (princ (format "<%s>" (sulgrevad--text)))
                                                               (sulgrevad-quit)))))
-                            (check "another terminal takes it" (string-search "once unwritten text\n" (concat printed (disk file))) printed))
+                            (check "another terminal takes it" (string-search "<once unwritten text\n>" printed) printed))
                           (wait-for (lambda () (null sulgrevad--term)))))))
       (check "who had it is told" (is-said "another terminal has taken the session over" words) words))
     (check "and what was done there is in the file" (string-search "once" (disk file)) (disk file))
@@ -226,9 +228,10 @@
     (insert "made\n")
     (save-buffer)
     (check "which is made when it is written" (equal (disk (path "new.txt")) "made\n"))
-    (let ((why (refused (lambda () (sulgrevad-find-file (path "bytes.txt")))))) (check "why one isn't opened is said" (string-search "UTF-8" (or why "")) why))
+    (let ((why (refused (lambda () (sulgrevad-find-file (path "bytes.txt"))))))
+      (check "why one isn't opened is said" (string-search "UTF-8" (or why "")) why))
     (check "a folder is no file" (string-search "is a folder" (or (refused (lambda () (sulgrevad-find-file (path "inner")))) "")))
-    (let ((default-directory room)) (with-temp-buffer (check "elsewhere C-x C-f is Emacs' own" (eq (key-binding (kbd "C-x C-f")) #'find-file))))
+    (with-temp-buffer (check "elsewhere C-x C-f is Emacs' own" (eq (key-binding (kbd "C-x C-f")) #'find-file)))
     (sulgrevad-quit)))
 
 (defun check-wishes ()
@@ -303,22 +306,25 @@
     ;; Random changes of a text that is not all loaded, put in at the end: as if each had been made at once.
     (let* ((text (apply #'string (cl-loop repeat 20 collect (+ ?a (random 26))))) (new text) (changes nil))
       (dotimes (_ (1+ (random 6)))
-        (let* ((start (random (1+ (length new)))) (gone (random (1+ (- (length new) start)))) (came (random 4)))
-          (setq changes (sulgrevad--with-change changes start gone came)
-                new (concat (substring new 0 start) (apply #'string (cl-loop repeat came collect (+ ?A (random 26)))) (substring new (+ start gone))))))
+        (let* ((start (random (1+ (length new)))) (gone (random (min 9 (1+ (- (length new) start)))))
+               (came (apply #'string (cl-loop repeat (random 4) collect (+ ?A (random 26))))))
+          (setq changes (sulgrevad--with-change changes start gone (length came))
+                new (concat (substring new 0 start) came (substring new (+ start gone))))))
       (with-temp-buffer
         (insert text)
         (pcase-dolist (`(,start ,end ,from ,to) (sulgrevad--places (if (= 0 (% run 4)) (sulgrevad--with-one-change changes) changes)))
           (goto-char (1+ start))
           (delete-region (point) (1+ end))
           (insert (substring new from to)))
-        (check (format "noted changes are those that were made, run %d" run) (equal (buffer-string) new) text new changes (buffer-string)))))
+        (check (format "noted changes are those that were made, run %d" run) (equal (buffer-string) new)
+               text new changes (buffer-string)))))
   (asked t (sulgrevad-quit)))
 
 (defun check-passwords ()
   "What asks on its terminal asks the user, but only where he waits for it."
   (let* ((file (made "p.txt" "p\n")) (sulgrevad-line-pauses '(0.1)) (asked nil)
-         (asks (append (list "/bin/sh" "-c" "{ stty -echo; printf 'me@box password: '; read -r word; stty echo; echo; } <>/dev/tty >&0 || exit 1
+         (asks (append (list "/bin/sh" "-c" "\
+{ stty -echo; printf 'me@box password: '; read -r word; stty echo; echo; } <>/dev/tty >&0 || exit 1
 [ \"$word\" = secret ] || { echo wrong >&2; exit 1; }
 exec \"$@\"" "sh") (relayed))))
     (cl-letf (((symbol-function 'read-passwd) (lambda (question &rest _) (push question asked) (copy-sequence "secret"))))
@@ -336,7 +342,7 @@ exec \"$@\"" "sh") (relayed))))
       (check "with what was typed" (equal (disk file) "typed p\n") (disk file))
       (sulgrevad-quit))
     (cl-letf (((symbol-function 'read-passwd) (lambda (&rest _) (copy-sequence "guess"))))
-      (check "a wrong word is an error" (condition-case why (ignore (sulgrevad-start asks file)) (user-error (string-search "wrong" (error-message-string why))))))))
+      (check "a wrong word is an error" (string-search "wrong" (or (refused (lambda () (sulgrevad-start asks file))) ""))))))
 
 (defun check-sources ()
   "The files compile without a warning, and their docstrings are as they should be."
@@ -353,7 +359,8 @@ exec \"$@\"" "sh") (relayed))))
 
 (defun check-long (slow)
   "1,000,000 characters come over the line SLOW in few round trips, and Emacs says all the while how far it is."
-  (let* ((text (apply #'concat (cl-loop for line from 1 to 20000 collect (format "%049d\n" line)))) (file (made "long.txt" text)) (times nil) (words nil))
+  (let* ((text (apply #'concat (cl-loop for line from 1 to 20000 collect (format "%049d\n" line))))
+         (file (made "long.txt" text)) (times nil) (words nil))
     (cl-letf (((symbol-function 'message)
                (lambda (form &rest more)
                  (let ((word (and form (apply #'format-message form more))))
@@ -361,7 +368,9 @@ exec \"$@\"" "sh") (relayed))))
                    (push (float-time) times)))))
       (sulgrevad-start slow file))
     (check "all of it comes" (equal (sulgrevad--text) text) (buffer-size))
-    (check "it is told how far it is" (< 10 (cl-count-if (lambda (word) (string-match-p "Loading long.txt\\.\\.\\.[ 0-9]" word)) words)) words)
+    (check "it is told how far it is"
+           (< 10 (cl-count-if (lambda (word) (string-match-p "Loading long.txt\\.\\.\\.[ 0-9]" word)) words))
+           words)
     (check "all the while"
            (> 3 (apply #'max (cl-mapcar #'- times (cdr times))))
            (cl-mapcar #'- times (cdr times)))

@@ -62,7 +62,8 @@
 
 (defun kill-host ()
   "Have the host and all that it has of the session be gone."
-  (signal-process (string-to-number (disk (expand-file-name "lock" (home)))) 'KILL)
+  (let ((host (string-to-number (disk (expand-file-name "lock" (home))))))
+    (when (equal "samhost" (alist-get 'comm (process-attributes host))) (signal-process host 'KILL)))
   (delete-directory (home) t))
 
 (defun lose-host ()
