@@ -2,28 +2,7 @@
 ;; The words are the folder of the files, and the host's; or `memory', the file that has requests for memory refused, and the host's. It
 ;; prints a line for each check that fails, and one with the numbers.
 
-(defvar passed 0)
-(defvar failed 0)
-
-(defun check (name is-right &rest more)
-  (if is-right (setq passed (1+ passed))
-    (setq failed (1+ failed))
-    (princ (format "FAIL %s %S\n" name more))))
-
-(defun same (name)
-  "The terminal has the buffer's text."
-  (check name (equal (theirs) (sulgrevad--text)) (theirs) (sulgrevad--text)))
-
-(defun theirs ()
-  "The whole text that the terminal has."
-  (sulgrevad--part sulgrevad--term sulgrevad--tag 0 (sulgrevad--len sulgrevad--term sulgrevad--tag)))
-
-(defun keys (text)
-  "Press keys, with the hooks that a command has."
-  (execute-kbd-macro (kbd text)))
-
-(defun disk (file)
-  (with-temp-buffer (let ((coding-system-for-read 'utf-8-unix)) (insert-file-contents file)) (buffer-string)))
+(load (expand-file-name "emacs_support.el" (file-name-directory load-file-name)) nil t)
 
 (defun one-edit (number)
   "An edit as users and packages make them, chosen by NUMBER."
@@ -40,39 +19,6 @@
         (7 (keys "C-t")))
     ((beginning-of-buffer end-of-buffer) nil)))
 
-(defun wait-for (is-there)
-  "Wait until IS-THERE returns non-nil, but no more than 20 seconds.  Return what it does."
-  (let ((end (+ (float-time) 20)) found)
-    (while (and (not (setq found (funcall is-there))) (< (float-time) end)) (accept-process-output nil 0.05))
-    found))
-
-(defvar room nil "The folder of the files, in which the sessions begin.")
-
-(defun kept (name)
-  "The texts that stand here of the file NAME.  Their files are removed."
-  (mapcar (lambda (file)
-            (check "a text that is kept is for its owner alone" (= (file-modes file) #o600) (file-modes file))
-            (prog1 (disk file) (delete-file file)))
-          (directory-files room t (concat "\\`" (regexp-quote name) "\\.sam-here"))))
-
-(defmacro asked (answer &rest body)
-  "Do BODY with a user there, who answers each question with ANSWER.  Return the questions."
-  (declare (indent 1))
-  `(let ((questions nil) (noninteractive nil))
-     (cl-letf (((symbol-function 'yes-or-no-p) (lambda (question) (push question questions) ,answer))) ,@body)
-     questions))
-
-(defun said (act)
-  "What is said while ACT is called, last first."
-  (let (words)
-    (cl-letf (((symbol-function 'message) (lambda (&rest more) (push (apply #'format-message more) words) nil)))
-      (funcall act))
-    words))
-
-(defun is-said (word words)
-  "Whether one of WORDS is a message of ours with WORD in it."
-  (cl-some (lambda (one) (and (string-prefix-p "Sulgrevad: " one) (string-search word one))) words))
-
 (defun check-refusals ()
   "Refused events are said, and refused edits go back."
   (let ((text (sulgrevad--text)))
@@ -85,7 +31,7 @@
                             (sulgrevad--type sulgrevad--term 0 (concat (make-string 512 ?k) "\n"))
                             (run-hooks 'post-command-hook)))))
     (check "nothing is said twice" (null (said (lambda () (run-hooks 'post-command-hook)))))
-    (let* ((buffer (sulgrevad--show 0 "*sam*")) (printed (with-current-buffer buffer (sulgrevad--text))))
+    (let* ((buffer (sulgrevad--show 0)) (printed (with-current-buffer buffer (sulgrevad--text))))
       (check "an edit of the command file is refused"
              (is-said "SAM_REFUSAL_COMMAND_FILE"
                       (said (lambda ()
@@ -101,6 +47,11 @@
     (check "no part of it runs" (equal (sulgrevad--text) text) (sulgrevad--text))
     (same "at the terminal neither")))
 
+(defun type-command (line)
+  "Type a command LINE, and don't wait for what comes of it."
+  (with-current-buffer (sulgrevad--show 0)
+    (sulgrevad--type-line (sulgrevad--len sulgrevad--term 0) (concat line "\n"))))
+
 (defun check-hidden ()
   "Changes of a locked file reach the terminal, whether a hook tells of them or not."
   (sulgrevad--write sulgrevad--term sulgrevad--tag)
@@ -111,7 +62,7 @@
 
   ;; The same while the host changes it.
   (sulgrevad--work sulgrevad--term sulgrevad--tag)
-  (sulgrevad--type sulgrevad--term 0 ",x/hidden/c/the host's/\n")
+  (type-command ",x/hidden/c/the host's/")
   (let ((words (said (lambda ()
                        (let ((inhibit-read-only t)) (goto-char (point-max)) (insert " buffer's"))
                        (sulgrevad--wait #'sulgrevad--is-free)))))
@@ -178,7 +129,7 @@
   (same "an edit in another major mode")
   (keys "m")
   (same "a key there")
-  (check "the keys are the same there" (eq (key-binding (kbd "C-x C-s")) #'sulgrevad-save))
+  (check "the keys are the same there" (eq (key-binding (kbd "C-x C-f")) #'sulgrevad-find-file))
   (check-quit)
   (sulgrevad-save)
   (check "the disk has all" (equal (disk file) (sulgrevad--text)) (disk file)))
@@ -199,21 +150,21 @@
   "What the host says of a FILE that it refuses is the error, and patience is for an answer, not for all of a long text."
   (let ((coding-system-for-write 'latin-1-unix)) (write-region "\u00e9" nil file nil 'silent))
   (check "a host that refuses a file says why"
-         (condition-case why (ignore (sulgrevad-start (list (car (last host)) file)))
+         (condition-case why (ignore (sulgrevad-start (last host) file))
            (error (string-search "it is not UTF-8" (error-message-string why)))))
   (write-region (make-string 60000 ?l) nil file nil 'silent)
-  (let ((sulgrevad-patience 2)) (sulgrevad-start (append host (list file))))
+  (let ((sulgrevad-patience 2)) (sulgrevad-start host file))
   (check "a long text comes" (= (buffer-size) 60000) (buffer-size))
   (sulgrevad-quit))
 
 (defun stop ()
   "Have the buffer's file be locked, and the link carry nothing."
-  (signal-process sulgrevad--process 'STOP)
+  (signal-process (process) 'STOP)
   (sulgrevad--write sulgrevad--term sulgrevad--tag)
   (sulgrevad--pump t))
 
 (defun go-on ()
-  (signal-process sulgrevad--process 'CONT))
+  (signal-process (process) 'CONT))
 
 (defun insert-waiting (text)
   "Put TEXT at the front, as code does that knows nothing of locks."
@@ -222,7 +173,7 @@
 
 (defun check-killing (host file)
   "No edit that waits is lost where the buffer of FILE at HOST is killed."
-  (sulgrevad-start (append host (list file)))
+  (sulgrevad-start host file)
   (let ((buffer (current-buffer)) (text (disk file)))
     (stop)
     (insert-waiting "waits ")
@@ -233,7 +184,10 @@
     (run-with-timer 0.1 nil (lambda () (setq quit-flag t)))
     (check "C-g keeps it, too" (condition-case nil (ignore (asked t (kill-buffer))) (quit (buffer-live-p buffer))))
     (run-with-timer 0.2 nil #'go-on)
-    (check "once the edit may go nobody is asked" (null (asked nil (kill-buffer))))
+    (let ((questions (asked t (kill-buffer))))
+      (check "once the edit may go nobody is asked about it"
+             (and (= 1 (length questions)) (string-search "was not written" (car questions)))
+             questions))
     (check "the buffer is gone" (not (buffer-live-p buffer)))
     (sulgrevad-find file)
     (check "the host has the edit" (equal (sulgrevad--text) (concat "waits " text)) (sulgrevad--text))
@@ -259,32 +213,33 @@
 
 (defun check-keeping (host one other)
   "What a host that is lost or ends badly may not have is here, of files ONE and OTHER."
-  (sulgrevad-start (append host (list one other)))
+  (sulgrevad-start host one other)
   (let ((text (concat "buried " (disk one))) (long (concat "typed " (make-string 60000 ?l))))
     (insert "buried ")
     (kill-buffer)
     (write-region (substring long 6) nil other nil 'silent)
-    (delete-process sulgrevad--process)
-    (wait-for (lambda () (null sulgrevad--term)))
-    (check "the text of a file without a buffer is here" (equal (kept (file-name-nondirectory one)) (list text)))
+    (lose-host)
+    (check "the text of a file without a buffer is here" (equal (kept (file-name-nondirectory one)) (list text)) text)
     (check "that of a file that is not changed is not" (null (kept (file-name-nondirectory other))))
-    (sulgrevad-start (append host (list one other)))
+    (sulgrevad-start host one other)
     (sulgrevad--open sulgrevad--term 2)
     (sulgrevad--wait (lambda () (and (sulgrevad--is-open sulgrevad--term 2) (not (sulgrevad--locked sulgrevad--term 2)))))
     (sulgrevad--edit sulgrevad--term 2 0 0 "typed ")
-    (delete-process sulgrevad--process)
-    (wait-for (lambda () (null sulgrevad--term)))
+    (lose-host)
     (let* ((found (or (car (kept (file-name-nondirectory other))) ""))
            (gap (string-match "\\[\\([0-9]+\\) characters that were not loaded\\]" found))
            (missing (if gap (string-to-number (match-string 1 found)) 0)))
       (check "what is not loaded is told in words" (< 0 missing) found)
       (check "the rest is here" (equal (if gap (replace-match (make-string missing ?l) t t found) found) long) (length found))))
-  (sulgrevad-start (append (list "sh" "-c" "\"$@\"; exit 5" "sh") host (list one)))
+  (sulgrevad-start host one)
   (let ((text (concat "bad " (disk one))))
     (insert "bad ")
-    (check "who leaves is asked" (asked t (sulgrevad-quit)))
+    (sulgrevad--wait (lambda () (sulgrevad-line-has-all sulgrevad--line)))
+    (setf (sulgrevad-line-ended-with sulgrevad--line) 5)
+    (kill-host)
+    (sulgrevad-line--lose sulgrevad--line "the session is over")
     (check "a text that the host has not saved is here" (equal (kept (file-name-nondirectory one)) (list text))))
-  (sulgrevad-start (list (car (last host)) one))
+  (sulgrevad-start (last host) one)
   (check-not-kept))
 
 (defun check-not-kept ()
@@ -292,8 +247,7 @@
   (insert "nowhere ")
   (let ((text (sulgrevad--text)) (buffer (current-buffer)) (temporary-file-directory "/nowhere/"))
     (setq sulgrevad--folder "/nowhere/")
-    (delete-process sulgrevad--process)
-    (wait-for (lambda () (null sulgrevad--term)))
+    (lose-host)
     (check "the kill ring has what can't be kept" (equal (car kill-ring) text))
     (check "who kills its buffer is asked" (asked nil (kill-buffer)))
     (check "and may keep it" (buffer-live-p buffer))
@@ -305,8 +259,11 @@
   (let* ((told "")
          (process (make-process
                    :name "child" :noquery t :filter (lambda (_ text) (setq told (concat told text)))
-                   :command (list (expand-file-name invocation-name invocation-directory) "-Q" "--batch" "-l" (symbol-file 'sulgrevad-start)
-                                  "--eval" (prin1-to-string `(progn (sulgrevad-start ',(append host (list file))) ,@forms))))))
+                   :command (list (expand-file-name invocation-name invocation-directory) "-Q" "--batch"
+                                  "-l" (symbol-file 'sulgrevad-line-make) "-l" (symbol-file 'sulgrevad-start)
+                                  "--eval" (prin1-to-string `(progn (setq sulgrevad-stay-hours 0.02)
+                                                                    (sulgrevad-start ',host ,file)
+                                                                    ,@forms))))))
     (when ready
       (wait-for (lambda () (string-search ready told)))
       (signal-process process 'TERM))
@@ -317,7 +274,7 @@
   (let* ((text (disk file)) (name (file-name-nondirectory file)) (saved (concat file ".sam-saved")))
     (mapc #'delete-file (directory-files room t "\\.sam-saved")) ; of earlier sessions
     (child nil host file '(insert "leaves ") '(kill-emacs))
-    (check "the host has saved what was on its way when Emacs ended" (equal (disk saved) (concat "leaves " text)))
+    (check "the host has saved what was on its way when Emacs ended" (equal (disk saved) (concat "leaves " text)) (disk saved) text)
     (check "so it is not here" (null (kept name)))
     (delete-file saved)
     (child "ready" host file '(insert "ends ") '(princ "ready\n") '(sleep-for 20))
@@ -327,7 +284,7 @@
     (child nil host file '(advice-add 'sulgrevad--locked :override #'always) '(defconst sulgrevad-most-leaving 0.3) '(insert "waits ")
            '(kill-emacs))
     (check "what waited is here" (equal (kept name) (list (concat "waits " text))))
-    (sulgrevad-start (append host (list file)))
+    (sulgrevad-start host file)
     (insert "asks ")
     (check "who leaves Emacs is asked"
            (asked nil (check "and may stay" (not (run-hook-with-args-until-failure 'kill-emacs-query-functions)))))
@@ -433,36 +390,39 @@
     (insert "by a timer ")
     (check "it is sent" (wait-for (lambda () (< 0 sent))))
     (advice-remove 'process-send-string count))
-  (let ((text (sulgrevad--text)) (fail (lambda (&rest _) (error "Writing to process"))))
+  (let ((fail (lambda (&rest _) (error "Writing to process"))) (sulgrevad-line-pauses '(0.1)))
     (advice-add 'process-send-string :override fail)
     (insert "unsent ")
     (run-hooks 'post-command-hook)
     (advice-remove 'process-send-string fail)
-    (check "bytes that are lost end the session" (null sulgrevad--term))
-    (check "the text is here" (equal (car (kept "one.txt")) (sulgrevad--text)) text)))
+    (check "bytes that can't be sent break the line" (sulgrevad-line-lost-at sulgrevad--line))
+    (check "the next one brings them" (wait-for (lambda () (and (sulgrevad-line-is-open sulgrevad--line)
+                                                                (sulgrevad-line-has-all sulgrevad--line)))))
+    (sulgrevad-save)
+    (check "and all is there" (equal (disk (expand-file-name "one.txt" room)) (sulgrevad--text)) (sulgrevad--text))
+    (asked t (sulgrevad-quit))))
 
-(defun check-next-session (host file)
-  "What is left of a lost session, the current buffer and its host's process, does nothing to one of HOST with FILE."
-  (let ((lost (current-buffer)) (process sulgrevad--process) (text (disk file)))
-    (sulgrevad-start (append host (list file)))
+(defun check-next-session (host file line)
+  "What is left of a lost session, the current buffer and its LINE, does nothing to one of HOST with FILE."
+  (let ((lost (current-buffer)) (text (disk file)))
+    (sulgrevad-start host file)
     (with-current-buffer lost
       (condition-case nil (sulgrevad-save) (error nil))
       (let ((inhibit-read-only t)) (insert "lost "))
       (run-hooks 'post-command-hook))
-    (sulgrevad--came process (string 255 255 255))
+    (funcall (sulgrevad-line-receive line) 'bytes (string 255 255 255))
+    (funcall (sulgrevad-line-receive line) 'lost "it was lost before")
     (check "the next session goes on" sulgrevad--term)
     (check "its text is its own" (equal (theirs) text) (theirs))
     (check "and so is its file" (equal (disk file) text) (disk file))))
 
-(defun check-wrong-stream (file)
-  "Where the host's stream is wrong the host ends, and saves what FILE is to have."
+(defun check-wrong-stream ()
+  "Where the host's stream is wrong what the host may not have is here."
   (keys "w")
-  (let ((process sulgrevad--process))
-    (sulgrevad--came process (string 255 255 255))
+  (let ((process (process)))
+    (sulgrevad--receive 'bytes (string 255 255 255))
     (check "a wrong stream ends the session" (null sulgrevad--term))
-    (with-timeout (10 nil) (while (process-live-p process) (accept-process-output nil 0.05)))
-    (check "and the host" (eq (process-status process) 'exit) (process-status process))
-    (check "which saves the text" (equal (disk (concat file ".sam-saved")) (sulgrevad--text)))))
+    (check "and its line" (wait-for (lambda () (not (process-live-p process)))))))
 
 (defmacro short-of-memory (file number &rest body)
   "Do BODY while FILE has the module's requests for memory refused, all but the first NUMBER."
@@ -483,10 +443,10 @@
   (check "it stands" (string-suffix-p (format "%d é" number) (sulgrevad--text)) (sulgrevad--text))
   (sulgrevad--work sulgrevad--term sulgrevad--tag)
   (sulgrevad--wait #'sulgrevad--is-free)
-  (sulgrevad--type sulgrevad--term 0 ",x/é/c/日/\n")
+  (type-command ",x/é/c/日/")
   (sulgrevad--pump t)
   (short-of-memory file number
-    (accept-process-output sulgrevad--process 5)
+    (accept-process-output (process) 5)
     (run-hooks 'post-command-hook))
   (sulgrevad--wait #'sulgrevad--is-free)
   (same (format "an answer after %d requests" number))
@@ -494,7 +454,7 @@
 
 (defun check-memory (file host)
   "Refuse the module's requests for memory by FILE, a few more granted each time, while HOST holds a text."
-  (sulgrevad-start host)
+  (sulgrevad-start (butlast host) (car (last host)))
   (let* ((killed (car kill-ring)) (kinds nil)
          (look (lambda (edit &rest words)
                  (condition-case why (apply edit words)
@@ -507,7 +467,7 @@
       (check "each error of an edit is met"
              (cl-some (lambda (why) (and (eq (car why) (car kind)) (string-prefix-p (cdr kind) (cadr why)))) kinds) kind))
     (check "that is said" (is-said ": out of memory" words) words)
-    (check "nothing else is" (cl-every (lambda (one) (string-search "out of memory" one)) words) words)
+    (check "nothing else is" (cl-every (lambda (one) (string-match-p "out of memory\\|\\`Waiting for the host" one)) words) words)
     (check "no text goes into the kill ring" (equal (car kill-ring) killed)))
   (let ((text (sulgrevad--text)))
     (sulgrevad-save)
@@ -517,17 +477,16 @@
 (when (equal (car command-line-args-left) "memory")
   (let ((words (cdr command-line-args-left)))
     (setq command-line-args-left nil)
+    (begin (file-name-directory (car words)))
     (check-memory (car words) (cdr words))
     (princ (format "%d passed, %d failed\n" passed failed))
     (kill-emacs)))
 
 (let* ((folder (pop command-line-args-left)) (host command-line-args-left)
-       (one (expand-file-name "one.txt" folder)) (other (expand-file-name "other.txt" folder)))
+       (one (expand-file-name "one.txt" folder)) (other (expand-file-name "other.txt" folder)) (lost nil))
   (setq command-line-args-left nil)
-  (random "sulgrevad")
-  (setq room (file-name-as-directory folder) temporary-file-directory room)
-  (dolist (buffer (buffer-list)) (with-current-buffer buffer (setq default-directory room)))
-  (sulgrevad-start (append host (list one other)))
+  (begin folder)
+  (sulgrevad-start host one other)
   (check "the first file is shown" (equal (sulgrevad--text) (disk one)) (buffer-name))
   (check "it may be edited, and is not changed" (not (or buffer-read-only (buffer-modified-p))))
 
@@ -575,7 +534,7 @@
   ;; Command lines, which change the text from the other side, and undo of that.
   (sulgrevad-command ",c/one two one\\n/")
   (check "a command line" (equal (sulgrevad--text) "one two one\n") (sulgrevad--text))
-  (keys "C-c C-c ,x/one/c/1/ RET")
+  (keys "C-c , ,x/one/c/1/ RET")
   (check "a second, by the keys for it" (equal (sulgrevad--text) "1 two 1\n"))
   (check "what it prints" (equal (sulgrevad-command "/two/p") "two"))
   (check "where it selects" (and (= (point) 6) (= (mark t) 3)) (point) (mark t))
@@ -623,36 +582,37 @@
   (sulgrevad-find one)
   (check "a buffer that was killed comes back" (equal (sulgrevad--text) (concat (make-string 2000 ?g) "k")))
   (sulgrevad-save)
-  (sulgrevad-quit)
-  (check "the host ends" (with-timeout (10 nil) (while (process-live-p sulgrevad--process) (accept-process-output nil 0.05)) t))
-  (check "in peace" (eql (process-exit-status sulgrevad--process) 0) (process-exit-status sulgrevad--process))
-  (sulgrevad-start (mapconcat #'shell-quote-argument (append host (list one other)) " ")) ; a line for the shell
+  (let ((line sulgrevad--line) (home (home)))
+    (sulgrevad-quit)
+    (check "the host ends in peace" (eql 0 (sulgrevad-line-ended-with line)) (sulgrevad-line-why line))
+    (check "and at once" (wait-for (lambda () (not (file-exists-p home))))))
+  (sulgrevad-start (mapconcat #'shell-quote-argument host " ") one other) ; a line for the shell
   (check-edits)
   (check-refusals)
   (sulgrevad-save)
   (sulgrevad-quit)
 
   ;; The host is lost: the text stays, and can be read.
-  (sulgrevad-start (append host (list other)))
+  (sulgrevad-start host other)
   (goto-char (point-min))
   (keys "k e p t SPC")
   (let ((text (sulgrevad--text)))
     (check "there is something to lose" (string-prefix-p "kept " text) text)
-    (delete-process sulgrevad--process)
-    (with-timeout (10 nil) (while sulgrevad--term (accept-process-output nil 0.05)))
+    (setq lost sulgrevad--line)
+    (lose-host)
     (check "the session is over" (null sulgrevad--term))
     (check "the buffer is read-only" (eq buffer-read-only t) buffer-read-only)
     (condition-case nil (keys "z") (error nil))
     (check "the text stays" (equal (sulgrevad--text) text) (sulgrevad--text))
     (check "it is known as changed" (buffer-modified-p))
     (check "it is here" (equal (kept "other.txt") (list text))))
-  (check-next-session host one)
-  (check-wrong-stream one)
+  (check-next-session host one lost)
+  (check-wrong-stream)
   (check "the text is here, too" (= (length (kept "one.txt")) 1))
   (check-killing host one)
   (check-keeping host one other)
   (check-leaving host one)
-  (sulgrevad-start (append host (list one other)))
+  (sulgrevad-start host one other)
   (check-others)
   (check-two-buffers one other)
   (check-clones)

@@ -1,13 +1,16 @@
-/* A dynamic module for Emacs 28: one terminal of sulgrevad.h behind Lisp functions. sulgrevad.el uses it.
+/* A dynamic module for Emacs 28: terminals of sulgrevad.h, and the terminal's ends of its links, behind Lisp functions. sulgrevad.el and
+ * sulgrevad-line.el use it.
  *
  * Bytes go to and from Lisp as strings of the characters U+0000 to U+00FF, one for each byte, since a module can't read a unibyte string:
  * the process speaks Latin-1. Texts go as what they are. A status that is not SAM_OK is a Lisp error with the status's text, and a status
  * SAM_NONE of a reader is nil. Where memory is out the error is one of two: sulgrevad-no-memory if the same call is to be made again,
  * sulgrevad-unfinished if not. A text that is not Unicode has an error of its own, too.
  */
+#define _DEFAULT_SOURCE /* getentropy */
 #include <emacs-module.h>
 #include <stdlib.h>
 #include <string.h>
+#include <unistd.h>
 
 #include "sulgrevad.h"
 
@@ -69,17 +72,6 @@ static emacs_value truth(emacs_env *env, sam_status status, bool value)
     return status == SAM_OK ? env->intern(env, value ? "t" : "nil") : error_of(env, status);
 }
 
-/* Up to three numbers, as a list. */
-static emacs_value numbers(emacs_env *env, sam_status status, ptrdiff_t count, const uint32_t *values)
-{
-    emacs_value words[3];
-    if (status != SAM_OK)
-        return number(env, status, 0);
-    for (ptrdiff_t i = 0; i < count; i++)
-        words[i] = number(env, status, values[i]);
-    return call(env, "list", count, words);
-}
-
 static sam_term *term_of(emacs_env *env, emacs_value word)
 {
     return env->get_user_ptr(env, word);
@@ -134,7 +126,28 @@ static size_t put_byte(uint8_t byte, uint8_t *into)
     return 2;
 }
 
-/* ---- Life and bytes ---- */
+/* The bytes of a string of such characters, to be freed, and how many; NULL where a Lisp error is on its way. */
+static uint8_t *bytes_of(emacs_env *env, emacs_value word, size_t *len)
+{
+    size_t size = 0;
+    uint8_t *bytes = utf8(env, word, &size);
+    *len = 0;
+    for (const uint8_t *at = bytes, *end = bytes + size; bytes != NULL && at < end;)
+        bytes[(*len)++] = next_byte(&at); /* a byte takes no more room than its character */
+    return bytes;
+}
+
+/* A string of so many bytes, at most PIECE. */
+static emacs_value string_of(emacs_env *env, const uint8_t *bytes, size_t len)
+{
+    static uint8_t text[2 * PIECE];
+    size_t size = 0;
+    for (size_t i = 0; i < len; i++)
+        size += put_byte(bytes[i], text + size);
+    return env->make_string(env, (char *)text, (ptrdiff_t)size);
+}
+
+/* ---- A terminal: life and bytes ---- */
 
 static void finalize(void *pointer)
 {
@@ -153,31 +166,44 @@ static emacs_value make(emacs_env *env, ptrdiff_t count, emacs_value *words, voi
     return env->make_user_ptr(env, finalize, term);
 }
 
-static emacs_value feed(emacs_env *env, ptrdiff_t count, emacs_value *words, void *data)
+/* Takes bytes in, which wait for steps. */
+static emacs_value bring(emacs_env *env, ptrdiff_t count, emacs_value *words, void *data)
 {
     (void)count, (void)data;
-    size_t size = 0, len = 0;
-    uint8_t *bytes = utf8(env, words[1], &size);
+    size_t len;
+    uint8_t *bytes = bytes_of(env, words[1], &len);
     if (bytes == NULL)
         return nil(env);
-    for (const uint8_t *at = bytes, *end = bytes + size; at < end;)
-        bytes[len++] = next_byte(&at); /* a byte takes no more room than its character */
-    sam_status status = sam_term_feed(term_of(env, words[0]), bytes, len);
+    sam_status status = sam_term_bring(term_of(env, words[0]), bytes, len);
     free(bytes);
     return done(env, status);
+}
+
+/* Does one thing of what waits. nil where nothing can be done now, or a list: what was done, the kind of the frame, the file, and the
+ * change of its text: a place, and how many runes went and came there. */
+static emacs_value step(emacs_env *env, ptrdiff_t count, emacs_value *words, void *data)
+{
+    (void)count, (void)data;
+    static const char *const names[] = {
+        [SAM_STEP_WROTE] = "wrote", [SAM_STEP_RECEIVED] = "received", [SAM_STEP_ACTED] = "acted", [SAM_STEP_REFUSED] = "refused"};
+    sam_did did;
+    sam_status status = sam_term_step(term_of(env, words[0]), &did);
+    if (status != SAM_OK)
+        return error_of(env, status);
+    if (did.step <= SAM_STEP_LOCKED)
+        return nil(env);
+    emacs_value said[] = {env->intern(env, names[did.step]), env->make_integer(env, did.kind), env->make_integer(env, did.tag),
+                          env->make_integer(env, did.start), env->make_integer(env, did.gone), env->make_integer(env, did.came)};
+    return call(env, "list", sizeof said / sizeof said[0], said);
 }
 
 static emacs_value take_out(emacs_env *env, ptrdiff_t count, emacs_value *words, void *data)
 {
     (void)count, (void)data;
-    static uint8_t bytes[PIECE], text[2 * PIECE];
-    size_t len = 0, size = 0;
+    static uint8_t bytes[PIECE];
+    size_t len = 0;
     sam_status status = sam_term_take_out(term_of(env, words[0]), bytes, sizeof bytes, &len);
-    if (status != SAM_OK)
-        return error_of(env, status);
-    for (size_t i = 0; i < len; i++)
-        size += put_byte(bytes[i], text + size);
-    return env->make_string(env, (char *)text, (ptrdiff_t)size);
+    return status == SAM_OK ? string_of(env, bytes, len) : error_of(env, status);
 }
 
 /* ---- Events ---- */
@@ -194,8 +220,8 @@ static const struct event events[] = {
     {"open-cmd", sam_term_open_cmd, NULL, NULL},   {"exit", sam_term_exit, NULL, NULL},
     {"flush-now", sam_term_flush_now, NULL, NULL}, {"offer-version", NULL, sam_term_offer_version, NULL},
     {"open", NULL, sam_term_open, NULL},           {"write", NULL, sam_term_write, NULL},
-    {"work", NULL, sam_term_work, NULL},           {"select", NULL, NULL, sam_term_select},
-    {"load", NULL, NULL, sam_term_load},
+    {"close", NULL, sam_term_close, NULL},         {"work", NULL, sam_term_work, NULL},
+    {"select", NULL, NULL, sam_term_select},       {"load", NULL, NULL, sam_term_load},
 };
 
 static emacs_value event(emacs_env *env, ptrdiff_t count, emacs_value *words, void *data)
@@ -278,17 +304,20 @@ static sam_status first_gap(sam_term *term, uint16_t tag, uint32_t *gap)
 
 static emacs_value dot(emacs_env *env, sam_term *term, uint16_t tag)
 {
-    uint32_t places[2];
-    sam_status status = sam_term_dot(term, tag, &places[0], &places[1]);
-    return numbers(env, status, 2, places);
+    uint32_t start, end;
+    sam_status status = sam_term_dot(term, tag, &start, &end);
+    if (status != SAM_OK)
+        return number(env, status, 0);
+    emacs_value places[] = {number(env, status, start), number(env, status, end)};
+    return call(env, "list", 2, places);
 }
 
-/* What changed since this was asked last: a place, and how many runes went and came there; nil if nothing did. */
-static emacs_value changed(emacs_env *env, sam_term *term, uint16_t tag)
+static emacs_value command_locked(emacs_env *env, sam_term *term, uint16_t tag)
 {
-    uint32_t found[3];
-    sam_status status = sam_term_changed(term, tag, &found[0], &found[1], &found[2]);
-    return status == SAM_OK && found[1] == 0 && found[2] == 0 ? nil(env) : numbers(env, status, 3, found);
+    (void)tag;
+    bool is = false;
+    sam_status status = sam_term_command_locked(term, &is);
+    return truth(env, status, is);
 }
 
 static emacs_value name_of(emacs_env *env, sam_term *term, uint16_t tag)
@@ -313,6 +342,7 @@ static emacs_value next_refusal(emacs_env *env, sam_term *term, uint16_t tag)
 
 static const struct reader readers[] = {
     {"locked", sam_term_locked, NULL, NULL},
+    {"is-known", sam_term_is_known, NULL, NULL},
     {"is-open", sam_term_is_open, NULL, NULL},
     {"is-changed", sam_term_is_changed, NULL, NULL},
     {"len", NULL, sam_term_len, NULL},
@@ -321,7 +351,7 @@ static const struct reader readers[] = {
     {"held", NULL, NULL, held},
     {"tags", NULL, NULL, tags},
     {"dot", NULL, NULL, dot},
-    {"changed", NULL, NULL, changed},
+    {"command-locked", NULL, NULL, command_locked},
     {"name", NULL, NULL, name_of},
     {"next-refusal", NULL, NULL, next_refusal},
 };
@@ -351,8 +381,7 @@ static emacs_value missing(emacs_env *env, ptrdiff_t count, emacs_value *words, 
     (void)count, (void)data;
     static uint32_t runes[PIECE];
     uint32_t found = 0, gaps = 0;
-    sam_status status =
-        sam_term_read(term_of(env, words[0]), tag_of(env, words[1]), u32(env, words[2], UINT32_MAX), runes, PIECE, &found);
+    sam_status status = sam_term_read(term_of(env, words[0]), tag_of(env, words[1]), u32(env, words[2], UINT32_MAX), runes, PIECE, &found);
     while (status == SAM_OK && gaps < found && runes[gaps] == SAM_GAP)
         gaps++;
     return number(env, status, gaps);
@@ -373,6 +402,180 @@ static emacs_value part(emacs_env *env, ptrdiff_t count, emacs_value *words, voi
     return status == SAM_OK ? env->make_string(env, (char *)text, (ptrdiff_t)len) : error_of(env, status);
 }
 
+/* ---- A link ---- */
+
+/* The terminal's end of a link, and the session's name. */
+struct end {
+    sam_link link;
+    uint8_t id[SAM_LINK_ID_BYTES];
+};
+
+static struct end *end_of(emacs_env *env, emacs_value word)
+{
+    return env->get_user_ptr(env, word);
+}
+
+/* The number of a connection. None is -1, which the library refuses. */
+static uint64_t attempt_of(emacs_env *env, emacs_value word)
+{
+    return (uint64_t)env->extract_integer(env, word);
+}
+
+static void finalize_link(void *pointer)
+{
+    sam_link_free(&((struct end *)pointer)->link);
+    free(pointer);
+}
+
+/* Makes an end with a random id. */
+static emacs_value make_link(emacs_env *env, ptrdiff_t count, emacs_value *words, void *data)
+{
+    (void)count, (void)words, (void)data;
+    struct end *end = calloc(1, sizeof *end);
+    if (end == NULL)
+        return no_memory(env);
+    if (getentropy(end->id, sizeof end->id) != 0) {
+        free(end);
+        return fail(env, "sulgrevad-error", "the system has no random bytes");
+    }
+    if (sam_link_new(&end->link, SAM_LINK_TERMINAL, end->id) != SAM_OK) {
+        free(end);
+        return no_memory(env);
+    }
+    return env->make_user_ptr(env, finalize_link, end);
+}
+
+/* The session's name: the first half of its id, in hexadecimal digits. */
+static emacs_value link_name(emacs_env *env, ptrdiff_t count, emacs_value *words, void *data)
+{
+    (void)count, (void)data;
+    static const char digits[] = "0123456789abcdef";
+    char name[SAM_LINK_ID_BYTES];
+    const uint8_t *id = end_of(env, words[0])->id;
+    for (size_t i = 0; i < sizeof name; i++)
+        name[i] = digits[i % 2 == 0 ? id[i / 2] >> 4 : id[i / 2] & 15];
+    return env->make_string(env, name, sizeof name);
+}
+
+/* Begins another connection, to take a session over where the second word is not nil. Its number. */
+static emacs_value link_call(emacs_env *env, ptrdiff_t count, emacs_value *words, void *data)
+{
+    (void)count, (void)data;
+    uint64_t attempt = 0;
+    sam_status status = sam_link_call(&end_of(env, words[0])->link, env->is_not_nil(env, words[1]), &attempt);
+    return number(env, status, attempt);
+}
+
+/* The host's hello has come. nil where the connection is welcomed, or the number by which the host refuses it. */
+static emacs_value link_welcomed(emacs_env *env, ptrdiff_t count, emacs_value *words, void *data)
+{
+    (void)count, (void)data;
+    uint8_t id[SAM_LINK_ID_BYTES];
+    uint32_t what = 0;
+    uint64_t attempt;
+    size_t len;
+    uint8_t *hello = bytes_of(env, words[1], &len);
+    if (hello == NULL)
+        return nil(env);
+    sam_status status = sam_link_read_hello(hello, len, &what, id, &attempt);
+    if (status == SAM_OK)
+        status = sam_link_welcomed(&end_of(env, words[0])->link, hello, len);
+    free(hello);
+    return status != SAM_OK && what > SAM_LINK_WELCOME ? number(env, SAM_OK, what) : done(env, status);
+}
+
+/* What is given and asked of a connection: it is over; bytes that came on it; its next bytes, so many at most. */
+static emacs_value link_broken(emacs_env *env, ptrdiff_t count, emacs_value *words, void *data)
+{
+    (void)count, (void)data;
+    return done(env, sam_link_broken(&end_of(env, words[0])->link, attempt_of(env, words[1])));
+}
+
+static emacs_value link_feed(emacs_env *env, ptrdiff_t count, emacs_value *words, void *data)
+{
+    (void)count, (void)data;
+    size_t len;
+    uint8_t *bytes = bytes_of(env, words[2], &len);
+    if (bytes == NULL)
+        return nil(env);
+    sam_status status = sam_link_feed(&end_of(env, words[0])->link, attempt_of(env, words[1]), bytes, len);
+    free(bytes);
+    return done(env, status);
+}
+
+static emacs_value link_take_out(emacs_env *env, ptrdiff_t count, emacs_value *words, void *data)
+{
+    (void)count, (void)data;
+    static uint8_t bytes[PIECE];
+    size_t len = 0;
+    sam_status status = sam_link_take_out(&end_of(env, words[0])->link, attempt_of(env, words[1]), bytes, u32(env, words[2], PIECE), &len);
+    return status == SAM_OK ? string_of(env, bytes, len) : error_of(env, status);
+}
+
+/* What came for the program: bytes, "" where there are none; a note, or nil. */
+static emacs_value link_take_in(emacs_env *env, ptrdiff_t count, emacs_value *words, void *data)
+{
+    (void)count, (void)data;
+    static uint8_t bytes[PIECE];
+    size_t len = 0;
+    sam_status status = sam_link_take_in(&end_of(env, words[0])->link, bytes, sizeof bytes, &len);
+    return status == SAM_OK ? string_of(env, bytes, len) : error_of(env, status);
+}
+
+static emacs_value link_next_note(emacs_env *env, ptrdiff_t count, emacs_value *words, void *data)
+{
+    (void)count, (void)data;
+    uint8_t note[SAM_LINK_MOST_NOTE];
+    size_t len = 0;
+    sam_status status = sam_link_next_note(&end_of(env, words[0])->link, note, sizeof note, &len);
+    return status == SAM_OK ? string_of(env, note, len) : number(env, status, 0);
+}
+
+/* Other calls of an end, by what they take and hand out: nothing, bytes, or a number. */
+struct link_call {
+    const char *name;
+    sam_status (*plain)(sam_link *link);
+    sam_status (*of_bytes)(sam_link *link, const uint8_t *bytes, size_t len);
+    sam_status (*counts)(sam_link *link, uint64_t *count);
+    sam_status (*sizes)(sam_link *link, size_t *size);
+    sam_status (*phases)(sam_link *link, uint32_t *phase);
+};
+
+static const struct link_call link_calls[] = {
+    {.name = "link-ask", .plain = sam_link_ask},
+    {.name = "link-acknowledge", .plain = sam_link_acknowledge},
+    {.name = "link-put", .of_bytes = sam_link_put},
+    {.name = "link-put-note", .of_bytes = sam_link_put_note},
+    {.name = "link-put-count", .counts = sam_link_put_count},
+    {.name = "link-acknowledged", .counts = sam_link_acknowledged},
+    {.name = "link-unsent", .sizes = sam_link_unsent},
+    {.name = "link-phase", .phases = sam_link_phase},
+};
+
+static emacs_value link_other(emacs_env *env, ptrdiff_t count, emacs_value *words, void *data)
+{
+    (void)count;
+    const struct link_call *which = data;
+    sam_link *link = &end_of(env, words[0])->link;
+    uint64_t value = 0;
+    size_t size = 0;
+    uint32_t phase = 0;
+    if (which->plain != NULL)
+        return done(env, which->plain(link));
+    if (which->of_bytes != NULL) {
+        uint8_t *bytes = bytes_of(env, words[1], &size);
+        if (bytes == NULL)
+            return nil(env);
+        sam_status status = which->of_bytes(link, bytes, size);
+        free(bytes);
+        return done(env, status);
+    }
+    sam_status status = which->counts != NULL  ? which->counts(link, &value)
+                        : which->sizes != NULL ? which->sizes(link, &size)
+                                               : which->phases(link, &phase);
+    return number(env, status, value + size + phase);
+}
+
 /* ---- The module ---- */
 
 static void define(emacs_env *env, const char *name, ptrdiff_t least, ptrdiff_t most, emacs_function function, const void *data)
@@ -389,7 +592,8 @@ int emacs_module_init(struct emacs_runtime *runtime)
     if ((size_t)runtime->size < sizeof *runtime || (size_t)env->size < sizeof *env)
         return 1;
     define(env, "make", 0, 0, make, NULL);
-    define(env, "feed", 2, 2, feed, NULL);
+    define(env, "bring", 2, 2, bring, NULL);
+    define(env, "step", 1, 1, step, NULL);
     define(env, "take-out", 1, 1, take_out, NULL);
     define(env, "type", 3, 3, type, NULL);
     define(env, "edit", 5, 5, edit, NULL);
@@ -401,6 +605,19 @@ int emacs_module_init(struct emacs_runtime *runtime)
     }
     for (size_t i = 0; i < sizeof readers / sizeof readers[0]; i++)
         define(env, readers[i].name, 1, 2, reader, &readers[i]);
+    define(env, "make-link", 0, 0, make_link, NULL);
+    define(env, "link-name", 1, 1, link_name, NULL);
+    define(env, "link-call", 2, 2, link_call, NULL);
+    define(env, "link-welcomed", 2, 2, link_welcomed, NULL);
+    define(env, "link-broken", 2, 2, link_broken, NULL);
+    define(env, "link-feed", 3, 3, link_feed, NULL);
+    define(env, "link-take-out", 3, 3, link_take_out, NULL);
+    define(env, "link-take-in", 1, 1, link_take_in, NULL);
+    define(env, "link-next-note", 1, 1, link_next_note, NULL);
+    for (size_t i = 0; i < sizeof link_calls / sizeof link_calls[0]; i++) {
+        ptrdiff_t count = link_calls[i].of_bytes != NULL ? 2 : 1;
+        define(env, link_calls[i].name, count, count, link_other, &link_calls[i]);
+    }
     emacs_value feature = env->intern(env, "sulgrevad-module");
     call(env, "provide", 1, &feature);
     return 0;

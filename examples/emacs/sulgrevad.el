@@ -1,71 +1,186 @@
 ;;; sulgrevad.el --- edit files that lie behind samhost  -*- lexical-binding: t -*-
 
-;; Build the module by examples/emacs/build (which has a word on licences), and run emacs -l examples/emacs/sulgrevad.el. M-x
-;; sulgrevad-start runs a host, as "ssh box samhost notes.txt", and shows its first file. The whole text is loaded before it can be edited.
-;; What you type goes to the host, undo and all; C-c C-c runs a command line on the buffer, C-x C-s has the host write the file, M-x
-;; sulgrevad-find shows another file, and M-x sulgrevad-quit leaves.
+;; Package-Requires: ((emacs "28.1"))
+
+;;; Commentary:
+
+;; Build the module by examples/emacs/build (which has a word on licences), and begin Emacs with -L examples/emacs -l sulgrevad.  M-x
+;; sulgrevad-start begins a session, whose host a command runs, as "ssh box samhost".  It stays at the host when its line breaks: Emacs goes
+;; on with it by itself, and M-x sulgrevad-take takes it up again later, or from another machine.  docs/EDITOR.md says who may do that.
 ;;
-;; Each buffer is a copy of the terminal's text, a character for each rune. The two don't drift apart:
-;; - `after-change-functions' hands each edit to the terminal at once, so that it stands there before the next bytes are fed. It goes by
-;;   sam_term_edit, a single key too: what a command did is sent when it ends.
-;; - After a feed the terminal says what changed, and that stretch of the buffer is changed.
-;; - Some code changes a buffer without that hook (`inhibit-modification-hooks'). So the buffer's tick is compared before each change and
-;;   round each feed, and the whole text before a file is written: what was not handed over is found, and goes as one edit.
-;; - A hook can't refuse a change: Emacs takes off a hook that signals an error. So a buffer is read-only while its file is locked or not
-;;   all loaded, and a command first waits until it is free. Code that changes it all the same wins over what the host did meanwhile, which
-;;   the kill ring has then.
-;; - Where memory is out, an edit is not handed over and nothing is fed. The next command tries again.
-;; - What waits goes to the host before a buffer is killed or Emacs ends; who can't wait is asked. What the host may not have when a buffer
+;; In a session's buffer C-x C-f opens a path at the host (C-u C-x C-f one of this machine), C-x C-s and C-x s have the host write, C-x C-w
+;; under another path, M-x revert-buffer reads the file anew, and C-c , runs a command line of sam on the buffer.  M-x sulgrevad-find shows
+;; another file of the session, C-x # closes the file for good, M-x sulgrevad-reconnect tries a lost line now, where ssh may ask for a
+;; password, and M-x sulgrevad-quit leaves.
+;;
+;; Each buffer is a copy of the terminal's text, a character for each rune.  The two don't drift apart:
+;; - `after-change-functions' hands each edit to the terminal at once, so that it stands there before the next bytes are taken in.  It goes
+;;   by sam_term_edit, a single key too: what a command did is sent when it ends.
+;; - The host's bytes are taken in by single steps, and each says what changed: that stretch of the buffer is changed once the file is free
+;;   and loaded again.
+;; - Some code changes a buffer without that hook (`inhibit-modification-hooks').  So the buffer's tick is compared before each change and
+;;   round each step.  What was not handed over is found by comparing the buffer with the terminal's text, then and before a file is
+;;   written, and goes as one edit.
+;; - A hook can't refuse a change: Emacs takes off a hook that signals an error.  So a buffer is read-only while its file is locked or not
+;;   all loaded, and a command first waits until it is free, but not for a host whose answers are late.  Code that changes it all the same
+;;   wins over what the host did meanwhile, which the kill ring has then.
+;; - Where memory is out, an edit is not handed over and nothing is taken in.  It is tried again a moment later.
+;; - While the line is lost nothing is done that would lock a file until it is back: none is loaded, and a write waits.  So all buffers that
+;;   were free stay so.
+;; - What waits goes to the host before a buffer is killed or Emacs ends; who can't wait is asked.  What the host may not have when a buffer
 ;;   or the session goes all the same is kept here, in NAME.sam-here: in the folder in which the session began, or in that for temporary
-;;   files.
-;;
-;; A long text takes its time: its first 32,768 characters come at once, and then 512 with each answer of the host.
+;;   files.  The buffer of a session that is over is used again for the same file.
 
 ;;; Code:
 
 (require 'cl-lib)
 (require 'subr-x)
-(define-error 'sulgrevad-error "Sulgrevad")
-(define-error 'sulgrevad-not-text "Sulgrevad" 'sulgrevad-error)
-(define-error 'sulgrevad-no-memory "Sulgrevad" 'sulgrevad-error) ; the same call is to be made again
-(define-error 'sulgrevad-unfinished "Sulgrevad" 'sulgrevad-no-memory) ; it is not: the next call goes on
-(unless (featurep 'sulgrevad-module)
-  (module-load (expand-file-name "../../out/sulgrevad-module.so" (file-name-directory (or load-file-name buffer-file-name)))))
+(require 'sulgrevad-line)
+(unless (require 'sulgrevad-module nil t)
+  (module-load (expand-file-name "../../out/sulgrevad-module.so"
+                                 (file-name-directory (or load-file-name buffer-file-name)))))
 
+(declare-function sulgrevad--bring "ext:sulgrevad-module" (term bytes))
+(declare-function sulgrevad--close "ext:sulgrevad-module" (term tag))
+(declare-function sulgrevad--command-locked "ext:sulgrevad-module" (term))
+(declare-function sulgrevad--dot "ext:sulgrevad-module" (term tag))
+(declare-function sulgrevad--edit "ext:sulgrevad-module" (term tag start end text))
+(declare-function sulgrevad--exit "ext:sulgrevad-module" (term))
+(declare-function sulgrevad--exited "ext:sulgrevad-module" (term))
+(declare-function sulgrevad--first-gap "ext:sulgrevad-module" (term tag))
+(declare-function sulgrevad--flush-now "ext:sulgrevad-module" (term))
+(declare-function sulgrevad--held "ext:sulgrevad-module" (term))
+(declare-function sulgrevad--is-changed "ext:sulgrevad-module" (term tag))
+(declare-function sulgrevad--is-known "ext:sulgrevad-module" (term tag))
+(declare-function sulgrevad--is-open "ext:sulgrevad-module" (term tag))
+(declare-function sulgrevad--len "ext:sulgrevad-module" (term tag))
+(declare-function sulgrevad--load "ext:sulgrevad-module" (term tag place len))
+(declare-function sulgrevad--locked "ext:sulgrevad-module" (term tag))
+(declare-function sulgrevad--make "ext:sulgrevad-module" ())
+(declare-function sulgrevad--missing "ext:sulgrevad-module" (term tag place))
+(declare-function sulgrevad--name "ext:sulgrevad-module" (term tag))
+(declare-function sulgrevad--next-refusal "ext:sulgrevad-module" (term))
+(declare-function sulgrevad--offer-version "ext:sulgrevad-module" (term version))
+(declare-function sulgrevad--open "ext:sulgrevad-module" (term tag))
+(declare-function sulgrevad--open-cmd "ext:sulgrevad-module" (term))
+(declare-function sulgrevad--part "ext:sulgrevad-module" (term tag start end))
+(declare-function sulgrevad--select "ext:sulgrevad-module" (term tag start end))
+(declare-function sulgrevad--step "ext:sulgrevad-module" (term))
+(declare-function sulgrevad--tags "ext:sulgrevad-module" (term))
+(declare-function sulgrevad--take-out "ext:sulgrevad-module" (term))
+(declare-function sulgrevad--type "ext:sulgrevad-module" (term tag text))
+(declare-function sulgrevad--work "ext:sulgrevad-module" (term tag))
+(declare-function sulgrevad--write "ext:sulgrevad-module" (term tag))
+
+(defgroup sulgrevad nil
+  "Edit files that lie behind samhost."
+  :group 'files
+  :prefix "sulgrevad-")
+
+(defcustom sulgrevad-command "samhost"
+  "The command that runs samhost, as \"ssh box samhost\"."
+  :type 'string)
+
+(defcustom sulgrevad-stay-hours nil
+  "For how many hours a session stays at the host that is alone.
+nil is samhost's own choice."
+  :type '(choice (const :tag "As samhost chooses" nil) number))
+
+(defcustom sulgrevad-patience 3
+  "For how many seconds a command waits for a host that is silent."
+  :type 'number)
+
+(defconst sulgrevad-version-offered 2 "The version of the protocol.")
 (defconst sulgrevad-most-typed 512 "How many runes are typed at once.")
 (defconst sulgrevad-most-runes 1000000 "How many runes a text has at most.")
-(defconst sulgrevad-most-names 1000 "How many names are tried for a file that keeps a text here.")
-(defconst sulgrevad-most-in-base 50 "How many characters of a file's name such a name begins with; those of four bytes have room, too.")
-(defconst sulgrevad-most-leaving 10 "How many seconds at most each step takes when the session is to end.")
-(defconst sulgrevad-most-unsent 0.5 "After how many seconds an edit is sent that no command has made.")
-(defvar sulgrevad-patience 30 "How many seconds to wait for an answer of the host.")
+(defconst sulgrevad-most-load 32768 "How many runes are loaded at once.")
+(defconst sulgrevad-most-changes 200
+  "How many changes that come together are made apart; more are made one.")
+(defconst sulgrevad-most-names 1000
+  "How many names are tried for a file that keeps a text here.")
+(defconst sulgrevad-most-in-base 50
+  "How many characters of a file's name such a name begins with.
+Those of four bytes have room, too.")
+(defconst sulgrevad-most-leaving 10
+  "How many seconds at most each step takes when the session is to end.")
+(defconst sulgrevad-most-unsent 0.5
+  "After how many seconds an edit is sent that no command has made.")
+(defconst sulgrevad-most-unkept 10
+  "How many seconds of a lost line pass until a text is kept here again.")
+(defconst sulgrevad-retry 0.1
+  "After how many seconds that is tried again for which memory was out.")
+(defconst sulgrevad-most-silent 60
+  "For how many seconds a batch Emacs waits for a host that is silent.")
+(defconst sulgrevad-untold 0.5
+  "For how many seconds at most nothing is said of what takes its time.")
+(defconst sulgrevad-rest 1
+  "How many seconds the user rests before a file comes up by itself.")
 
 (defvar sulgrevad--term nil "The terminal of the session, or nil.")
-(defvar sulgrevad--process nil "The host's process.")
-(defvar sulgrevad--inbox nil "What came from the host and is not fed yet, oldest first; \"\" to go on with what waits for memory.")
-(defvar sulgrevad--unsent nil "Bytes that were taken out and not sent, since the host was stopped, or nil.")
-(defvar sulgrevad--told nil "What the host has told since it was last to write a file.")
-(defvar sulgrevad--writing nil "The tag of the file that the host was to write last.")
-(defvar sulgrevad--unwritten nil "The tags of files that the host could not write, though the terminal takes them for written.")
+(defvar sulgrevad--line nil "The line to its host.")
+(defvar sulgrevad--inbox nil
+  "What came from the host and is not taken in yet, oldest first.
+Each is a string of bytes, or a pair: `note' or `lost', and a text.")
+(defvar sulgrevad--told nil "What was told since the session began to begin.")
+(defvar sulgrevad--writes nil "Tags of files to be written, oldest first.")
+(defvar sulgrevad--writing nil "The tag of the file that is being written.")
+(defvar sulgrevad--complaint nil "Why it is not written, as the host told.")
+(defvar sulgrevad--unwritten nil
+  "Why files were not written which the terminal takes for written.
+Each is a pair of a tag and what the host told, or of nil and that, where
+no file of the name is known.")
+(defvar sulgrevad--number 0 "The number of the last question to the host.")
+(defvar sulgrevad--answers nil "Answers, in pairs with such numbers.")
+(defvar sulgrevad--copies nil
+  "Tags of files whose text is kept here while the line is lost, and where.")
+(defvar sulgrevad--copied-at 0 "When that was done last.")
+(defvar sulgrevad--wishes nil
+  "Files that somebody wishes shown: a tag and a line each.")
 (defvar sulgrevad--buffers nil "The buffers of open files.")
 (defvar sulgrevad--folder nil "The folder in which the session began.")
-(defvar sulgrevad--timer nil "What sends edits that no command has made, or nil.")
-(defvar sulgrevad--is-pumping nil "Whether bytes are being fed and sent.")
-(defvar sulgrevad--is-taking nil "Whether a buffer is being changed to what the terminal has.")
+(defvar sulgrevad--timer nil
+  "What sends edits that no command has made, or nil.")
+(defvar sulgrevad--is-pumping nil "Whether bytes are taken in and sent.")
+(defvar sulgrevad--is-taking nil
+  "Whether a buffer is being changed to what the terminal has.")
+(defvar sulgrevad--history nil "Commands that have run hosts.")
+(defvar sulgrevad--paths nil "Paths that were read.")
+
 (defvar-local sulgrevad--tag nil "The tag of the buffer's file.")
-(defvar-local sulgrevad--self nil "The buffer itself.  A clone of it has its variables, and is no buffer of the file.")
-(defvar-local sulgrevad--tick nil "The buffer's tick after the last change that the terminal knows.")
-(defvar-local sulgrevad--is-held nil "Whether the terminal may hold an edit of the buffer, since memory was out for it.")
+(defvar-local sulgrevad--path nil
+  "The file's name in the session, which is its path or the end of it.
+It stays when the session is over.")
+(defvar-local sulgrevad--self nil
+  "The buffer itself.
+A clone of it has its variables, and is no buffer of the file.")
+(defvar-local sulgrevad--tick nil
+  "The buffer's tick after the last change that the terminal knows.")
+(defvar-local sulgrevad--changes nil
+  "What changed in the terminal's text and not in the buffer yet.
+t is all of it; else a list of stretches: how many runes stand before
+each, after the one before; how many it has in the buffer, and how many
+at the terminal.")
+(defvar-local sulgrevad--is-joined nil
+  "Whether they were too many, and are one.")
+(defvar-local sulgrevad--is-bounded nil
+  "Whether undo goes back to before the host began to change the buffer.")
+(defvar-local sulgrevad--is-locked nil "Whether we made it read-only.")
+(defvar-local sulgrevad--is-held nil
+  "Whether the terminal may hold an edit, since memory was out for it.")
 (defvar-local sulgrevad--has-drifted nil
-  "Whether the terminal may not know all changes of the buffer.  When the session is over: whether its text stands nowhere else.")
+  "Whether the terminal may not know all changes of the buffer.
+When the session is over: whether its text stands nowhere else.")
 ;; They outlive a change of the major mode.
-(dolist (name '(sulgrevad--tag sulgrevad--self sulgrevad--tick sulgrevad--is-held sulgrevad--has-drifted sulgrevad-mode))
+(dolist (name '(sulgrevad--tag sulgrevad--path sulgrevad--self sulgrevad--tick sulgrevad--changes sulgrevad--is-joined
+                sulgrevad--is-bounded sulgrevad--is-locked sulgrevad--is-held sulgrevad--has-drifted sulgrevad-mode))
   (put name 'permanent-local t))
 (defconst sulgrevad--hooks
   '((before-change-functions sulgrevad--before-change 100) (after-change-functions sulgrevad--after-change -100)
-    (kill-buffer-query-functions sulgrevad--may-kill) (kill-buffer-hook sulgrevad--at-kill))
-  "What is called in the buffer of an open file, with the hooks that call it and how late they do.
-Functions of others on these hooks may change the buffer, too: of that the first learns after them, the second before them.")
+    (write-contents-functions sulgrevad--write-contents) (kill-buffer-query-functions sulgrevad--may-kill)
+    (kill-buffer-hook sulgrevad--at-kill))
+  "What is called in the buffer of an open file, by which hooks, how late.
+Functions of others on these hooks may change the buffer, too: of that
+the first learns after them, the second before them.")
 (defconst sulgrevad--global-hooks
   '((post-command-hook sulgrevad--after-command) (pre-command-hook sulgrevad--before-command)
     (kill-emacs-query-functions sulgrevad--may-end) (kill-emacs-hook sulgrevad--break-off))
@@ -75,12 +190,23 @@ Functions of others on these hooks may change the buffer, too: of that the first
 
 (defvar sulgrevad-mode-map
   (let ((map (make-sparse-keymap)))
-    (define-key map (kbd "C-x C-s") #'sulgrevad-save)
-    (define-key map (kbd "C-c C-c") #'sulgrevad-command)
+    (define-key map [remap find-file] #'sulgrevad-find-file)
+    (define-key map [remap write-file] #'sulgrevad-write-file)
+    (define-key map (kbd "C-c ,") #'sulgrevad-command)
+    (define-key map (kbd "C-x #") #'sulgrevad-close)
     map)
   "The keys of a buffer whose file lies behind a host.")
 
-(define-minor-mode sulgrevad-mode "The buffer's file lies behind a host." :lighter " Sam")
+(define-minor-mode sulgrevad-mode
+  "The buffer's file lies behind a host."
+  :lighter (:eval (sulgrevad--lighter)))
+
+(defun sulgrevad--lighter ()
+  "The mode line's word on how the line is, or that the file is locked."
+  (let ((state (and sulgrevad--line (sulgrevad-line-told-state sulgrevad--line))))
+    (cond (state (format " Sam[%s]" state))
+          (sulgrevad--is-locked " Sam[locked]")
+          (t " Sam"))))
 
 ;;; Edits
 
@@ -95,164 +221,283 @@ Functions of others on these hooks may change the buffer, too: of that the first
   (let ((found (compare-strings one nil nil other nil nil)))
     (if (eq found t) (length one) (1- (abs found)))))
 
-(defun sulgrevad--difference (start end their-end)
-  "Where the buffer from START to END differs from the terminal's text from START to THEIR-END.
-nil, or a list: where it begins, where it ends in the buffer and at the terminal, and the two texts between."
-  (let ((mine (sulgrevad--text start end)) (theirs (sulgrevad--part sulgrevad--term sulgrevad--tag start their-end)))
+(defun sulgrevad--difference ()
+  "Where the buffer differs from the terminal's text, after unknown edits.
+nil, or a list: where that begins, where it ends in the buffer and at the
+terminal, and what the buffer has between."
+  (let ((mine (sulgrevad--text))
+        (theirs (sulgrevad--part sulgrevad--term sulgrevad--tag 0 (sulgrevad--len sulgrevad--term sulgrevad--tag))))
     (unless (string= mine theirs)
       (let* ((front (sulgrevad--same-front mine theirs))
              (back (sulgrevad--same-front (reverse (substring mine front)) (reverse (substring theirs front)))))
-        (list (+ start front) (- end back) (- their-end back)
-              (substring mine front (- (length mine) back)) (substring theirs front (- (length theirs) back)))))))
-
-(defun sulgrevad--is-unwritten (tag)
-  "Whether the file TAG may differ from what the host has written."
-  (or (sulgrevad--is-changed sulgrevad--term tag) (memq tag sulgrevad--unwritten)))
+        (list front (- (length mine) back) (- (length theirs) back)
+              (substring mine front (- (length mine) back)))))))
 
 (defun sulgrevad--is-ours ()
   "Whether the buffer is that of a file of the session."
   (and sulgrevad--term sulgrevad--tag (eq sulgrevad--self (current-buffer))))
 
+(defun sulgrevad--is-whole ()
+  "Whether all of the buffer's file is loaded.
+So it is where no change waits; to look for a gap takes longer."
+  (and (sulgrevad--is-open sulgrevad--term sulgrevad--tag)
+       (or (null sulgrevad--changes)
+           (not (sulgrevad--first-gap sulgrevad--term sulgrevad--tag)))))
+
 (defun sulgrevad--is-free ()
-  "Whether an edit of the buffer acts at once, and all of its file is loaded."
+  "Whether an edit of the buffer acts at once, and its file is loaded."
   (and (sulgrevad--is-ours)
-       (sulgrevad--is-open sulgrevad--term sulgrevad--tag)
+       (sulgrevad--is-whole)
        (not (sulgrevad--locked sulgrevad--term sulgrevad--tag))
-       (not (sulgrevad--first-gap sulgrevad--term sulgrevad--tag))
        (= 0 (sulgrevad--held sulgrevad--term))))
 
 (defun sulgrevad--give (start end text)
-  "Have TEXT take the place of the terminal's runes from START to END, as it did in the buffer, which is free.
-Return why it can't, or nil.  It may signal `sulgrevad-no-memory'."
+  "Have TEXT take the place of the terminal's runes from START to END.
+It did so in the buffer, which is free.  Return why it can't, or nil.  It
+may signal `sulgrevad-no-memory'."
   (sulgrevad--report-refusals)
   (condition-case why
       (progn (sulgrevad--edit sulgrevad--term sulgrevad--tag start end text)
-             (or (sulgrevad--next-refusal sulgrevad--term)
-                 (ignore (sulgrevad--changed sulgrevad--term sulgrevad--tag)))) ; the buffer has it
+             (sulgrevad--next-refusal sulgrevad--term))
     (sulgrevad-unfinished (setq sulgrevad--is-held t)
-                          (push "" sulgrevad--inbox)
                           (signal (car why) (cdr why)))
     ((wrong-type-argument sulgrevad-not-text) "the buffer has what is no Unicode text")))
 
 (defun sulgrevad--before-change (&rest _)
   "Note a change that `after-change-functions' has not reported."
-  (unless (or sulgrevad--is-taking (eql sulgrevad--tick (buffer-chars-modified-tick)))
+  (unless (or (eq sulgrevad--changes t) (eql sulgrevad--tick (buffer-chars-modified-tick))) ; of all that is to come nothing is ours
     (setq sulgrevad--has-drifted t)))
 
 (defun sulgrevad--after-change (start end old)
-  "Hand over that the text from START to END took the place of OLD characters.
+  "Hand over that the text from START to END replaced OLD characters.
 It signals no error and no quit, since Emacs would not call it again."
-  (when (and (sulgrevad--is-ours) (not sulgrevad--is-taking))
-    (let ((inhibit-quit t))
-      (condition-case nil
-          (let ((is-known (not sulgrevad--has-drifted)))
-            (setq sulgrevad--has-drifted t)
-            (when (and is-known (sulgrevad--is-free) (sulgrevad--is-alone start end old))
-              (setq sulgrevad--has-drifted
-                    (sulgrevad--give (1- start) (+ (1- start) old) (buffer-substring-no-properties start end)))))
-        (error nil))
-      (setq sulgrevad--tick (buffer-chars-modified-tick))
-      (unless sulgrevad--timer
-        (setq sulgrevad--timer (run-with-timer sulgrevad-most-unsent nil #'sulgrevad--on-time))))))
+  (cond ((not (sulgrevad--is-ours)))
+        (sulgrevad--is-taking (setq sulgrevad--tick (buffer-chars-modified-tick)))
+        (t (let ((inhibit-quit t))
+             (condition-case nil
+                 (let ((is-known (not sulgrevad--has-drifted)))
+                   (setq sulgrevad--has-drifted t)
+                   (when (and is-known (null sulgrevad--changes) (sulgrevad--is-free) (sulgrevad--is-alone start end old))
+                     (setq sulgrevad--has-drifted
+                           (sulgrevad--give (1- start) (+ (1- start) old) (buffer-substring-no-properties start end)))))
+               (error nil))
+             (setq sulgrevad--tick (buffer-chars-modified-tick))
+             (sulgrevad--pump-after sulgrevad-most-unsent)))))
+
+(defun sulgrevad--pump-after (seconds)
+  "Send in so many SECONDS what a timer or a process of another edits.
+No command ends then."
+  (unless sulgrevad--timer
+    (setq sulgrevad--timer (run-with-timer seconds nil #'sulgrevad--on-time))))
 
 (defun sulgrevad--on-time ()
-  "Send what a timer or a process of another has edited: no command ends then."
+  "Send what no command sends."
   (setq sulgrevad--timer nil)
   (sulgrevad--pump t))
 
 (defun sulgrevad--is-alone (start end old)
-  "Whether the buffer may differ from the terminal's text only in that START to END took the place of OLD characters.
-Another change, which no hook has reported, seldom leaves the length as it is."
+  "Whether the buffer may differ only where START to END replaced OLD.
+Another change, which no hook has reported, seldom leaves the length as
+it is."
   (= (buffer-size) (+ (sulgrevad--len sulgrevad--term sulgrevad--tag) (- end start old))))
 
 (defun sulgrevad--kill-text (text)
-  "Have the kill ring hold TEXT, though the functions of others that `kill-new' calls fail."
+  "Have the kill ring hold TEXT, though `kill-new' may fail for others."
   (ignore-errors (kill-new text))
   (unless (equal (car kill-ring) text)
     (push text kill-ring)
     (setq kill-ring-yank-pointer kill-ring)))
 
 (defun sulgrevad--overrule ()
-  "Say that the buffer wins over what the host has changed, unless it was a change of the buffer's own that the terminal held."
+  "Say that the buffer wins over what the host has changed.
+Not where it was a change of the buffer's own that the terminal held."
   (unless (or sulgrevad--is-held (= sulgrevad--tag 0))
     (sulgrevad--kill-text (sulgrevad--part sulgrevad--term sulgrevad--tag 0 (sulgrevad--len sulgrevad--term sulgrevad--tag)))
-    (message "Sulgrevad: edits of %s that waited take the place of what the host changed; the kill ring has its text" (buffer-name))))
+    (message "Sulgrevad: edits of %s that waited take the place of what the host changed; the kill ring has its text"
+             (buffer-name))))
 
 (defun sulgrevad--hand-over (&optional whole)
-  "Hand over what no hook has reported; with WHOLE also where there is no sign of it.
-It may signal `sulgrevad-no-memory': then it is to be called again."
+  "Hand over what no hook has reported.
+With WHOLE look for it also where there is no sign of it.  It may signal
+`sulgrevad-no-memory': then it is to be called again."
   (unless enable-multibyte-characters (set-buffer-multibyte t)) ; places are those of characters, not of bytes
   (sulgrevad--before-change)
   (when (and (or whole sulgrevad--has-drifted) (sulgrevad--is-free))
     (setq sulgrevad--has-drifted t)
-    (let* ((changed (sulgrevad--changed sulgrevad--term sulgrevad--tag))
-           (why (pcase (sulgrevad--difference 0 (buffer-size) (sulgrevad--len sulgrevad--term sulgrevad--tag))
-                  (`(,start ,_ ,end ,mine ,_)
-                   (when changed (sulgrevad--overrule))
-                   (sulgrevad--give start end mine)))))
+    (let ((why (pcase (sulgrevad--difference)
+                 (`(,start ,_ ,end ,mine)
+                  (when sulgrevad--changes (sulgrevad--overrule))
+                  (sulgrevad--give start end mine)))))
       (when why
         (sulgrevad--kill-text (sulgrevad--text))
-        (message "Sulgrevad: %s; the kill ring has the buffer's text" why)))
-    (sulgrevad--take-over t)
-    (setq sulgrevad--is-held nil)))
+        (message "Sulgrevad: %s; the kill ring has the buffer's text" why)
+        (sulgrevad--put-back)))
+    (sulgrevad--hook-up)                ; Emacs takes all of them off where one of another fails
+    (setq sulgrevad--changes nil
+          sulgrevad--is-held nil
+          sulgrevad--has-drifted nil
+          sulgrevad--tick (buffer-chars-modified-tick))))
 
-(defun sulgrevad--put (start end their-end)
-  "Have the terminal's text from START to THEIR-END take the place of the buffer's from START to END, where they differ.
-Return whether they did."
-  (pcase (sulgrevad--difference start end their-end)
-    (`(,from ,to ,_ ,_ ,theirs)
-     (let ((inhibit-read-only t) (sulgrevad--is-taking t))
-       (undo-boundary)
-       (save-restriction
-         (widen)
-         (save-excursion
-           (goto-char (1+ from))
-           (delete-region (point) (1+ to))
-           (insert theirs)))
-       t))))
+;;; What the terminal has changed
+
+(defun sulgrevad--put (start end from to)
+  "Have the terminal's text replace the buffer's from START to END.
+FROM and TO are where it begins and ends."
+  (let ((inhibit-read-only t) (sulgrevad--is-taking t))
+    (unless sulgrevad--is-bounded
+      (undo-boundary)
+      (setq sulgrevad--is-bounded t))
+    (save-restriction
+      (widen)
+      (save-excursion
+        (goto-char (1+ start))
+        (delete-region (point) (1+ end))
+        (insert (sulgrevad--part sulgrevad--term sulgrevad--tag from to))))))
+
+(defun sulgrevad--put-back ()
+  "Have the buffer be as the terminal's text, whoever else's hooks fail."
+  (pcase (let ((inhibit-modification-hooks t)) (sulgrevad--difference))
+    (`(,start ,end ,to ,_)
+     (condition-case nil (sulgrevad--put start end start to)
+       (error (let ((inhibit-modification-hooks t))
+                (pcase (sulgrevad--difference)
+                  (`(,start ,end ,to ,_) (sulgrevad--put start end start to)))))))))
+
+(defun sulgrevad--put-each (places)
+  "Change PLACES of the buffer to what the terminal has, the last first.
+Functions of others may change the buffer meanwhile: then it drifts."
+  (condition-case nil
+      (pcase-dolist (`(,start ,end ,from ,to) places)
+        (sulgrevad--put start end from to))
+    (error (sulgrevad--put-back)        ; a function of another has failed
+           (setq sulgrevad--tick (buffer-chars-modified-tick))))
+  (sulgrevad--before-change)
+  (unless (= (buffer-size) (sulgrevad--len sulgrevad--term sulgrevad--tag))
+    (setq sulgrevad--has-drifted t)))
 
 (defun sulgrevad--put-all ()
-  "Have the terminal's text take the place of the buffer's.  Return whether they differed."
-  (sulgrevad--put 0 (buffer-size) (sulgrevad--len sulgrevad--term sulgrevad--tag)))
+  "Have the buffer, which is new or read anew, be as the terminal's text."
+  (let ((inhibit-read-only t) (inhibit-modification-hooks t) (buffer-undo-list t))
+    (save-restriction
+      (widen)
+      (erase-buffer)
+      (insert (sulgrevad--part sulgrevad--term sulgrevad--tag 0 (sulgrevad--len sulgrevad--term sulgrevad--tag)))))
+  (setq sulgrevad--tick (buffer-chars-modified-tick)))
 
-(defun sulgrevad--differs ()
-  "Whether the buffer is not as the terminal's text: hooks of others may have changed what was put in."
-  (not (null (sulgrevad--difference 0 (buffer-size) (sulgrevad--len sulgrevad--term sulgrevad--tag)))))
+(defun sulgrevad--with-change (stretches start gone came)
+  "Join another change of the terminal's text to those in STRETCHES.
+In the text as it is with these, from START on GONE runes gave way to
+CAME.  The host makes the last change of a command line first, so that
+each stands at the front."
+  (let ((place 0) (end (+ start gone)) before)
+    (while (and stretches (< (+ place (nth 0 (car stretches)) (nth 2 (car stretches))) start))
+      (push (pop stretches) before)
+      (setq place (+ place (nth 0 (car before)) (nth 2 (car before)))))
+    (let ((skip (- start place)) (old 0) (at start))
+      (when (and stretches (<= (+ place (nth 0 (car stretches))) start)) ; it touches one that begins before it
+        (setq skip (nth 0 (car stretches)) at (+ place skip)))
+      (let ((reach at))                 ; up to where OLD counts
+        (while (and stretches (<= (+ place (nth 0 (car stretches))) end)) ; those that it touches become one with it
+          (setq place (+ place (nth 0 (car stretches)))
+                old (+ old (- place reach) (nth 1 (car stretches)))
+                place (+ place (nth 2 (car stretches)))
+                reach place)
+          (pop stretches))
+        (let ((last (max end reach)))
+          (setq old (+ old (- last reach)))
+          (when stretches
+            (push (cons (- (+ place (nth 0 (car stretches))) last) (cdr (pop stretches))) stretches))
+          (nconc (nreverse before) (list (list skip old (+ (- last at gone) came))) stretches))))))
 
-(defun sulgrevad--take-over (&optional whole)
-  "Change the buffer where the terminal's text has changed, and say whether it may be edited.
-With WHOLE change it wherever the two differ: what was not handed over goes."
-  (let ((is-free (sulgrevad--is-free)) (inhibit-quit t)) ; the terminal says only once what changed
-    (unless whole (sulgrevad--before-change)) ; when another buffer was changed, a hook may have changed this one
-    (when (and is-free (or whole (not sulgrevad--has-drifted)))
-      (setq sulgrevad--has-drifted (and (sulgrevad--take whole) (/= sulgrevad--tag 0) (sulgrevad--differs))
-            sulgrevad--tick (buffer-chars-modified-tick))
-      (restore-buffer-modified-p (and (/= sulgrevad--tag 0) (sulgrevad--is-unwritten sulgrevad--tag))))
-    (setq buffer-read-only (or (not is-free) (= sulgrevad--tag 0)))))
+(defun sulgrevad--with-one-change (stretches)
+  "Join all that stand in STRETCHES to one."
+  (let ((between (apply #'+ (mapcar #'car (cdr stretches)))))
+    (list (list (caar stretches) (apply #'+ between (mapcar #'cadr stretches)) (apply #'+ between (mapcar #'caddr stretches))))))
 
-(defun sulgrevad--take (whole)
-  "Change the buffer where the terminal's text has changed; with WHOLE wherever the two differ.  Return whether it was changed."
-  (let ((changed (sulgrevad--changed sulgrevad--term sulgrevad--tag)))
-    (condition-case nil
-        (pcase changed
-          ((guard whole) (sulgrevad--put-all))
-          (`(,start ,gone ,came) (sulgrevad--put start (+ start gone) (+ start came))))
-      (error (let ((inhibit-modification-hooks t)) (sulgrevad--put-all)) ; another's hook has failed
-             t))))
+(defun sulgrevad--places (stretches)
+  "Where STRETCHES are, the last first.
+Of each where it begins and ends in the buffer, and in the terminal's
+text."
+  (let ((mine 0) (theirs 0) places)
+    (pcase-dolist (`(,skip ,old ,new) stretches)
+      (setq mine (+ mine skip) theirs (+ theirs skip))
+      (push (list mine (+ mine old) theirs (+ theirs new)) places)
+      (setq mine (+ mine old) theirs (+ theirs new)))
+    places))
+
+(defun sulgrevad--note-change (start gone came)
+  "From START on GONE runes of the terminal's text gave way to CAME.
+So they will in the buffer, once the file is free."
+  (unless (eq sulgrevad--changes t)
+    (setq sulgrevad--is-joined (and sulgrevad--changes
+                                    (or sulgrevad--is-joined (nthcdr sulgrevad-most-changes sulgrevad--changes)))
+          sulgrevad--changes (sulgrevad--with-change sulgrevad--changes start gone came))
+    (when sulgrevad--is-joined
+      (setq sulgrevad--changes (sulgrevad--with-one-change sulgrevad--changes)))))
+
+(defun sulgrevad--take-over ()
+  "Make each change that waited, and say whether the buffer may be edited."
+  (sulgrevad--before-change) ; when another buffer was changed, a hook may have changed this one
+  (cond ((not (sulgrevad--is-known sulgrevad--term sulgrevad--tag)) (sulgrevad--let-go))
+        ((sulgrevad--is-open sulgrevad--term sulgrevad--tag)
+         (when (and sulgrevad--changes (not sulgrevad--has-drifted) (sulgrevad--is-free))
+           (let ((changes sulgrevad--changes))
+             (setq sulgrevad--changes nil)
+             (if (eq changes t) (sulgrevad--put-all) (sulgrevad--put-each (sulgrevad--places changes)))))
+         (sulgrevad--take-name)
+         (unless (or sulgrevad--has-drifted sulgrevad--changes)
+           (restore-buffer-modified-p (and (/= sulgrevad--tag 0) (sulgrevad--is-unwritten sulgrevad--tag))))
+         (sulgrevad--lock (not (sulgrevad--is-free))))))
+
+(defun sulgrevad--lock (is-locked)
+  "Make the buffer read-only where IS-LOCKED, else what the user made it."
+  (unless (eq is-locked sulgrevad--is-locked)
+    (setq sulgrevad--is-locked is-locked
+          buffer-read-only is-locked)
+    (unless is-locked (setq sulgrevad--is-bounded nil)))
+  (when (or is-locked (eql sulgrevad--tag 0)) (setq buffer-read-only t)))
+
+(defun sulgrevad--take-name ()
+  "Give the buffer the name that its file has."
+  (let ((name (sulgrevad--name sulgrevad--term sulgrevad--tag)))
+    (unless (or (eql sulgrevad--tag 0) (string-empty-p name) (equal name sulgrevad--path))
+      (let ((is-first (null sulgrevad--path)))
+        (setq sulgrevad--path name
+              list-buffers-directory name)
+        (unless is-first (rename-buffer (sulgrevad--base name) t))))))
+
+(defun sulgrevad--base (name)
+  "What a buffer is called whose file has this NAME."
+  (let ((base (file-name-nondirectory (directory-file-name name))))
+    (if (string-empty-p base) "unnamed" base)))
+
+(defun sulgrevad--is-about (told name)
+  "Whether what the host has TOLD of a write is about the file NAME.
+Of a long path NAME is only the end, after three dots."
+  (if (string-prefix-p "…" name)
+      (string-search (concat (substring name 1) ": ") told)
+    (string-prefix-p (concat "? write " name ": ") told)))
+
+(defun sulgrevad--is-unwritten (tag)
+  "Whether the file TAG may differ from what the host has written."
+  (or (sulgrevad--is-changed sulgrevad--term tag)
+      (cl-some (lambda (told) (if (car told) (eql tag (car told)) (sulgrevad--is-about (cdr told) (sulgrevad--name sulgrevad--term tag))))
+               sulgrevad--unwritten)))
 
 ;;; What can't go to the host
 
 (defun sulgrevad--waits ()
-  "Whether the terminal may not know all changes of the buffer.  The command file is nobody's text."
+  "Whether the terminal may not know each edit of the buffer.
+The command file is nobody's text."
   (when (sulgrevad--is-ours) (sulgrevad--before-change))
   (and (eq sulgrevad--self (current-buffer)) (not (eql sulgrevad--tag 0)) sulgrevad--has-drifted))
 
 (defun sulgrevad--is-handed-over ()
-  "Whether the terminal knows all changes of all buffers."
+  "Whether the terminal knows each edit of all buffers."
   (cl-notany (lambda (buffer) (and (buffer-live-p buffer) (with-current-buffer buffer (sulgrevad--waits)))) sulgrevad--buffers))
 
 (defun sulgrevad--write-new (path text)
-  "Write TEXT to a file at PATH that is not there yet, for its owner alone.
+  "Write TEXT to a file at PATH that is not there, for its owner alone.
 Return `written'; `there' where another is there; nil where it can't be."
   (let ((coding-system-for-write 'utf-8-emacs-unix) (write-region-inhibit-fsync nil) (file-name-handler-alist nil))
     (condition-case nil
@@ -260,11 +505,24 @@ Return `written'; `there' where another is there; nil where it can't be."
       (file-already-exists 'there)
       (error (ignore-errors (delete-file path))))))
 
-(defun sulgrevad--keep (name text)
-  "Write TEXT to a new file of this machine, NAME.sam-here, in the session's folder, else in that for temporary files.
-Return its path, or nil where none can be written."
-  (let* ((inhibit-quit t)
-         (last (remq 0 (append (car (last (split-string name "/"))) nil))) ; no name of a file has a NUL
+(defun sulgrevad--keep (name text tag)
+  "Write TEXT to a file of this machine, NAME.sam-here.
+It is in the session's folder, else in that for temporary files.  It is
+new, but for one in which the text of the file TAG was kept before: a new
+one takes its place.  Return its path, or nil where none can be written."
+  (let* ((inhibit-quit t) (before (assq tag sulgrevad--copies))
+         (path (sulgrevad--keep-new name text)))
+    (setq sulgrevad--copies (delq before sulgrevad--copies))
+    (when (and before path)             ; the old one stays until the new one is whole
+      (condition-case nil (progn (rename-file path (cdr before) t)
+                                 (setq path (cdr before)))
+        (error nil)))
+    (when path (push (cons tag path) sulgrevad--copies))
+    path))
+
+(defun sulgrevad--keep-new (name text)
+  "Write TEXT to a new file NAME.sam-here.  Return its path, or nil."
+  (let* ((last (remq 0 (append (car (last (split-string name "/"))) nil))) ; no name of a file has a NUL
          (base (concat (or (seq-take last sulgrevad-most-in-base) "unnamed") ".sam-here")))
     (cl-loop for folder in (cl-remove-if #'file-remote-p (list sulgrevad--folder temporary-file-directory))
              thereis (cl-loop for number from 1 to sulgrevad-most-names
@@ -274,7 +532,7 @@ Return its path, or nil where none can be written."
                               when (eq made 'written) return path))))
 
 (defun sulgrevad--loaded (tag)
-  "The terminal's text of the file TAG, where each stretch that is not loaded is told in words."
+  "The terminal's text of the file TAG, with words for what isn't loaded."
   (let ((place 0) (len (sulgrevad--len sulgrevad--term tag)) (parts nil))
     (while (< place len)
       (let ((text (sulgrevad--part sulgrevad--term tag place len)) (missing 0) more)
@@ -286,8 +544,9 @@ Return its path, or nil where none can be written."
     (apply #'concat (nreverse parts))))
 
 (defun sulgrevad--keep-buffer (name)
-  "Keep here the text of the buffer, that of the file NAME.  Return what to say of it."
-  (let* ((text (sulgrevad--text)) (path (sulgrevad--keep name text)))
+  "Keep here the text of the buffer, that of the file NAME.
+Return what to say of it."
+  (let* ((text (sulgrevad--text)) (path (sulgrevad--keep name text sulgrevad--tag)))
     (setq sulgrevad--has-drifted (null path))
     (unless path
       (sulgrevad--kill-text text)
@@ -295,127 +554,207 @@ Return its path, or nil where none can be written."
     (format (if path "the text of %s is here in %s" "no file can be written here; the kill ring has the text of %s") name path)))
 
 (defun sulgrevad--keep-file (name tag)
-  "Keep here the text of the file NAME, which has the TAG and no buffer.  Return what to say of it."
-  (let* ((text (sulgrevad--loaded tag)) (path (sulgrevad--keep name text)))
+  "Keep here the text of the file NAME, which has the TAG and no buffer.
+Return what to say of it."
+  (let* ((text (sulgrevad--loaded tag)) (path (sulgrevad--keep name text tag)))
     (unless path (sulgrevad--kill-text text))
     (format (if path "what is loaded of %s is here in %s" "no file can be written here; the kill ring has what is loaded of %s")
             name path)))
 
 (defun sulgrevad--keep-all ()
-  "Keep here each text that the host may not have.  Return what to say of them.
-Where the session is over and the host has ended in peace, it has saved all that was handed over."
-  (let ((has-all (and (sulgrevad--exited sulgrevad--term)
-                      (eq (process-status sulgrevad--process) 'exit)
-                      (= 0 (process-exit-status sulgrevad--process)))))
+  "Keep here each text that the host may not have.
+Return what to say of them."
+  (sulgrevad--flush-now sulgrevad--term)
+  (sulgrevad--send)
+  (let ((has-all (sulgrevad--host-has-all)))
     (cl-loop for (name . tag) in (sulgrevad--names)
              for buffer = (sulgrevad--buffer-of tag)
+             for is-shown = (and buffer (not (eq t (buffer-local-value 'sulgrevad--changes buffer))))
              when (or (and buffer (with-current-buffer buffer (sulgrevad--waits)))
                       (and (not has-all) (sulgrevad--is-open sulgrevad--term tag) (sulgrevad--is-unwritten tag)))
-             collect (if buffer (with-current-buffer buffer (sulgrevad--keep-buffer name)) (sulgrevad--keep-file name tag)))))
+             collect (if (and is-shown (with-current-buffer buffer (or (sulgrevad--waits) (null sulgrevad--changes))))
+                         (with-current-buffer buffer (sulgrevad--keep-buffer name))
+                       (sulgrevad--keep-file name tag)))))
+
+(defun sulgrevad--keep-meanwhile ()
+  "While the line is lost keep here what the host may not have.
+Where Emacs is killed then it is not lost.  It goes once the host has
+all."
+  (let ((has-all (and (sulgrevad-line-has-all sulgrevad--line) (sulgrevad--is-handed-over))) (now (float-time)))
+    (cond ((and has-all (sulgrevad-line-is-open sulgrevad--line))
+           (dolist (copy sulgrevad--copies) (ignore-errors (delete-file (cdr copy))))
+           (setq sulgrevad--copies nil))
+          ((and (not has-all) (sulgrevad--is-late)
+                (<= sulgrevad-most-unkept (min (sulgrevad-line-silence sulgrevad--line) (- now sulgrevad--copied-at))))
+           (setq sulgrevad--copied-at now)
+           (cl-loop for (name . tag) in (sulgrevad--names)
+                    for buffer = (sulgrevad--buffer-of tag)
+                    when (and buffer (buffer-modified-p buffer) (not (eq t (buffer-local-value 'sulgrevad--changes buffer))))
+                    do (sulgrevad--keep name (with-current-buffer buffer (sulgrevad--text)) tag))))))
+
+(defun sulgrevad--host-has-all ()
+  "Whether the host has all that was handed over, and will keep it.
+It doesn't where it ends badly, or refuses us."
+  (let ((has-ended-well (eql 0 (sulgrevad-line-ended-with sulgrevad--line))))
+    (or (and has-ended-well (sulgrevad--exited sulgrevad--term)) ; it has answered what came last
+        (and (sulgrevad-line-has-all sulgrevad--line)
+             (or has-ended-well (null (sulgrevad-line-why sulgrevad--line)) (sulgrevad-line-is-taken sulgrevad--line))))))
 
 (defun sulgrevad--keep-modified ()
-  "The same where the terminal can't be asked, as inside of a call of it that a signal broke off: keep each modified buffer."
+  "Keep here each modified buffer, where the terminal can't be asked.
+So it is inside of a call of it that a signal broke off, or without
+memory."
   (cl-loop for buffer in sulgrevad--buffers
            when (and (buffer-live-p buffer) (buffer-modified-p buffer))
            collect (with-current-buffer buffer (sulgrevad--keep-buffer (buffer-name)))))
 
 (defun sulgrevad--may-kill ()
-  "Whether the buffer may be killed: what waits goes to the host first, or the user says so."
+  "Whether the buffer may be killed.
+What waits goes to the host first, or the user says so."
   (when (and (sulgrevad--is-ours) (sulgrevad--waits))
     (message "Sulgrevad: edits of %s wait for the host; C-g keeps the buffer" (buffer-name))
     (sulgrevad--wait (lambda () (not (sulgrevad--waits)))))
-  (or noninteractive
-      (not (sulgrevad--waits))
-      (yes-or-no-p (format "Edits of %s did not get to the host; kill it all the same? " (buffer-name)))))
+  (cond (noninteractive t)
+        ((sulgrevad--waits)
+         (yes-or-no-p (format "Edits of %s did not get to the host; kill it all the same? " (buffer-name))))
+        ((and (sulgrevad--is-ours) (/= sulgrevad--tag 0) (sulgrevad--is-unwritten sulgrevad--tag))
+         (yes-or-no-p (format "%s was not written, and the host keeps its text; kill its buffer? " (buffer-name))))
+        (t)))
 
 (defun sulgrevad--at-kill ()
-  "Keep here the text of a buffer that is killed, where the terminal may not know all of it."
+  "Keep here the text of a buffer that is killed.
+Only where the terminal may not know all of it."
   (when (sulgrevad--waits)
     (sulgrevad--pump)                   ; who asked nobody has not waited either
     (when (sulgrevad--waits)
-      (let ((name (and (sulgrevad--is-ours) (sulgrevad--name sulgrevad--term sulgrevad--tag)))) ; the buffer may be NAME<2>
-        (message "Sulgrevad: %s" (sulgrevad--keep-buffer (or name (buffer-name))))))))
+      (message "Sulgrevad: %s" (sulgrevad--keep-buffer (or sulgrevad--path (buffer-name))))))) ; the buffer may be NAME<2>
 
 (defun sulgrevad--may-end ()
-  "Whether the session may end: what waits goes to the host first, and all is written, or the user says so."
+  "Whether the session may end.
+What waits goes to the host first, and all is written, or the user says
+so."
   (cond ((null sulgrevad--term) t)
         ((progn (sulgrevad--wait #'sulgrevad--is-handed-over) (null sulgrevad--term)) nil) ; what became of the texts is to be read
         ((not (sulgrevad--is-handed-over)) (yes-or-no-p "Some edits did not get to the host; leave, and keep them here? "))
+        ((sulgrevad--is-late) (yes-or-no-p "The host does not answer; leave the session there, and keep here what it may not have? "))
         ((cl-some (lambda (file) (sulgrevad--is-unwritten (cdr file))) (sulgrevad--names))
          (yes-or-no-p "Some files were not written; leave? "))
         (t)))
 
 (defun sulgrevad--leave (&rest _)
-  "End the session without a question: what waits goes to the host, and the host saves what was not written."
+  "End the session without a question.
+What waits goes to the host, which saves what was not written.  Where it
+does not answer the session stays there."
   (when sulgrevad--term
     (sulgrevad--wait #'sulgrevad--is-handed-over sulgrevad-most-leaving)
-    (ignore-errors (sulgrevad--exit sulgrevad--term)) ; no memory for it
-    (sulgrevad--wait (lambda () (null sulgrevad--term)) sulgrevad-most-leaving)
-    (unless (process-live-p sulgrevad--process) (accept-process-output nil 0.1)) ; its end is told
-    (sulgrevad--lose "the host does not answer")))
+    (unless (sulgrevad--is-late)
+      (ignore-errors (sulgrevad--exit sulgrevad--term)) ; no memory for it
+      (sulgrevad--wait (lambda () (null sulgrevad--term)) sulgrevad-most-leaving))
+    (when sulgrevad--term
+      (sulgrevad--lose (concat "the host does not answer; " (sulgrevad--how-to-take))))))
+
+(defun sulgrevad--how-to-take ()
+  "How the user comes back to a session that stays."
+  (format "M-x sulgrevad-take goes on with session %s" (sulgrevad-line-name sulgrevad--line)))
 
 (defun sulgrevad--break-off ()
-  "End the session where a signal ends Emacs: it would wait for ever for a process, of whose end it learns nothing then.
+  "Leave the session at the host where a signal ends Emacs.
 `sulgrevad--leave' has been called where it is `kill-emacs' that ends it."
-  (sulgrevad--lose "Emacs ends"))
+  (when sulgrevad--term (sulgrevad--lose (concat "Emacs ends; " (sulgrevad--how-to-take)))))
 
 ;;; The stream
 
 (defun sulgrevad--each (function)
-  "Call FUNCTION in each buffer of an open file, and then signal the first error of it."
+  "Call FUNCTION in each buffer of an open file.
+Then signal the first error of it."
   (setq sulgrevad--buffers (cl-remove-if-not #'buffer-live-p sulgrevad--buffers))
   (let (first)
     (dolist (buffer sulgrevad--buffers)
       (when (buffer-live-p buffer)      ; a hook of another may have killed it
-        (condition-case why (with-current-buffer buffer (funcall function))
+        (condition-case why (with-current-buffer buffer (when sulgrevad--tag (funcall function)))
           (error (setq first (or first why))))))
     (when first (signal (car first) (cdr first)))))
 
+(defun sulgrevad--hook-up ()
+  "Have the hooks of the buffer follow each edit."
+  (dolist (hook sulgrevad--hooks)
+    (unless (and (eql sulgrevad--tag 0) (eq (car hook) 'write-contents-functions))
+      (add-hook (car hook) (cadr hook) (caddr hook) t))))
+
 (defun sulgrevad--let-go ()
-  "Have the buffer stay readable, and be of no file of a later session."
-  (unless (sulgrevad--waits) ; else it asks before it is killed
-    (dolist (hook sulgrevad--hooks) (remove-hook (car hook) (cadr hook) t)))
-  (setq buffer-read-only t sulgrevad--tag nil)
+  "Have the buffer stay readable, and be of no file any more."
+  (if (sulgrevad--waits)                ; then it asks before it is killed
+      (dolist (hook sulgrevad--hooks)
+        (unless (memq (car hook) '(kill-buffer-query-functions kill-buffer-hook)) (remove-hook (car hook) (cadr hook) t)))
+    (dolist (hook sulgrevad--hooks) (remove-hook (car hook) (cadr hook) t))
+    (setq buffer-offer-save nil))
+  (kill-local-variable 'revert-buffer-function)
+  (setq buffer-read-only t sulgrevad--tag nil sulgrevad--is-locked nil)
   (sulgrevad-mode -1))
 
 (defun sulgrevad--lose (why)
-  "The session is over, because of WHY.  A host that is still there ends, too, and saves what was not written.
-What it may not have is kept here."
+  "The session is over here, because of WHY.
+What the host may not have is kept here."
   (when sulgrevad--term
-    (let ((kept (condition-case nil (sulgrevad--keep-all) (error (sulgrevad--keep-modified)))))
-      (setq sulgrevad--term nil)
+    (let ((kept (condition-case nil (sulgrevad--keep-all) (error (sulgrevad--keep-modified)))) (line sulgrevad--line))
+      (setq sulgrevad--term nil sulgrevad--copies nil)
       (dolist (hook sulgrevad--global-hooks) (remove-hook (car hook) (cadr hook)))
       (advice-remove 'kill-emacs #'sulgrevad--leave)
       (sulgrevad--each #'sulgrevad--let-go)
-      (when (process-live-p sulgrevad--process) (ignore-errors (process-send-eof sulgrevad--process)))
-      (message "Sulgrevad: %s" (string-join (cons why kept) "; ")))))
+      (sulgrevad-line-close line)
+      (setq sulgrevad--line nil sulgrevad--inbox nil)
+      (if kept
+          (display-warning 'sulgrevad (string-join (cons (concat "Sulgrevad: " why) kept) "; ")) ; it stays, whatever is said next
+        (message "Sulgrevad: %s" why)))))
 
 (defun sulgrevad--pump (&optional is-pausing)
-  "Hand edits over, feed what has come, take texts over, and send what is pending.
+  "Hand edits over, take in what has come, and send what is pending.
 With IS-PAUSING what was typed is sent, too."
   (unless (or sulgrevad--is-pumping (null sulgrevad--term))
     (condition-case why
-        (let ((sulgrevad--is-pumping t) (is-fed t))
-          (while (and sulgrevad--term (or is-fed sulgrevad--inbox)) ; while bytes are sent more may come, or the host may end
+        (let ((sulgrevad--is-pumping t) (has-come t))
+          (while (and sulgrevad--term (or has-come sulgrevad--inbox)) ; more may come meanwhile, or the host may end
             (sulgrevad--each #'sulgrevad--hand-over)
-            (setq is-fed (not (null sulgrevad--inbox)))
             (let ((inhibit-quit t))     ; no edit comes between
-              (unwind-protect (while sulgrevad--inbox (sulgrevad--feed-next))
-                (when is-fed (sulgrevad--each #'sulgrevad--take-over))))
-            (sulgrevad--report-refusals)
-            (when is-pausing (sulgrevad--flush-now sulgrevad--term))
-            (sulgrevad--send)))
-      (sulgrevad-no-memory (message "Sulgrevad: %s" (cadr why)))
+              (unwind-protect (setq has-come (sulgrevad--take-in))
+                (when sulgrevad--term (sulgrevad--each #'sulgrevad--take-over))))
+            (when sulgrevad--term
+              (sulgrevad--report-refusals)
+              (sulgrevad--load-more)
+              (sulgrevad--write-next)
+              (when is-pausing (sulgrevad--flush-now sulgrevad--term))
+              (sulgrevad--send)
+              (sulgrevad--keep-meanwhile))))
+      (sulgrevad-no-memory (message "Sulgrevad: %s" (cadr why))
+                           (sulgrevad--pump-after sulgrevad-retry))
       (sulgrevad-error (sulgrevad--lose (cadr why)))
       (error (message "Sulgrevad: %s" (error-message-string why)))))) ; a hook that signals one is not called again
 
-(defun sulgrevad--feed-next ()
-  "Feed what came first.  Where memory is out, what is left to do of it stays the first."
-  (let ((bytes (pop sulgrevad--inbox)))
-    (condition-case why (sulgrevad--feed sulgrevad--term bytes)
-      (sulgrevad-no-memory
-       (push (if (eq (car why) 'sulgrevad-unfinished) "" bytes) sulgrevad--inbox)
-       (signal (car why) (cdr why))))))
+(defun sulgrevad--take-in ()
+  "Take in what has come, and go on step by step.
+Return whether anything was done.  Where memory is out, what is left of
+it stays the first."
+  (let ((has-come (sulgrevad--go-on)))
+    (while (and sulgrevad--term sulgrevad--inbox)
+      (let ((item (car sulgrevad--inbox)))
+        (when (stringp item) (sulgrevad--bring sulgrevad--term item))
+        (pop sulgrevad--inbox)
+        (setq has-come t)
+        (pcase item
+          (`(note . ,note) (sulgrevad--meet note))
+          (`(lost . ,why) (sulgrevad--lose why))
+          (_ (sulgrevad--go-on)))))
+    has-come))
+
+(defun sulgrevad--go-on ()
+  "Go on step by step until nothing waits, and do as each has told.
+Return whether there was any."
+  (let (did has-come)
+    (while (setq did (sulgrevad--step sulgrevad--term))
+      (setq has-come t)
+      (pcase-let* ((`(,_ ,_ ,tag ,start ,gone ,came) did) (buffer (and (< 0 (+ gone came)) (sulgrevad--buffer-of tag))))
+        (when buffer (with-current-buffer buffer (sulgrevad--note-change start gone came)))))
+    has-come))
 
 (defun sulgrevad--report-refusals ()
   "Say why events were refused."
@@ -423,50 +762,94 @@ With IS-PAUSING what was typed is sent, too."
     (while (setq why (sulgrevad--next-refusal sulgrevad--term)) (message "Sulgrevad: %s" why))))
 
 (defun sulgrevad--send ()
-  "Send what is pending.  Where the host ends or is stopped meanwhile, `sulgrevad--ended' is called."
+  "Put what is pending into the line."
   (let ((inhibit-quit t) bytes)         ; what was taken out is nowhere else
-    (while (and sulgrevad--term (eq (process-status sulgrevad--process) 'run)
-                (not (string-empty-p (setq bytes (or (prog1 sulgrevad--unsent (setq sulgrevad--unsent nil))
-                                                     (sulgrevad--take-out sulgrevad--term))))))
-      (condition-case why (process-send-string sulgrevad--process bytes)
-        (error (cond ((eq (process-status sulgrevad--process) 'stop) (setq sulgrevad--unsent bytes)) ; it was stopped just now
-                     ((process-live-p sulgrevad--process) (sulgrevad--lose (error-message-string why)))))))))
+    (while (and sulgrevad--term (not (string-empty-p (setq bytes (sulgrevad--take-out sulgrevad--term)))))
+      (sulgrevad-line-put sulgrevad--line bytes))))
 
-(defun sulgrevad--came (process bytes)
-  "Feed BYTES, now or when what is fed now is done, unless PROCESS is the host of an earlier session."
-  (when (eq process sulgrevad--process)
-    (setq sulgrevad--inbox (nconc sulgrevad--inbox (list bytes)))
-    (sulgrevad--pump)))
+(defun sulgrevad--receive (event what)
+  "An EVENT of `sulgrevad-line-make' has come, and WHAT."
+  (pcase event
+    ('bytes (setq sulgrevad--inbox (nconc sulgrevad--inbox (list what))))
+    ((or 'note 'lost) (setq sulgrevad--inbox (nconc sulgrevad--inbox (list (cons event what)))))
+    ('told (push what sulgrevad--told)
+           (message "%s" what))
+    ('state (force-mode-line-update t)))
+  (sulgrevad--pump))
 
-(defun sulgrevad--tell (_process text)
-  "Show TEXT, which the host tells."
-  (setq sulgrevad--told (concat sulgrevad--told text))
-  (when (and sulgrevad--writing (string-search "? write " sulgrevad--told))
-    (cl-pushnew sulgrevad--writing sulgrevad--unwritten)
-    (let ((buffer (sulgrevad--buffer-of sulgrevad--writing)))
-      (when buffer (with-current-buffer buffer (restore-buffer-modified-p t)))))
-  (message "%s" (string-trim text)))
+(defun sulgrevad--meet (note)
+  "Do as a NOTE of the host has told."
+  (pcase-let* ((`(,verb ,rest) (sulgrevad--cut note)) (`(,word ,more) (sulgrevad--cut rest)))
+    (pcase verb
+      ("told" (sulgrevad--hear rest))
+      ((or "names" "opened" "folder" "refused") (push (list (string-to-number word) verb more) sulgrevad--answers))
+      ("wish" (setq sulgrevad--wishes (append sulgrevad--wishes (list (cons (string-to-number word) (string-to-number more)))))
+              (run-with-idle-timer sulgrevad-rest nil #'sulgrevad--show-wished)))))
 
-(defun sulgrevad--ended (_process _event)
-  "Say that the host is gone, where the session was not over.  One that was stopped and goes on gets what is pending."
-  (sulgrevad--pump)
-  (when (and sulgrevad--term (not (process-live-p sulgrevad--process)))
-    (sulgrevad--lose (if (and sulgrevad--term (sulgrevad--exited sulgrevad--term)) "the session is over" "the host is gone"))))
+(defun sulgrevad--cut (text)
+  "The first word of TEXT, and what stands after the blank behind it."
+  (let ((blank (string-search " " text)))
+    (if blank (list (substring text 0 blank) (substring text (1+ blank))) (list text ""))))
 
-(defun sulgrevad--wait (is-there &optional most)
-  "Feed and send until IS-THERE returns non-nil, the host is gone, or nothing has come for too long.  Return what IS-THERE does.
-With MOST wait that many seconds in all."
-  (let ((end (+ (float-time) (or most sulgrevad-patience))) found)
+(defun sulgrevad--hear (told)
+  "Show what the host has TOLD, and note what it has not written."
+  (push told sulgrevad--told)
+  (cond ((not (string-prefix-p "? write " told)) (message "samhost: %s" told))
+        (sulgrevad--writing (setq sulgrevad--complaint told))
+        (t (push (cons nil told) sulgrevad--unwritten)
+           (message "samhost: %s" told))))
+
+(defun sulgrevad--is-late ()
+  "Whether the line is lost, or an answer of the host is late."
+  (or (null sulgrevad--line) (sulgrevad-line-is-late sulgrevad--line)))
+
+(defun sulgrevad--load-more ()
+  "Have the host send what is not loaded of the files that have buffers.
+Not while the line is lost, since that would lock them until it is back."
+  (unless (sulgrevad--is-late)
+    (sulgrevad--each
+     (lambda ()
+       (let ((gap (and (sulgrevad--is-open sulgrevad--term sulgrevad--tag)
+                       (= 0 (sulgrevad--held sulgrevad--term))
+                       (not (sulgrevad--locked sulgrevad--term sulgrevad--tag))
+                       (sulgrevad--first-gap sulgrevad--term sulgrevad--tag))))
+         (when gap (sulgrevad--load sulgrevad--term sulgrevad--tag gap sulgrevad-most-load)))))))
+
+;;; Waiting
+
+(defun sulgrevad--wait (is-there &optional most tell)
+  "Take in and send until IS-THERE is non-nil, and return what that is.
+Give up where the session is over; after MOST seconds where that is a
+number; where it is nil, once the host is silent for
+`sulgrevad-patience'.  Meanwhile TELL is called now and then."
+  (let ((begun (float-time)) (told (float-time)) found)
     (sulgrevad--pump t)
-    (while (and (not (setq found (funcall is-there))) sulgrevad--term (not sulgrevad--is-pumping)
-                (process-live-p sulgrevad--process) (< (float-time) end))
-      (when (and (accept-process-output sulgrevad--process 0.05) (not most))
-        (setq end (+ (float-time) sulgrevad-patience)))
+    (while (and sulgrevad--term (not (setq found (funcall is-there))) (not sulgrevad--is-pumping)
+                (sulgrevad--has-patience most begun))
+      (when (sulgrevad-line-question sulgrevad--line) (sulgrevad-line-answer sulgrevad--line))
+      (accept-process-output nil 0.05)
+      (when (<= (+ told sulgrevad-untold) (float-time))
+        (setq told (float-time))
+        (funcall (or tell #'sulgrevad--tell-of-waiting)))
       (sulgrevad--pump t))
     found))
 
+(defun sulgrevad--has-patience (most begun)
+  "Whether to wait on, for MOST as `sulgrevad--wait' has it, since BEGUN."
+  (let ((silence (sulgrevad-line-silence sulgrevad--line)))
+    (cond ((numberp most) (< (float-time) (+ begun most)))
+          (most (or (not noninteractive) (< silence sulgrevad-most-silent)))
+          (t (< silence sulgrevad-patience)))))
+
+(defun sulgrevad--tell-of-waiting ()
+  "Say that something waits for the host."
+  (let ((state (and sulgrevad--line (sulgrevad-line-told-state sulgrevad--line))) (message-log-max nil))
+    (message "Waiting for the host%s; C-g stops" (if state (format " (%s)" state) ""))))
+
 (defun sulgrevad--before-command ()
-  "Wait until the buffer may be edited, so that no key is lost; a buffer that shares its text, too."
+  "Wait until the buffer may be edited, so that no key is lost.
+A buffer that shares its text may, too.  Of a host that is silent no
+answer is waited for: the buffer is read-only then."
   (with-current-buffer (or (buffer-base-buffer) (current-buffer))
     (when (and (sulgrevad--is-ours) (/= sulgrevad--tag 0) (not (sulgrevad--is-free)))
       (with-local-quit (sulgrevad--wait #'sulgrevad--is-free)))))
@@ -475,57 +858,118 @@ With MOST wait that many seconds in all."
   "Send what the command did, typed text too where no other key waits."
   (sulgrevad--pump (not (input-pending-p))))
 
-;;; Commands
+(defun sulgrevad--settle (what)
+  "Wait until each edit is handed over and more may be made.
+WHAT is to be done needs that."
+  (unless (sulgrevad--is-ours) (user-error "The buffer is not that of a file of the session"))
+  (unless (sulgrevad--wait (lambda () (and (sulgrevad--is-free) (not (sulgrevad--waits)) (not (sulgrevad--is-late)))))
+    (sulgrevad--refuse what)))
 
-(defun sulgrevad-start (command)
-  "Run COMMAND, a list of words or a shell's line, as a host, and show its first file."
-  (interactive "sHost: ")
-  (when (and sulgrevad--term (process-live-p sulgrevad--process)) (user-error "There is a session already"))
-  (sulgrevad--lose "the host is gone")
-  (setq sulgrevad--inbox nil sulgrevad--unsent nil sulgrevad--buffers nil
-        sulgrevad--told nil sulgrevad--writing nil sulgrevad--unwritten nil sulgrevad--folder default-directory)
-  (setq sulgrevad--process
-        (make-process :name "samhost" :command (if (listp command) command (list "/bin/sh" "-c" command))
-                      :coding 'latin-1-unix :connection-type 'pipe :noquery t
-                      :stderr (make-pipe-process :name "samhost-errors" :noquery t :sentinel #'ignore :filter #'sulgrevad--tell)
-                      :filter #'sulgrevad--came :sentinel #'sulgrevad--ended))
-  (setq sulgrevad--term (sulgrevad--make)) ; last, since the command may be none
-  (dolist (hook sulgrevad--global-hooks) (add-hook (car hook) (cadr hook)))
-  (advice-add 'kill-emacs :before #'sulgrevad--leave)
-  (sulgrevad--offer-version sulgrevad--term 2)
+(defun sulgrevad--refuse (what)
+  "Say that WHAT needs a host that answers."
+  (user-error "%s needs the host, which does not answer%s" what
+              (let ((state (and sulgrevad--line (sulgrevad-line-told-state sulgrevad--line)))) (if state (format " (%s)" state) ""))))
+
+(defun sulgrevad--need-host (what)
+  "Refuse WHAT where there is no session, or its host does not answer."
+  (unless sulgrevad--term (user-error "There is no session; M-x sulgrevad-start begins one"))
+  (unless (sulgrevad--wait (lambda () (not (sulgrevad--is-late)))) (sulgrevad--refuse what)))
+
+;;; Sessions
+
+(defun sulgrevad--begin (command words takes-over)
+  "Begin a session with a host of COMMAND and WORDS after it.
+WORDS is a function of the session's name.  TAKES-OVER says that it was
+another terminal's."
+  (when sulgrevad--term (user-error "There is a session already"))
+  (setq sulgrevad--inbox nil sulgrevad--buffers nil sulgrevad--told nil sulgrevad--writes nil sulgrevad--writing nil
+        sulgrevad--complaint nil sulgrevad--unwritten nil sulgrevad--answers nil sulgrevad--wishes nil sulgrevad--copies nil
+        sulgrevad--folder default-directory)
+  (let (line)
+    (setq line (sulgrevad-line-make
+                command (lambda (event what) (when (eq line sulgrevad--line) (sulgrevad--receive event what))) takes-over)
+          sulgrevad--line line
+          sulgrevad--term (sulgrevad--make))
+    (condition-case why (sulgrevad-line-connect line (funcall words (sulgrevad-line-name line)) t)
+      ((error quit) (setq sulgrevad--term nil sulgrevad--line nil)
+                    (signal (car why) (cdr why))))
+    (dolist (hook sulgrevad--global-hooks) (add-hook (car hook) (cadr hook)))
+    (advice-add 'kill-emacs :before #'sulgrevad--leave)
+    (condition-case why (sulgrevad--await-names)
+      ((error quit) (sulgrevad--lose "the session did not begin")
+                    (signal (car why) (cdr why))))))
+
+(defun sulgrevad--await-names ()
+  "Wait until the host has told the names of the session's files."
+  (sulgrevad--offer-version sulgrevad--term sulgrevad-version-offered)
   (sulgrevad--open-cmd sulgrevad--term)
-  (sulgrevad--show 0 "*sam*")
-  (cond ((null sulgrevad--term) (user-error "The host ended"))
-        ((< 1 (sulgrevad--tags sulgrevad--term)) (switch-to-buffer (sulgrevad--show 1 (sulgrevad--name sulgrevad--term 1))))))
+  (unless (sulgrevad--wait (lambda () (and (sulgrevad--is-open sulgrevad--term 0) (not (sulgrevad--command-locked sulgrevad--term)))) t)
+    (user-error "The host is gone: %s" (string-join (reverse sulgrevad--told) "; "))))
+
+(defun sulgrevad--show-first ()
+  "Show the first file of the session, or read the path of one."
+  (let ((first (car (sulgrevad--names))))
+    (cond (first (switch-to-buffer (sulgrevad--show (cdr first))))
+          ((not noninteractive) (call-interactively #'sulgrevad-find-file)))))
+
+(defun sulgrevad--read-command ()
+  "Read the command for samhost."
+  (let ((usual (or (car sulgrevad--history) sulgrevad-command)))
+    (read-string (format-prompt "Command that runs samhost" usual) nil 'sulgrevad--history usual)))
+
+;;;###autoload
+(defun sulgrevad-start (command &rest files)
+  "Begin a session of FILES, which stays when its line breaks.
+COMMAND runs samhost: a list of words, or a shell's line as
+\"ssh box samhost\".  FILES become words after it, so a blank is to be
+quoted for ssh.  Show the first of them, or ask for one."
+  (interactive (list (sulgrevad--read-command)))
+  (sulgrevad--begin command
+                    (lambda (name)
+                      (append (list "--serve" name)
+                              (and sulgrevad-stay-hours (list "--stay" (format "%s" sulgrevad-stay-hours)))
+                              (list "--") files))
+                    nil)
+  (sulgrevad--show-first))
+
+;;;###autoload
+(defun sulgrevad-take (command &optional name)
+  "Go on with a session that another terminal had.
+COMMAND runs samhost, as for `sulgrevad-start'.  NAME is the session's;
+without it the only one that is there is taken.  Texts come, and which
+files were not written; undo doesn't."
+  (interactive (list (sulgrevad--read-command)
+                     (read-string "Name of the session (the only one): ")))
+  (sulgrevad--begin command (lambda (_) (cons "--take" (if (member name '(nil "")) nil (list name)))) t)
+  (sulgrevad--show-first))
+
+;;;###autoload
+(defun sulgrevad-reconnect ()
+  "Try a lost line now.  Here ssh may ask for a password."
+  (interactive)
+  (unless sulgrevad--term (user-error "There is no session"))
+  (when (or (sulgrevad--is-late) (not (sulgrevad-line-is-open sulgrevad--line)))
+    (sulgrevad-line-connect-again sulgrevad--line t)
+    (if (sulgrevad--wait (lambda () (sulgrevad-line-is-open sulgrevad--line)) t)
+        (message "The line is back")
+      (message "The line is still lost"))))
+
+(defun sulgrevad-quit ()
+  "End the session; ask first where a file was not written."
+  (interactive)
+  (unless sulgrevad--term (user-error "There is no session"))
+  (when (sulgrevad--may-end)
+    (let ((buffers sulgrevad--buffers))
+      (sulgrevad--leave)
+      (dolist (buffer buffers)
+        (when (and (buffer-live-p buffer) (not (buffer-local-value 'sulgrevad--has-drifted buffer))) (kill-buffer buffer))))))
+
+;;; Files
 
 (defun sulgrevad--buffer-of (tag)
   "The buffer of the file TAG, or nil."
-  (cl-find tag (cl-remove-if-not #'buffer-live-p sulgrevad--buffers) :key (lambda (buffer) (buffer-local-value 'sulgrevad--tag buffer))))
-
-(defun sulgrevad--show (tag name)
-  "The buffer NAME of the file TAG, which is opened and loaded first where it is not."
-  (or (sulgrevad--buffer-of tag)
-      (with-current-buffer (generate-new-buffer name)
-        (setq sulgrevad--tag tag sulgrevad--self (current-buffer) buffer-read-only t buffer-undo-list t)
-        (unless (or (= tag 0) (sulgrevad--is-open sulgrevad--term tag)) (sulgrevad--open sulgrevad--term tag))
-        (sulgrevad--load sulgrevad--term tag 0 sulgrevad-most-runes)
-        (unless (condition-case nil (sulgrevad--wait #'sulgrevad--is-free) (quit (kill-buffer) (signal 'quit nil)))
-          (kill-buffer)
-          (accept-process-output nil 0.1) ; what a host told that is gone
-          (error "%s" (if (process-live-p sulgrevad--process) "The host does not answer"
-                        (string-trim (concat "The host is gone: " sulgrevad--told)))))
-        (sulgrevad--take-over t)
-        (setq buffer-undo-list (= tag 0))
-        (goto-char (point-min))
-        (dolist (hook sulgrevad--hooks) (add-hook (car hook) (cadr hook) (caddr hook) t))
-        (sulgrevad-mode)
-        (push (current-buffer) sulgrevad--buffers)
-        (current-buffer))))
-
-(defun sulgrevad-find (name)
-  "Show the file NAME of the host."
-  (interactive (list (completing-read "File: " (sulgrevad--names) nil t)))
-  (switch-to-buffer (sulgrevad--show (cdr (assoc name (sulgrevad--names))) name)))
+  (cl-find tag (cl-remove-if-not #'buffer-live-p sulgrevad--buffers)
+           :key (lambda (buffer) (buffer-local-value 'sulgrevad--tag buffer))))
 
 (defun sulgrevad--names ()
   "The names of the host's files, with their tags."
@@ -533,29 +977,232 @@ With MOST wait that many seconds in all."
            for name = (sulgrevad--name sulgrevad--term tag)
            when name collect (cons name tag)))
 
-(defun sulgrevad--settle ()
-  "Wait until all changes of the buffer are handed over and more may be made."
-  (unless (sulgrevad--is-ours) (user-error "The buffer is not that of a file of the session"))
-  (unless (sulgrevad--wait (lambda () (and (sulgrevad--is-free) (not (sulgrevad--waits))))) (user-error "The host does not answer")))
+(defun sulgrevad--left-buffer (name)
+  "The buffer of the file NAME that is left of an earlier session, or nil.
+Not one whose text stands nowhere else."
+  (and name
+       (cl-find-if (lambda (buffer)
+                     (with-current-buffer buffer
+                       (and (eq sulgrevad--self buffer) (null sulgrevad--tag) (equal sulgrevad--path name)
+                            (not sulgrevad--has-drifted))))
+                   (buffer-list))))
+
+(defun sulgrevad--attach (tag)
+  "Have the buffer become that of the file TAG, whose text is to come."
+  (setq sulgrevad--tag tag
+        sulgrevad--self (current-buffer)
+        sulgrevad--changes t
+        sulgrevad--has-drifted nil
+        sulgrevad--tick (buffer-chars-modified-tick)
+        sulgrevad--is-locked t
+        buffer-read-only t
+        buffer-undo-list t)
+  (cl-pushnew (current-buffer) sulgrevad--buffers))
+
+(defun sulgrevad--show (tag)
+  "The buffer of the file TAG, which is opened and loaded where it is not."
+  (or (sulgrevad--buffer-of tag)
+      (let* ((name (if (= tag 0) "*sam*" (sulgrevad--name sulgrevad--term tag)))
+             (left (sulgrevad--left-buffer name))
+             (buffer (or left (generate-new-buffer (if (= tag 0) name (sulgrevad--base name))))))
+        (with-current-buffer buffer
+          (condition-case why (sulgrevad--fill tag (if (= tag 0) nil name))
+            ((error quit) (if (null left) (let ((kill-buffer-query-functions nil)) (kill-buffer))
+                            (setq sulgrevad--tag nil))
+                          (signal (car why) (cdr why))))
+          (setq buffer-undo-list (= tag 0))
+          (goto-char (point-min)))
+        buffer)))
+
+(defun sulgrevad--fill (tag name)
+  "Have the buffer become that of the file TAG with this NAME, and load it."
+  (sulgrevad--attach tag)
+  (setq sulgrevad--path name
+        list-buffers-directory name)
+  (unless (sulgrevad--is-open sulgrevad--term tag) (sulgrevad--open sulgrevad--term tag))
+  (sulgrevad--await-whole)
+  (when name
+    (sulgrevad--set-mode name)
+    (setq buffer-offer-save 'always)    ; so C-x s asks
+    (setq-local revert-buffer-function #'sulgrevad--revert))
+  (sulgrevad--hook-up)
+  (sulgrevad-mode))
+
+(defun sulgrevad--await-whole ()
+  "Load the buffer's file, and say how far that is.  \\[keyboard-quit] stops it."
+  (let* ((buffer (current-buffer)) (name (buffer-name)) (reporter nil)
+         (tell (lambda ()
+                 (unless reporter (setq reporter (make-progress-reporter (format "Loading %s..." name) 0 100)))
+                 (let ((state (and sulgrevad--line (sulgrevad-line-told-state sulgrevad--line))))
+                   (progress-reporter-force-update reporter (sulgrevad--percent buffer) nil (and state (format "%s; C-g stops" state)))))))
+    (unless (sulgrevad--wait (lambda () (with-current-buffer buffer (and (sulgrevad--is-free) (null sulgrevad--changes)))) t tell)
+      (error "%s is not loaded: the host does not answer" name))
+    (when reporter (progress-reporter-done reporter))))
+
+(defun sulgrevad--percent (buffer)
+  "How much of the file of BUFFER is loaded."
+  (let* ((tag (buffer-local-value 'sulgrevad--tag buffer))
+         (is-open (and sulgrevad--term tag (sulgrevad--is-open sulgrevad--term tag)))
+         (len (if is-open (sulgrevad--len sulgrevad--term tag) 0)))
+    (if (= 0 len) 0 (/ (* 100 (or (sulgrevad--first-gap sulgrevad--term tag) len)) len))))
+
+(defun sulgrevad--set-mode (name)
+  "Choose the major mode for the file NAME.
+Its hooks run where no file is visited: that of this path is elsewhere."
+  (delay-mode-hooks
+    (let ((buffer-file-name name)) (set-auto-mode)))
+  (run-mode-hooks))
+
+(defun sulgrevad--ask (verb rest)
+  "Ask the host by a note, VERB and REST, and wait for its answer.
+Return a list of what it answers and what stands after that."
+  (let ((number (cl-incf sulgrevad--number)))
+    (sulgrevad--send)
+    (sulgrevad-line-put-note sulgrevad--line verb (format "%d" number) rest)
+    (when (equal verb "open") (sulgrevad--offer-version sulgrevad--term sulgrevad-version-offered))
+    (or (sulgrevad--wait (lambda () (cdr (assq number sulgrevad--answers))))
+        (sulgrevad--refuse "That"))))
+
+(defun sulgrevad--is-named (tag)
+  "Whether the host has told the name of the file TAG, and all others."
+  (and (sulgrevad--is-known sulgrevad--term tag) (not (sulgrevad--command-locked sulgrevad--term))))
+
+(defun sulgrevad--open-path (path)
+  "Have the host open PATH.  Return its tag."
+  (pcase (sulgrevad--ask "open" path)
+    (`("opened" ,word)
+     (let ((tag (string-to-number word)))
+       (unless (sulgrevad--wait (lambda () (sulgrevad--is-named tag))) (sulgrevad--refuse "That"))
+       tag))
+    (`("refused" ,why) (user-error "%s is not opened: %s" path why))
+    (_ (user-error "%s is a folder" path))))
+
+;;;###autoload
+(defun sulgrevad-find-file (path)
+  "Show the file at PATH of the session's host, which may be new.
+A path is seen from the folder in which samhost runs.  With a prefix
+argument, read a file name of this machine."
+  (interactive
+   (if current-prefix-arg (list nil)
+     (sulgrevad--need-host "That")
+     (list (sulgrevad--read-path "Find file at the host: "))))
+  (if (null path) (call-interactively #'find-file)
+    (sulgrevad--need-host "That")
+    (switch-to-buffer (sulgrevad--show (sulgrevad--open-path (sulgrevad--plain path))))))
+
+(defun sulgrevad-find (name)
+  "Show the file NAME of the session."
+  (interactive (progn (unless sulgrevad--term (user-error "There is no session"))
+                      (list (completing-read "File of the session: " (sulgrevad--names) nil t))))
+  (let ((tag (cdr (assoc name (sulgrevad--names)))))
+    (unless tag (user-error "The session has no file %s" name))
+    (unless (sulgrevad--buffer-of tag) (sulgrevad--need-host "That"))
+    (switch-to-buffer (sulgrevad--show tag))))
+
+(defun sulgrevad-close (&optional kills)
+  "Close the buffer's file for good, and kill the buffer.
+\"samhost --open --wait\" waits for that.  With KILLS don't ask."
+  (interactive)
+  (sulgrevad--settle "That")
+  (when (or kills (not (sulgrevad--is-unwritten sulgrevad--tag))
+            (yes-or-no-p (format "%s was not written; close it all the same? " (buffer-name))))
+    (sulgrevad--close sulgrevad--term sulgrevad--tag)
+    (sulgrevad--let-go)
+    (kill-buffer)
+    (sulgrevad--pump t)))
+
+(defun sulgrevad--show-wished ()
+  "Show the files that somebody wishes shown, as samhost --open does."
+  (when (and sulgrevad--wishes sulgrevad--term (not (sulgrevad--is-late)) (not (active-minibuffer-window)))
+    (pcase-let ((`(,tag . ,line) (pop sulgrevad--wishes)))
+      (unless (sulgrevad--is-known sulgrevad--term tag)
+        (sulgrevad--offer-version sulgrevad--term sulgrevad-version-offered))
+      (when (sulgrevad--wait (lambda () (sulgrevad--is-named tag)))
+        (pop-to-buffer (sulgrevad--show tag))
+        (when (< 0 line)
+          (goto-char (point-min))
+          (forward-line (1- line)))))))
+
+(defun sulgrevad--revert (_ignore-auto noconfirm)
+  "Read the buffer's file anew, after a question unless NOCONFIRM.
+The host closes it and opens it again; what was not written is saved
+there first."
+  (sulgrevad--settle "That")
+  (let ((path sulgrevad--path) (tag sulgrevad--tag) (place (point)))
+    (when (string-prefix-p "…" path) (user-error "Only the end of its path is known"))
+    (when (or noconfirm
+              (yes-or-no-p (format "Read %s anew at the host%s? " path (if (buffer-modified-p) ", and drop its changes" ""))))
+      (sulgrevad--close sulgrevad--term tag)
+      (sulgrevad--let-go)
+      (sulgrevad--fill (sulgrevad--open-path path) path)
+      (setq buffer-undo-list nil)
+      (goto-char (min place (point-max))))))
+
+;;; Paths
+
+(defun sulgrevad--plain (path)
+  "PATH without what stands before an absolute one, as \"src//etc/motd\"."
+  (if (string-match ".*/\\(/\\)" path) (substring path (match-beginning 1)) path))
+
+(defun sulgrevad--read-path (prompt)
+  "Read a path at the host, with completion, after PROMPT."
+  (let ((known nil))
+    (completing-read prompt
+                     (lambda (string predicate action)
+                       (sulgrevad--complete string predicate action
+                                            (lambda (path)
+                                              (cdr (or (assoc path known)
+                                                       (car (push (cons path (sulgrevad--names-at path)) known)))))))
+                     nil nil
+                     (and sulgrevad--path (file-name-directory sulgrevad--path))
+                     'sulgrevad--paths)))
+
+(defun sulgrevad--complete (string predicate action names-at)
+  "Complete the path STRING, with PREDICATE and ACTION as for any table.
+NAMES-AT gives the names that complete a path, without their folder."
+  (let* ((path (sulgrevad--plain string))
+         (front (- (length string) (length path)))
+         (start (+ front (length (or (file-name-directory path) "")))))
+    (pcase action
+      ('metadata nil)
+      (`(boundaries . ,suffix) `(boundaries ,start . ,(or (string-search "/" suffix) (length suffix))))
+      (_ (let ((found (complete-with-action action (funcall names-at path) (substring string start) predicate)))
+           (if (stringp found) (concat (substring string 0 start) found) found))))))
+
+(defun sulgrevad--names-at (path)
+  "The names at the host that complete PATH; those of folders end in a slash."
+  (pcase (and sulgrevad--term (not (sulgrevad--is-late)) (sulgrevad--ask "names" path))
+    (`("names" ,answer) (sulgrevad--names-of (cadr (sulgrevad--cut answer))))))
+
+(defun sulgrevad--names-of (names)
+  "The NAMES of a note, which stand between slashes.
+An empty one says that the one before is a folder."
+  (let (found)
+    (dolist (name (split-string names "/"))
+      (cond ((not (string-empty-p name)) (push name found))
+            (found (setcar found (concat (car found) "/")))))
+    (nreverse found)))
+
+;;; Command lines
 
 (defun sulgrevad-command (line)
-  "Run a command LINE of sam on the buffer and its region.  Return what it prints."
+  "Run a command LINE of sam on the buffer and its region.
+Return what it prints."
   (interactive "sCommand: ")
-  (sulgrevad--settle)
+  (sulgrevad--settle "A command line")
   (let ((start (1- (if (use-region-p) (region-beginning) (point))))
         (end (1- (if (use-region-p) (region-end) (point))))
         (printed nil))
     (sulgrevad--select sulgrevad--term sulgrevad--tag start end)
     (sulgrevad--work sulgrevad--term sulgrevad--tag)
     (sulgrevad--wait #'sulgrevad--is-free)
-    (with-current-buffer (sulgrevad--show 0 "*sam*")
+    (with-current-buffer (sulgrevad--show 0)
       (goto-char (point-max))
       (let ((from (1- (line-beginning-position))))
         (sulgrevad--type-line from (concat line "\n"))
         (sulgrevad--wait #'sulgrevad--is-free)
-        (sulgrevad--take-over)
         (setq printed (buffer-substring-no-properties (min (point-max) (+ from 2 (length line))) (point-max)))))
-    (when (sulgrevad--wait #'sulgrevad--is-free) ; what the line put in may not be loaded yet
+    (when (and (sulgrevad--wait #'sulgrevad--is-free t) sulgrevad--tag) ; what the line put in may not be loaded yet
       (pcase-let ((`(,from ,to) (sulgrevad--dot sulgrevad--term sulgrevad--tag)))
         (push-mark (1+ from) t (< from to))
         (goto-char (1+ to))))
@@ -563,31 +1210,96 @@ With MOST wait that many seconds in all."
     printed))
 
 (defun sulgrevad--type-line (from line)
-  "Have LINE, which ends in a newline, take the place of the command file's text from FROM on."
+  "Have LINE, which ends in a newline, replace the command file from FROM on.
+What an event changes at once no step tells."
   (when (< sulgrevad-most-runes (+ from (length line))) (user-error "The command file has no room for so long a line"))
-  (sulgrevad--select sulgrevad--term 0 from (sulgrevad--len sulgrevad--term 0))
-  (cl-loop for at from 0 below (length line) by sulgrevad-most-typed
-           do (sulgrevad--type sulgrevad--term 0 (substring line at (min (length line) (+ at sulgrevad-most-typed))))))
+  (let ((len (sulgrevad--len sulgrevad--term 0)))
+    (sulgrevad--select sulgrevad--term 0 from len)
+    (cl-loop for at from 0 below (length line) by sulgrevad-most-typed
+             for text = (substring line at (min (length line) (+ at sulgrevad-most-typed)))
+             for place = from then (+ from at)
+             do (sulgrevad--type sulgrevad--term 0 text)
+             if (= 0 (sulgrevad--held sulgrevad--term))
+             do (sulgrevad--note-change place (if (= at 0) (- len from) 0) (length text)))
+    (sulgrevad--take-over)))
+
+;;; Writing
+
+(defun sulgrevad--want-write (tag)
+  "Have the host write the file TAG as soon as that can be."
+  (unless (memq tag sulgrevad--writes) (setq sulgrevad--writes (append sulgrevad--writes (list tag)))))
+
+(defun sulgrevad--is-writing (tag)
+  "Whether the file TAG is still to be written."
+  (or (memq tag sulgrevad--writes) (eql tag sulgrevad--writing)))
+
+(defun sulgrevad--write-next ()
+  "Have the host write the next file, and say what became of the last.
+One is written after the other, so that what the host tells is of that."
+  (when (and sulgrevad--writing (not (sulgrevad--locked sulgrevad--term sulgrevad--writing)) (= 0 (sulgrevad--held sulgrevad--term)))
+    (sulgrevad--note-written))
+  (let* ((tag (car sulgrevad--writes)) (buffer (and tag (sulgrevad--buffer-of tag))))
+    (cond ((or (null tag) sulgrevad--writing))
+          ((not (sulgrevad--is-open sulgrevad--term tag)) (pop sulgrevad--writes))
+          ((not (or (sulgrevad--is-late)
+                    (sulgrevad--locked sulgrevad--term tag)
+                    (< 0 (sulgrevad--held sulgrevad--term))
+                    (and buffer (with-current-buffer buffer (sulgrevad--waits)))))
+           (setq sulgrevad--complaint nil)
+           (condition-case why (sulgrevad--write sulgrevad--term tag)
+             (sulgrevad-unfinished (setq sulgrevad--writing (pop sulgrevad--writes))
+                                   (signal (car why) (cdr why))))
+           (setq sulgrevad--writing (pop sulgrevad--writes))))))
+
+(defun sulgrevad--note-written ()
+  "Say what became of the file that was written last."
+  (let* ((tag sulgrevad--writing) (told sulgrevad--complaint) (buffer (sulgrevad--buffer-of tag))
+         (name (or (sulgrevad--name sulgrevad--term tag) "the file")))
+    (setq sulgrevad--writing nil
+          sulgrevad--unwritten (cl-remove-if (lambda (old) (if (car old) (eql tag (car old)) (sulgrevad--is-about (cdr old) name)))
+                                             sulgrevad--unwritten))
+    (when told (push (cons tag told) sulgrevad--unwritten))
+    (when buffer (with-current-buffer buffer (sulgrevad--take-over)))
+    (message "%s" (or told (format "The host has written %s" name)))))
 
 (defun sulgrevad-save ()
-  "Have the host write the buffer's file, and wait until it has."
+  "Have the host write the buffer's file, and wait until it has.
+Where it does not answer, the file is written once it does."
   (interactive)
-  (sulgrevad--settle)
-  (sulgrevad--hand-over t)
-  (setq sulgrevad--told nil sulgrevad--writing sulgrevad--tag sulgrevad--unwritten (delq sulgrevad--tag sulgrevad--unwritten))
-  (sulgrevad--write sulgrevad--term sulgrevad--tag)
-  (cond ((not (sulgrevad--wait (lambda () (and (sulgrevad--is-free) (not (sulgrevad--is-changed sulgrevad--term sulgrevad--tag))))))
-         (message "The host has not said that it wrote %s" (buffer-name)))
-        ((memq sulgrevad--tag sulgrevad--unwritten) (message "%s" (string-trim sulgrevad--told)))
-        (t (message "The host has written %s" (buffer-name)))))
+  (unless (sulgrevad--is-ours) (user-error "The buffer is not that of a file of the session"))
+  (when (sulgrevad--wait (lambda () (and (sulgrevad--is-free) (not (sulgrevad--waits)))))
+    (sulgrevad--hand-over t))
+  (let ((tag sulgrevad--tag))
+    (sulgrevad--want-write tag)
+    (if (sulgrevad--wait (lambda () (not (sulgrevad--is-writing tag))))
+        (sulgrevad--offer-again tag)
+      (message "The host writes %s once it answers%s" (buffer-name)
+               (let ((state (and sulgrevad--line (sulgrevad-line-told-state sulgrevad--line)))) (if state (format " (%s)" state) ""))))))
 
-(defun sulgrevad-quit ()
-  "End the session; ask first where a file was not written."
-  (interactive)
-  (unless sulgrevad--term (user-error "There is no session"))
-  (when (sulgrevad--may-end)
-    (sulgrevad--leave)
-    (mapc #'kill-buffer (cl-remove-if-not #'buffer-live-p sulgrevad--buffers))))
+(defun sulgrevad--offer-again (tag)
+  "Where another program has changed the file TAG, ask, and write it."
+  (let ((told (cdr (assq tag sulgrevad--unwritten))))
+    (when (and told (not noninteractive) (string-match "\\(another program changed it\\|it is there already\\), and the next write" told)
+               (yes-or-no-p (format "%s: %s; replace it? " (buffer-name) (match-string 1 told))))
+      (sulgrevad-save))))
+
+(defun sulgrevad--write-contents ()
+  "Have the host write the buffer, for `save-buffer'."
+  (sulgrevad-save)
+  t)
+
+(defun sulgrevad-write-file (path)
+  "Have the host write the buffer to PATH, which becomes the file's name."
+  (interactive (progn (sulgrevad--settle "That")
+                      (list (sulgrevad--read-path "Write file at the host: "))))
+  (let* ((plain (sulgrevad--plain path))
+         (path (if (string-suffix-p "/" plain) (concat plain (sulgrevad--base sulgrevad--path)) plain))
+         (printed (if (or (string-empty-p path) (string-search "\n" path)) "the name is wrong"
+                    (save-mark-and-excursion (sulgrevad-command (concat "f " path))))))
+    (unless (equal (sulgrevad--name sulgrevad--term sulgrevad--tag) path)
+      (user-error "The file can't be called %s: %s" path (string-trim printed)))
+    (sulgrevad--set-mode path)
+    (sulgrevad-save)))
 
 (provide 'sulgrevad)
 ;;; sulgrevad.el ends here

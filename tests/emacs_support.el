@@ -1,0 +1,83 @@
+;;; What the checks of Emacs share: how one fails, waits, and sees what is said.  -*- lexical-binding: t -*-
+
+(defvar passed 0)
+(defvar failed 0)
+
+(defun check (name is-right &rest more)
+  (if is-right (setq passed (1+ passed))
+    (setq failed (1+ failed))
+    (princ (format "FAIL %s %S\n" name more))))
+
+(defun same (name)
+  "The terminal has the buffer's text."
+  (check name (equal (theirs) (sulgrevad--text)) (theirs) (sulgrevad--text)))
+
+(defun theirs ()
+  "The whole text that the terminal has."
+  (sulgrevad--part sulgrevad--term sulgrevad--tag 0 (sulgrevad--len sulgrevad--term sulgrevad--tag)))
+
+(defun keys (text)
+  "Press keys, with the hooks that a command has."
+  (execute-kbd-macro (kbd text)))
+
+(defun disk (file)
+  (with-temp-buffer (let ((coding-system-for-read 'utf-8-unix)) (insert-file-contents file)) (buffer-string)))
+
+(defun wait-for (is-there)
+  "Wait until IS-THERE returns non-nil, but no more than 20 seconds.  Return what it does."
+  (let ((end (+ (float-time) 20)) found)
+    (while (and (not (setq found (funcall is-there))) (< (float-time) end)) (accept-process-output nil 0.05))
+    found))
+
+(defvar room nil "The folder of the files, in which the sessions begin.")
+
+(defun kept (name)
+  "The texts that stand here of the file NAME.  Their files are removed."
+  (mapcar (lambda (file)
+            (check "a text that is kept is for its owner alone" (= (file-modes file) #o600) (file-modes file))
+            (prog1 (disk file) (delete-file file)))
+          (directory-files room t (concat "\\`" (regexp-quote name) "\\.sam-here"))))
+
+(defmacro asked (answer &rest body)
+  "Do BODY with a user there, who answers each question with ANSWER.  Return the questions."
+  (declare (indent 1))
+  `(let ((questions nil) (noninteractive nil))
+     (cl-letf (((symbol-function 'yes-or-no-p) (lambda (question) (push question questions) ,answer))) ,@body)
+     questions))
+
+(defun said (act)
+  "What is said while ACT is called, last first."
+  (let (words)
+    (cl-letf (((symbol-function 'message) (lambda (&rest more) (when (car more) (push (apply #'format-message more) words)) nil)))
+      (funcall act))
+    words))
+
+(defun is-said (word words)
+  "Whether one of WORDS is a message of ours with WORD in it."
+  (cl-some (lambda (one) (and (string-prefix-p "Sulgrevad: " one) (string-search word one))) words))
+
+(defun home ()
+  "The folder of the session at the host."
+  (expand-file-name (sulgrevad-line-name sulgrevad--line) (expand-file-name "sulgrevad" (getenv "XDG_STATE_HOME"))))
+
+(defun kill-host ()
+  "Have the host and all that it has of the session be gone."
+  (let ((host (string-to-number (disk (expand-file-name "lock" (home))))))
+    (when (equal "samhost" (alist-get 'comm (process-attributes host))) (signal-process host 'KILL)))
+  (delete-directory (home) t))
+
+(defun lose-host ()
+  "Kill the host, and wait until that is known."
+  (let ((sulgrevad-line-pauses '(0.1)))
+    (kill-host)
+    (wait-for (lambda () (null sulgrevad--term)))))
+
+(defun process ()
+  "The process that carries the session's bytes."
+  (sulgrevad-line-process sulgrevad--line))
+
+(defun begin (folder)
+  "Have FOLDER be where the sessions begin and temporary files are.  A session of a killed Emacs stays but for a minute."
+  (random "sulgrevad")
+  (setq room (file-name-as-directory folder) temporary-file-directory room sulgrevad-stay-hours 0.02)
+  (dolist (buffer (buffer-list)) (with-current-buffer buffer (setq default-directory room))))
