@@ -1,7 +1,8 @@
 #!/usr/bin/env python3
 """Draws docs/crates.svg (from crates.txt) and docs/threads.svg. Run it after a crate came, went or stands on others.
 
-docs/pictures.py --check draws nothing: it says whether both are as they would be drawn now, and ends in 'N passed, M failed'.
+docs/pictures.py --check draws nothing: it says whether both are as they would be drawn now, and ends in 'N passed, M failed'. It knows
+nothing of docs/web.png, which `tests/web --picture` takes in a browser: its bytes differ from one browser to the next.
 """
 
 import sys

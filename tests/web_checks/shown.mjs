@@ -7,6 +7,7 @@ const RUNES = ["a", "b", "\n", "é", "𝄞", "\r", SHADE];
 const MOST_IN_GAP = 9;
 const LONG = 9000; // units of a text that takes several pieces
 const GAP = null;
+const SHADED = `${SHADE}\n`;
 
 let state = (seed * 2654435761) >>> 0 || 1;
 function chance(below) {
@@ -20,18 +21,18 @@ function expect(got, wanted, told) {
   if (JSON.stringify(got) !== JSON.stringify(wanted)) throw new Error(`${told}: ${JSON.stringify(got)}, wanted ${JSON.stringify(wanted)}`);
 }
 
-/** What CodeMirror would have for a list of runes: of a gap one shade; and the position of each place. */
+/** What CodeMirror would have for a list of runes: of a gap a shade and a line end; and the position of each place. */
 function laidOut(runes) {
   const positions = [];
   let [line, ch, text] = [0, 0, ""];
   runes.forEach((rune, at) => {
     if (rune === GAP && at > 0 && runes[at - 1] === GAP) {
-      positions.push({ line, ch: ch - 1 });
+      positions.push(positions.at(-1));
       return;
     }
     positions.push({ line, ch });
-    text += rune ?? SHADE;
-    [line, ch] = rune === "\n" ? [line + 1, 0] : [line, ch + (rune ?? SHADE).length];
+    text += rune ?? SHADED;
+    [line, ch] = rune === "\n" || rune === GAP ? [line + 1, 0] : [line, ch + rune.length];
   });
   positions.push({ line, ch });
   return { positions, text };
@@ -65,7 +66,7 @@ function compare(runes, shown) {
   }
   const [start, end] = [chance(runes.length + 1), chance(runes.length + 1)].sort((one, other) => one - other);
   const wanted = runes.slice(start, end).filter((rune, at) => rune !== GAP || at === 0 || runes[start + at - 1] !== GAP);
-  expect(shown.text(start, end - start), wanted.map((rune) => rune ?? SHADE).join(""), "a part of the text");
+  expect(shown.text(start, end - start), wanted.map((rune) => rune ?? SHADED).join(""), "a part of the text");
 }
 
 let [runes, shown] = [[], new Shown()];

@@ -4,6 +4,7 @@ import { SHADE } from "./shown.js";
 
 const SHADE_OF_COPY = "\u2591"; // marks a gap in a copy
 const FRONT = "sulgrevad ";
+const TYPED = "typed.txt"; // the name of a copy of what was typed and still waited
 
 export class Copies {
   #kept = new Set(); // keys of copies that were made by this page
@@ -14,23 +15,23 @@ export class Copies {
     this.front = `${FRONT}${place} `;
   }
 
-  /** Makes copies where the host lacks something, and drops them once it has all. */
+  /** Makes copies where the host may lack something, and drops them once it has all. */
   keep() {
     const { editor } = this;
-    if (editor.line === null || (!editor.isOver && !editor.lacks)) {
+    if (editor.line === null || !editor.lacks) {
       this.#dropKept();
       return;
     }
     for (const [tag, view] of editor.views) {
-      if (view.shown.runes > 0 && (editor.isChanged(tag) || editor.isOver)) this.#keepText(editor.nameOf(tag), view);
+      if (editor.isChanged(tag)) this.#put(editor.nameOf(tag), view.shown.text(0, view.shown.runes).replaceAll(SHADE, SHADE_OF_COPY));
     }
+    if (editor.waiting.typed !== "") this.#put(TYPED, editor.waiting.typed);
   }
 
-  #keepText(name, view) {
-    const text = view.shown.text(0, view.shown.runes).replaceAll(SHADE, SHADE_OF_COPY);
+  #put(name, text) {
     const key = this.front + name;
     try {
-      localStorage.setItem(key, JSON.stringify({ name, when: Date.now(), text: text + this.editor.waiting.typed }));
+      localStorage.setItem(key, JSON.stringify({ name, when: Date.now(), text }));
       this.#kept.add(key);
     } catch {
       this.editor.say("this browser has no room for a copy of what the host may lack");

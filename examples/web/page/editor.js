@@ -105,20 +105,6 @@ export class Editor {
     return this.isSettled && this.waiting.count === 0 && !this.isComposing && !this.line.isLate && performance.now() - this.keyAt >= AT_REST;
   }
 
-  /** The place at which the window begins. */
-  get topPlace() {
-    const position = this.cm.coordsChar({ left: 0, top: this.cm.getScrollInfo().top }, "local");
-    return this.active.shown.placeOf(position);
-  }
-
-  /** Where the shade of a gap stands in the document: from its top on, in pixels. */
-  boxOf(view, start, gap) {
-    const position = view.shown.positionOf(start);
-    const top = this.cm.heightAtLine(position.line, "local");
-    const height = this.cm.heightAtLine(position.line + 1, "local") - top;
-    return { y: top, height, gap };
-  }
-
   isLoaded(from, to) {
     const { active } = this;
     if (active === null || !active.hasGap(from, to)) return active !== null;
@@ -154,31 +140,21 @@ export class Editor {
 
   /** Has the terminal do what waits, and CodeMirror show what that changes. */
   #step() {
-    const changes = new Map(); // of each file, the last change, to which the next one may be added
+    const changes = new Map(); // of each file
     for (;;) {
       const { step, kind, tag, change } = this.terminal.step();
       if (step === "idle" || step === "locked") break;
       if (step === "received" && kind === CLEAN) this.#meetClean(tag);
-      if (change.gone > 0 || change.came > 0) this.#noteChange(changes, tag, change);
+      if (change.gone > 0 || change.came > 0) changes.set(tag, [...(changes.get(tag) ?? []), change]);
     }
-    for (const [tag, change] of changes) this.#show(tag, change);
+    for (const [tag, each] of changes) this.#show(tag, each);
   }
 
-  #noteChange(changes, tag, change) {
-    const last = changes.get(tag);
-    if (last && change.start === last.start + last.came) {
-      last.gone += change.gone;
-      last.came += change.came;
-      return;
-    }
-    if (last) this.#show(tag, last);
-    changes.set(tag, { ...change });
-  }
-
-  #show(tag, change) {
+  #show(tag, changes) {
     const view = this.views.get(tag);
-    if (!view) return;
-    this.cm.operation(() => view.apply(change));
+    const show = () => this.cm.operation(() => view.apply(changes));
+    if (view === this.active) view?.keepingInPlace(show);
+    else if (view) show();
   }
 
   #meetClean(tag) {
@@ -231,7 +207,7 @@ export class Editor {
     const { active: view, terminal } = this;
     terminal.changed(view.tag); // what changed before
     this.#try(() => terminal.edit(view.tag, start, end, text));
-    this.cm.operation(() => view.apply(terminal.changed(view.tag)));
+    this.cm.operation(() => view.apply([terminal.changed(view.tag)]));
     const caret = start + runesOf(text);
     view.select(caret, caret);
     this.cm.scrollIntoView(null);
@@ -279,7 +255,8 @@ export class Editor {
 
   /** Shows a file, which is opened before. */
   show(tag) {
-    this.press(this.nameOf(tag), () => (this.open(tag) ? undefined : AGAIN), { isOfNoFile: true });
+    const isThere = () => this.terminal.isOpen(tag) || !this.line.isLate;
+    this.press(this.nameOf(tag), () => (isThere() && this.open(tag) ? undefined : AGAIN), { isOfNoFile: true });
   }
 
   /** Opens a file. Returns whether it is shown, or can't be any more; else it will be open once the host has answered. */
@@ -305,6 +282,7 @@ export class Editor {
     if (this.active === view) return;
     this.active = view;
     this.cm.swapDoc(view.doc);
+    view.measure();
     this.page.shows(view.tag);
     if (view.isFresh && !this.line.isLate) this.loading.begin(view);
   }

@@ -97,6 +97,7 @@ export class Input {
     const { editor } = this;
     if (change.origin === OURS) return;
     const { from, to } = change;
+    if (change.origin === "paste") change.update(from, to, change.text.map((line) => line.replace(/\r$/, "")));
     const isOpen = editor.waiting.isOpenTo && !this.#composesAside;
     if (isOpen && editor.isLoaded(from, to)) return;
     change.cancel();
@@ -107,6 +108,10 @@ export class Input {
   /** A text in the place of the selection, once its turn comes. */
   type(text, origin) {
     const { cm, editor } = this;
+    if (editor.isOver) {
+      editor.say("nothing can be changed any more");
+      return;
+    }
     const isReady = () => editor.isLoaded(cm.getCursor("from"), cm.getCursor("to"));
     const act = () => cm.replaceSelection(text, "end", origin);
     editor.waiting.press({ name: "typing", text, isReady, act });

@@ -30,7 +30,6 @@ function endOfLoad(terminal, tag, start, end) {
 export class Loading {
   #size = FIRST_SLICE;
   #underWay = null; // the file of which a slice is loaded, and since when
-  #aim = null; // the place that is to stay at the top once it is loaded, and how far the window was scrolled
 
   constructor(editor) {
     this.editor = editor;
@@ -70,7 +69,6 @@ export class Loading {
   goOn() {
     const { editor } = this;
     this.#noteSlice();
-    this.#keepInPlace();
     if (!editor.isFree || editor.isComposing || editor.line.isLate) return null;
     const quiet = performance.now() - editor.keyAt;
     const wanted = this.#wanted(editor.active);
@@ -83,31 +81,15 @@ export class Loading {
     return null;
   }
 
-  /** What of a view's text the window shows, or nearly, that isn't loaded; null where there is nothing. */
+  /** What of a view's text the window shows, and a page beside it, that isn't loaded; null where the window shows no shade. */
   #wanted(view) {
     const { top, clientHeight } = this.editor.cm.getScrollInfo();
-    for (const { gap, start } of view.shown.gaps()) {
-      const { y, height } = this.editor.boxOf(view, start, gap);
-      if (y >= top + clientHeight || y + height <= top) continue;
-      const runesPerPixel = gap.runes / Math.max(1, height);
-      const first = Math.floor(Math.max(0, top - y) * runesPerPixel);
-      const last = Math.ceil(Math.min(height, top + clientHeight - y) * runesPerPixel);
-      const from = start + Math.max(0, first - PAGE);
-      if (first > PAGE) this.#aim = { view, place: start + first, top };
-      return { start: from, end: Math.min(start + gap.runes, start + Math.max(last, first + 1) + PAGE, from + MOST_IN_LOAD) };
+    for (const { gap, start, y, height } of view.gapsBetween(top, top + clientHeight)) {
+      const runesOf = (pixels) => Math.floor((Math.max(0, Math.min(height, pixels)) / height) * gap.runes);
+      const from = start + Math.max(0, runesOf(top - y) - PAGE);
+      return { start: from, end: Math.min(start + gap.runes, start + runesOf(top + clientHeight - y) + PAGE, from + MOST_IN_LOAD) };
     }
     return null;
-  }
-
-  /** What was scrolled to in a shade stays where it is, once its text has come: unless the user has scrolled on. */
-  #keepInPlace() {
-    if (this.#aim === null || !this.editor.isFree) return;
-    const { view, place, top } = this.#aim;
-    this.#aim = null;
-    const { cm } = this.editor;
-    if (this.editor.active === view && Math.abs(cm.getScrollInfo().top - top) < 1) {
-      cm.scrollTo(null, cm.charCoords(view.shown.positionOf(place), "local").top);
-    }
   }
 
   // ---- Slices
@@ -126,7 +108,7 @@ export class Loading {
     const { terminal, active, views } = this.editor;
     const next = [active, ...views.values()].find((view) => terminal.isOpen(view.tag) && terminal.firstGap(view.tag) !== null);
     if (this.#underWay !== null || !next) return;
-    const from = next === active ? this.editor.topPlace : 0;
+    const from = next === active ? active.placeAt(this.editor.cm.getScrollInfo().top) : 0;
     const gap = terminal.firstGap(next.tag, from) ?? terminal.firstGap(next.tag);
     this.#underWay = { tag: next.tag, since: performance.now() };
     this.#ask(next.tag, gap, gap + this.#size);

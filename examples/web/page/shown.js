@@ -1,7 +1,7 @@
 /* What a page shows of a file: pieces of its text, and gaps where it isn't loaded. Places of the terminal, which count runes, and positions
  * of CodeMirror, which count lines and UTF-16 units, are found by each other here. */
 
-export const SHADE = "\ufffc"; // stands in CodeMirror's text for a gap, however long that is
+export const SHADE = "\ufffc"; // stands in CodeMirror's text for a gap, however long that is, and a line end after it
 const MOST_UNITS = 4096; // of a piece of text
 
 /** How many runes a string has. */
@@ -63,9 +63,9 @@ class Piece {
 /** A stretch that isn't loaded. */
 export class Gap {
   isGap = true;
-  text = SHADE;
-  lines = 0;
-  units = 1;
+  text = `${SHADE}\n`;
+  lines = 1;
+  units = 2;
   shade = null; // what CodeMirror shows for it
 
   constructor(runes) {
@@ -73,11 +73,11 @@ export class Gap {
   }
 
   unitsOf(runes) {
-    return runes > 0 ? 1 : 0;
+    return runes > 0 ? this.units : 0;
   }
 
   runesOf(units) {
-    return units > 0 ? this.runes : 0;
+    return units < this.units ? 0 : this.runes;
   }
 
   cut(from, to) {

@@ -19,9 +19,10 @@ function fileOf(editor) {
   const parts = [short + (editor.isChanged(active.tag) ? " *" : "")];
   if (!terminal.isOpen(active.tag)) return parts;
   const { start, end } = active.selection;
-  const { line } = cm.getCursor("head");
-  const known = line <= active.shown.firstGapLine ? `, line ${line + 1}` : "";
-  return [...parts, `${start},${end} of ${active.shown.runes}${known}`];
+  const head = cm.getCursor("head");
+  const { value: first } = active.shown.gaps().next();
+  const isKnown = first === undefined || first.start >= active.shown.placeOf(head);
+  return [...parts, `${start},${end} of ${active.shown.runes}${isKnown ? `, line ${head.line + 1}` : ""}`];
 }
 
 /** The words of the status line. */

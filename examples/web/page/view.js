@@ -27,6 +27,19 @@ function endOfGap(terminal, tag, start, end) {
   return low;
 }
 
+/** The smallest change that holds two, the one after the other. */
+function hull(first, second) {
+  const start = Math.min(first.start, second.start);
+  const end = Math.max(first.start + first.came, second.start + second.gone); // in the text between
+  return { start, gone: end - start - first.came + first.gone, came: end - start - second.gone + second.came };
+}
+
+/** Where a place stands after a change. */
+function moved(place, { start, gone, came }) {
+  if (place <= start || gone === came) return place;
+  return place < start + gone ? start : place + came - gone;
+}
+
 export class View {
   constructor(terminal, tag, cm, doc) {
     this.terminal = terminal;
@@ -36,15 +49,15 @@ export class View {
     this.shown = new Shown();
   }
 
-  /** Shows what the terminal says has changed: from `start` on `gone` runes or gaps gave way to `came`. */
-  apply({ start, gone, came }) {
+  /** Shows changes of the terminal's text, each in the places of the text after the one before. */
+  apply(changes) {
+    const { start, gone, came } = changes.reduce(hull);
     if (gone === 0 && came === 0) return;
     const [from, to] = this.shown.widened(start, start + gone);
     const pieces = read(this.terminal, this.tag, start, start + came);
     if (from < start) pieces.unshift(new Gap(start - from));
     if (to > start + gone) pieces.push(new Gap(to - start - gone));
-    const moved = (place) => (place <= start ? place : place < start + gone ? start : place + came - gone);
-    this.#put(from, to - from, pieces, moved);
+    this.#put(from, to - from, pieces, (place) => changes.reduce(moved, place));
   }
 
   /** Shows all of the text anew. */
@@ -59,10 +72,13 @@ export class View {
     const [{ anchor, head }] = this.doc.listSelections();
     const ends = [anchor, head].map((position) => moved(this.shown.placeOf(position)));
     const [from, to] = [start, start + gone].map((place) => this.shown.positionOf(place));
+    for (const { gap, start: at } of this.shown.gaps(start, start + gone)) {
+      if (at >= start && at + gap.runes <= start + gone) gap.shade?.clear();
+    }
     this.shown.replace(start, gone, pieces);
     this.doc.replaceRange(pieces.map((piece) => piece.text).join(""), from, to, OURS);
     this.doc.setSelection(...ends.map((place) => this.shown.positionOf(place)), { origin: OURS, scroll: false });
-    if (pieces.some((piece) => piece.isGap)) this.#shadeAll();
+    this.#shadeAll();
   }
 
   /** Whether nothing of it is loaded. */
@@ -70,17 +86,32 @@ export class View {
     return this.shown.runes > 0 && this.shown.pieces.every((piece) => piece.isGap);
   }
 
-  /** Has each new gap show as a shade, as high as its lines may be. */
+  /** Has each gap show as a shade below its line, as high as its lines may be. */
   #shadeAll() {
     for (const { gap, start } of this.shown.gaps()) {
-      if (gap.shade !== null) continue;
-      const from = this.shown.positionOf(start);
-      const element = document.createElement("span");
+      const { line, ch } = this.shown.positionOf(start);
+      if (gap.shade === null) this.#mark(line, ch);
+      if (gap.shade?.line === this.doc.getLineHandle(line)) continue; // else the line was parted above it
+      gap.shade?.clear();
+      const element = document.createElement("div");
       element.className = "shade";
       element.title = `${gap.runes} characters that are not loaded`;
       element.style.height = `${this.#heightOf(gap.runes)}px`;
-      const to = { line: from.line, ch: from.ch + 1 };
-      gap.shade = this.doc.markText(from, to, { replacedWith: element, atomic: true, handleMouseEvents: true });
+      gap.shade = this.doc.addLineWidget(line, element);
+    }
+  }
+
+  /** Has the caret pass a gap in one step. */
+  #mark(line, ch) {
+    this.doc.markText({ line, ch }, { line: line + 1, ch: 0 }, { atomic: true });
+    this.doc.markText({ line, ch }, { line, ch: ch + 1 }, { replacedWith: document.createElement("span") });
+  }
+
+  /** Has CodeMirror, which shows the file now, measure the shades. */
+  measure() {
+    for (const { gap } of this.shown.gaps()) {
+      gap.shade.node.style.height = `${this.#heightOf(gap.runes)}px`;
+      gap.shade.changed();
     }
   }
 
@@ -96,7 +127,56 @@ export class View {
     const start = this.shown.placeOf(from);
     const gone = runesOf(removed);
     this.shown.replace(start, gone, piecesOf(text));
+    this.#shadeAll();
     return { start, gone, came: runesOf(text) };
+  }
+
+  // ---- Where it stands in the window
+
+  /** Where the shade of a gap stands: from its top on, in pixels of the document. */
+  #boxOf(gap, start) {
+    const { line } = this.shown.positionOf(start);
+    const height = Math.max(1, gap.shade.height);
+    return { y: this.cm.heightAtLine(line + 1, "local") - height, height };
+  }
+
+  /** The gaps of which a part stands between two heights, and the boxes of their shades. */
+  *gapsBetween(top, bottom) {
+    for (const { gap, start } of this.shown.gaps()) {
+      const box = this.#boxOf(gap, start);
+      if (box.y < bottom && box.y + box.height > top) yield { gap, start, ...box };
+    }
+  }
+
+  /** The place that stands at a height; in a shade that which would. */
+  placeAt(height) {
+    for (const { gap, start, y, height: most } of this.gapsBetween(height, height + 1)) {
+      return start + Math.floor(((height - y) / most) * gap.runes);
+    }
+    return this.shown.placeOf(this.cm.coordsChar({ left: 0, top: height }, "local"));
+  }
+
+  /** At which height a place stands. */
+  heightOf(place) {
+    for (const { gap, start } of this.shown.gaps(place, place)) {
+      if (place <= start || place >= start + gap.runes) continue;
+      const { y, height } = this.#boxOf(gap, start);
+      return y + (height * (place - start)) / gap.runes;
+    }
+    return this.cm.charCoords(this.shown.positionOf(place), "local").top;
+  }
+
+  /** Does something that changes the document, and has the window show what it showed: the caret, if it was to be seen, else the text at the
+   * top. */
+  keepingInPlace(act) {
+    const { top, clientHeight } = this.cm.getScrollInfo();
+    const caret = this.cm.cursorCoords(true, "local");
+    const isCaretShown = caret.bottom > top && caret.top < top + clientHeight;
+    const place = isCaretShown ? null : this.placeAt(top);
+    const before = isCaretShown ? caret.top : this.heightOf(place);
+    act();
+    const after = place === null ? this.cm.cursorCoords(true, "local").top : this.heightOf(place);
+    if (Math.abs(after - before) >= 1) this.cm.scrollTo(null, top + after - before);
   }
 
   // ---- The selection
