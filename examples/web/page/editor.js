@@ -4,6 +4,7 @@ import { Input } from "./input.js";
 import { Loading } from "./loading.js";
 import { runesOf } from "./shown.js";
 import { Undo } from "./undo.js";
+import { Unwritten } from "./unwritten.js";
 import { View } from "./view.js";
 import { AGAIN, Waiting } from "./waiting.js";
 
@@ -50,6 +51,7 @@ export class Editor {
     this.page = page;
     this.waiting = new Waiting(this);
     this.loading = new Loading(this);
+    this.unwritten = new Unwritten(this);
     this.keys = page.keys;
     Input.define(CodeMirror, this);
     this.input = new Input(CodeMirror, cm, this);
@@ -90,8 +92,9 @@ export class Editor {
     return this.terminal.isKnown(tag) ? this.terminal.name(tag) : "(closed)";
   }
 
+  /** Whether a file was not written since it was changed, or its last write failed. */
   isChanged(tag) {
-    return this.terminal.isChanged(tag);
+    return this.terminal.isChanged(tag) || this.unwritten.has(tag);
   }
 
   /** Whether something that the user did may not be at the host yet. */
@@ -157,8 +160,10 @@ export class Editor {
     else if (view) show();
   }
 
+  /** The host has answered a write. */
   #meetClean(tag) {
-    if (!this.terminal.isChanged(tag)) this.say(`${this.nameOf(tag)} is written`);
+    this.unwritten.meetClean(tag);
+    if (!this.isChanged(tag)) this.say(`${this.nameOf(tag)} is written`);
   }
 
   // ---- What the user does
@@ -248,9 +253,14 @@ export class Editor {
         this.#putOff.add(tag);
         this.say(`${this.nameOf(tag)} is written when the line is back`);
       } else {
-        this.terminal.write(tag);
+        this.#write(tag);
       }
     });
+  }
+
+  #write(tag) {
+    this.unwritten.write(tag);
+    this.terminal.write(tag);
   }
 
   /** Shows a file, which is opened before. */
@@ -312,6 +322,7 @@ export class Editor {
     const { terminal } = this;
     if (this.isOver) return;
     this.#bring();
+    this.unwritten.goOn();
     if (this.active === null) this.#begin();
     this.waiting.goOn();
     this.#step();
@@ -335,7 +346,7 @@ export class Editor {
   #writePutOff() {
     if (this.line.isLate) return;
     for (const tag of this.#putOff) {
-      if (this.terminal.isKnown(tag)) this.terminal.write(tag);
+      if (this.terminal.isKnown(tag)) this.#write(tag);
     }
     this.#putOff.clear();
   }

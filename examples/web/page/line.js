@@ -1,11 +1,10 @@
 /* A line that goes on through breaks: the stream and the notes of a session that stays at the host, over one WebSocket after another. What
  * the host has not acknowledged is kept, and goes out again over the next one. */
+import { Connection, first, nameOf, newId } from "./connecting.js";
 import { Link, SamError, What, readHello } from "./sulgrevad/sulgrevad.js";
 
 const MARK = [0x89, 0x73, 0x61, 0x6d, 0x6c, 0x69, 0x6e, 0x6b]; // with which a hello begins
 const HELLO_BYTES = 42;
-const ID_BYTES = 16;
-const NAME_BYTES = 8; // of the id, whose digits name the session
 const PIECE = 65536; // bytes of one message
 const MOST_NOISE = 65536; // bytes that may come before a hello
 const MOST_BUFFERED = 1 << 18; // bytes that wait in a socket, above which it is given no more
@@ -54,7 +53,7 @@ export class Line {
   #ways; // how a session is sought, the likeliest first, until a connection is welcomed
   #takesOver;
   #early = []; // what was put before a connection was welcomed, as what puts it into an end
-  #socket = null; // the newest connection; null between two
+  #connection = null; // the newest connection; null between two
   #attempt = 0;
   #begun = new Uint8Array(0); // what has come of a connection before it was welcomed
   #due = 0; // up to which byte of ours an answer is wanted
@@ -77,18 +76,16 @@ export class Line {
   why = "";
   endedWith = null; // the status with which the session has ended
 
-  /** Begins a session at an address; or takes over the first that is there of some names, if there are any. */
-  constructor(address, taken, heard) {
-    this.address = address;
+  /** Goes on with the first connection: it begins a session, or takes the one of this address over. */
+  constructor(heard) {
     this.heard = heard;
-    this.#makeEnd(taken);
-    this.#call();
+    this.#makeEnd(first.id, first.names);
+    this.#call(first.connection);
   }
 
-  #makeEnd(taken) {
-    const id = crypto.getRandomValues(new Uint8Array(ID_BYTES));
+  #makeEnd(id, taken) {
     this.#end = new Link(Link.TERMINAL, id);
-    this.name = [...id.subarray(0, NAME_BYTES)].map((byte) => byte.toString(16).padStart(2, "0")).join("");
+    this.name = nameOf(id);
     // A session that is taken over is named anew: if the first connection broke then, it is found by its new name.
     this.#ways = taken.length > 0 ? [...taken.map((name) => ["take", name]), ["attach", this.name]] : [["serve", this.name]];
     this.#takesOver = taken.length > 0;
@@ -96,17 +93,14 @@ export class Line {
 
   // ---- Connections
 
-  #call() {
+  #call(connection = null) {
+    const way = this.#hasBegun ? ["attach", this.name] : this.#ways[0];
     this.#attempt = this.#end.call(this.#takesOver);
     this.#begun = new Uint8Array(0);
     this.#calledAt = this.#heardAt = performance.now();
-    const [verb, name] = this.#hasBegun ? ["attach", this.name] : this.#ways[0];
-    const socket = new WebSocket(`${this.address}?verb=${verb}&name=${name}`);
-    socket.binaryType = "arraybuffer";
-    socket.onopen = () => this.#push();
-    socket.onmessage = ({ data }) => this.#take(data);
-    socket.onclose = ({ code }) => this.#closed(code);
-    this.#socket = socket;
+    this.#connection = connection ?? new Connection(...way);
+    this.#connection.hear({ open: () => this.#push(), message: (data) => this.#take(data), close: (code) => this.#closed(code) });
+    this.#push();
     this.#wait();
   }
 
@@ -119,12 +113,11 @@ export class Line {
 
   /** Ends the newest connection. */
   #drop() {
-    const socket = this.#socket;
-    this.#socket = null;
-    if (socket === null) return;
+    const connection = this.#connection;
+    this.#connection = null;
+    if (connection === null) return;
     this.#end.broken(this.#attempt);
-    socket.onopen = socket.onmessage = socket.onclose = null;
-    socket.close();
+    connection.end();
   }
 
   #closed(code) {
@@ -140,7 +133,7 @@ export class Line {
     this.#drop();
     if (this.#ways.length === 0) {
       const old = this.#end;
-      this.#makeEnd([]);
+      this.#makeEnd(newId(), []);
       old.free();
       for (const put of this.#early) put(this.#end);
       this.#due = this.#end.putCount;
@@ -181,7 +174,7 @@ export class Line {
   #goOn() {
     const now = performance.now();
     if (this.isLost) return;
-    if (this.#socket === null) {
+    if (this.#connection === null) {
       if (now >= this.#againAt) this.#call();
     } else if (this.isOpen) {
       if (this.#isAnswerDue && now - Math.max(this.#askedAt, this.#heardAt) >= SILENCE_TO_BREAK) this.#break();
@@ -203,8 +196,8 @@ export class Line {
   #delay() {
     const now = performance.now();
     if (this.isLost) return null;
-    if (this.#socket === null) return this.#againAt - now;
-    if (this.#socket.bufferedAmount >= MOST_BUFFERED) return LOOK_AGAIN;
+    if (this.#connection === null) return this.#againAt - now;
+    if (this.#connection.waiting >= MOST_BUFFERED) return LOOK_AGAIN;
     if (!this.isOpen) return this.#calledAt + this.#connecting - now;
     return this.#isAnswerDue ? Math.max(this.#askedAt, this.#heardAt) + SILENCE_TO_BREAK - now : null;
   }
@@ -243,12 +236,12 @@ export class Line {
   }
 
   #push() {
-    const socket = this.#socket;
-    if (socket === null || socket.readyState !== WebSocket.OPEN || this.#end.phase === Link.DOWN) return;
-    while (socket.bufferedAmount < MOST_BUFFERED) {
+    const connection = this.#connection;
+    if (!connection?.isOpen || this.#end.phase === Link.DOWN) return;
+    while (connection.waiting < MOST_BUFFERED) {
       const bytes = this.#end.takeOut(this.#attempt, PIECE);
       if (bytes.length === 0) break;
-      socket.send(bytes);
+      connection.send(bytes);
       this.up += bytes.length;
     }
     this.#wait();
@@ -363,7 +356,7 @@ export class Line {
 
   /** Bytes that the socket has not taken. */
   get waiting() {
-    return this.#end.unsent + (this.#socket?.bufferedAmount ?? 0);
+    return this.#end.unsent + (this.#connection?.waiting ?? 0);
   }
 
   /** For how many milliseconds nothing has come, though an answer is due. */
@@ -385,7 +378,7 @@ export class Line {
   /** What the status line says of a line that is lost. */
   get told() {
     const seconds = `LINE LOST ${Math.floor(this.silence / 1000)} s`;
-    if (this.#socket !== null) return `${seconds}, connecting`;
+    if (this.#connection !== null) return `${seconds}, connecting`;
     return `${seconds}, again in ${Math.max(0, Math.round((this.#againAt - performance.now()) / 1000))} s`;
   }
 }

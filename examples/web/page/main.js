@@ -1,4 +1,5 @@
 /* The page: its parts, its keys, and the session that its address has. */
+import { PLACE, keepNames } from "./connecting.js";
 import { Copies } from "./copies.js";
 import { Editor } from "./editor.js";
 import { Find } from "./find.js";
@@ -9,8 +10,6 @@ import { statusOf } from "./status.js";
 const { CodeMirror } = globalThis;
 const MOST_TOLD = 20; // lines of the host that stand in the page
 const COPY_AFTER = 2000; // milliseconds between two looks whether copies are due
-const PLACE = new URL(".", location.href).pathname;
-const NAMES_KEY = `session ${PLACE}`; // where this browser keeps what the session of the address may be named, the likeliest first
 
 const part = (id) => document.getElementById(id);
 
@@ -55,27 +54,26 @@ class Page {
 
   /** Goes on with the session of this address, or begins one. */
   begin() {
-    const taken = (localStorage.getItem(NAMES_KEY) ?? "").split(" ").filter((name) => name !== "");
-    this.#call(taken);
-    localStorage.setItem(NAMES_KEY, [this.line.name, ...taken].join(" ")); // the session may be named anew before the page hears of it
-    for (const copy of this.copies.left) this.#offer(copy);
-    this.cm.focus();
-  }
-
-  #call(taken) {
-    const address = new URL("line", location.href);
-    address.protocol = address.protocol.replace("http", "ws");
-    this.line = new Line(address.href, taken, {
+    this.line = new Line({
       bytes: (bytes) => this.editor.feed(bytes),
-      told: (line) => this.tell(line),
+      told: (line) => this.#hear(line),
       note: (verb, rest) => this.#note(verb, rest),
       changed: () => this.#meetLine(),
     });
     this.editor.begin(this.line);
+    for (const copy of this.copies.left) this.#offer(copy);
+    this.cm.focus();
+  }
+
+  /** A line that the host tells. */
+  #hear(line) {
+    this.editor.unwritten.hear(line);
+    this.tell(line);
+    this.draw();
   }
 
   #note(verb, rest) {
-    if (verb === "session") localStorage.setItem(NAMES_KEY, this.line.name);
+    if (verb === "session") keepNames(this.line.name);
     else this.opening.meet(verb, rest);
   }
 
@@ -85,7 +83,7 @@ class Page {
       editor.update();
       return;
     }
-    if (line.endedWith !== null) localStorage.removeItem(NAMES_KEY);
+    if (line.endedWith !== null) keepNames();
     editor.lose(line.why);
   }
 
