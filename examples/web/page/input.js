@@ -60,17 +60,31 @@ export class Input {
     const keys = {};
     for (const [key, name] of Object.entries(allKeys(CodeMirror, "default"))) {
       const command = REPLACED[name] ?? name;
-      if (KEPT.test(command)) keys[key] = () => editor.input.press(command);
+      if (!KEPT.test(command)) continue;
+      keys[key] = () => editor.input.press(command);
+      if (command.startsWith("go")) keys[`Shift-${key}`] ??= () => editor.input.press(command, true);
     }
     CodeMirror.keyMap.sulgrevad = { ...keys, ...editor.keys };
   }
 
-  /** A command of CodeMirror's. */
-  press(command) {
-    const { cm, editor } = this;
+  /** A command of CodeMirror's; a move may extend the selection. */
+  press(command, isExtending = false) {
+    const { editor } = this;
     editor.noteKey();
     const isReady = () => this.#hasText(command);
-    editor.waiting.press({ name: nameOf(command), isReady, act: () => cm.execCommand(command) });
+    editor.waiting.press({ name: nameOf(command), isReady, act: () => this.#run(command, isExtending) });
+  }
+
+  /** Runs a command as if Shift were held down as it was when its key was pressed, whatever is held down by now. */
+  #run(command, isExtending) {
+    const { display } = this.cm;
+    const { shift } = display;
+    display.shift = isExtending;
+    try {
+      this.cm.execCommand(command);
+    } finally {
+      display.shift = shift;
+    }
   }
 
   /** Whether the text is loaded by which a command goes; else it is asked for. */
