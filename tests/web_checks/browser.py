@@ -84,10 +84,11 @@ class Site:
             self.proxy = Proxy(port)
         origin = f"http://127.0.0.1:{self.proxy.port}"
         words = ["--host", shlex.join(host), "--address", str(kept), "--origin", origin]
-        self.server = subprocess.Popen(
-            [sys.executable, str(ROOT / "examples/web/samweb"), *words, *self.files],
-            cwd=self.folder, env=self.environment, stdout=subprocess.PIPE, text=True,
-        )  # fmt: skip
+        with open(self.room / "server.log", "a") as log:
+            self.server = subprocess.Popen(
+                [sys.executable, str(ROOT / "examples/web/samweb"), *words, *self.files],
+                cwd=self.folder, env=self.environment, stdout=subprocess.PIPE, stderr=log, text=True,
+            )  # fmt: skip
         self.address = self.server.stdout.readline().strip()
         expect(self.address.startswith(origin), f"samweb prints {self.address!r}")
         self.proxy.target = json.loads(kept.read_text())["port"]
@@ -106,10 +107,21 @@ class Site:
         return [line.split()[0] for line in said.stdout.splitlines() if line.strip()]
 
     def close(self):
+        """Ends the server and its sessions. The server has told nothing."""
         with contextlib.suppress(ProcessLookupError):
             self.server.terminate()
-        self.server.wait(SECONDS)
-        self.proxy.close()
+        try:
+            self.server.wait(SECONDS)
+        except subprocess.TimeoutExpired:
+            self.server.kill()
+            raise Failed("samweb doesn't end") from None
+        finally:
+            self.proxy.close()
+            self._end_sessions()
+        told = (self.room / "server.log").read_text()
+        expect(told == "", f"samweb tells: {told}")
+
+    def _end_sessions(self):
         for name in self.sessions():
             subprocess.run([str(SAMHOST), "--end", name], env=self.environment, capture_output=True, check=False, timeout=SECONDS)
 
@@ -176,7 +188,8 @@ class Page:
         return self.js("sulgrevad.terminal.text(sulgrevad.active.tag)")
 
     def wait_for_text(self):
-        wait_until(lambda: self.js("!!globalThis.sulgrevad?.active && sulgrevad.isFree"), "no file is shown")
+        shown = "!!globalThis.sulgrevad?.active && sulgrevad.terminal.isOpen(sulgrevad.active.tag) && !sulgrevad.active.isFresh"
+        wait_until(lambda: self.js(shown), "no file is shown")
 
     def wait_until_settled(self):
         """Until the host has all, and has answered."""
