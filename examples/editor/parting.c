@@ -185,9 +185,10 @@ static int begin_in(struct home *home, char **paths, int count, const struct opt
     int status = open_session(session, paths, count, options);
     if (status == STATUS_OK) {
         int error = make_journal(session->stay, JOURNAL);
-        if (error == 0)
+        if (error == 0) {
             note_start(session);
-        else /* one that is not whole is none */
+            sync_home(&session->stay->home);
+        } else /* one that is not whole is none */
             say("there is no journal: %s; if samhost ends unasked, the session ends with it", cause(error));
         note_about(session);
         return part(session);
@@ -266,7 +267,7 @@ static int give_up(struct session *session, enum replay_fault fault, bool is_att
         remove_home(home);
     free_staying(session);
     if (is_attached && (is_for_ever || fault == REPLAY_OTHER))
-        return refuse_hello();
+        return refuse_hello(SAM_LINK_NO_SESSION);
     return fault == REPLAY_SHORT ? STATUS_MEMORY : STATUS_UNREADABLE;
 }
 
@@ -308,6 +309,7 @@ int end_without_samhost(struct home *home)
 int attach(const char *name)
 {
     struct home home;
+    char heir[NAME_DIGITS + 1];
     int line, error = open_home(name, false, &home);
 
     if (error == 0) {
@@ -320,7 +322,9 @@ int attach(const char *name)
     }
     if (error == 0)
         return relay(line);
-    return error == ENOENT ? refuse_hello() : say_home(name, error);
+    if (error != ENOENT)
+        return say_home(name, error);
+    return refuse_hello(find_heir(name, heir) ? SAM_LINK_OTHER_SESSION : SAM_LINK_NO_SESSION);
 }
 
 /* Notes the name of a session, if it is the first. */
@@ -336,7 +340,7 @@ static int note_only(struct home *home, void *at)
 
 int take(const char *name)
 {
-    char only[NAME_DIGITS + 1] = "";
+    char only[NAME_DIGITS + 1] = "", heir[NAME_DIGITS + 1];
     int error = name != NULL ? 0 : each_home(note_only, only);
 
     if (error == EEXIST) {
@@ -348,6 +352,8 @@ int take(const char *name)
         return STATUS_UNREADABLE;
     }
     if (name == NULL && *only == '\0')
-        return refuse_hello();
+        return refuse_hello(SAM_LINK_NO_SESSION);
+    if (name != NULL && find_heir(name, heir)) /* who is to come back finds it, whoever has taken it since */
+        return attach(heir);
     return attach(name != NULL ? name : only);
 }

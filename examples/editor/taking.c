@@ -109,10 +109,12 @@ static void name_anew(struct session *session, struct session *heir, const struc
         (void)unlinkat(home->folder, JOURNAL, 0);
         say("there is no journal: %s; if samhost ends unasked, the session ends with it", cause(error));
     }
+    note_before(home, before);
     if (renameat(home->all, before, home->all, home->name) != 0) {
         say("session %s can't be named anew: %s", before, cause(errno));
         memcpy(home->name, before, sizeof before);
     }
+    sync_home(home);
     note_about(heir);
 }
 
