@@ -94,7 +94,7 @@ void sync_home(const struct home *home)
 
 void remove_home(struct home *home)
 {
-    const char *const names[] = {JOURNAL, SOCKET, ABOUT, BEFORE, LOCK};
+    const char *const names[] = {JOURNAL, NEW_JOURNAL, SOCKET, ABOUT, BEFORE, LOCK};
 
     for (size_t at = 0; at < sizeof names / sizeof names[0]; at++)
         (void)unlinkat(home->folder, names[at], 0);

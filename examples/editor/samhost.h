@@ -211,6 +211,7 @@ enum {
 };
 
 #define JOURNAL "journal" /* names of files in the folder of a session that stays */
+#define NEW_JOURNAL "journal.new"
 #define ABOUT "name"
 #define BEFORE "before" /* the names that the session had before other terminals took it over */
 

@@ -98,12 +98,12 @@ static void name_anew(struct session *session, struct session *heir, const struc
     session->stay->journal.file = -1;
     memcpy(before, home->name, sizeof before);
     name_of_id(heir->stay->id, home->name);
-    int error = make_journal(heir->stay, JOURNAL ".new");
+    int error = make_journal(heir->stay, NEW_JOURNAL);
     if (error == 0) {
         note_start(heir);
         add_record(heir, STEP_HELLO, caller->bytes, caller->len);
         sync_journal(heir);
-        error = renameat(home->folder, JOURNAL ".new", home->folder, JOURNAL) != 0 ? errno : 0;
+        error = renameat(home->folder, NEW_JOURNAL, home->folder, JOURNAL) != 0 ? errno : 0;
     }
     if (error != 0) {
         (void)unlinkat(home->folder, JOURNAL, 0);

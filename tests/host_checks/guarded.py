@@ -3,17 +3,17 @@ other users at either end of its socket."""
 import os
 import re
 import shutil
-import socket
 import subprocess
 import sys
 from pathlib import Path
 
 from checks import SECONDS, Skipped, expect, wait_until
 
+from .journals import is_session
 from .line import Staying, home_of, pid_of, state_of
-from .staying import OWN
 from .support import IS_ROOT, NOBODY, SAMHOST, expect_equal, made, text_of
 
+OWN = "fedcba9876543210"  # the name of a session, which no other check gives
 CALL = re.compile(r"^(\d+) +(\w+)\((.*)\) += (-?\d+)")
 MAKING = "mkdir,mkdirat,open,openat,creat,bind,mknod,mknodat,chmod,fchmod,fchmodat,umask"
 # What a call makes there: the mode that it asks for
@@ -72,6 +72,11 @@ def check_guarded_from_the_first_moment(folder):
     expect(files and not followed, f"it would follow a link: {followed}")
 
 
+def processes_of(name):
+    """Those that serve the session of a name."""
+    return [pid for pid in map(int, filter(str.isdigit, os.listdir("/proc"))) if is_session(pid, name)]
+
+
 def check_guarded_from_links_in_the_folder(folder):
     """A symbolic link in the place of a file of the session leads nowhere: what it names isn't read, changed or made."""
     made(folder, a="one\n")
@@ -86,7 +91,7 @@ def check_guarded_from_links_in_the_folder(folder):
             (home / name).symlink_to(target)
             words = [SAMHOST, "--serve", OWN, "--stay", "0.0001", "a.txt"]
             ended = subprocess.run(words, cwd=folder, env=environment, input=b"", capture_output=True, timeout=SECONDS)
-            wait_until(lambda: not (home / "socket").exists() or (home / "socket").is_symlink(), f"{name}: it doesn't end")
+            wait_until(lambda: not processes_of(OWN), f"{name}: it doesn't end")
             expect_equal(text_of(target), "theirs\n" if is_there else None, f"{name}: after {ended} what the link leads to")
             shutil.rmtree(home, ignore_errors=True)
             target.unlink(missing_ok=True)
@@ -134,7 +139,8 @@ def check_guarded_from_another_user(folder):
                 place.chmod(mode)
             front = ("setpriv", f"--reuid={NOBODY}", f"--regid={NOBODY}", "--clear-groups")
             for words in (["--attach", session.name], ["--take", session.name], ["--end", session.name], ["--open", "a.txt"], ["--list"]):
-                ended = subprocess.run([*front, SAMHOST, *words], env=session.environment, cwd="/", input=b"", capture_output=True, timeout=SECONDS)
+                command = [*front, SAMHOST, *words]
+                ended = subprocess.run(command, env=session.environment, cwd="/", input=b"", capture_output=True, timeout=SECONDS)
                 expect(ended.returncode != 0 and ended.stdout == b"", f"{words} with folders of mode {mode:o}: {ended}")
         home.chmod(0o700)
         state_of(folder).chmod(0o700)

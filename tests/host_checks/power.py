@@ -4,9 +4,10 @@ import os
 import random
 import re
 import resource
+import shutil
 import subprocess
 
-from checks import SECONDS, expect
+from checks import SECONDS, Skipped, expect
 
 from .journals import kill, records_of
 from .line import Staying, home_of
@@ -141,6 +142,28 @@ def check_power_cut_that_leaves_zeros(folder):
         with open(left.home / "journal", "ab") as journal:
             journal.write(bytes(count))
         left.expect_texts(len(left.journal) - count, left.texts_at_the_end(-count))
+
+
+def check_power_cut_keeps_the_folder(folder):
+    """The names of what a session has are on the disk before anything is acknowledged, also once another terminal has taken it over."""
+    if shutil.which("strace") is None:
+        raise Skipped("no strace")
+    made(folder, a="one\n")
+    log = folder / "calls"
+    words = ("strace", "-f", "-qq", "-y", "-xx", "-s", "8", "-o", log, "-e", "trace=fsync,fdatasync,sendto,renameat,renameat2,listen")
+    with Staying(folder, "a.txt", prefix=words) as session:
+        session.type("two\n")
+        session.drop()
+        with Staying(folder, takes=session.name) as heir:
+            heir.leave()
+    forms = {r"listen\(": "begins", r"fdatasync\(\d+<.*/journal": "journal", r"fsync\(\d+<.*/sulgrevad/[0-9a-f]{16}>": "folder",
+             r"fsync\(\d+<.*/sulgrevad>": "all", r"rename.*\) = 0": "named", r"sendto\(": "sent"}  # fmt: skip
+    calls = [name for line in log.read_text().splitlines() for form, name in forms.items() if re.match(rf"\d+ +{form}", line)]
+    for first in ("begins", "named"):
+        at = calls.index("begins") if first == "begins" else len(calls) - 1 - calls[::-1].index("named")
+        before = calls[:at] if first == "begins" else calls[at : at + calls[at:].index("sent")]
+        expect({"folder", "all"} <= set(before), f"{first}: the folder is not on the disk: {calls}")
+    expect("journal" in calls[: calls.index("begins")], f"the journal is not on the disk: {calls}")
 
 
 def seconds_of_children():
