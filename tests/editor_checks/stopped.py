@@ -15,7 +15,7 @@ from pathlib import Path
 
 from checks import times_longer
 
-from .support import LIBRARY, SAMHOST, SAMTERM, SECONDS, STATE, expect, stat_of
+from .support import LIBRARY, SAMHOST, SAMTERM, SECONDS, STATE, below, expect, stat_of
 
 GATE = Path(__file__).with_name("gate.py")
 WIDTH, HEIGHT = 100, 30
@@ -81,8 +81,7 @@ class OnTerminal:
 
     def relays(self):
         """The processes that carry bytes now."""
-        children = Path(f"/proc/{self.process.pid}/task/{self.process.pid}/children").read_text().split()
-        return [int(child) for child in children if (stat_of(int(child)) or "Z")[0] != "Z"]
+        return [child for child in below(self.process.pid) if (stat_of(child) or "Z")[0] != "Z"]
 
     @contextlib.contextmanager
     def stopped_line(self):

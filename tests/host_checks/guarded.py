@@ -2,6 +2,7 @@
 other users at either end of its socket."""
 import os
 import re
+import select
 import shutil
 import subprocess
 import sys
@@ -57,7 +58,7 @@ def check_guarded_from_the_first_moment(folder):
         words = ("strace", "-f", "-qq", "-y", "-s", "4096", "-o", log, "-e", f"trace={MAKING}")
         with Staying(folder, "a.txt", prefix=words) as session:
             session.type("two\n")
-            session.drop()
+            session.abandon()  # what traces the calls goes on
             with Staying(folder, takes=session.name) as heir:
                 heir.type("three\n")
                 heir.leave()
@@ -114,14 +115,20 @@ def check_guarded_from_another_listener(folder):
     home.mkdir(parents=True)
     for place in (home.parent, home):
         place.chmod(0o700)
-    code = f"it = socket.socket(socket.AF_UNIX); it.bind(sys.argv[1]); {BECOME}; it.listen(); print(1, flush=True); it.accept()[0].recv(1)"
+    (home / "name").write_text("a.txt")
+    code = (
+        f"it = socket.socket(socket.AF_UNIX); it.bind(sys.argv[1]); {BECOME}; it.listen(); print('listens', flush=True)\n"
+        "while True: print(it.accept()[0].recv(100), flush=True)"
+    )
+    environment = {**os.environ, "XDG_STATE_HOME": str(folder / "temporary")}
     with subprocess.Popen(as_another(code, home / "socket"), stdout=subprocess.PIPE) as other:
         try:
-            expect_equal(other.stdout.readline(), b"1\n", "what the other user's program says")
-            environment = {**os.environ, "XDG_STATE_HOME": str(folder / "temporary")}
-            for words in (["--attach", OWN], ["--take", OWN], ["--end", OWN]):
+            expect_equal(other.stdout.readline(), b"listens\n", "what the other user's program says")
+            for words in (["--attach", OWN], ["--take", OWN], ["--open", "a.txt"], ["--list"], ["--end", OWN]):
                 ended = subprocess.run([SAMHOST, *words], env=environment, input=b"x" * 42, capture_output=True, timeout=SECONDS)
-                expect_equal((ended.returncode in (1, 6), ended.stdout), (True, b""), f"{words}: what comes of it ({ended.stderr})")
+                heard = other.stdout.readline() if select.select([other.stdout], [], [], SECONDS)[0] else b"nobody calls\n"
+                expect_equal((ended.stdout, heard), (b"", b"b''\n"), f"{words}: what comes, and what the other user gets")
+                expect(words[0] not in ("--attach", "--take") or ended.returncode == 1, f"{words}: it ends with {ended.returncode}")
         finally:
             other.kill()
 

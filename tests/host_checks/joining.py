@@ -208,7 +208,7 @@ def check_join_wished_in_one_of_several(folder):
         ended = older.run("--open", "--session", "0123456789abcdef", "a.txt")
         wanted = (7, "samhost: there is no session 0123456789abcdef in which a.txt can be shown\n")
         expect_equal((ended.returncode, ended.stderr), wanted, "what comes of a name that no session has")
-        newer.settle()
+        newer.type("three\n")
         expect_equal(shown_by(), [newer.name], "where it is shown once it is back")
         older.leave()
         newer.leave()

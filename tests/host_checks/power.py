@@ -20,11 +20,12 @@ AT_ONCE = 4
 LONG = 16_000_000  # bytes
 SECONDS_TO_READ = 1.0  # of the processor, for so many bytes
 NAMES = ("a.txt", "b.txt")
+UP, DOWN, DONE = 5, 6, 9  # kinds of records
 
 
 def lived(place):
-    """A session with some life in it, whose samhost is killed: its name, its journal, and the texts of both files with the bytes that the
-    journal had by then, where all was acknowledged."""
+    """A session with some life in it, whose samhost is killed: its name, its journal, and after each step, where all was acknowledged, how
+    many bytes that had, the texts of both files, and what they have on the disk."""
     made(place, a="one\n" * 20, b="other\n")
     numbers, states = random.Random(5), []
     with Staying(place, *NAMES, options=("--undo",)) as session:
@@ -51,7 +52,7 @@ def lived(place):
             else:
                 session.terminal.write(tag)
             session.settle()
-            states.append((journal.stat().st_size, tuple(texts)))
+            states.append((journal.stat().st_size, tuple(texts), tuple(text_of(place / name) for name in NAMES)))
             if number == 60:
                 session.let_pass(3)  # the texts are saved aside meanwhile
         kill(place, session)
@@ -64,20 +65,32 @@ class Left:
     def __init__(self, place):
         self.place = place
         self.name, self.journal, self.states = lived(place)
+        records, end = records_of(self.journal)
+        ends = [at for at, _ in records[1:]] + [end]
+        self.ends_of_writes = [after for (_, kind), after in zip(records, ends) if kind == DONE]
         self.home = home_of(place, self.name)
         self.kept = place / "temporary" / "kept"
         self.kept.mkdir()
-        self.files = {name: text_of(place / name) for name in NAMES}
         self.copies = [path.name for path in place.glob("*.sam-*")]
         for name in self.copies:
             os.link(place / name, self.kept / name)
         self.files_of_home = {path.name: path.read_bytes() for path in self.home.iterdir() if path.is_file()}
 
+    def at(self, size):
+        """The last step that was acknowledged in so many bytes of the journal."""
+        return max((at for at, state in enumerate(self.states) if state[0] <= size), default=0)
+
+    def files_at(self, size):
+        """What the files had on the disk: a write is noted once it is there."""
+        at = self.at(size)
+        is_noted = any(self.states[at][0] <= end <= size for end in self.ends_of_writes)
+        return self.states[min(at + is_noted, len(self.states) - 1)][2]
+
     def restore(self, size):
-        """All is as it was, but for a journal of so many bytes."""
+        """All is as it was when the journal had so many bytes."""
         for path in self.place.glob("*.sam-*"):
             path.unlink()
-        for name, text in self.files.items():
+        for name, text in zip(NAMES, self.files_at(size)):
             (self.place / name).write_bytes(text.encode())
         for name in self.copies:
             os.link(self.kept / name, self.place / name)
@@ -87,9 +100,9 @@ class Left:
 
     def expect_texts(self, size, texts):
         """The texts are those of the last step that was acknowledged before, or of the one that was under way."""
-        known = [0] + [at for at, (end, _) in enumerate(self.states) if end <= size]
-        allowed = [state for _, state in self.states[known[-1] : known[-1] + 2]]
-        expect(texts in allowed, f"cut after {size} bytes: the texts are {texts}, wanted one of {allowed}")
+        allowed = [state[1] for state in self.states[self.at(size) :][:2]]
+        steps = [[at for at, state in enumerate(self.states) if state[1][file] == texts[file]] for file in (0, 1)]
+        expect(texts in allowed, f"cut after {size} bytes: the texts are those after steps {steps}, wanted those after {self.at(size)}")
 
     def texts_at_the_end(self, size):
         """What --end saves of the session, which another samhost begins for that."""
@@ -119,7 +132,7 @@ def check_power_cut(folder):
         left = Left(place)
         size = len(left.journal)
         kinds = {kind for at, kind in records_of(left.journal)[0] if at > size - TAIL}
-        expect({5, 6, 9} <= kinds, f"this test is wrong: the last records are of the kinds {kinds}")
+        expect({UP, DOWN, DONE} <= kinds, f"this test is wrong: the last records are of the kinds {kinds}")
         sizes = [size - TAIL + at for at in range(worker * TAIL // CUTS, TAIL + 1, AT_ONCE * TAIL // CUTS)]
         for at, cut_at in enumerate(sizes):
             left.restore(cut_at)
@@ -150,10 +163,10 @@ def check_power_cut_keeps_the_folder(folder):
         raise Skipped("no strace")
     made(folder, a="one\n")
     log = folder / "calls"
-    words = ("strace", "-f", "-qq", "-y", "-xx", "-s", "8", "-o", log, "-e", "trace=fsync,fdatasync,sendto,renameat,renameat2,listen")
+    words = ("strace", "-f", "-qq", "-y", "-s", "8", "-o", log, "-e", "trace=fsync,fdatasync,sendto,renameat,renameat2,listen")
     with Staying(folder, "a.txt", prefix=words) as session:
         session.type("two\n")
-        session.drop()
+        session.abandon()  # what traces the calls goes on
         with Staying(folder, takes=session.name) as heir:
             heir.leave()
     forms = {r"listen\(": "begins", r"fdatasync\(\d+<.*/journal": "journal", r"fsync\(\d+<.*/sulgrevad/[0-9a-f]{16}>": "folder",

@@ -63,6 +63,11 @@ def taken(place, name):
     raise Failed("the session can't be taken over")
 
 
+def texts_in(place):
+    """What stands in the files of a folder, and in copies that stand elsewhere for want of memory."""
+    return {text_of(path) for path in place.rglob("*") if path.is_file()}
+
+
 def begin_and_live(place, prefix):
     """A session without memory doesn't begin, and says so, or loses nothing."""
     made(place, a="one\n", b="other\n")
@@ -78,14 +83,14 @@ def begin_and_live(place, prefix):
         with taken(place, session.name) as heir:
             expect_equal(heir.text(1), "two\nthree\n", "the text that is taken over")
             heir.leave()
-    texts = {text_of(path) for path in place.iterdir() if path.is_file()}
+    texts = texts_in(place)
     expect("two\nthree\n" in texts, f"its text is lost: there is {texts}")
     expect(not has_other or "other\nmore\n" in texts, f"the text of the other file is lost: there is {texts}")
 
 
 def begin_again(place, prefix):
     """So does one that another samhost is to make again: then the next one does."""
-    (path,) = made(place, a="one\n")
+    made(place, a="one\n")
     with Staying(place, "a.txt", options=("--undo",)) as session:
         session.type("two\n")
         session.write()
@@ -99,7 +104,7 @@ def begin_again(place, prefix):
         session.type("four\n")
         expect_equal(session.text(), "two\nthree\nfour\n", "the text")
         session.leave()
-    texts = {text_of(found) for found in place.iterdir() if found.is_file()}
+    texts = texts_in(place)
     expect("two\nthree\nfour\n" in texts, f"its text is lost: there is {texts}")
 
 
