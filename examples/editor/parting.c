@@ -30,7 +30,7 @@ static int say_home(const char *name, int error)
         say("there is no folder for session %s: $HOME or $XDG_STATE_HOME has to name one", name);
     else
         say("session %s: %s", name, cause(error));
-    return STATUS_UNREADABLE;
+    return error == ENOMEM ? STATUS_MEMORY : STATUS_UNREADABLE;
 }
 
 /* ---- A process of its own ---- */

@@ -1,6 +1,7 @@
 """Requests for memory that are refused to a session that stays: while it begins and runs, while another terminal takes it over, and while
 another samhost makes it again of its journal."""
 import concurrent.futures
+import re
 
 from checks import SECONDS, Failed, expect
 
@@ -63,9 +64,11 @@ def taken(place, name):
     raise Failed("the session can't be taken over")
 
 
-def texts_in(place):
-    """What stands in the files of a folder, and in copies that stand elsewhere for want of memory."""
-    return {text_of(path) for path in place.rglob("*") if path.is_file()}
+def texts_in(place, *sessions):
+    """What stands in the files of a folder, and in those that sessions have named: where memory is out a copy may stand elsewhere."""
+    named = [re.search(r"; its text is in (.*)$", note) for session in sessions for note in session.notes]
+    paths = [*place.rglob("*"), *(place / found[1] for found in named if found is not None)]
+    return {text_of(path) for path in paths if path.is_file()}
 
 
 def begin_and_live(place, prefix):
@@ -76,14 +79,14 @@ def begin_and_live(place, prefix):
             status = session.others[-1].wait(SECONDS)
             expect(status in (NO_MEMORY, BROKEN), f"the status is {status}: {session.errors!r}")
             if status == NO_MEMORY:
-                expect(b"out of memory" in session.errors, f"it says {session.errors!r}")
+                expect(re.search(b"out of memory|Cannot allocate memory", session.errors), f"it says {session.errors!r}")
                 expect(not home_of(place, session.name).exists(), "a session that has not begun leaves a folder")
                 return
         has_other = live(session)
         with taken(place, session.name) as heir:
             expect_equal(heir.text(1), "two\nthree\n", "the text that is taken over")
             heir.leave()
-    texts = texts_in(place)
+    texts = texts_in(place, session, heir)
     expect("two\nthree\n" in texts, f"its text is lost: there is {texts}")
     expect(not has_other or "other\nmore\n" in texts, f"the text of the other file is lost: there is {texts}")
 
@@ -104,7 +107,7 @@ def begin_again(place, prefix):
         session.type("four\n")
         expect_equal(session.text(), "two\nthree\nfour\n", "the text")
         session.leave()
-    texts = texts_in(place)
+    texts = texts_in(place, session)
     expect("two\nthree\nfour\n" in texts, f"its text is lost: there is {texts}")
 
 
