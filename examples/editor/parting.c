@@ -163,11 +163,12 @@ static int part(struct session *session)
 /* ---- Beginning ---- */
 
 /* Says on standard error what was said so far. */
-static void say_gathered(const struct stay *stay)
+static void say_gathered(struct stay *stay)
 {
     set_listener(NULL, NULL);
     for (const struct note *note = stay->notes; note != NULL; note = note->next)
         say("%s", note->words + strlen("told "));
+    say_missing(stay);
 }
 
 /* Begins a session in its folder, which is locked. Returns the exit status. */

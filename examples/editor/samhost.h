@@ -729,6 +729,9 @@ bool say_note(struct session *session, const char *format, ...);
 /* Tells the terminal that another one, on this machine, has the session now, as far as its line takes that without waiting. */
 void say_the_last(struct session *session, const char *machine);
 
+/* Says how many lines there was no memory for, if there are some. */
+void say_missing(struct stay *stay);
+
 /* Puts the notes that wait, as soon as there is a link. */
 void put_notes(struct session *session);
 

@@ -38,8 +38,7 @@ static size_t note_len(const char *note)
     return len;
 }
 
-/* Says how many lines there was no memory for. */
-static void say_missing(struct stay *stay)
+void say_missing(struct stay *stay)
 {
     unsigned missing = stay->missing;
 

@@ -3,16 +3,18 @@ another samhost makes it again of its journal."""
 import concurrent.futures
 import re
 
-from checks import SECONDS, Failed, expect
+from checks import SECONDS, Failed, expect, remove
 
 from .journals import kill
 from .line import Staying, home_of
-from .memory import MOST_REQUESTS, build_refusing
+from .memory import build_refusing
 from .support import expect_equal, made, text_of
 
+MOST_REQUESTS = 1500  # that are refused: later ones are of steps that came before, too
 RUNS = 12  # sessions at once, which wait for the most part
 TRIES = 20  # takeovers that are tried: a samhost without memory answers none
 BROKEN, NO_MEMORY = 6, 4  # statuses
+FIRST, STEP = 60, 29  # of the requests from the first number on every so manieth is refused
 
 
 def refusing(place, library, number, count):
@@ -79,7 +81,7 @@ def begin_and_live(place, prefix):
             status = session.others[-1].wait(SECONDS)
             expect(status in (NO_MEMORY, BROKEN), f"the status is {status}: {session.errors!r}")
             if status == NO_MEMORY:
-                expect(re.search(b"out of memory|Cannot allocate memory", session.errors), f"it says {session.errors!r}")
+                expect(b"memory" in session.errors, f"it says {session.errors!r}")
                 expect(not home_of(place, session.name).exists(), "a session that has not begun leaves a folder")
                 return
         has_other = live(session)
@@ -112,7 +114,8 @@ def begin_again(place, prefix):
 
 
 def sweep(folder, count, run):
-    """Runs sessions of which each request is refused in turn, and those after it: so many in all."""
+    """Runs sessions of which a request is refused, and those after it: so many in all. Each of the first requests is, and of those after
+    them every so manieth."""
     library = build_refusing(folder)
 
     def refuse(number):
@@ -123,21 +126,26 @@ def sweep(folder, count, run):
             run(place, prefix)
         except Failed as why:
             raise Failed(f"request {number}, {count} in a row: {why}") from why
+        remove(place)
         return met.stat().st_size > 0
 
+    numbers = [*range(1, FIRST), *range(FIRST, MOST_REQUESTS, STEP)]
     with concurrent.futures.ThreadPoolExecutor(RUNS) as pool:
-        for first in range(1, MOST_REQUESTS, RUNS):
-            if not all(pool.map(refuse, range(first, first + RUNS))):
-                expect(first > RUNS, "this test is wrong: it makes so few requests for memory")
+        for at in range(0, len(numbers), RUNS):
+            if not all(pool.map(refuse, numbers[at : at + RUNS])):
+                expect(at > RUNS, "this test is wrong: it makes so few requests for memory")
                 return
-    raise Failed(f"it makes more than {MOST_REQUESTS} requests for memory")
 
 
 def check_stays_where_memory_is_refused(folder):
-    """Where a request for memory is refused, or several in a row, a session that stays doesn't begin, or loses nothing: as it goes on after
-    breaks, opens files and is taken over."""
-    for count in (1, 4):
-        sweep(folder, count, begin_and_live)
+    """Where a request for memory is refused a session that stays doesn't begin, or loses nothing: as it goes on after breaks, opens files
+    and is taken over."""
+    sweep(folder, 1, begin_and_live)
+
+
+def check_stays_where_memory_is_short(folder):
+    """So it is where several requests in a row are refused."""
+    sweep(folder, 4, begin_and_live)
 
 
 def check_journal_where_memory_is_refused(folder):
