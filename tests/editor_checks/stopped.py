@@ -148,6 +148,11 @@ class Measured:
         return max(self.keys)
 
     @property
+    def most(self):
+        """That all but one in a hundred need at most."""
+        return sorted(self.keys)[len(self.keys) * 99 // 100]
+
+    @property
     def usual(self):
         """That half of the keys need at most."""
         return sorted(self.keys)[len(self.keys) // 2]
