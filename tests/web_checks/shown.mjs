@@ -5,7 +5,7 @@ import { Gap, SHADE, Shown, piecesOf } from "../../examples/web/page/shown.js";
 const [count, seed] = process.argv.slice(2).map(Number);
 const RUNES = ["a", "b", "\n", "é", "𝄞", "\r", SHADE];
 const MOST_IN_GAP = 9;
-const LONG = 9000; // units of a text that takes several pieces
+const LONG = "x𝄞\n𝄞".repeat(1500); // takes several pieces, which begin anywhere in it
 const GAP = null;
 const SHADED = `${SHADE}\n`;
 
@@ -47,7 +47,7 @@ function change(runes, shown) {
   const start = chance(runes.length + 1);
   const gone = chance(Math.min(20, runes.length - start + 1));
   const isInGap = [start, start + gone].some((place) => runes[place - 1] === GAP || runes[place] === GAP);
-  const came = chance(150) === 0 ? "x𝄞\n".repeat(LONG / 4).split("") : anyText(12);
+  const came = chance(150) === 0 ? [LONG] : anyText(12);
   if (isInGap) return;
   const gap = chance(4) === 0 ? 1 + chance(MOST_IN_GAP) : 0;
   const text = came.join("");
@@ -63,6 +63,8 @@ function compare(runes, shown) {
   for (let place = 0; place < positions.length; place += step) {
     expect(shown.positionOf(place), positions[place], `the position of ${place}`);
     if (runes[place - 1] !== GAP || runes[place] !== GAP) expect(shown.placeOf(positions[place]), place, `the place of ${place}`);
+    const { line, ch } = positions[place];
+    if (runes[place]?.length === 2) expect(shown.placeOf({ line, ch: ch + 1 }), place, `the place within the pair at ${place}`);
   }
   const [start, end] = [chance(runes.length + 1), chance(runes.length + 1)].sort((one, other) => one - other);
   const wanted = runes.slice(start, end).filter((rune, at) => rune !== GAP || at === 0 || runes[start + at - 1] !== GAP);

@@ -18,7 +18,7 @@ export class Copies {
   /** Makes copies where the host may lack something, and drops them once it has all. */
   keep() {
     const { editor } = this;
-    if (editor.line === null || !editor.lacks) {
+    if (editor.line === null || !editor.lacksChanges) {
       this.#dropKept();
       return;
     }

@@ -40,6 +40,7 @@ export class Editor {
   #undos = new Map();
   #putOff = new Set(); // files that are written when the line is back
   #unfed = []; // bytes of the host
+  #hasChanged = false; // the user has changed a text since the host was known to have all
   #isUpdating = false;
   #timer = 0;
   #wakesAt = Infinity;
@@ -97,10 +98,16 @@ export class Editor {
     return this.terminal.isChanged(tag) || this.unwritten.has(tag);
   }
 
-  /** Whether something that the user did may not be at the host yet. */
+  /** Whether something that was done here may not be at the host yet. */
   get lacks() {
     const { terminal, line, waiting } = this;
     return waiting.count > 0 || terminal.held > 0 || terminal.unsent > 0 || terminal.pending > 0 || !line.hasAll;
+  }
+
+  /** Whether that may be a change of the user's. */
+  get lacksChanges() {
+    this.#hasChanged &&= this.lacks;
+    return this.#hasChanged || this.waiting.typed !== "";
   }
 
   /** Whether the user rests, and nothing is under way. */
@@ -180,6 +187,7 @@ export class Editor {
   /** Makes a change in the terminal. Returns whether it is made; else CodeMirror shows the text as it is. */
   #edit(view, change, text) {
     const { terminal } = this;
+    this.#hasChanged = true;
     const { start, gone, came } = change;
     const { tag } = view;
     const isDone = this.#try(() => {
@@ -210,6 +218,7 @@ export class Editor {
   /** Makes a change that CodeMirror doesn't show yet: of undo. The caret goes behind it. */
   replace({ start, end, text }) {
     const { active: view, terminal } = this;
+    this.#hasChanged = true;
     terminal.changed(view.tag); // what changed before
     this.#try(() => terminal.edit(view.tag, start, end, text));
     this.cm.operation(() => view.apply([terminal.changed(view.tag)]));

@@ -88,7 +88,7 @@ class Page {
   }
 
   #meetLeaving(event) {
-    if (this.editor.isOver || this.line === undefined || !this.editor.lacks) return;
+    if (this.editor.isOver || this.line === undefined || !this.editor.lacksChanges) return;
     this.copies.keep();
     event.preventDefault();
     event.returnValue = ""; // for browsers that go by this

@@ -4,7 +4,7 @@
 export const SHADE = "\ufffc"; // stands in CodeMirror's text for a gap, however long that is, and a line end after it
 const MOST_UNITS = 4096; // of a piece of text
 
-/** How many runes a string has. */
+/** How many runes a string has; the first half of a pair of surrogates alone is none. */
 export function runesOf(text) {
   let pairs = 0;
   for (let at = 0; at < text.length; at++) {
@@ -162,7 +162,7 @@ export class Shown {
       for (; !isInLine && lines < line; lines++) start = piece.text.indexOf("\n", start) + 1;
       isInLine = true;
       if (start + left < piece.units || (start + left === piece.units && !piece.isGap)) {
-        return runes + piece.runesOf(start + left - (isPair(piece.text, start + left) ? 1 : 0));
+        return runes + piece.runesOf(start + left);
       }
       left -= piece.units - start;
       runes += piece.runes;
