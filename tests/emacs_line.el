@@ -91,8 +91,10 @@
       (goto-char (point-max))
       (insert (format "%d " number) (if (= 0 (% number 5)) long ""))
       (sulgrevad--pump t)
-      (when (= 1 (% number 2)) (mend-line))
-      (signal-line 'KILL))
+      (let ((attempt (sulgrevad-line-attempt sulgrevad--line)))
+        (wait-for (lambda () (signal-line 'KILL)))
+        (wait-for (lambda () (< attempt (sulgrevad-line-attempt sulgrevad--line))))) ; the next one breaks as early as it may
+      (when (= 3 (% number 4)) (mend-line)))
     (mend-line)
     (check "it broke often" (< 10 (sulgrevad-line-attempt sulgrevad--line)) (sulgrevad-line-attempt sulgrevad--line))
     (sulgrevad--wait (lambda () (sulgrevad-line-has-all sulgrevad--line)) 20)
