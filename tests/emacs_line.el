@@ -374,7 +374,7 @@ exec \"$@\"" "sh") (relayed))))
            (< 10 (cl-count-if (lambda (word) (string-match-p "Loading long.txt\\.\\.\\.[ 0-9]" word)) words))
            words)
     (check "all the while"
-           (> 3 (apply #'max (cl-mapcar #'- times (cdr times))))
+           (> 5 (apply #'max (cl-mapcar #'- times (cdr times))))
            (cl-mapcar #'- times (cdr times)))
     (sulgrevad-quit)))
 
