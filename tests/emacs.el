@@ -328,7 +328,14 @@
     (remove-hook 'after-change-functions mark t)
     (run-hooks 'post-command-hook)
     (same "after a change of the host's that a hook adds to")
-    (check "it has both" (and (string-prefix-p "#" (sulgrevad--text)) (string-suffix-p " five" (sulgrevad--text))) (sulgrevad--text))))
+    (check "it has both" (and (string-prefix-p "#" (sulgrevad--text)) (string-suffix-p " five" (sulgrevad--text))) (sulgrevad--text))
+    (sulgrevad-command ",c/one two one two one/")
+    (add-hook 'after-change-functions grow nil t)
+    (sulgrevad-command ",x/one/c/1/")
+    (remove-hook 'after-change-functions grow t)
+    (run-hooks 'post-command-hook)
+    (check "changes of several places stay where they are" (equal (string-replace "+" "" (sulgrevad--text)) "1 two 1 two 1") (sulgrevad--text))
+    (same "after a hook that adds to each")))
 
 (defun check-two-buffers (one other)
   "The same where a function in the buffer of OTHER, which was opened last, changes that of ONE."

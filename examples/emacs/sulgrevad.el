@@ -266,13 +266,13 @@ may signal `sulgrevad-no-memory'."
 
 (defun sulgrevad--before-change (&rest _)
   "Note a change that `after-change-functions' has not reported."
-  (unless (or (eq sulgrevad--changes t) (eql sulgrevad--tick (buffer-chars-modified-tick))) ; of all that is to come nothing is ours
+  (unless (or (eq sulgrevad--changes t) (eql sulgrevad--tick (buffer-chars-modified-tick)))
     (setq sulgrevad--has-drifted t)))
 
 (defun sulgrevad--after-change (start end old)
   "Hand over that the text from START to END replaced OLD characters.
 It signals no error and no quit, since Emacs would not call it again."
-  (cond ((not (sulgrevad--is-ours)))
+  (cond ((or (not (sulgrevad--is-ours)) (eq sulgrevad--changes t))) ; the text is to come
         (sulgrevad--is-taking (setq sulgrevad--tick (buffer-chars-modified-tick)))
         (t (let ((inhibit-quit t))
              (condition-case nil
@@ -323,7 +323,7 @@ With WHOLE look for it also where there is no sign of it.  It may signal
 `sulgrevad-no-memory': then it is to be called again."
   (unless enable-multibyte-characters (set-buffer-multibyte t)) ; places are those of characters, not of bytes
   (sulgrevad--before-change)
-  (when (and (or whole sulgrevad--has-drifted) (sulgrevad--is-free))
+  (when (and (or (and whole (null sulgrevad--changes)) sulgrevad--has-drifted) (sulgrevad--is-free))
     (setq sulgrevad--has-drifted t)
     (let ((why (pcase (sulgrevad--difference)
                  (`(,start ,_ ,end ,mine)
@@ -366,12 +366,17 @@ FROM and TO are where it begins and ends."
 
 (defun sulgrevad--put-each (places)
   "Change PLACES of the buffer to what the terminal has, the last first.
-Functions of others may change the buffer meanwhile: then it drifts."
-  (condition-case nil
-      (pcase-dolist (`(,start ,end ,from ,to) places)
-        (sulgrevad--put start end from to))
-    (error (sulgrevad--put-back)        ; a function of another has failed
-           (setq sulgrevad--tick (buffer-chars-modified-tick))))
+Functions of others may change the buffer meanwhile: then places move,
+and it drifts."
+  (let ((marked (cl-loop for (start end . theirs) in places
+                         collect (cons (copy-marker (1+ start)) (cons (copy-marker (1+ end)) theirs)))))
+    (condition-case nil
+        (pcase-dolist (`(,start ,end ,from ,to) marked)
+          (sulgrevad--put (1- start) (1- end) from to)
+          (set-marker start nil)
+          (set-marker end nil))
+      (error (sulgrevad--put-back)      ; a function of another has failed
+             (setq sulgrevad--tick (buffer-chars-modified-tick)))))
   (sulgrevad--before-change)
   (unless (= (buffer-size) (sulgrevad--len sulgrevad--term sulgrevad--tag))
     (setq sulgrevad--has-drifted t)))
