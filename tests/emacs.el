@@ -334,7 +334,8 @@
     (sulgrevad-command ",x/one/c/1/")
     (remove-hook 'after-change-functions grow t)
     (run-hooks 'post-command-hook)
-    (check "changes of several places stay where they are" (equal (string-replace "+" "" (sulgrevad--text)) "1 two 1 two 1") (sulgrevad--text))
+    (check "changes of several places stay where they are"
+           (equal (string-replace "+" "" (sulgrevad--text)) "1 two 1 two 1") (sulgrevad--text))
     (same "after a hook that adds to each")))
 
 (defun check-two-buffers (one other)
