@@ -263,7 +263,7 @@
                    :name "child" :noquery t :filter (lambda (_ text) (setq told (concat told text)))
                    :command (list (expand-file-name invocation-name invocation-directory) "-Q" "--batch"
                                   "-l" (symbol-file 'sulgrevad-line-make) "-l" (symbol-file 'sulgrevad-start)
-                                  "--eval" (prin1-to-string `(progn (setq sulgrevad-stay-hours 0.02)
+                                  "--eval" (prin1-to-string `(progn (setq sulgrevad-stay-hours 0.02 sulgrevad-patience 30)
                                                                     (sulgrevad-start ',host ,file)
                                                                     ,@forms))))))
     (when ready

@@ -640,7 +640,8 @@ Only where the terminal may not know all of it."
 What waits goes to the host first, and all is written, or the user says
 so."
   (cond ((null sulgrevad--term) t)
-        ((progn (sulgrevad--wait #'sulgrevad--is-handed-over) (null sulgrevad--term)) nil) ; what became of the texts is to be read
+        ((progn (sulgrevad--wait (lambda () (and (sulgrevad--is-handed-over) (not (sulgrevad--is-late))))) (null sulgrevad--term))
+         nil)                           ; what became of the texts is to be read
         ((not (sulgrevad--is-handed-over)) (yes-or-no-p "Some edits did not get to the host; leave, and keep them here? "))
         ((sulgrevad--is-late) (yes-or-no-p "The host does not answer; leave the session there, and keep here what it may not have? "))
         ((cl-some (lambda (file) (sulgrevad--is-unwritten (cdr file))) (sulgrevad--names))
@@ -653,7 +654,7 @@ What waits goes to the host, which saves what was not written.  Where it
 does not answer the session stays there."
   (when sulgrevad--term
     (sulgrevad--wait #'sulgrevad--is-handed-over sulgrevad-most-leaving)
-    (unless (sulgrevad--is-late)
+    (when (sulgrevad--wait (lambda () (not (sulgrevad--is-late))))
       (ignore-errors (sulgrevad--exit sulgrevad--term)) ; no memory for it
       (sulgrevad--wait (lambda () (null sulgrevad--term)) sulgrevad-most-leaving))
     (when sulgrevad--term
