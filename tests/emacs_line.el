@@ -190,6 +190,7 @@
 (defun check-take ()
   "A session that was left is taken over, with its texts, and so is one from a terminal that is still there."
   (let ((file (made "t.txt" "text\n")) (name nil) (before nil))
+    (check "the sessions before it have ended" (wait-for (lambda () (string-empty-p (shell-command-to-string (concat samhost " --list"))))))
     (sulgrevad-start (list samhost) file)
     (insert "unwritten ")
     (sulgrevad--wait (lambda () (sulgrevad-line-has-all sulgrevad--line)))
@@ -407,7 +408,7 @@ exec \"$@\"" "sh") (relayed))))
       (sulgrevad-start slow file))
     (check "all of it comes" (equal (sulgrevad--text) text) (buffer-size))
     (check "it is told how far it is"
-           (< 10 (cl-count-if (lambda (word) (string-match-p "Loading long.txt\\.\\.\\.[ 0-9]" word)) words))
+           (< 4 (cl-count-if (lambda (word) (string-match-p "Loading long.txt\\.\\.\\.[ 0-9]" word)) words))
            words)
     (check "all the while"
            (> 5 (apply #'max (cl-mapcar #'- times (cdr times))))
