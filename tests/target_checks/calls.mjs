@@ -417,6 +417,7 @@ function refusedSession() {
   for (const isUp of [true, false, true, false]) carry(isUp, 600);
   for (let events = 0; events < REFUSED_EVENTS; events++) {
     one();
+    link();
     if (chance(2)) carry(chance(2) === 1, 600);
   }
 }

@@ -26,7 +26,7 @@ def kinds_of(words):
         elif kind == "const uint8_t *":
             kinds.append("lent")
             words.pop(0)
-        elif name == "into":
+        elif name in ("into", "out"):
             kinds.append("room4" if "32" in kind else "room1")
             words.pop(0)
         elif kind.rstrip(" *") in HANDLES:

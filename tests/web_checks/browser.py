@@ -197,7 +197,8 @@ class Page:
         wait_until(lambda: self.js(rest), f"the page doesn't come to rest: {self.status}")
 
     def wait_until_loaded(self):
-        loaded = "sulgrevad.active && sulgrevad.terminal.isOpen(sulgrevad.active.tag) && sulgrevad.terminal.firstGap(sulgrevad.active.tag) === null"
+        tag = "sulgrevad.active.tag"
+        loaded = f"sulgrevad.active && sulgrevad.terminal.isOpen({tag}) && sulgrevad.terminal.firstGap({tag}) === null"
         wait_until(lambda: self.js(loaded), "the file is not loaded whole", 4 * SECONDS)
 
     def log(self):

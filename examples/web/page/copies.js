@@ -46,7 +46,8 @@ export class Copies {
   /** The copies that an earlier page left: of each its name, when it was made, and its text. */
   get left() {
     const keys = Array.from({ length: localStorage.length }, (_, at) => localStorage.key(at));
-    return keys.filter((key) => key.startsWith(this.front) && !this.#kept.has(key)).map((key) => ({ key, ...JSON.parse(localStorage.getItem(key)) }));
+    const left = keys.filter((key) => key.startsWith(this.front) && !this.#kept.has(key));
+    return left.map((key) => ({ key, ...JSON.parse(localStorage.getItem(key)) }));
   }
 
   drop({ key }) {

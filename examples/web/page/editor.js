@@ -112,7 +112,8 @@ export class Editor {
 
   /** Whether the user rests, and nothing is under way. */
   get isAtRest() {
-    return this.isSettled && this.waiting.count === 0 && !this.isComposing && !this.line.isLate && performance.now() - this.keyAt >= AT_REST;
+    const isQuiet = this.isSettled && this.waiting.count === 0 && !this.isComposing && !this.line.isLate;
+    return isQuiet && performance.now() - this.keyAt >= AT_REST;
   }
 
   isLoaded(from, to) {

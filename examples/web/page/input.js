@@ -1,5 +1,5 @@
-/* What the user does in CodeMirror: keys, texts and the mouse. Where nothing has to wait CodeMirror does it, and the terminal is told; else it
- * waits, and is done in its order. */
+/* What the user does in CodeMirror: keys, texts and the mouse. Where nothing has to wait CodeMirror does it, and the terminal is told; else
+ * it waits, and is done in its order. */
 import { OURS } from "./view.js";
 
 /** Commands of CodeMirror's keys that go by the lines beside the caret, and those that go by a page. */

@@ -5,14 +5,13 @@ const MOST_IN_STRETCH = 512; // runes
 const MOST_IN_LOAD = MOST_STRETCHES * MOST_IN_STRETCH;
 const PAGE = 4096; // runes that are loaded with what is shown, and at first
 const REACH = 4096; // runes that are loaded for a key that goes by text which isn't
-const FIRST_SLICE = 2048;
-const LEAST_SLICE = 512;
+const LEAST_SLICE = 4096; // less takes no less time, where a browser is busy
 
 // Milliseconds.
 const BUSY = 250; // after a key, in which nothing more is asked for that the user does not need
 const REST = 250; // after the last key, from which on slices are loaded
-const QUICK = 50; // more than a round trip: a slice that takes less may grow
-const LONG = 150; // one that takes more is too long
+const QUICK = 100; // more than a round trip: a slice that takes less may grow
+const LONG = 300; // one that takes more is too long
 
 /** Where a Load has to end that begins at a place and asks for all its gaps at once: of a longer one the others would come one by one. */
 function endOfLoad(terminal, tag, start, end) {
@@ -28,7 +27,7 @@ function endOfLoad(terminal, tag, start, end) {
 }
 
 export class Loading {
-  #size = FIRST_SLICE;
+  #size = LEAST_SLICE;
   #underWay = null; // the file of which a slice is loaded, and since when
 
   constructor(editor) {

@@ -103,7 +103,8 @@ function merged(pieces) {
   const all = [];
   for (const piece of pieces) {
     const last = all.at(-1);
-    if (last && !last.isGap && !piece.isGap && last.units + piece.units <= MOST_UNITS) all[all.length - 1] = new Piece(last.text + piece.text);
+    const fits = last && !last.isGap && !piece.isGap && last.units + piece.units <= MOST_UNITS;
+    if (fits) all[all.length - 1] = new Piece(last.text + piece.text);
     else all.push(piece);
   }
   return all;

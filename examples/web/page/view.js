@@ -167,8 +167,8 @@ export class View {
     return this.cm.charCoords(this.shown.positionOf(place), "local").top;
   }
 
-  /** Does something that changes the document, and has the window show what it showed: the caret, if it was to be seen, else the text at the
-   * top. */
+  /** Does something that changes the document, and has the window show what it showed: the caret, if it was to be seen, else the text at
+   * the top. */
   keepingInPlace(act) {
     const { top, clientHeight } = this.cm.getScrollInfo();
     const caret = this.cm.cursorCoords(true, "local");

@@ -5,8 +5,8 @@ export const AGAIN = Symbol("again"); // what an action returns that goes on onc
 const KNOWN_AFTER = 3000; // milliseconds for which answers are late until an action that needs them is given up
 
 /** What is pressed: `act` does it. Before that the file has to be free, unless it `isOfNoFile`; and `isReady`, where there is one, has to
- * hold, which may ask the host for text. `isText` is true of what the user has typed or pasted, and `name` is what he is told where it can't
- * be done. */
+ * hold, which may ask the host for text. `text` is what the user has typed or pasted, `name` what he is told where it can't be done, and
+ * `giveUp` is called then. */
 export class Waiting {
   #actions = [];
   #isActing = false;
