@@ -2,7 +2,8 @@
 """Draws docs/crates.svg (from crates.txt), docs/threads.svg, and docs/film.svg (from docs/film.json, which bench/film writes). Run it after a
 crate came, went or stands on others.
 
-docs/pictures.py --check draws nothing: it says whether both are as they would be drawn now, and ends in 'N passed, M failed'.
+docs/pictures.py --check draws nothing: it says whether both are as they would be drawn now, and ends in 'N passed, M failed'. It knows
+nothing of docs/web.png, which `tests/web --picture` takes in a browser: its bytes differ from one browser to the next.
 """
 
 import json

@@ -200,9 +200,11 @@
       (stop)
       (insert-waiting "kept é\0 ")
       (funcall kill)
+      (go-on)
+      (sulgrevad--wait (lambda () (sulgrevad-line-has-all sulgrevad--line)))
+      (sulgrevad--pump)
       (check "what a killed buffer had is here" (equal (kept (file-name-nondirectory file)) (list (concat "kept é\0 " text)))
              text)
-      (go-on)
       (sulgrevad-find file)))
   (stop)
   (insert-waiting "leaves ")
@@ -261,7 +263,7 @@
                    :name "child" :noquery t :filter (lambda (_ text) (setq told (concat told text)))
                    :command (list (expand-file-name invocation-name invocation-directory) "-Q" "--batch"
                                   "-l" (symbol-file 'sulgrevad-line-make) "-l" (symbol-file 'sulgrevad-start)
-                                  "--eval" (prin1-to-string `(progn (setq sulgrevad-stay-hours 0.02)
+                                  "--eval" (prin1-to-string `(progn (setq sulgrevad-stay-hours 0.02 sulgrevad-patience 30)
                                                                     (sulgrevad-start ',host ,file)
                                                                     ,@forms))))))
     (when ready
@@ -326,7 +328,15 @@
     (remove-hook 'after-change-functions mark t)
     (run-hooks 'post-command-hook)
     (same "after a change of the host's that a hook adds to")
-    (check "it has both" (and (string-prefix-p "#" (sulgrevad--text)) (string-suffix-p " five" (sulgrevad--text))) (sulgrevad--text))))
+    (check "it has both" (and (string-prefix-p "#" (sulgrevad--text)) (string-suffix-p " five" (sulgrevad--text))) (sulgrevad--text))
+    (sulgrevad-command ",c/one two one two one/")
+    (add-hook 'after-change-functions grow nil t)
+    (sulgrevad-command ",x/one/c/1/")
+    (remove-hook 'after-change-functions grow t)
+    (run-hooks 'post-command-hook)
+    (check "changes of several places stay where they are"
+           (equal (string-replace "+" "" (sulgrevad--text)) "1 two 1 two 1") (sulgrevad--text))
+    (same "after a hook that adds to each")))
 
 (defun check-two-buffers (one other)
   "The same where a function in the buffer of OTHER, which was opened last, changes that of ONE."

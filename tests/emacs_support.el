@@ -79,5 +79,5 @@
 (defun begin (folder)
   "Have FOLDER be where the sessions begin and temporary files are.  A session of a killed Emacs stays but for a minute."
   (random "sulgrevad")
-  (setq room (file-name-as-directory folder) temporary-file-directory room sulgrevad-stay-hours 0.02)
+  (setq room (file-name-as-directory folder) temporary-file-directory room sulgrevad-stay-hours 0.02 sulgrevad-patience 30)
   (dolist (buffer (buffer-list)) (with-current-buffer buffer (setq default-directory room))))

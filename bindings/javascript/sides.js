@@ -1,7 +1,8 @@
 /* The two sides: what they share, the host, and the terminal. */
+import { Held, PREFIX, ifAny, isFreed, make, makeOfBytes, makeOfText, one } from "./held.js";
 import * as module from "./module.js";
-import { PIECE, call, least, lend, long, result, short, size, space, truth, u16, u32, u64, u8 } from "./module.js";
-import { Missing, Status, errorOf } from "./status.js";
+import { PIECE, least, lend, long, result, short, size, space, truth, u16, u32, u64, u8 } from "./module.js";
+import { Status, errorOf } from "./status.js";
 
 const MOST_IN_NAME = 256; // bytes of the longest name
 const MOST_IN_PATTERN = 512; // bytes of the longest pattern
@@ -13,58 +14,6 @@ const STEPS = ["idle", "locked", "wrote", "edited", "answered", "received", "act
 // A sam_did stands at result(0): its event, its count, its step and why, its start and gone, its came, its tag and its kind.
 const didTag = () => u16(4, 4);
 const didKind = () => u8(4, 6);
-
-const PREFIX = Symbol("prefix"); // how the names of its calls begin
-const handles = new WeakMap(); // of each side where its handle is, 0n once it was freed
-const lost = new FinalizationRegistry(({ prefix, at }) => {
-  if (module.canCall()) release(prefix, at);
-});
-
-function release(prefix, at) {
-  call(`${prefix}_free`, at);
-  module.dropHandle(at);
-}
-
-/** Makes a call of a side, and throws what it answers other than SAM_OK. */
-function make(side, name, ...words) {
-  const code = call(`${side[PREFIX]}_${name}`, handles.get(side), ...words);
-  if (code !== Status.OK) throw errorOf(code);
-}
-
-/** What `reading` hands out; null if it answers SAM_NONE. */
-function ifAny(reading) {
-  try {
-    return reading();
-  } catch (error) {
-    if (error instanceof Missing) return null;
-    throw error;
-  }
-}
-
-/** Makes a call whose last words are a text's place and length. */
-function makeOfText(side, name, words, text) {
-  const length = module.written(text);
-  if (length >= 0) {
-    make(side, name, ...words, space(), BigInt(length));
-    return;
-  }
-  const bytes = module.bytesOf(text);
-  if (bytes === null) throw errorOf(handles.get(side) === 0n ? Status.NO_HANDLE : Status.NOT_TEXT);
-  makeOfBytes(side, name, words, bytes);
-}
-
-function makeOfBytes(side, name, words, bytes) {
-  lend([bytes], (places) => {
-    if (places === null) throw errorOf(handles.get(side) === 0n ? Status.NO_HANDLE : Status.NO_MEMORY);
-    make(side, name, ...words, places[0], BigInt(bytes.length));
-  });
-}
-
-/** The call's first result, as `as` reads it. */
-function one(side, name, as, ...words) {
-  make(side, name, ...words, result(0));
-  return as(0);
-}
 
 function range(side, name, tag) {
   make(side, name, short(tag), result(0), result(1));
@@ -99,20 +48,8 @@ function longText(side, name, place, most, ...words) {
   }
 }
 
-/** What host and terminal share: a handle, and the bytes that are pending. */
-class Side {
-  constructor() {
-    const at = module.makeHandle();
-    if (at === 0n) throw errorOf(Status.NO_MEMORY);
-    const code = call(`${this[PREFIX]}_new`, at);
-    if (code !== Status.OK) {
-      module.dropHandle(at);
-      throw errorOf(code);
-    }
-    handles.set(this, at);
-    lost.register(this, { prefix: this[PREFIX], at }, this);
-  }
-
+/** What host and terminal share: the bytes that are pending, and texts. */
+class Side extends Held {
   feed(bytes = new Uint8Array(0)) {
     if (!(bytes instanceof Uint8Array)) throw new TypeError("what is fed is a Uint8Array");
     makeOfBytes(this, "feed", [], bytes);
@@ -168,16 +105,7 @@ class Side {
   dot(tag) {
     return range(this, "dot", tag);
   }
-
-  free() {
-    const at = handles.get(this);
-    if (at === 0n) return;
-    handles.set(this, 0n);
-    lost.unregister(this);
-    release(this[PREFIX], at);
-  }
 }
-if (Symbol.dispose) Side.prototype[Symbol.dispose] = Side.prototype.free;
 
 /** The side that holds whole texts and runs commands. */
 export class Host extends Side {
@@ -189,7 +117,7 @@ export class Host extends Side {
     const pieces = [module.bytesOf(name), module.bytesOf(text)];
     if (pieces.includes(null)) return this.#refuseText(pieces);
     return lend(pieces, (places) => {
-      if (places === null) throw errorOf(handles.get(this) === 0n ? Status.NO_HANDLE : Status.NO_MEMORY);
+      if (places === null) throw errorOf(isFreed(this) ? Status.NO_HANDLE : Status.NO_MEMORY);
       const words = pieces.flatMap((piece, at) => [places[at], BigInt(piece.length)]);
       return one(this, "add_file", u16, ...words);
     });

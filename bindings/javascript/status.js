@@ -90,10 +90,10 @@ export class NoMemory extends SamError {}
 /** Out of memory, but what the call brought was taken: the next feed, event or `flushNow` goes on with what waits (SAM_UNFINISHED). */
 export class Unfinished extends SamError {}
 
-/** A stream of 2^64 bytes, or 2^64 events (SAM_COUNT_FULL). */
+/** A stream of 2^64 bytes, or 2^64 events or connections (SAM_COUNT_FULL). */
 export class CountFull extends SamError {}
 
-/** The host or terminal was freed (SAM_NO_HANDLE), or was made twice (SAM_MADE). */
+/** The host, terminal or link was freed (SAM_NO_HANDLE), or was made twice (SAM_MADE). */
 export class HandleFault extends SamError {}
 
 /** The text is not UTF-8, or has a surrogate that stands alone (SAM_NOT_TEXT). */
@@ -115,6 +115,9 @@ export class HostRefused extends SamError {}
 /** The terminal refused a frame, and has stopped (SAM_TERM_..). */
 export class TerminalRefused extends SamError {}
 
+/** A call of a link was refused, or bytes are no hello (SAM_LINK_..). The link goes on. */
+export class LinkFault extends SamError {}
+
 /** A script can't be replayed (SAM_SCRIPT_..). `line` is its first wrong line, counted from 1, or if none is wrong the line at which
  * nothing is there to take; null if a count is full. */
 export class ScriptFault extends SamError {
@@ -133,6 +136,7 @@ const KINDS = {
   StreamFault,
   HostRefused,
   TerminalRefused,
+  LinkFault,
   ScriptFault,
 };
 for (const [name, kind] of Object.entries(KINDS)) kind.prototype.name = name;
@@ -145,6 +149,7 @@ const FAMILIES = [
   [64, 96, HostRefused],
   [96, 128, TerminalRefused],
   [160, 192, ScriptFault],
+  [192, 224, LinkFault],
 ];
 
 /** The error of a status code. */

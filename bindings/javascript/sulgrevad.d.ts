@@ -89,9 +89,9 @@ export declare class SamError extends Error {
 export declare class NoMemory extends SamError {}
 /** Out of memory, but what the call brought was taken: the next feed, event or `flushNow` goes on with what waits. */
 export declare class Unfinished extends SamError {}
-/** A stream of 2^64 bytes, or 2^64 events. */
+/** A stream of 2^64 bytes, or 2^64 events or connections. */
 export declare class CountFull extends SamError {}
-/** The host or terminal was freed. */
+/** The host, terminal or link was freed. */
 export declare class HandleFault extends SamError {}
 /** The text is not UTF-8, or has a surrogate that stands alone. */
 export declare class NotText extends SamError {}
@@ -107,6 +107,8 @@ export type HostStep = { step: "idle" | "wrote" | "edited" | "answered"; kind: n
 export declare class HostRefused extends SamError {}
 /** The terminal refused a frame, and has stopped. */
 export declare class TerminalRefused extends SamError {}
+/** A call of a link was refused, or bytes are no hello. The link goes on. */
+export declare class LinkFault extends SamError {}
 /** A script can't be replayed; `line` is the line that is wrong or can't be done, counted from 1; null if a count is full. */
 export declare class ScriptFault extends SamError {
   line: number | null;
@@ -114,8 +116,15 @@ export declare class ScriptFault extends SamError {
 /** The error of a status code. */
 export declare function errorOf(code: number): SamError;
 
+/** What host, terminal and link share. */
+declare class Held {
+  /** Frees it, with what was pending or kept. Any later call but this one throws HandleFault. */
+  free(): void;
+  [Symbol.dispose](): void;
+}
+
 /** What host and terminal share. */
-declare class Side {
+declare class Side extends Held {
   /** Takes bytes of the other side, in whatever pieces they come, and does what they say. Without bytes it goes on with what waits after
    * `Unfinished`. Throws NoMemory, Unfinished, CountFull, or why this side has stopped, now or before. */
   feed(bytes?: Uint8Array): void;
@@ -146,9 +155,6 @@ declare class Side {
   text(tag: number, place?: number, runes?: number): string;
   /** The places where the selection of a file begins and ends. Throws Missing. */
   dot(tag: number): Range;
-  /** Frees it, with what was pending. Any later call but this one throws HandleFault. */
-  free(): void;
-  [Symbol.dispose](): void;
 }
 
 /** The side that holds whole texts and runs commands. It begins with the command file alone, whose tag is 0. */
@@ -342,4 +348,106 @@ export declare class Terminal extends Side {
   readonly snarfLen: number;
   /** Whether the host has ended the session. */
   readonly exited: boolean;
+}
+
+/** What a hello says: the first three a terminal, the others a host. */
+export declare const What: {
+  readonly BEGIN: 1;
+  readonly RESUME: 2;
+  readonly TAKE_OVER: 3;
+  readonly WELCOME: 4;
+  readonly NOT_A_LINK: 17;
+  readonly OTHER_VERSION: 18;
+  readonly BAD_HELLO: 19;
+  readonly NO_SESSION: 20;
+  readonly OTHER_SESSION: 21;
+  readonly OLD_ATTEMPT: 22;
+  readonly WRONG_COUNT: 23;
+};
+
+/** What a hello says, the id of its session, and the number of its connection. */
+export type Hello = { what: number; id: Uint8Array; attempt: number };
+
+/** The hello with which the bytes begin; null if nothing is wrong so far, and there are fewer than 42. Throws LinkFault with the code
+ * LINK_NOT_A_LINK as soon as the bytes differ from the mark, LINK_OTHER_VERSION with the ninth byte, LINK_BAD_HELLO with the tenth. */
+export declare function readHello(bytes: Uint8Array): Hello | null;
+
+/** The hello by which a host refuses a connection: for one of Status.LINK_NOT_A_LINK to LINK_WRONG_COUNT, and of the session and the
+ * connection of the hello that came; if `readHello` reads none, all zeros. Throws Missing for any other status. */
+export declare function writeRefusal(status: number, bytes: Uint8Array): Uint8Array;
+
+/** One end of a link, which carries bytes and notes over connections that may break at any byte: each comes out at the other side once and
+ * in order. It opens no connection and knows no clock. The terminal's side opens a connection and calls, the host's answers:
+ *
+ *     const attempt = link.call();          a connection was opened; it has this number
+ *     socket.send(link.takeOut(attempt));   the hello first
+ *     link.welcomed(first42Bytes);          and then the rest
+ *     link.feed(attempt, bytes);
+ *     link.takeIn();                        what of it is for the program, until it has no bytes; then nextNote()
+ *
+ * A put, a note, a piece and a hello are taken whole or not at all: where a call throws nothing has changed, but that after LINK_BAD_KIND,
+ * LINK_BAD_LENGTH and LINK_ACK_AHEAD of `feed` the connection is over. */
+export declare class Link extends Held {
+  static readonly TERMINAL: 0;
+  static readonly HOST: 1;
+  static readonly DOWN: 0;
+  static readonly ASKING: 1;
+  static readonly OPEN: 2;
+
+  /** Makes the end of this side, TERMINAL or HOST, before its first connection. The id is the session's name, 16 bytes that the terminal
+   * chose at random: no secret. Throws RangeError for an id of another length, LinkFault for another role, NoMemory. */
+  constructor(role: number, id: Uint8Array);
+  /** At the terminal's end: another connection was opened, and the one before is over. Returns its number, from 1, which names it in the
+   * calls below. With `takeOver`, as long as no host has welcomed this end, the session is to begin with the texts of another. Throws
+   * LinkFault (LINK_WRONG_ROLE), CountFull. */
+  call(takeOver?: boolean): number;
+  /** The terminal's end takes the first 42 bytes that the host sent on the newest connection. Throws what `readHello` throws, and Missing
+   * for fewer bytes; then LinkFault, in this order: LINK_WRONG_ROLE; LINK_NOT_OPEN if no call waits for a welcome; the host's reason, if it
+   * refuses; LINK_BAD_HELLO; LINK_OTHER_SESSION; LINK_OLD_ATTEMPT; LINK_WRONG_COUNT. */
+  welcomed(hello: Uint8Array): void;
+  /** The host's end takes the connection whose first 42 bytes these are, and the one before is over. Its number is that which `readHello`
+   * returns. Throws what `readHello` throws, and Missing for fewer bytes; then LinkFault, in this order: LINK_WRONG_ROLE, LINK_BAD_HELLO,
+   * LINK_NO_SESSION, LINK_OTHER_SESSION, LINK_OLD_ATTEMPT, LINK_WRONG_COUNT. The older connection goes on then. */
+  answer(hello: Uint8Array): void;
+  /** A connection has ended, or is given up. If it isn't the newest nothing is changed. */
+  broken(attempt: number): void;
+  /** Puts bytes for the other side's program, all or none, whether a connection is there or not. Throws CountFull if the stream would have
+   * more than 2^64-1 bytes, NoMemory. */
+  put(bytes: Uint8Array): void;
+  /** Puts a note, behind all that was put: it comes out after these bytes and before later ones. Throws LinkFault (LINK_TOO_LONG) for more
+   * than 4,096 bytes, CountFull, NoMemory. */
+  putNote(bytes: Uint8Array): void;
+  /** Asks the other side to acknowledge now: if no byte comes, the line is broken. Throws CountFull, NoMemory. */
+  ask(): void;
+  /** Acknowledges all bytes that have come, as the end does by itself when it is asked and after each 16,384 bytes. Throws CountFull,
+   * NoMemory. */
+  acknowledge(): void;
+  /** The next bytes for a connection, at most so many, and never more than 65,536; none if there are none: first the hello, and then the
+   * stream from where this connection goes on, at a terminal's end after the welcome, but on the first connection. Throws LinkFault
+   * (LINK_NOT_OPEN) if the connection is over or isn't the newest. */
+  takeOut(attempt: number, most?: number): Uint8Array;
+  /** Takes bytes that came on a connection after the hello, in whatever pieces, all or none. Throws LinkFault (LINK_NOT_OPEN) if the
+   * connection is over, isn't the newest, or has no hello yet; then CountFull; then NoMemory, and the piece may be fed again; or LinkFault
+   * for a wrong packet, LINK_BAD_KIND or LINK_BAD_LENGTH, and if there is none, for bytes that are acknowledged and did not go,
+   * LINK_ACK_AHEAD: the connection is then over. */
+  feed(attempt: number, bytes: Uint8Array): void;
+  /** The next bytes of the other side's program, at most so many and of one packet: call it until it returns none, where a note is next, or
+   * nothing. */
+  takeIn(most?: number): Uint8Array;
+  /** The note that is next; null if bytes before it are not taken in yet, or none has come. */
+  nextNote(): Uint8Array | null;
+  /** How the newest connection stands: DOWN if there is none, or it is over; ASKING if the terminal has called; OPEN if both sides have
+   * said hello. */
+  readonly phase: number;
+  /** The number of the newest connection; 0 before the first. */
+  readonly attempt: number;
+  /** How many bytes this side's stream has, heads of packets included. */
+  readonly putCount: number;
+  /** How many of them the other side has acknowledged: all that was put at one time has come once this is at least what `putCount` was
+   * then. */
+  readonly acknowledged: number;
+  /** How many bytes of this side's stream the newest connection has not been given. */
+  readonly unsent: number;
+  /** How many bytes of the other side's stream have come. */
+  readonly received: number;
 }

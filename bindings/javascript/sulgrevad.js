@@ -1,4 +1,5 @@
 /* A proved host and a proved terminal for editors whose screen and text live apart, after Rob Pike's sam. README.md explains it. */
+export { Link, What, readHello, writeRefusal } from "./link.js";
 export { memory } from "./module.js";
 export { replay } from "./scripts.js";
 export { Host, Terminal } from "./sides.js";
@@ -7,6 +8,7 @@ export {
   CountFull,
   HandleFault,
   HostRefused,
+  LinkFault,
   Missing,
   NoMemory,
   NotText,

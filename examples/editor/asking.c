@@ -74,6 +74,25 @@ static int ask(const struct home *home, const char *words, size_t len, char answ
     return error == 0 && has == 0 ? ETIMEDOUT : error;
 }
 
+/* How a session is: for how many seconds it has run, for how many no terminal was there (-1: one is), and how many files are not
+ * written. */
+struct state {
+    long long seconds, alone_for;
+    int unsaved;
+};
+
+static int ask_state(const struct home *home, struct state *state)
+{
+    char answer[ANSWER_ROOM];
+    int socket = -1, error = ask(home, "list", sizeof "list", answer, &socket);
+
+    if (socket >= 0)
+        close(socket);
+    if (error == 0 && sscanf(answer, "%lld %lld %d", &state->seconds, &state->alone_for, &state->unsaved) != 3)
+        error = EPROTO;
+    return error;
+}
+
 /* ---- The list ---- */
 
 /* A span of time in words. */
@@ -89,25 +108,24 @@ static void spell_span(int64_t seconds, char words[SPAN_ROOM])
 
 static int list_one(struct home *home, void *at)
 {
-    char answer[ANSWER_ROOM], about[ANSWER_ROOM] = "", age[SPAN_ROOM], alone[SPAN_ROOM];
-    long long seconds, alone_for;
-    int unsaved, socket = -1, file = openat(home->folder, ABOUT, O_RDONLY | O_NOFOLLOW | O_CLOEXEC);
+    char about[ANSWER_ROOM] = "", age[SPAN_ROOM], alone[SPAN_ROOM];
+    struct state state;
+    int file = openat(home->folder, ABOUT, O_RDONLY | O_NOFOLLOW | O_CLOEXEC);
 
     (void)at;
     if (file >= 0) {
         (void)!read(file, about, sizeof about - 1);
         close(file);
     }
-    if (ask(home, "list", sizeof "list", answer, &socket) == 0 && sscanf(answer, "%lld %lld %d", &seconds, &alone_for, &unsaved) == 3) {
-        spell_span(seconds, age);
-        spell_span(alone_for, alone);
-        printf("%s  %s old, %s%s, %d not written  %s\n", home->name, age, alone_for < 0 ? "in use" : "alone for ",
-               alone_for < 0 ? "" : alone, unsaved, about);
+    if (ask_state(home, &state) == 0) {
+        bool is_in_use = state.alone_for < 0;
+        spell_span(state.seconds, age);
+        spell_span(state.alone_for, alone);
+        printf("%s  %s old, %s%s, %d not written  %s\n", home->name, age, is_in_use ? "in use" : "alone for ", is_in_use ? "" : alone,
+               state.unsaved, about);
     } else if (has_journal(home)) {
         printf("%s  its samhost is gone, and another can begin from its journal  %s\n", home->name, about);
     }
-    if (socket >= 0)
-        close(socket);
     return 0;
 }
 
@@ -164,9 +182,11 @@ int end_session(const char *name)
 
 /* ---- A file to be shown ---- */
 
-/* The session that began last, of those whose samhost answers. */
+/* The session that began last, of those whose samhost answers. One that has a terminal comes before one that has none: nobody would see
+ * the file there. */
 struct newest {
     char name[NAME_DIGITS + 1];
+    bool is_in_use;
     struct timespec begun;
 };
 
@@ -174,16 +194,16 @@ static int find_newest(struct home *home, void *at)
 {
     struct newest *newest = at;
     struct stat status;
-    int line;
+    struct state state;
 
-    if (fstatat(home->folder, ABOUT, &status, AT_SYMLINK_NOFOLLOW) != 0 || connect_home(home, &line) != 0)
+    if (fstatat(home->folder, ABOUT, &status, AT_SYMLINK_NOFOLLOW) != 0 || ask_state(home, &state) != 0)
         return 0;
-    close(line);
     const struct timespec *begun = &status.st_mtim;
-    bool is_newer =
-        begun->tv_sec > newest->begun.tv_sec || (begun->tv_sec == newest->begun.tv_sec && begun->tv_nsec > newest->begun.tv_nsec);
-    if (*newest->name == '\0' || is_newer) {
+    bool is_in_use = state.alone_for < 0, is_newer = begun->tv_sec > newest->begun.tv_sec;
+    is_newer |= begun->tv_sec == newest->begun.tv_sec && begun->tv_nsec > newest->begun.tv_nsec;
+    if (*newest->name == '\0' || (is_in_use == newest->is_in_use ? is_newer : is_in_use)) {
         memcpy(newest->name, home->name, sizeof newest->name);
+        newest->is_in_use = is_in_use;
         newest->begun = *begun;
     }
     return 0;
@@ -217,26 +237,34 @@ static int await_close(int line)
     return strstr(answer, "written\n") != NULL ? STATUS_OK : STATUS_LOST;
 }
 
-int open_in_session(const char *path, const char *line, bool waits)
+/* Opens the folder of the session of a name, or where that is NULL of the newest one; ENOENT where there is none. */
+static int open_wanted(const char *name, struct home *home)
 {
     struct newest newest = {0};
+    int error = name != NULL ? 0 : each_home(find_newest, &newest);
+
+    if (error == 0 && name == NULL && *newest.name == '\0')
+        error = ENOENT;
+    return error != 0 ? error : open_home(name != NULL ? name : newest.name, false, home);
+}
+
+int open_in_session(const char *name, const char *path, const char *line, bool waits)
+{
     struct home home;
     char answer[ANSWER_ROOM];
     size_t len;
-    int socket = -1, error = each_home(find_newest, &newest);
+    int socket = -1, error = open_wanted(name, &home);
 
-    if (error == 0 && *newest.name == '\0') {
-        say("there is no session in which %s can be shown", path);
+    if (error == ENOENT) {
+        say("there is no session%s%s in which %s can be shown", name == NULL ? "" : " ", name == NULL ? "" : name, path);
         return STATUS_NO_SESSION;
     }
-    char *words = spell_question(path, line, waits, &len);
-    if (error == 0)
-        error = words == NULL ? ENOMEM : open_home(newest.name, false, &home);
     if (error == 0) {
-        error = ask(&home, words, len, answer, &socket);
+        char *words = spell_question(path, line, waits, &len);
+        error = words == NULL ? ENOMEM : ask(&home, words, len, answer, &socket);
         close_home(&home);
+        free(words);
     }
-    free(words);
     if (error == 0 && strncmp(answer, "refused ", 8) == 0)
         say("%s: %.*s", path, (int)strcspn(answer + 8, "\n"), answer + 8);
     else if (error != 0)

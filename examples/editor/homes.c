@@ -86,9 +86,15 @@ void close_home(struct home *home)
     home->all = home->folder = home->lock = -1;
 }
 
+void sync_home(const struct home *home)
+{
+    (void)fsync(home->folder); /* where that can't be, what the disk has is up to the system */
+    (void)fsync(home->all);
+}
+
 void remove_home(struct home *home)
 {
-    const char *const names[] = {JOURNAL, SOCKET, ABOUT, LOCK};
+    const char *const names[] = {JOURNAL, NEW_JOURNAL, SOCKET, ABOUT, BEFORE, LOCK};
 
     for (size_t at = 0; at < sizeof names / sizeof names[0]; at++)
         (void)unlinkat(home->folder, names[at], 0);
@@ -221,4 +227,46 @@ int each_home(int (*visit)(struct home *home, void *at), void *at)
     if (entries != NULL)
         closedir(entries);
     return error == ENOENT ? 0 : error;
+}
+
+/* ---- Names that sessions had ---- */
+
+/* A name that is looked for, and how the session is named now that had it; empty until it is found. */
+struct search {
+    const char *name;
+    char *heir;
+};
+
+void note_before(const struct home *home, const char name[NAME_DIGITS + 1])
+{
+    char line[NAME_DIGITS + 2];
+    int file, len = snprintf(line, sizeof line, "%s\n", name);
+
+    if (make_in_home(home, BEFORE, O_WRONLY | O_APPEND, &file) != 0)
+        return; /* an older terminal is then told that there is no session */
+    (void)!write(file, line, (size_t)len);
+    close(file);
+}
+
+static int look_before(struct home *home, void *at)
+{
+    struct search *search = at;
+    char line[NAME_DIGITS + 1];
+    int file = openat(home->folder, BEFORE, O_RDONLY | O_NOFOLLOW | O_CLOEXEC);
+
+    while (file >= 0 && read(file, line, sizeof line) == sizeof line) {
+        if (memcmp(line, search->name, NAME_DIGITS) == 0)
+            memcpy(search->heir, home->name, NAME_DIGITS + 1);
+    }
+    if (file >= 0)
+        close(file);
+    return 0;
+}
+
+bool find_heir(const char *name, char heir[NAME_DIGITS + 1])
+{
+    struct search search = {name, heir};
+
+    *heir = '\0';
+    return each_home(look_before, &search) == 0 && *heir != '\0';
 }

@@ -1,6 +1,7 @@
 """What became of the texts: which could not be written, which the host has saved aside, and which have to be written here."""
 import contextlib
 import os
+import threading
 from collections import Counter
 from typing import Dict, List, Optional, Set, Tuple
 
@@ -37,6 +38,7 @@ class Keeping:
         self.put_off: List[int] = []  # files that are written when the line is back
         self._here: Dict[Tuple[Optional[int], str], str] = {}  # what was written here while the line was lost: the path, by tag and name
         self._here_at: Optional[float] = None  # when
+        self._writer: Optional[threading.Thread] = None  # that writes them: no key waits for the disk
 
     def name(self, tag: int) -> str:
         return self.terminal.name(tag) or f"unnamed-{tag}"
@@ -158,7 +160,8 @@ class Keeping:
         way, left = self.editor.way, self.seconds_until_here
         if left is not None and left <= 0:
             self._here_at = self.editor.clock()
-            self._keep_all_here()
+            if self._writer is None or not self._writer.is_alive():
+                self._keep_all_here()
         elif left is None and self._here_at is not None and way.has_all:
             self._here_at = None
             self.drop_here()
@@ -178,16 +181,34 @@ class Keeping:
                  for tag in filter(self.terminal.is_open, editor.tags) if editor.is_changed(tag)]  # fmt: skip
         texts += [(None, "typed", lambda: editor.typed_ahead), (None, "command", editor.begun_line)]
         texts.append((None, "cut", lambda: rescue.told(editor.cut_text)))
+        found = []
         for tag, name, text_of in texts:
             with contextlib.suppress(Exception):  # it is tried again, and at the end it is told
-                text, path = text_of(), self._here.get((tag, name))
+                found.append(((tag, name), text_of()))
+        self._writer = threading.Thread(target=self._write_here, args=(found,))
+        try:
+            self._writer.start()
+        except RuntimeError:  # there can be no more threads
+            self._writer = None
+            self._write_here(found)
+
+    def _write_here(self, texts: List[Tuple[Tuple[Optional[int], str], str]]) -> None:
+        for which, text in texts:
+            with contextlib.suppress(Exception):
+                path = self._here.get(which)
                 if path is not None:
                     rescue.write_again(path, text)
-                elif text and (path := rescue.keep(name, text)) is not None:
-                    self._here[tag, name] = path
+                elif text and (path := rescue.keep(which[1], text)) is not None:
+                    self._here[which] = path
+
+    def _finish_writing_here(self) -> None:
+        if self._writer is not None:
+            self._writer.join()
+            self._writer = None
 
     def drop_here(self) -> None:
         """What was written here while the line was lost goes."""
+        self._finish_writing_here()
         while self._here:
             _, path = self._here.popitem()
             with contextlib.suppress(OSError):
@@ -214,6 +235,7 @@ class Keeping:
         return [self._kept("typed", text)] if text else []
 
     def _kept(self, name: str, text: str, tag: Optional[int] = None) -> str:
+        self._finish_writing_here()
         path = self._here.pop((tag, name), None)
         try:
             path = rescue.keep(name, text) if path is None else rescue.write_again(path, text)

@@ -30,7 +30,7 @@ static int say_home(const char *name, int error)
         say("there is no folder for session %s: $HOME or $XDG_STATE_HOME has to name one", name);
     else
         say("session %s: %s", name, cause(error));
-    return STATUS_UNREADABLE;
+    return error == ENOMEM ? STATUS_MEMORY : STATUS_UNREADABLE;
 }
 
 /* ---- A process of its own ---- */
@@ -163,11 +163,12 @@ static int part(struct session *session)
 /* ---- Beginning ---- */
 
 /* Says on standard error what was said so far. */
-static void say_gathered(const struct stay *stay)
+static void say_gathered(struct stay *stay)
 {
     set_listener(NULL, NULL);
     for (const struct note *note = stay->notes; note != NULL; note = note->next)
         say("%s", note->words + strlen("told "));
+    say_missing(stay);
 }
 
 /* Begins a session in its folder, which is locked. Returns the exit status. */
@@ -185,9 +186,10 @@ static int begin_in(struct home *home, char **paths, int count, const struct opt
     int status = open_session(session, paths, count, options);
     if (status == STATUS_OK) {
         int error = make_journal(session->stay, JOURNAL);
-        if (error == 0)
+        if (error == 0) {
             note_start(session);
-        else /* one that is not whole is none */
+            sync_home(&session->stay->home);
+        } else /* one that is not whole is none */
             say("there is no journal: %s; if samhost ends unasked, the session ends with it", cause(error));
         note_about(session);
         return part(session);
@@ -266,7 +268,7 @@ static int give_up(struct session *session, enum replay_fault fault, bool is_att
         remove_home(home);
     free_staying(session);
     if (is_attached && (is_for_ever || fault == REPLAY_OTHER))
-        return refuse_hello();
+        return refuse_hello(SAM_LINK_NO_SESSION);
     return fault == REPLAY_SHORT ? STATUS_MEMORY : STATUS_UNREADABLE;
 }
 
@@ -308,6 +310,7 @@ int end_without_samhost(struct home *home)
 int attach(const char *name)
 {
     struct home home;
+    char heir[NAME_DIGITS + 1];
     int line, error = open_home(name, false, &home);
 
     if (error == 0) {
@@ -320,7 +323,9 @@ int attach(const char *name)
     }
     if (error == 0)
         return relay(line);
-    return error == ENOENT ? refuse_hello() : say_home(name, error);
+    if (error != ENOENT)
+        return say_home(name, error);
+    return refuse_hello(find_heir(name, heir) ? SAM_LINK_OTHER_SESSION : SAM_LINK_NO_SESSION);
 }
 
 /* Notes the name of a session, if it is the first. */
@@ -336,7 +341,7 @@ static int note_only(struct home *home, void *at)
 
 int take(const char *name)
 {
-    char only[NAME_DIGITS + 1] = "";
+    char only[NAME_DIGITS + 1] = "", heir[NAME_DIGITS + 1];
     int error = name != NULL ? 0 : each_home(note_only, only);
 
     if (error == EEXIST) {
@@ -348,6 +353,8 @@ int take(const char *name)
         return STATUS_UNREADABLE;
     }
     if (name == NULL && *only == '\0')
-        return refuse_hello();
+        return refuse_hello(SAM_LINK_NO_SESSION);
+    if (name != NULL && find_heir(name, heir)) /* who is to come back finds it, whoever has taken it since */
+        return attach(heir);
     return attach(name != NULL ? name : only);
 }

@@ -100,7 +100,7 @@ int relay(int line)
     return is_through(&up) || (is_through(&down) && down.has_come) ? STATUS_OK : STATUS_BROKEN;
 }
 
-int refuse_hello(void)
+int refuse_hello(uint32_t why)
 {
     uint8_t hello[SAM_LINK_HELLO_BYTES], id[SAM_LINK_ID_BYTES], refusal[SAM_LINK_HELLO_BYTES];
     uint32_t what;
@@ -115,7 +115,7 @@ int refuse_hello(void)
             break;
         len += (size_t)count;
     }
-    if (sam_link_write_refusal(SAM_LINK_NO_SESSION, hello, len, refusal) == SAM_OK)
+    if (sam_link_write_refusal(why, hello, len, refusal) == SAM_OK)
         (void)!write(STDOUT_FILENO, refusal, sizeof refusal); /* where it doesn't go, the status says it */
     return STATUS_NO_SESSION;
 }

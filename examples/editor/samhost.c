@@ -39,7 +39,7 @@ enum {
     "usage: samhost [--undo] [--times] [--] [FILE ..]\n"                                                                                   \
     "       samhost --serve NAME [--undo] [--times] [--stay HOURS] [--] [FILE ..]\n"                                                       \
     "       samhost --attach NAME | --take [NAME] | --end NAME | --list\n"                                                                 \
-    "       samhost --open [--wait] [--] FILE [+LINE]\n"                                                                                   \
+    "       samhost --open [--wait] [--session NAME] [--] FILE [+LINE]\n"                                                                  \
     "       samhost --version\n"
 
 size_t count_tags(struct session *session)
@@ -178,7 +178,10 @@ static int take_option(char **words, int left, enum verb *verb, struct options *
         *verb = OPEN;
     else if (strcmp(word, "--wait") == 0 && *verb == OPEN)
         options->waits = true;
-    else if (strcmp(word, "--take") == 0 && *verb == PLAIN) {
+    else if (strcmp(word, "--session") == 0 && *verb == OPEN && is_home_name(next)) {
+        options->name = next;
+        return 2;
+    } else if (strcmp(word, "--take") == 0 && *verb == PLAIN) {
         *verb = TAKE;
         options->name = has_name ? next : NULL;
         return has_name ? 2 : 1;
@@ -225,7 +228,7 @@ int main(int count, char **words)
     case ATTACH:
         return attach(options.name);
     case OPEN:
-        return open_in_session(words[first], has_line ? words[last] + 1 : "", options.waits);
+        return open_in_session(options.name, words[first], has_line ? words[last] + 1 : "", options.waits);
     case TAKE:
         return take(options.name);
     case LIST:

@@ -206,7 +206,9 @@ enum {
 };
 
 #define JOURNAL "journal" /* names of files in the folder of a session that stays */
+#define NEW_JOURNAL "journal.new"
 #define ABOUT "name"
+#define BEFORE "before" /* the names that the session had before other terminals took it over */
 
 /* The folder of a session that stays, and that of all of them; the lock, where this process holds it. Open files, or -1. */
 struct home {
@@ -606,6 +608,9 @@ void close_home(struct home *home);
 /* Opens a file in the folder, which is made where it isn't there, for the user alone whatever the umask. */
 int make_in_home(const struct home *home, const char *name, int flags, int *file);
 
+/* Has the folder be on the disk, with the names of what it has. */
+void sync_home(const struct home *home);
+
 /* Removes the folder and what a session has in it. */
 void remove_home(struct home *home);
 
@@ -629,13 +634,19 @@ bool is_ours(int socket, pid_t *process);
 /* Visits the folder of each session, until a visit returns an error number. */
 int each_home(int (*visit)(struct home *home, void *at), void *at);
 
+/* Notes a name that the session had before another terminal took it over; it goes with the folder. */
+void note_before(const struct home *home, const char name[NAME_DIGITS + 1]);
+
+/* Finds the session that had a name before another terminal took it over, and hands out its name. Returns whether there is one. */
+bool find_heir(const char *name, char heir[NAME_DIGITS + 1]);
+
 /* relay.c */
 
 /* Carries bytes until either side ends. Returns the exit status. */
 int relay(int line);
 
-/* Answers the terminal's hello by a refusal: no session of this name is there. Returns the exit status. */
-int refuse_hello(void);
+/* Answers the terminal's hello by a refusal, since no session of this name is there. Returns the exit status. */
+int refuse_hello(uint32_t why);
 
 /* asking.c */
 
@@ -643,9 +654,10 @@ int refuse_hello(void);
 int list_sessions(void);
 int end_session(const char *name);
 
-/* Has the terminal of the newest session show a file, at a line where one is named. Waits until the file is closed where `waits` says so:
- * then the exit status is 0 only if it was written. */
-int open_in_session(const char *path, const char *line, bool waits);
+/* Has the terminal of the session of a name show a file, at a line where one is named; where the name is NULL that of the newest one that
+ * has a terminal, else of the newest. Waits until the file is closed where `waits` says so: then the exit status is 0 only if it was
+ * written. */
+int open_in_session(const char *name, const char *path, const char *line, bool waits);
 
 /* Writes into the folder of a session what the list says of it. */
 void note_about(const struct session *session);
@@ -712,6 +724,9 @@ bool say_note(struct session *session, const char *format, ...);
 
 /* Tells the terminal that another one, on this machine, has the session now, as far as its line takes that without waiting. */
 void say_the_last(struct session *session, const char *machine);
+
+/* Says how many lines there was no memory for, if there are some. */
+void say_missing(struct stay *stay);
 
 /* Puts the notes that wait, as soon as there is a link. */
 void put_notes(struct session *session);

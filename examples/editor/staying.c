@@ -38,6 +38,15 @@ static size_t note_len(const char *note)
     return len;
 }
 
+void say_missing(struct stay *stay)
+{
+    unsigned missing = stay->missing;
+
+    stay->missing = 0;
+    if (missing > 0)
+        say("lines missing before this one, since memory was out: %u", missing);
+}
+
 void put_notes(struct session *session)
 {
     struct stay *stay = session->stay;
@@ -55,11 +64,7 @@ void put_notes(struct session *session)
         free(note->words);
         free(note);
     }
-    if (stay->missing > 0) {
-        unsigned missing = stay->missing;
-        stay->missing = 0;
-        say("lines missing before this one, since memory was out: %u", missing);
-    }
+    say_missing(stay);
 }
 
 bool say_note(struct session *session, const char *format, ...)
@@ -355,7 +360,8 @@ static void say_the_end(struct session *session, const sigset_t *mask, int statu
 
     stay->longest_alone = -1;
     while (stay->attempt > 0 && now() < until && is_signalled() == was_signalled) {
-        if (!stay->has_ended)
+        say_missing(stay); /* no line comes after the last note */
+        if (!stay->has_ended && stay->missing == 0)
             stay->has_ended = say_note(session, "ended %d", status);
         put_notes(session);
         if (stay->has_ended && stay->notes == NULL && wanted == 0)

@@ -31,7 +31,7 @@ WELCOME = 4
 REFUSED = {
     18: "the host knows another version of the link",
     20: "the session is not there any more",
-    21: "another terminal has the session",
+    21: "another terminal has taken the session over",
     23: "the host has begun again, and lacks some of what it said: samterm --take goes on with the texts that it has",
 }
 

@@ -98,21 +98,23 @@ static void name_anew(struct session *session, struct session *heir, const struc
     session->stay->journal.file = -1;
     memcpy(before, home->name, sizeof before);
     name_of_id(heir->stay->id, home->name);
-    int error = make_journal(heir->stay, JOURNAL ".new");
+    int error = make_journal(heir->stay, NEW_JOURNAL);
     if (error == 0) {
         note_start(heir);
         add_record(heir, STEP_HELLO, caller->bytes, caller->len);
         sync_journal(heir);
-        error = renameat(home->folder, JOURNAL ".new", home->folder, JOURNAL) != 0 ? errno : 0;
+        error = renameat(home->folder, NEW_JOURNAL, home->folder, JOURNAL) != 0 ? errno : 0;
     }
     if (error != 0) {
         (void)unlinkat(home->folder, JOURNAL, 0);
         say("there is no journal: %s; if samhost ends unasked, the session ends with it", cause(error));
     }
+    note_before(home, before);
     if (renameat(home->all, before, home->all, home->name) != 0) {
         say("session %s can't be named anew: %s", before, cause(errno));
         memcpy(home->name, before, sizeof before);
     }
+    sync_home(home);
     note_about(heir);
 }
 

@@ -134,7 +134,8 @@ With IN-FRONT it gets a terminal."
           ;; A process leads a session of its own, so the first terminal that it opens is the one on which its programs ask.  It stays open,
           ;; since Emacs reads nothing more of a terminal that nobody has open.
           words (append (list "/bin/sh" "-c" "exec 9<>\"$0\"; exec \"$@\"" (process-tty-name (sulgrevad-line-tty line))) words)))
-  (let ((default-directory (if (file-remote-p default-directory) temporary-file-directory default-directory)))
+  (let ((default-directory (if (file-remote-p default-directory) temporary-file-directory default-directory))
+        (process-environment (append (unless in-front '("SSH_ASKPASS_REQUIRE=never")) process-environment))) ; nor in a window
     (setf (sulgrevad-line-errors line)
           (make-pipe-process :name "samhost-errors" :noquery t :coding 'utf-8-unix :sentinel #'ignore
                              :filter (lambda (_ text) (sulgrevad-line--tell line text)))

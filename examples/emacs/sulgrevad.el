@@ -93,7 +93,7 @@ nil is samhost's own choice."
 (defconst sulgrevad-version-offered 2 "The version of the protocol.")
 (defconst sulgrevad-most-typed 512 "How many runes are typed at once.")
 (defconst sulgrevad-most-runes 1000000 "How many runes a text has at most.")
-(defconst sulgrevad-most-load 32768 "How many runes are loaded at once.")
+(defconst sulgrevad-most-load 262144 "How many runes are loaded at once.")
 (defconst sulgrevad-most-changes 200
   "How many changes that come together are made apart; more are made one.")
 (defconst sulgrevad-most-names 1000
@@ -101,6 +101,7 @@ nil is samhost's own choice."
 (defconst sulgrevad-most-in-base 50
   "How many characters of a file's name such a name begins with.
 Those of four bytes have room, too.")
+(defconst sulgrevad-most-told 10 "How many lines of what was told are noted.")
 (defconst sulgrevad-most-leaving 10
   "How many seconds at most each step takes when the session is to end.")
 (defconst sulgrevad-most-unsent 0.5
@@ -121,7 +122,7 @@ Those of four bytes have room, too.")
 (defvar sulgrevad--inbox nil
   "What came from the host and is not taken in yet, oldest first.
 Each is a string of bytes, or a pair: `note' or `lost', and a text.")
-(defvar sulgrevad--told nil "What was told since the session began to begin.")
+(defvar sulgrevad--told nil "What was told last, the last first.")
 (defvar sulgrevad--writes nil "Tags of files to be written, oldest first.")
 (defvar sulgrevad--writing nil "The tag of the file that is being written.")
 (defvar sulgrevad--complaint nil "Why it is not written, as the host told.")
@@ -265,13 +266,13 @@ may signal `sulgrevad-no-memory'."
 
 (defun sulgrevad--before-change (&rest _)
   "Note a change that `after-change-functions' has not reported."
-  (unless (or (eq sulgrevad--changes t) (eql sulgrevad--tick (buffer-chars-modified-tick))) ; of all that is to come nothing is ours
+  (unless (or (eq sulgrevad--changes t) (eql sulgrevad--tick (buffer-chars-modified-tick)))
     (setq sulgrevad--has-drifted t)))
 
 (defun sulgrevad--after-change (start end old)
   "Hand over that the text from START to END replaced OLD characters.
 It signals no error and no quit, since Emacs would not call it again."
-  (cond ((not (sulgrevad--is-ours)))
+  (cond ((or (not (sulgrevad--is-ours)) (eq sulgrevad--changes t))) ; the text is to come
         (sulgrevad--is-taking (setq sulgrevad--tick (buffer-chars-modified-tick)))
         (t (let ((inhibit-quit t))
              (condition-case nil
@@ -322,7 +323,7 @@ With WHOLE look for it also where there is no sign of it.  It may signal
 `sulgrevad-no-memory': then it is to be called again."
   (unless enable-multibyte-characters (set-buffer-multibyte t)) ; places are those of characters, not of bytes
   (sulgrevad--before-change)
-  (when (and (or whole sulgrevad--has-drifted) (sulgrevad--is-free))
+  (when (and (or (and whole (null sulgrevad--changes)) sulgrevad--has-drifted) (sulgrevad--is-free))
     (setq sulgrevad--has-drifted t)
     (let ((why (pcase (sulgrevad--difference)
                  (`(,start ,_ ,end ,mine)
@@ -365,12 +366,17 @@ FROM and TO are where it begins and ends."
 
 (defun sulgrevad--put-each (places)
   "Change PLACES of the buffer to what the terminal has, the last first.
-Functions of others may change the buffer meanwhile: then it drifts."
-  (condition-case nil
-      (pcase-dolist (`(,start ,end ,from ,to) places)
-        (sulgrevad--put start end from to))
-    (error (sulgrevad--put-back)        ; a function of another has failed
-           (setq sulgrevad--tick (buffer-chars-modified-tick))))
+Functions of others may change the buffer meanwhile: then places move,
+and it drifts."
+  (let ((marked (cl-loop for (start end . theirs) in places
+                         collect (cons (copy-marker (1+ start)) (cons (copy-marker (1+ end)) theirs)))))
+    (condition-case nil
+        (pcase-dolist (`(,start ,end ,from ,to) marked)
+          (sulgrevad--put (1- start) (1- end) from to)
+          (set-marker start nil)
+          (set-marker end nil))
+      (error (sulgrevad--put-back)      ; a function of another has failed
+             (setq sulgrevad--tick (buffer-chars-modified-tick)))))
   (sulgrevad--before-change)
   (unless (= (buffer-size) (sulgrevad--len sulgrevad--term sulgrevad--tag))
     (setq sulgrevad--has-drifted t)))
@@ -517,7 +523,6 @@ one takes its place.  Return its path, or nil where none can be written."
       (condition-case nil (progn (rename-file path (cdr before) t)
                                  (setq path (cdr before)))
         (error nil)))
-    (when path (push (cons tag path) sulgrevad--copies))
     path))
 
 (defun sulgrevad--keep-new (name text)
@@ -589,8 +594,9 @@ all."
            (setq sulgrevad--copied-at now)
            (cl-loop for (name . tag) in (sulgrevad--names)
                     for buffer = (sulgrevad--buffer-of tag)
-                    when (and buffer (buffer-modified-p buffer) (not (eq t (buffer-local-value 'sulgrevad--changes buffer))))
-                    do (sulgrevad--keep name (with-current-buffer buffer (sulgrevad--text)) tag))))))
+                    for is-shown = (and buffer (buffer-modified-p buffer) (not (eq t (buffer-local-value 'sulgrevad--changes buffer))))
+                    for path = (and is-shown (sulgrevad--keep name (with-current-buffer buffer (sulgrevad--text)) tag))
+                    when path do (push (cons tag path) sulgrevad--copies))))))
 
 (defun sulgrevad--host-has-all ()
   "Whether the host has all that was handed over, and will keep it.
@@ -634,7 +640,8 @@ Only where the terminal may not know all of it."
 What waits goes to the host first, and all is written, or the user says
 so."
   (cond ((null sulgrevad--term) t)
-        ((progn (sulgrevad--wait #'sulgrevad--is-handed-over) (null sulgrevad--term)) nil) ; what became of the texts is to be read
+        ((progn (sulgrevad--wait (lambda () (and (sulgrevad--is-handed-over) (not (sulgrevad--is-late))))) (null sulgrevad--term))
+         nil)                           ; what became of the texts is to be read
         ((not (sulgrevad--is-handed-over)) (yes-or-no-p "Some edits did not get to the host; leave, and keep them here? "))
         ((sulgrevad--is-late) (yes-or-no-p "The host does not answer; leave the session there, and keep here what it may not have? "))
         ((cl-some (lambda (file) (sulgrevad--is-unwritten (cdr file))) (sulgrevad--names))
@@ -647,7 +654,7 @@ What waits goes to the host, which saves what was not written.  Where it
 does not answer the session stays there."
   (when sulgrevad--term
     (sulgrevad--wait #'sulgrevad--is-handed-over sulgrevad-most-leaving)
-    (unless (sulgrevad--is-late)
+    (when (sulgrevad--wait (lambda () (not (sulgrevad--is-late))))
       (ignore-errors (sulgrevad--exit sulgrevad--term)) ; no memory for it
       (sulgrevad--wait (lambda () (null sulgrevad--term)) sulgrevad-most-leaving))
     (when sulgrevad--term
@@ -772,7 +779,7 @@ Return whether there was any."
   (pcase event
     ('bytes (setq sulgrevad--inbox (nconc sulgrevad--inbox (list what))))
     ((or 'note 'lost) (setq sulgrevad--inbox (nconc sulgrevad--inbox (list (cons event what)))))
-    ('told (push what sulgrevad--told)
+    ('told (sulgrevad--note-told what)
            (message "%s" what))
     ('state (force-mode-line-update t)))
   (sulgrevad--pump))
@@ -791,9 +798,13 @@ Return whether there was any."
   (let ((blank (string-search " " text)))
     (if blank (list (substring text 0 blank) (substring text (1+ blank))) (list text ""))))
 
+(defun sulgrevad--note-told (told)
+  "Note what was TOLD, for an error that may come."
+  (setq sulgrevad--told (seq-take (cons told sulgrevad--told) sulgrevad-most-told)))
+
 (defun sulgrevad--hear (told)
   "Show what the host has TOLD, and note what it has not written."
-  (push told sulgrevad--told)
+  (sulgrevad--note-told told)
   (cond ((not (string-prefix-p "? write " told)) (message "samhost: %s" told))
         (sulgrevad--writing (setq sulgrevad--complaint told))
         (t (push (cons nil told) sulgrevad--unwritten)
@@ -1060,8 +1071,9 @@ Return a list of what it answers and what stands after that."
     (sulgrevad--send)
     (sulgrevad-line-put-note sulgrevad--line verb (format "%d" number) rest)
     (when (equal verb "open") (sulgrevad--offer-version sulgrevad--term sulgrevad-version-offered))
-    (or (sulgrevad--wait (lambda () (cdr (assq number sulgrevad--answers))))
-        (sulgrevad--refuse "That"))))
+    (prog1 (or (sulgrevad--wait (lambda () (cdr (assq number sulgrevad--answers))))
+               (sulgrevad--refuse "That"))
+      (setq sulgrevad--answers (assq-delete-all number sulgrevad--answers)))))
 
 (defun sulgrevad--is-named (tag)
   "Whether the host has told the name of the file TAG, and all others."

@@ -142,7 +142,7 @@ class BrokenRun(Run):
     @contextlib.contextmanager
     def broken(self, session):
         """Breaks the line at random meanwhile: the process that carries the bytes is killed, or stands still before."""
-        numbers, is_over = random.Random(self.seed), threading.Event()
+        numbers, is_over = random.Random(f"{self.seed} {self.breaks}"), threading.Event()
 
         def go_on():
             while not is_over.wait(numbers.random() * 0.7):

@@ -44,6 +44,8 @@ def text_of(numbers):
 class Run:
     """One session: the keys of a seed, how they arrive, and the model."""
 
+    name = "a.txt"  # of the file that the keys go to
+
     def __init__(self, seed, delay=None):
         self.numbers = random.Random(seed)
         self.seed, self.told = seed, []
@@ -183,9 +185,9 @@ class Run:
     def expect_screen(self, session):
         """The rows of the window are rows of the text, one after the other, and the caret stands where it is in the text. A row of a very
         long line may begin anywhere in it."""
-        model, rows = self.model, [without_marks(row) for row in session.rows("a.txt")]
+        model, rows = self.model, [without_marks(row) for row in session.rows(self.name)]
         column, y = map(int, session.tmux("display-message", "-p", "#{cursor_x} #{cursor_y}").split())
-        title = next(at for at, line in enumerate(session.screen()) if re.match(r"[> ][* ] a\.txt\s*$", line))
+        title = next(at for at, line in enumerate(session.screen()) if re.match(rf"[> ][* ] {re.escape(self.name)}\s*$", line))
         below = y - title - 1
         if model.caret - model.line_start(model.caret) > LONG:
             return

@@ -3,6 +3,7 @@ import re
 import unicodedata
 
 TAB = 8
+NO_BASE = "◌"  # carries a combining mark that begins a line
 
 
 def columns_of(rune, column):
@@ -48,12 +49,14 @@ def rows_of_line(line, start, width):
             row.cells[-1] = (place, column, text + rune)
             row.end = at + 1
             continue
+        drawn = NO_BASE + rune if count == 0 else rune
+        count = max(count, 1)
         if row.width >= width or (row.width + count > width and rune != "\t"):
             row = Row(at)
             rows.append(row)
-            count = columns_of(rune, 0)
+            count = max(columns_of(rune, 0), 1)
         count = min(count, width - row.width)
-        row.cells.append((at, row.width, " " * count if rune == "\t" else rune))
+        row.cells.append((at, row.width, " " * count if rune == "\t" else drawn))
         row.width, row.end = row.width + count, at + 1
     rows[-1].ends_line = True
     return rows

@@ -2,7 +2,7 @@
 import os
 import subprocess
 
-from checks import SECONDS, expect
+from checks import SECONDS, expect, wait_until
 
 from .journals import kill
 from .line import Staying
@@ -184,3 +184,31 @@ def check_join_wished(folder):
         ended = session.run("--open", "a.txt")
         wanted = (7, "samhost: there is no session in which a.txt can be shown\n")
         expect_equal((ended.returncode, ended.stderr), wanted, "what comes where there is none")
+
+
+def check_join_wished_in_one_of_several(folder):
+    """Of several sessions --open has the newest show a file that has a terminal, else the newest; or the one that is named."""
+    made(folder, a="one\n", b="two\n")
+    with Staying(folder, "a.txt") as older, Staying(folder, "b.txt") as newer:
+
+        def shown_by(*words):
+            before = {each: len(each.notes) for each in (older, newer)}
+            ended = older.run("--open", *words, "a.txt", "+7")
+            expect_equal((ended.returncode, ended.stderr), (0, ""), f"what comes of {words}")
+            for each in (older, newer):
+                if each.process is not None:
+                    each.settle()
+            return [each.name for each, count in before.items() if any(note.startswith("wish ") for note in each.notes[count:])]
+
+        expect_equal(shown_by(), [newer.name], "where it is shown")
+        expect_equal(shown_by("--session", older.name), [older.name], "where it is shown by name")
+        newer.drop()
+        wait_until(lambda: " alone for " in older.run("--list").stdout, "it is not alone")
+        expect_equal(shown_by(), [older.name], "where it is shown while the newest is alone")
+        ended = older.run("--open", "--session", "0123456789abcdef", "a.txt")
+        wanted = (7, "samhost: there is no session 0123456789abcdef in which a.txt can be shown\n")
+        expect_equal((ended.returncode, ended.stderr), wanted, "what comes of a name that no session has")
+        newer.type("three\n")
+        expect_equal(shown_by(), [newer.name], "where it is shown once it is back")
+        older.leave()
+        newer.leave()

@@ -373,26 +373,3 @@ def is_session(pid, name):
         return name.encode() in words and os.readlink(f"/proc/{pid}/fd/0") == "/dev/null"
     except OSError:
         return False
-
-
-def check_journal_is_read_quickly(folder):
-    """A journal of 16 MB is read within some seconds on a busy machine; on a quiet one it takes less than one."""
-    made(folder, a="one\n")
-    with Staying(folder, "a.txt") as session:
-        text = "x" * 79 + "\n"
-        for _ in range(16):
-            for _ in range(100):
-                session.terminal.select(1, 0, 0)
-                session.terminal.type(1, text)
-            session.settle()
-        journal = home_of(folder, session.name) / "journal"
-        session.type("last\n")
-        expect(journal.stat().st_size > 100000, f"it has {journal.stat().st_size} bytes")
-        kill(folder, session)
-        start = time.monotonic()
-        session.drop()
-        session.attach()
-        expect_equal(session.refusal(), What.WELCOME, "the answer")
-        expect(time.monotonic() - start < 5, f"it took {time.monotonic() - start:.1f} s")
-        session.abandon()
-        session.leave()

@@ -37,16 +37,18 @@ def is_running(pid):
 class Staying:
     """A terminal, and the line to its session: the relay that it runs now. A line that breaks is made anew."""
 
-    def __init__(self, folder, *files, options=(), begin=True, takes=None):
-        """With `takes` it takes over the session of that name, or the only one where it is empty."""
+    def __init__(self, folder, *files, options=(), begin=True, takes=None, prefix=(), kind=Link):
+        """With `takes` it takes over the session of that name, or the only one where it is empty. The words of `prefix` run the first
+        relay, and `kind` makes the link's end."""
         import sulgrevad
 
         self.folder, self.id = folder, os.urandom(16)
         self.name = self.id[:8].hex()
         place = str(folder / "temporary")
         self.environment = {**os.environ, "TMPDIR": place, "XDG_STATE_HOME": place}
-        self.link, self.terminal = Link(Link.TERMINAL, self.id), sulgrevad.Terminal()
+        self.link, self.terminal = kind(kind.TERMINAL, self.id), sulgrevad.Terminal()
         self.notes, self.errors, self.breaks, self.left = [], b"", 0, None
+        self.prefix = prefix  # words that run the next relay; none run those after it
         self.process, self.others, self.takes_over = None, [], takes is not None
         self.start(*(["--serve", self.name, *options, "--", *files] if takes is None else ["--take", *([takes] if takes else [])]))
         if begin:
@@ -85,8 +87,9 @@ class Staying:
     def start(self, *words):
         """Opens a connection by a relay of these words."""
         pipe = subprocess.PIPE
+        prefix, self.prefix = self.prefix, ()
         self.process = subprocess.Popen(
-            [SAMHOST, *words], cwd=self.folder, env=self.environment, stdin=pipe, stdout=pipe, stderr=pipe, bufsize=0
+            [*prefix, SAMHOST, *words], cwd=self.folder, env=self.environment, stdin=pipe, stdout=pipe, stderr=pipe, bufsize=0
         )
         self.attempt, self.came, self.is_welcomed = self.link.call(self.takes_over), b"", False
         self.asked_at = -1

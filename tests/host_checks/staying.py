@@ -76,7 +76,8 @@ def check_stays_not_at_errors(folder):
 def check_stays_words(folder):
     """Wrong words are answered by the usage, before any byte."""
     for words in (["--serve"], ["--serve", "xyz"], ["--serve", OWN.upper()], ["--attach", OWN, "a"], ["--list", "a"], ["--stay", "x"],
-                  ["--stay", "-1"], ["--end"], ["--attach", OWN, "--serve", OWN]):  # fmt: skip
+                  ["--stay", "-1"], ["--end"], ["--attach", OWN, "--serve", OWN], ["--session", OWN],
+                  ["--open", "--session", "xyz", "a.txt"]):  # fmt: skip
         status, output, errors = ran(folder, *words)
         expect_equal((status, output), (2, b""), f"what comes of {words}")
         expect(errors.startswith("usage: samhost"), f"no usage of {words}: {errors}")

@@ -34,7 +34,7 @@ def check_taken_with_texts_and_marks(folder):
             expect_equal(names_in(home_of(folder, new.name).parent), [new.name], "the folders of sessions")
             old.drop()
             old.start("--attach", old.name)
-            expect_equal((old.refusal(), old.wait()), (What.NO_SESSION, 7), "what the older terminal finds")
+            expect_equal((old.refusal(), old.wait()), (What.OTHER_SESSION, 7), "what the older terminal finds")
             new.type("three\n")
             new.write(1)
             expect_equal(text_of(first), "one\ntwo\nthree\n", "the file")
@@ -70,6 +70,34 @@ def check_taken_from_a_journal(folder):
         with Staying(folder, takes=old.name) as new:
             expect_equal(new.text(), "one\ntwo\n", "the text")
             new.leave()
+
+
+def answer_to(session, *words):
+    """What the samhost of these words answers to a hello, and its status."""
+    session.drop()
+    session.start(*words)
+    return session.refusal(), session.wait()
+
+
+def check_taken_is_told_to_who_was_away(folder):
+    """A terminal whose line was dead while others took its session over, one after the other, hears that it was taken, also where its
+    samhost was killed since; it may take it back. Once the session has ended it hears that."""
+    made(folder, a="one\n")
+    with Staying(folder, "a.txt") as first:
+        first.type("two\n")
+        first.drop()
+        with Staying(folder, takes=first.name) as second:
+            second.drop()
+            with Staying(folder, takes="") as third:
+                third.type("three\n")
+                expect_equal(answer_to(first, "--attach", first.name), (What.OTHER_SESSION, 7), "what the first one finds")
+                kill(folder, third)
+                expect_equal(answer_to(second, "--attach", second.name), (What.OTHER_SESSION, 7), "what the second one finds")
+                third.drop()
+                with Staying(folder, takes=first.name) as again:
+                    expect_equal(again.text(), "one\ntwo\nthree\n", "the text that comes back")
+                    again.leave()
+            expect_equal(answer_to(second, "--attach", second.name), (What.NO_SESSION, 7), "what it finds after the end")
 
 
 def check_taken_by_its_name(folder):

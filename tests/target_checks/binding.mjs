@@ -1,7 +1,7 @@
 /* What bindings/javascript promises: results, errors by code, texts, ends, numbers. Node and a page of a browser run it. */
 import * as sulgrevad from "../../bindings/javascript/sulgrevad.js";
 
-const { Host, Terminal, Status, memory, replay, statusText, libraryVersion } = sulgrevad;
+const { Host, Link, Terminal, Status, What, memory, readHello, replay, statusText, libraryVersion, writeRefusal } = sulgrevad;
 const KEYS = 20000;
 
 function expect(holds, told) {
@@ -237,6 +237,71 @@ function checkEnds() {
   throws("HandleFault", "NO_HANDLE", () => host.addFile("\ud834"));
 }
 
+function bytes(count, value = 0) {
+  return new Uint8Array(count).fill(value);
+}
+
+/** Bytes and notes over two connections, the first of which breaks. */
+function checkLink() {
+  const id = new TextEncoder().encode("a session's name");
+  const [link, host] = [new Link(Link.TERMINAL, id), new Link(Link.HOST, id)];
+  link.put(bytes(5000, 120));
+  link.putNote(new TextEncoder().encode("note"));
+  same([link.putCount, link.phase, link.attempt], [5013, Link.DOWN, 0]);
+  const first = link.call();
+  const out = link.takeOut(first, 1000);
+  same([first, out.length, readHello(out.subarray(0, 41)), link.unsent], [1, 1000, null, 4055]);
+  const hello = readHello(out);
+  same([hello.what, hello.id.join() === id.join(), hello.attempt], [What.BEGIN, true, 1]);
+  host.answer(out.subarray(0, 42));
+  host.feed(first, out.subarray(42));
+  same([host.received, host.nextNote()], [958, null]);
+  link.broken(first);
+  const second = link.call(true);
+  host.answer(link.takeOut(second));
+  link.welcomed(host.takeOut(second));
+  same([link.phase, link.acknowledged, link.unsent], [Link.OPEN, 958, link.putCount - 958]);
+  link.ask();
+  host.feed(second, link.takeOut(second));
+  same([host.takeIn(4000).length, host.takeIn().length, host.takeIn().length, host.takeIn().length], [4000, 96, 904, 0]);
+  same([new TextDecoder().decode(host.nextNote()), host.nextNote()], ["note", null]);
+  host.acknowledge();
+  link.feed(second, host.takeOut(second));
+  same([link.acknowledged, link.received], [5016, 22]);
+  link.free();
+  throws("HandleFault", "NO_HANDLE", () => link.ask());
+}
+
+/** What a link refuses, by its error and code, and what is refused before the library is called. */
+function checkRefusedLink() {
+  const link = new Link(Link.TERMINAL, bytes(16));
+  throwsPlain(RangeError, () => new Link(Link.TERMINAL, bytes(15)));
+  throwsPlain(TypeError, () => new Link(Link.TERMINAL, "x".repeat(16)));
+  throwsPlain(RangeError, () => new Link(-1, bytes(16)));
+  throwsPlain(RangeError, () => link.broken(-1));
+  throwsPlain(RangeError, () => link.takeIn(-1));
+  throwsPlain(RangeError, () => link.takeOut(0, -1));
+  throwsPlain(TypeError, () => link.put("text"));
+  throwsPlain(TypeError, () => readHello("text"));
+  throws("LinkFault", "LINK_WRONG_ROLE", () => new Link(2, bytes(16)));
+  throws("LinkFault", "LINK_NOT_A_LINK", () => readHello(new TextEncoder().encode("GET")));
+  throws("LinkFault", "LINK_TOO_LONG", () => link.putNote(bytes(4097)));
+  throws("LinkFault", "LINK_NOT_OPEN", () => link.takeOut(0));
+  throws("LinkFault", "LINK_NOT_OPEN", () => link.feed(0, bytes(0)));
+  throws("Missing", "NONE", () => link.welcomed(bytes(0)));
+  throws("Missing", "NONE", () => writeRefusal(Status.LINK_WRONG_ROLE, bytes(0)));
+  const hello = link.takeOut(link.call());
+  throws("LinkFault", "LINK_WRONG_ROLE", () => link.answer(hello));
+  const refusal = writeRefusal(Status.LINK_OTHER_SESSION, hello);
+  same([refusal.length, readHello(refusal).what], [42, What.OTHER_SESSION]);
+  throws("LinkFault", "LINK_OTHER_SESSION", () => link.welcomed(refusal));
+  same(link.phase, Link.ASKING);
+  memory.limit(memory.taken);
+  throws("NoMemory", "NO_MEMORY", () => link.put(bytes(memory.taken)));
+  memory.limit(Number.MAX_SAFE_INTEGER);
+  same(link.putCount, 0);
+}
+
 function checkMemory() {
   const [host, terminal, tag] = opened(["one", "abc"]);
   memory.limit(memory.taken);
@@ -266,8 +331,13 @@ function keyTime() {
   return `a key takes ${((1000 * (performance.now() - start)) / KEYS).toFixed(2)} microseconds`;
 }
 
+const CHECKS = [
+  ...[checkTexts, checkFiles, checkEditing, checkRefusals, checkSteps, checkStates, checkNumbers, checkEnds],
+  ...[checkLink, checkRefusedLink, checkMemory, checkScripts],
+];
+
 /** Runs all checks. Throws where one fails; returns what was measured. */
 export function checkAll() {
-  for (const check of [checkTexts, checkFiles, checkEditing, checkRefusals, checkSteps, checkStates, checkNumbers, checkEnds, checkMemory, checkScripts]) check();
+  for (const check of CHECKS) check();
   return keyTime();
 }

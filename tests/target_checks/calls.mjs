@@ -21,7 +21,6 @@ const PER_SESSION = 500;
 const REFUSED_EVENTS = 25;
 const NONE = 2 ** 32 - 1;
 const SPACE_SIZE = 1 << 21;
-const WHOLE = { "out did": 39, "out state": 68, "out file": 25 }; // of what is handed out as one: all bytes but those that fill it up
 
 // ---- Chance
 
@@ -92,9 +91,11 @@ function note(told) {
 // ---- The module's side
 
 const SPACE = library.malloc(BigInt(SPACE_SIZE));
-const HANDLES = library.malloc(64n);
+const HANDLES = library.malloc(96n);
+const HANDLE_OF = { host: 0, term: 32, link: 64 }; // where the two handles of a kind stand
+const OUT_BYTES = { did: 39, state: 68, file: 25, bytes16: 16, bytes42: 42 }; // that are compared: of a struct all but what fills it up
 let baseline = 0n; // how many requests were made when the session began
-part(HANDLES, 64).fill(0);
+part(HANDLES, 96).fill(0);
 
 function part(place, length) {
   return new Uint8Array(library.memory.buffer, Number(place), length);
@@ -111,10 +112,10 @@ function room(length) {
 }
 
 function handle(kind, which) {
-  return which === 2 ? 0n : HANDLES + BigInt((kind === "host" ? 0 : 32) + 16 * which);
+  return which === 2 ? 0n : HANDLES + BigInt(HANDLE_OF[kind] + 16 * which);
 }
 
-/** Makes a call with these words, one for each kind, in both. */
+/** Makes a call with these words, one for each kind, in both. Returns what the module handed out. */
 function make(name, ...words) {
   const kinds = CALLS[CODE[name]][1];
   const given = [];
@@ -125,22 +126,22 @@ function make(name, ...words) {
   free = SPACE;
   for (const kind of kinds) {
     if (kind.startsWith("out ")) {
-      const length = WHOLE[kind] ?? 8;
+      const length = OUT_BYTES[kind.slice(4)] ?? 8;
       const at = room(length + 1);
       given.push(at);
       handedOut.push([at, length]);
       continue;
     }
     const word = words[next++];
-    if (kind === "host" || kind === "term") {
+    if (kind in HANDLE_OF) {
       orders.byte(word);
       given.push(handle(kind, word));
-    } else if (kind === "lent") {
+    } else if (kind.startsWith("lent")) {
       orders.number(word.length);
       orders.bytes(word);
       const at = room(word.length);
       part(at, word.length).set(word);
-      given.push(at, BigInt(word.length));
+      given.push(at, ...(kind === "lent" ? [BigInt(word.length)] : []));
     } else {
       orders.number(word);
       if (kind.startsWith("room")) {
@@ -149,12 +150,13 @@ function make(name, ...words) {
         given.push(at, BigInt(word));
         handedOut.push([at, length]);
       } else {
-        given.push(kind === "size" ? BigInt(word) : word);
+        given.push(kind === "size" || kind === "u64" ? BigInt(word) : word);
       }
     }
   }
   answers.number(library[name](...given));
   for (const [at, length] of handedOut) answers.bytes(part(at, length));
+  return handedOut.map(([at, length]) => part(at, length).slice());
 }
 
 /** Carries pending bytes to the other side, in both; one of them is changed if there are so many. */
@@ -189,6 +191,7 @@ function reset() {
   for (const which of [0, 1]) {
     library.sam_host_free(handle("host", which));
     library.sam_term_free(handle("term", which));
+    library.sam_link_free(handle("link", which));
   }
   library.heap_refuse(0n, 0n);
   baseline = library.heap_asked();
@@ -255,6 +258,10 @@ function which() {
 /** A word of a kind: most are such that the call does something. */
 function word(kind) {
   if (kind === "host" || kind === "term") return which();
+  if (kind === "link") return chance(200) === 0 ? 2 : chance(2);
+  if (kind === "truth") return chance(2);
+  if (kind === "u64") return chance(4) ? attempt : chance(100) === 0 ? Number.MAX_SAFE_INTEGER : chance(8);
+  if (kind === "lent16") return any(IDS);
   if (kind === "u16") return chance(60) === 0 ? chance(65536) : chance(4);
   if (kind === "u32") return chance(60) === 0 ? chance(2 ** 31) * 2 : chance(chance(3) === 0 ? 4000 : 60);
   if (kind === "size") return chance(3000);
@@ -262,9 +269,13 @@ function word(kind) {
   return text();
 }
 
-const RARE = new Set(["sam_host_free", "sam_term_free", "sam_host_new", "sam_term_new", "sam_term_exit", "sam_term_close", "sam_replay"]);
+const RARE = new Set([
+  ...["host", "term", "link"].flatMap((kind) => [`sam_${kind}_free`, `sam_${kind}_new`]),
+  ...["sam_term_exit", "sam_term_close", "sam_replay"],
+]);
 const BAD_STREAMS = new Set(["sam_host_feed", "sam_term_feed"]);
-const COMMON = CALLS.map(([name]) => name).filter((name) => !RARE.has(name) && !BAD_STREAMS.has(name));
+const COMMON = CALLS.map(([name]) => name).filter((name) => !RARE.has(name) && !BAD_STREAMS.has(name) && !name.startsWith("sam_link_"));
+const LINK_CALLS = CALLS.map(([name]) => name).filter((name) => !RARE.has(name) && name.startsWith("sam_link_"));
 
 function common() {
   const name = any(COMMON);
@@ -281,6 +292,66 @@ function commandLine() {
   make("sam_term_type", 0, 0, ENCODER.encode(`${any(LINES)}\n`));
 }
 
+// ---- Links: end 0 is of the terminal's side, end 1 of the host's
+
+const IDS = [1, 2].map((value) => new Uint8Array(16).fill(value));
+const HELLO_BYTES = 42;
+const MOST_OF_LINK = 3000; // bytes that are moved at a time
+let attempt = 0; // the number of the newest connection
+
+/** The bytes that a call handed out into a room, of which the second result has the count. */
+function moved([bytes, count]) {
+  return bytes.subarray(0, Math.min(bytes.length, Number(new DataView(count.buffer).getBigUint64(0, true))));
+}
+
+/** Some bytes, one of which is changed now and then. */
+function spoiled(bytes) {
+  if (bytes.length > 0 && chance(12) === 0) bytes[chance(bytes.length)] = chance(256);
+  return bytes;
+}
+
+function takeOut(end, room) {
+  return spoiled(moved(make("sam_link_take_out", end, attempt, room)));
+}
+
+function makeLinks() {
+  make("sam_link_new", 0, 0, IDS[0]);
+  make("sam_link_new", 1, 1, IDS[0]);
+  attempt = 0;
+}
+
+/** The terminal's side opens a connection, and both say hello. A hello may be wrong, or be cut. */
+function connect() {
+  const [number] = make("sam_link_call", 0, chance(8) === 0 ? 1 : 0);
+  attempt = Math.min(Number(new DataView(number.buffer).getBigUint64(0, true)), 2 ** 32 - 1);
+  const hello = takeOut(0, chance(20) === 0 ? chance(HELLO_BYTES) : HELLO_BYTES);
+  make("sam_link_read_hello", hello);
+  make("sam_link_answer", 1, hello);
+  if (chance(10) === 0) make("sam_link_write_refusal", 190 + chance(14), hello);
+  make("sam_link_welcomed", 0, takeOut(1, HELLO_BYTES));
+}
+
+/** What one end has for the connection goes to the other, and what has come is taken in. */
+function carryLink() {
+  const from = chance(2);
+  make("sam_link_feed", 1 - from, attempt, takeOut(from, 1 + chance(MOST_OF_LINK)));
+  for (let pieces = chance(4); pieces > 0; pieces--) make("sam_link_take_in", 1 - from, chance(MOST_OF_LINK));
+  if (chance(2)) make("sam_link_next_note", 1 - from, chance(30) ? 4096 : 4095);
+}
+
+/** One or more calls of the two ends. */
+function link() {
+  const drawn = chance(20);
+  if (drawn < 2) connect();
+  else if (drawn < 10) carryLink();
+  else if (drawn < 13) make(chance(3) ? "sam_link_put" : "sam_link_put_note", chance(2), ENCODER.encode(any(PIECES).repeat(chance(80))));
+  else if (drawn < 14) make("sam_link_put", chance(2), new Uint8Array(chance(3 * 4096)).fill(chance(256)));
+  else {
+    const name = any(LINK_CALLS);
+    make(name, ...CALLS[CODE[name]][1].filter((kind) => !kind.startsWith("out ")).map(word));
+  }
+}
+
 function longEdit() {
   make("sam_term_edit", 0, 1 + chance(2), chance(50), 50 + chance(50), ENCODER.encode(any(PIECES).repeat(1 + chance(300))));
 }
@@ -294,6 +365,7 @@ function one() {
   else if (drawn < 60) commandLine();
   else if (drawn < 350) carry(drawn % 2 === 1, 1 + chance(600));
   else if (drawn < 450) make("sam_term_type", 0, 1 + chance(2), text());
+  else if (drawn < 650) link();
   else common();
 }
 
@@ -302,6 +374,7 @@ function begin() {
   reset();
   make("sam_host_new", 0);
   make("sam_term_new", 0);
+  makeLinks();
   make("sam_host_add_file", 0, ENCODER.encode("one"), ENCODER.encode("some line of text\n".repeat(chance(200))));
   make("sam_host_add_file", 0, ENCODER.encode("two"), text());
   make("sam_term_offer_version", 0, 1 + chance(2));
@@ -309,7 +382,7 @@ function begin() {
   for (const tag of [1, 2]) make("sam_term_open", 0, tag);
   make("sam_term_open_cmd", 0);
   for (const isUp of [true, false, true, false]) carry(isUp, 600);
-  return 17;
+  return 19;
 }
 
 /** Calls at random, in sessions. Returns how many were made, and how many bytes were compared. */
@@ -338,11 +411,13 @@ function refusing(session, request) {
 
 function refusedSession() {
   for (const name of ["sam_host_new", "sam_term_new"]) for (const _ of [1, 2]) make(name, 0);
+  makeLinks();
   make("sam_host_add_file", 0, ENCODER.encode("one"), ENCODER.encode("some line of text\n".repeat(20)));
   make("sam_term_offer_version", 0, 2);
   for (const isUp of [true, false, true, false]) carry(isUp, 600);
   for (let events = 0; events < REFUSED_EVENTS; events++) {
     one();
+    link();
     if (chance(2)) carry(chance(2) === 1, 600);
   }
 }

@@ -33,6 +33,7 @@ union out {
 /* Of each kind one that the calls use, and one that is empty most of the time. */
 static sam_host hosts[2];
 static sam_term terms[2];
+static sam_link links[2]; /* both in use: an end of the terminal's side, and one of the host's */
 static uint64_t asked, refused_from, refused_to;
 
 void *__real_malloc(size_t size);
@@ -101,6 +102,12 @@ static sam_term *term(void)
     return which == 2 ? NULL : &terms[which];
 }
 
+static sam_link *link(void)
+{
+    int which = getchar();
+    return which == 2 ? NULL : &links[which];
+}
+
 static struct lent lent(void)
 {
     struct lent bytes = {.length = number()};
@@ -130,6 +137,7 @@ static void reset(void)
     for (int i = 0; i < 2; i++) {
         sam_host_free(&hosts[i]);
         sam_term_free(&terms[i]);
+        sam_link_free(&links[i]);
     }
     refused_from = refused_to = asked = 0;
 }

@@ -7,22 +7,26 @@ FIELDS = {
     "uint8_t": "u8", "uint16_t": "u16", "uint32_t": "u32", "uint64_t": "u64", "size_t": "size", "bool": "truth", "sam_status": "status",
     "sam_did": "did", "sam_state": "state", "sam_file": "file",
 }
-NUMBERS = {"uint16_t": "u16", "uint32_t": "u32", "size_t": "size"}
-OUT = 8  # bytes that are compared of what is handed out
-WHOLE = {"did": 39, "state": 68, "file": 25}  # of what is handed out as one: all but what fills it up
-HANDLES = {"sam_host": "host", "sam_term": "term"}
+NUMBERS = {"uint16_t": "u16", "uint32_t": "u32", "uint64_t": "u64", "size_t": "size", "bool": "truth"}
+ARRAYS = {"SAM_LINK_ID_BYTES": 16, "SAM_LINK_HELLO_BYTES": 42}
+# Bytes that are compared of what is handed out: of a struct all but those that fill it up.
+OUT = {"did": 39, "state": 68, "file": 25, "bytes16": 16, "bytes42": 42}
+OUT_ELSE = 8
+HANDLES = {"sam_host": "host", "sam_term": "term", "sam_link": "link"}
 
 
 def kinds_of(words):
-    """What each argument is: a handle, a number, lent bytes or a room (two arguments each), or what is handed out."""
+    """What each argument is: a handle, a number, lent bytes or a room (two arguments each), an array, or what is handed out."""
     kinds = []
     while words:
-        kind, name = re.fullmatch(r"(.*?)(\w+)", words.pop(0)).groups()
+        kind, name, array = re.fullmatch(r"(.*?)(\w+)(?:\[(\w+)\])?", words.pop(0)).groups()
         kind = kind.strip()
-        if kind == "const uint8_t *":
+        if array:
+            kinds.append(f"{'lent' if kind.startswith('const') else 'out bytes'}{ARRAYS[array]}")
+        elif kind == "const uint8_t *":
             kinds.append("lent")
             words.pop(0)
-        elif name == "into":
+        elif name in ("into", "out"):
             kinds.append("room4" if "32" in kind else "room1")
             words.pop(0)
         elif kind.rstrip(" *") in HANDLES:
@@ -40,30 +44,30 @@ def declared(header):
 
 
 def signatures(header):
-    """The calls but for those of a link, which the binding of JavaScript doesn't have: their names and kinds."""
-    calls = [(name, words) for name, words in declared(header) if not name.startswith("sam_link_")]
-    return [(name, kinds_of([" ".join(word.split()) for word in words.split(",")])) for name, words in calls]
+    """The names of the calls, and the kinds of their arguments."""
+    return [(name, kinds_of([" ".join(word.split()) for word in words.split(",")])) for name, words in declared(header)]
 
 
 def case(code, name, kinds):
     """The C code of a call: it gets the arguments, makes it, and writes the answer."""
-    makers = {"lent": "lent()", "room1": "filled(1)", "room4": "filled(4)", "host": "host()", "term": "term()"}
-    types = {"host": "sam_host *", "term": "sam_term *", **{field: f"{kind} " for kind, field in NUMBERS.items()}}
+    makers = {"lent": "lent()", "lent16": "lent()", "room1": "filled(1)", "room4": "filled(4)"}
+    makers |= {handle: f"{handle}()" for handle in HANDLES.values()}
+    types = {**{handle: f"{kind} *" for kind, handle in HANDLES.items()}, **{field: f"{kind} " for kind, field in NUMBERS.items()}}
     makers |= {field: f"({kind})number()" for kind, field in NUMBERS.items()}
     lines, words, after = [], [], []
     for at, kind in enumerate(kinds):
         if kind.startswith("out "):
             lines.append(f"union out a{at} = filler();")
-            words.append(f"&a{at}.{kind[4:]}")
-            after.append(f"put(a{at}.bytes, {WHOLE.get(kind[4:], OUT)});")
+            words.append(f"a{at}.bytes" if "bytes" in kind else f"&a{at}.{kind[4:]}")
+            after.append(f"put(a{at}.bytes, {OUT.get(kind[4:], OUT_ELSE)});")
         elif kind in types:
             lines.append(f"{types[kind]}a{at} = {makers[kind]};")
             words.append(f"a{at}")
         else:
             lines.append(f"struct lent a{at} = {makers[kind]};")
             cast = "(uint32_t *)" if kind == "room4" else ""
-            words += [f"{cast}(void *)a{at}.at", f"a{at}.length"]
-            after += [f"put(a{at}.at, a{at}.length * {kind[-1]});"] if kind != "lent" else []
+            words += [f"{cast}(void *)a{at}.at", *([] if kind == "lent16" else [f"a{at}.length"])]
+            after += [f"put(a{at}.at, a{at}.length * {kind[-1]});"] if kind.startswith("room") else []
             after.append(f"free(a{at}.at);")
     body = "\n        ".join([*lines, f"put_number({name}({', '.join(words)}));", *after, "break;"])
     return f"    case {code}: {{\n        {body}\n    }}\n"

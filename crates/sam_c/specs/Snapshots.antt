@@ -57,7 +57,7 @@ with_places file (Some w) =
       dot_end = w.dot.1;
       view_start = w.view_start;
       view_end = view_end w;
-      is_open = true
+      is_open = true;
     }
 
 abbrev pub file_state : PlainTermEndpoint → ℕ → SamTermFile

@@ -1,8 +1,9 @@
 -- Two ends of one session find no fault in each other, and keep what the other lacks.
-use Rattle.std.proofs.Common.{◌≡◌, ℕ, ◌+◌, ◌<◌, ◌≤◌, List, [], ◌∷◌, ◌++◌, length, drop, Bool, true, false, None, Some, Ok, Err, Result, refl, sym, ap, ◌∙◌, subst, append_assoc, append-nil, arith, true≢false, length-append, length-drop, nat_le, ◌&&◌, ◌⊎◌, inl, inr, ◌≢◌}
+use Rattle.std.proofs.Common.{◌≡◌, ℕ, ◌+◌, ◌-◌, ◌<◌, ◌≤◌, List, [], ◌∷◌, ◌++◌, length, drop, Bool, true, false, None, Some, Ok, Err, Result, refl, sym, ap, ◌∙◌, subst, append_assoc, append-nil, arith, true≢false, length-append, length-drop, nat_le, ◌&&◌, ◌⊎◌, inl, inr, ◌≢◌}
+use Rattle.std.proofs.Math.Seq.{drop-length}
 use Rattle.std.proofs.lemmas.Bool.Decides.{eqb_tells}
 use Rattle.std.specs.List.{flat_map}
-use Rattle.std.specs.Prelude.{max, not, ◌==◌, if◌then◌else◌}
+use Rattle.std.specs.Prelude.{max, min, not, ◌==◌, if◌then◌else◌}
 use Rattle.sam_mesg.specs.declared.fault.MesgFault.{MesgFault}
 use Rattle.sam_frame.specs.Reading.{IsStream}
 use Rattle.sam_frame.specs.Splitting.{Front}
@@ -11,14 +12,14 @@ use Rattle.sam_frame.proofs.Cuttings.{Shows-longer}
 use Rattle.sam_frame.proofs.Fronts.{stream_of-append}
 use Rattle.sam_frame.proofs.Unique.{one_reading}
 use Rattle.sam_link.specs.Calls.{Call, Does, fed, handed, items_in, out, put, waits}
-use Rattle.sam_link.specs.Calls.Call.{Answer, Feed, Welcome}
-use Rattle.sam_link.specs.End.{AnswersBy, End, WelcomesBy, fault_by_word, is_asking, is_call, is_resume, may_send, refusal_of, same_id, welcome_count, welcome_refusal}
+use Rattle.sam_link.specs.Calls.Call.{Answer, Feed, TakeOut, Welcome}
+use Rattle.sam_link.specs.End.{AnswersBy, End, TakesOut, WelcomesBy, fault_by_word, is_asking, is_call, is_resume, is_up, may_send, refusal_of, same_id, welcome_count, welcome_refusal}
 use Rattle.sam_link.specs.Feeding.{Feeds, has_room, is_open}
 use Rattle.sam_link.specs.Hellos.{IsHello, spelled}
 use Rattle.sam_link.specs.Keeping.{MayHave, may_have}
-use Rattle.sam_link.specs.Meeting.{CarriedIsAll, FindsNoFault, HonestMeet, LacksAreKept}
+use Rattle.sam_link.specs.Meeting.{CarriedIsAll, FindsNoFault, GoodLineDelivers, HaveMet, HonestMeet, IsSpent, LacksAreKept, Sends, TakesIn, to_go}
 use Rattle.sam_link.specs.Packets.{Packet, mesg_fault, packets, top_of}
-use Rattle.sam_link.specs.Sessions.{IsFrom, Session, StartsWith, WasCarried}
+use Rattle.sam_link.specs.Sessions.{ByHost, ByTerminal, IsFrom, IsId, Leads, Session, StartsWith, WasCarried}
 use Rattle.sam_link.specs.declared.fault.AnswerFault.{AnswerFault}
 use Rattle.sam_link.specs.declared.fault.AnswerFault.TheVariants as answers
 use Rattle.sam_link.specs.declared.fault.FeedFault.{FeedFault}
@@ -39,7 +40,7 @@ use Rattle.sam_link.proofs.Joint.{IsCall, Sound}
 use Rattle.sam_link.proofs.OwnMoves.{sound_of}
 use Rattle.sam_link.proofs.PacketLaws.{front_read, packets_sound}
 use Rattle.sam_link.proofs.Packing.{fit_more, same_version, top_more}
-use Rattle.sam_link.proofs.SessionLaws.{Holds, session_holds, two_roles}
+use Rattle.sam_link.proofs.SessionLaws.{Holds, all_hold, session_holds, two_roles}
 use Rattle.sam_link.proofs.TerminalMoves as terminal
 use Rattle.sam_link.proofs.Views.{Own, View, view}
 
@@ -143,36 +144,61 @@ open_sends Down n e = e
 open_sends Asking n e = absurd (true≢false (sym e))
 open_sends Open n e = refl
 
+-- the host has got all that the terminal put
+up_length : (id : Id) (s : Session) (x : Holds id s) → s.host.attempt ≡ s.terminal.attempt → IsSpent s.terminal
+    → fed s.host.attempt s.host_calls ≡ drop 42 (out s.host.attempt s.terminal_calls) → s.host.received ≡ length (stream_of packets x.up_put)
+up_length id s x here spent all =
+    let j = x.joint in
+    omega (
+      arith,
+      j.up.count,
+      (ap length all),
+      (all_went (out s.host.attempt s.terminal_calls) s.terminal.hello (stream_of packets x.up_put) (spelled j.call) j.start (s.terminal.keeps.base + s.terminal.keeps.sent)
+          (subst (λ n. out n s.terminal_calls ++ (s.terminal.hello ++ drop (s.terminal.keeps.base + s.terminal.keeps.sent) (stream_of packets x.up_put))
+          ≡ spelled j.call ++ drop j.start (stream_of packets x.up_put)) (sym here) (j.sends_t (open_sends s.terminal.phase s.terminal.attempt spent.is_open))) refl spent.no_hello
+          (omega (arith, spent.none_kept_back, x.own_t.long)) j.up.inside),
+    )
+
+down_length : (id : Id) (s : Session) (x : Holds id s) → s.host.attempt ≡ s.terminal.attempt → IsSpent s.host
+    → fed s.terminal.attempt s.terminal_calls ≡ drop 42 (out s.terminal.attempt s.host_calls) → s.terminal.received ≡ length (stream_of packets x.down_put)
+down_length id s x here spent all =
+    let j = x.joint in
+    let line = j.down here in
+    omega (
+      arith,
+      line.count,
+      (ap length (subst (λ n. fed n s.terminal_calls ≡ drop 42 (out n s.host_calls)) (sym here) all)),
+      (all_went (out s.host.attempt s.host_calls) s.host.hello (stream_of packets x.down_put) (spelled j.welcome) j.from (s.host.keeps.base + s.host.keeps.sent)
+          (j.sends_h spent.is_open) refl spent.no_hello
+          (omega (arith, spent.none_kept_back, x.own_h.long)) j.from_in),
+    )
+
+up_taken_all : (id : Id) (s : Session) (x : Holds id s) → s.host.received ≡ length (stream_of packets x.up_put) → x.up_taken ≡ x.up_put
+up_taken_all id s x long =
+    taken_all s.terminal s.host s.terminal_calls s.host_calls x.up_put x.down_taken x.down_put x.up_taken x.own_t x.own_h x.joint.came_h long
+
+down_taken_all : (id : Id) (s : Session) (x : Holds id s) → s.terminal.received ≡ length (stream_of packets x.down_put) → x.down_taken ≡ x.down_put
+down_taken_all id s x long =
+    taken_all s.host s.terminal s.host_calls s.terminal_calls x.down_put x.up_taken x.up_put x.down_taken x.own_h x.own_t x.joint.came_t long
+
+up_items : (id : Id) (s : Session) (x : Holds id s) → x.up_taken ≡ x.up_put → put s.terminal_calls ≡ handed s.host_calls ++ waits s.host.waiting
+up_items id s x all = items_all s.terminal s.host s.terminal_calls s.host_calls x.up_put x.down_taken x.down_put x.up_taken x.own_t x.own_h all
+
+down_items : (id : Id) (s : Session) (x : Holds id s) → x.down_taken ≡ x.down_put → put s.host_calls ≡ handed s.terminal_calls ++ waits s.terminal.waiting
+down_items id s x all = items_all s.host s.terminal s.host_calls s.terminal_calls x.down_put x.up_taken x.up_put x.down_taken x.own_h x.own_t all
+
 pub carried_is_all : CarriedIsAll
 carried_is_all id steps s fine leads c =
     let x = session_holds id steps s fine leads in
     let j = x.joint in
     let here : s.host.attempt ≡ s.terminal.attempt = j.open_t c.terminal_spent.is_open in
-    let up_len : s.host.received ≡ length (stream_of packets x.up_put) =
-    omega (
-      arith,
-      j.up.count,
-      (ap length c.up),
-      (all_went (out s.host.attempt s.terminal_calls) s.terminal.hello (stream_of packets x.up_put) (spelled j.call) j.start (s.terminal.keeps.base + s.terminal.keeps.sent)
-          (subst (λ n. out n s.terminal_calls ++ (s.terminal.hello ++ drop (s.terminal.keeps.base + s.terminal.keeps.sent) (stream_of packets x.up_put))
-          ≡ spelled j.call ++ drop j.start (stream_of packets x.up_put)) (sym here) (j.sends_t (open_sends s.terminal.phase s.terminal.attempt c.terminal_spent.is_open))) refl c.terminal_spent.no_hello
-          (omega (arith, c.terminal_spent.none_kept_back, x.own_t.long)) j.up.inside),
-    ) in
-    let line = j.down here in
-    let down_len : s.terminal.received ≡ length (stream_of packets x.down_put) =
-    omega (
-      arith,
-      line.count,
-      (ap length (subst (λ n. fed n s.terminal_calls ≡ drop 42 (out n s.host_calls)) (sym here) c.down)),
-      (all_went (out s.host.attempt s.host_calls) s.host.hello (stream_of packets x.down_put) (spelled j.welcome) j.from (s.host.keeps.base + s.host.keeps.sent)
-          (j.sends_h c.host_spent.is_open) refl c.host_spent.no_hello
-          (omega (arith, c.host_spent.none_kept_back, x.own_h.long)) j.from_in),
-    ) in
-    let up_all : x.up_taken ≡ x.up_put = taken_all s.terminal s.host s.terminal_calls s.host_calls x.up_put x.down_taken x.down_put x.up_taken x.own_t x.own_h j.came_h up_len in
-    let down_all : x.down_taken ≡ x.down_put = taken_all s.host s.terminal s.host_calls s.terminal_calls x.down_put x.up_taken x.up_put x.down_taken x.own_h x.own_t j.came_t down_len in
+    let up_len = up_length id s x here c.terminal_spent c.up in
+    let down_len = down_length id s x here c.host_spent c.down in
+    let up_all = up_taken_all id s x up_len in
+    let down_all = down_taken_all id s x down_len in
     record {
-      up = items_all s.terminal s.host s.terminal_calls s.host_calls x.up_put x.down_taken x.down_put x.up_taken x.own_t x.own_h up_all;
-      down = items_all s.host s.terminal s.host_calls s.terminal_calls x.down_put x.up_taken x.up_put x.down_taken x.own_h x.own_t down_all;
+      up = up_items id s x up_all;
+      down = down_items id s x down_all;
       kept_up = λ room. short_one s.terminal s.host s.terminal_calls s.host_calls x.up_put x.down_taken x.down_put x.up_taken j.start x.own_t x.own_h up_len down_all
           j.told_h (j.start_in c.terminal_spent.is_open) room;
       kept_down = λ room. short_one s.host s.terminal s.host_calls s.terminal_calls x.down_put x.up_taken x.up_put x.down_taken j.from x.own_h x.own_t down_len up_all
@@ -356,3 +382,86 @@ pub honest_meet : HonestMeet
 honest_meet id steps s call next fine leads =
     let x = session_holds id steps s fine leads in
     (λ d carried. terminal_met id s x next call d carried, λ d carried. host_met id s x next call d carried)
+
+-- ## A good line
+
+open_up : (p : Phase) → is_open p ≡ true → is_up p ≡ true
+open_up Down e = e
+open_up Asking e = refl
+open_up Open e = refl
+
+self_same : (a : Bool) (n : ℕ) → a ≡ true → (a && (n == n)) ≡ true
+self_same a n e = grind (arith, e)
+
+sends : (e : End) → is_open e.phase ≡ true → Sends e
+sends e opened old new (Ok count) n does = refl
+sends e opened old new (Err why) n does = absurd (true≢false (sym (self_same (is_up e.phase) e.attempt (open_up e.phase opened)) ∙ does.0))
+
+takes : (e : End) (mine theirs : List Call) → is_open e.phase ≡ true
+    → ((piece : List ℕ) (answer : Result (Unit {0}) FeedFault) (n : End) → Does e (Feed e.attempt piece answer) n → WasCarried mine theirs (Feed e.attempt piece answer) → FindsNoFault (Feed e.attempt piece answer))
+    → TakesIn e mine theirs
+takes e mine theirs opened fine piece (Ok done) n does carried = tt
+takes e mine theirs opened fine piece (Err feeds.OutOfMemory) n does carried = tt
+takes e mine theirs opened fine piece (Err feeds.CountFull) n does carried = does.1
+takes e mine theirs opened fine piece (Err feeds.NotOpen) n does carried = absurd (true≢false (sym (self_same (is_open e.phase) e.attempt opened) ∙ does.0))
+takes e mine theirs opened fine piece (Err (feeds.Wrong fault)) n does carried = fine piece (Err (feeds.Wrong fault)) n does carried
+takes e mine theirs opened fine piece (Err feeds.AckAhead) n does carried = fine piece (Err feeds.AckAhead) n does carried
+
+drop_all : (l : List ℕ) (room : ℕ) → length l ≤ room → drop (min (length l) room) l ≡ []
+drop_all l room fits = let all : min (length l) room ≡ length l = omega (arith, fits) in ap (λ n. drop n l) all ∙ drop-length l
+
+sent_all : (b : Bool) (kept sent hello room : ℕ) → b ≡ true → sent ≤ kept → hello + (kept - sent) ≤ room
+    → sent + (if b then min (kept - sent) (room - min hello room) else 0) ≡ kept
+sent_all true kept sent hello room e inside fits = omega (arith, inside, fits)
+sent_all false kept sent hello room e inside fits = absurd (true≢false (sym e))
+
+spent : (e n : End) (attempt : ℕ) (old new : List ℕ) (count : ℕ) → is_open e.phase ≡ true → e.keeps.sent ≤ length e.keeps.kept → to_go e ≤ length old
+    → TakesOut e attempt old (Ok count) new n → IsSpent n
+spent e n attempt old new count opened inside fits does =
+    subst IsSpent (sym does.4)
+    (record {
+      is_open = opened;
+      no_hello = drop_all e.hello (length old) (omega (arith, fits));
+      none_kept_back = sent_all (may_send e.phase e.attempt) (length e.keeps.kept) e.keeps.sent (length e.hello) (length old) (open_sends e.phase e.attempt opened) inside fits;
+    })
+
+comes_up : (id : Id) (s z : Session) (old new piece : List ℕ) (count : ℕ) → IsId id → Holds id s → HaveMet s → to_go s.terminal ≤ length old
+    → Leads s (ByTerminal (TakeOut s.terminal.attempt old (Ok count) new) ∷ ByHost (Feed s.host.attempt piece (Ok tt)) ∷ []) z
+    → fed s.host.attempt z.host_calls ≡ drop 42 (out s.host.attempt z.terminal_calls) → put z.terminal_calls ≡ handed z.host_calls ++ waits z.host.waiting
+comes_up id s z old new piece count fine x met fits leads all =
+    let y = all_hold id (ByTerminal (TakeOut s.terminal.attempt old (Ok count) new) ∷ ByHost (Feed s.host.attempt piece (Ok tt)) ∷ []) s z fine x leads in
+    let gone = spent s.terminal leads.0 s.terminal.attempt old new count met.terminal_open x.own_t.inside fits leads.1 in
+    let end = leads.3.3 in
+    let same_t : z.terminal.attempt ≡ s.terminal.attempt = ap (λ (k : Session). k.terminal.attempt) end ∙ ap (λ (e : End). e.attempt) leads.1.4 in
+    let same_h : z.host.attempt ≡ s.host.attempt = ap (λ (k : Session). k.host.attempt) end ∙ ap (λ (e : End). e.attempt) leads.3.1.6 in
+    let spent_now : IsSpent z.terminal = subst IsSpent (sym (ap (λ (k : Session). k.terminal) end)) gone in
+    up_items id z y (up_taken_all id z y (up_length id z y (same_h ∙ met.is_one ∙ sym same_t) spent_now
+    (subst (λ n. fed n z.host_calls ≡ drop 42 (out n z.terminal_calls)) (sym same_h) all)))
+
+comes_down : (id : Id) (s z : Session) (old new piece : List ℕ) (count : ℕ) → IsId id → Holds id s → HaveMet s → to_go s.host ≤ length old
+    → Leads s (ByHost (TakeOut s.host.attempt old (Ok count) new) ∷ ByTerminal (Feed s.terminal.attempt piece (Ok tt)) ∷ []) z
+    → fed s.terminal.attempt z.terminal_calls ≡ drop 42 (out s.terminal.attempt z.host_calls) → put z.host_calls ≡ handed z.terminal_calls ++ waits z.terminal.waiting
+comes_down id s z old new piece count fine x met fits leads all =
+    let y = all_hold id (ByHost (TakeOut s.host.attempt old (Ok count) new) ∷ ByTerminal (Feed s.terminal.attempt piece (Ok tt)) ∷ []) s z fine x leads in
+    let gone = spent s.host leads.0 s.host.attempt old new count met.host_open x.own_h.inside fits leads.1 in
+    let end = leads.3.3 in
+    let same_h : z.host.attempt ≡ s.host.attempt = ap (λ (k : Session). k.host.attempt) end ∙ ap (λ (e : End). e.attempt) leads.1.4 in
+    let same_t : z.terminal.attempt ≡ s.terminal.attempt = ap (λ (k : Session). k.terminal.attempt) end ∙ ap (λ (e : End). e.attempt) leads.3.1.6 in
+    let spent_now : IsSpent z.host = subst IsSpent (sym (ap (λ (k : Session). k.host) end)) gone in
+    down_items id z y (down_taken_all id z y (down_length id z y (same_h ∙ met.is_one ∙ sym same_t) spent_now
+    (subst (λ n. fed n z.terminal_calls ≡ drop 42 (out n z.host_calls)) (sym same_t) all)))
+
+pub good_line_delivers : GoodLineDelivers
+good_line_delivers id steps s fine leads met =
+    let x = session_holds id steps s fine leads in (
+      record {
+        sends = sends s.terminal met.terminal_open;
+        takes = takes s.host s.host_calls s.terminal_calls met.host_open (λ piece answer n does carried. host_met id s x n (Feed s.host.attempt piece answer) does carried);
+        all_comes = λ z old new piece count fits turn all. comes_up id s z old new piece count fine x met fits turn all;
+      },
+      record {
+        sends = sends s.host met.host_open;
+        takes = takes s.terminal s.terminal_calls s.host_calls met.terminal_open (λ piece answer n does carried. terminal_met id s x n (Feed s.terminal.attempt piece answer) does carried);
+        all_comes = λ z old new piece count fits turn all. comes_down id s z old new piece count fine x met fits turn all;
+      },
+    )

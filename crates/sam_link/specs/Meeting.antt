@@ -1,5 +1,5 @@
--- What two ends of one session may answer each other, and what is there once all was carried.
-use Rattle.std.specs.Prelude.{◌≡◌, ◌<◌, List, [], ◌++◌, length, drop, true, Ok, Err}
+-- What two ends of one session may answer each other, what is there once all was carried, and what a good line delivers.
+use Rattle.std.specs.Prelude.{◌≡◌, ℕ, ◌+◌, ◌-◌, ◌^◌, ◌<◌, ◌≤◌, List, [], ◌∷◌, ◌++◌, length, drop, true, IsOk, Result, Ok, Err}
 use Rattle.std.specs.List.{flat_map}
 use Rattle.sam_frame.specs.Stream.{stream_of}
 use Rattle.sam_link.specs.Calls.{Call, Does, fed, handed, items_in, out, put, waits}
@@ -8,9 +8,11 @@ use Rattle.sam_link.specs.End.{End}
 use Rattle.sam_link.specs.Feeding.{has_room, is_open}
 use Rattle.sam_link.specs.Keeping.{MayHave}
 use Rattle.sam_link.specs.Packets.{Packet, packets}
-use Rattle.sam_link.specs.Sessions.{IsId, Leads, Session, Step, WasCarried, new_session}
+use Rattle.sam_link.specs.Sessions.{ByHost, ByTerminal, IsId, Leads, Session, Step, WasCarried, new_session}
 use Rattle.sam_link.specs.declared.fault.AnswerFault.TheVariants as answers
+use Rattle.sam_link.specs.declared.fault.FeedFault.{FeedFault}
 use Rattle.sam_link.specs.declared.fault.FeedFault.TheVariants as feeds
+use Rattle.sam_link.specs.declared.fault.NotOpen.{NotOpen}
 use Rattle.sam_link.specs.declared.fault.WelcomeFault.TheVariants as welcomes
 use Rattle.sam_link.specs.declared.hello.Id.{Id}
 use Rattle.sam_link.specs.declared.hello.Refusal.TheVariants.{OldAttempt}
@@ -92,3 +94,55 @@ pub record AllCame (s : Session) : Type 0 where
 
 abbrev pub CarriedIsAll : Type 0
 CarriedIsAll = (id : Id) (steps : List Step) (s : Session) → IsId id → Leads (new_session id) steps s → IsAllCarried s → AllCame s
+
+-- ## What a good line delivers
+
+-- how many bytes an end has for its connection
+abbrev pub to_go : End → ℕ
+to_go e = length e.hello + (length e.keeps.kept - e.keeps.sent)
+
+-- both ends have said hello on one connection
+pub record HaveMet (s : Session) : Type 0 where
+  pub terminal_open : is_open s.terminal.phase ≡ true
+  pub host_open : is_open s.host.phase ≡ true
+  pub is_one : s.host.attempt ≡ s.terminal.attempt
+
+-- an end may take out what it has
+abbrev pub Sends : End → Type 0
+Sends e = (old new : List ℕ) (answer : Result ℕ NotOpen) (n : End) → Does e (TakeOut e.attempt old answer new) n → IsOk answer
+
+-- a piece is taken, unless memory is refused or a count is full
+abbrev pub TakenWithRoom : End → List ℕ → Result (Unit {0}) FeedFault → Type 0
+TakenWithRoom e piece (Ok done) = Unit {0}
+TakenWithRoom e piece (Err feeds.OutOfMemory) = Unit {0}
+TakenWithRoom e piece (Err feeds.CountFull) = 2 ^ 64 ≤ e.received + length piece
+TakenWithRoom e piece (Err feeds.NotOpen) = ⊥
+TakenWithRoom e piece (Err (feeds.Wrong fault)) = ⊥
+TakenWithRoom e piece (Err feeds.AckAhead) = ⊥
+
+abbrev pub TakesIn : End → List Call → List Call → Type 0
+TakesIn e mine theirs =
+    (piece : List ℕ) (answer : Result (Unit {0}) FeedFault) (n : End) → Does e (Feed e.attempt piece answer) n
+    → WasCarried mine theirs (Feed e.attempt piece answer) → TakenWithRoom e piece answer
+
+-- One turn each way delivers all: an end takes out what it has, into room enough, and the other takes what has come. Then all that was put
+-- came out, or waits there in its order
+pub record DeliversUp (s : Session) : Type 0 where
+  pub sends : Sends s.terminal
+  pub takes : TakesIn s.host s.host_calls s.terminal_calls
+  pub all_comes : (z : Session) (old new piece : List ℕ) (count : ℕ) → to_go s.terminal ≤ length old
+      → Leads s (ByTerminal (TakeOut s.terminal.attempt old (Ok count) new) ∷ ByHost (Feed s.host.attempt piece (Ok tt)) ∷ []) z
+      → fed s.host.attempt z.host_calls ≡ drop 42 (out s.host.attempt z.terminal_calls)
+      → put z.terminal_calls ≡ handed z.host_calls ++ waits z.host.waiting
+
+pub record DeliversDown (s : Session) : Type 0 where
+  pub sends : Sends s.host
+  pub takes : TakesIn s.terminal s.terminal_calls s.host_calls
+  pub all_comes : (z : Session) (old new piece : List ℕ) (count : ℕ) → to_go s.host ≤ length old
+      → Leads s (ByHost (TakeOut s.host.attempt old (Ok count) new) ∷ ByTerminal (Feed s.terminal.attempt piece (Ok tt)) ∷ []) z
+      → fed s.terminal.attempt z.terminal_calls ≡ drop 42 (out s.terminal.attempt z.host_calls)
+      → put z.host_calls ≡ handed z.terminal_calls ++ waits z.terminal.waiting
+
+abbrev pub GoodLineDelivers : Type 0
+GoodLineDelivers =
+    (id : Id) (steps : List Step) (s : Session) → IsId id → Leads (new_session id) steps s → HaveMet s → DeliversUp s × DeliversDown s

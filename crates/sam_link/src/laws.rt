@@ -3,7 +3,7 @@
 ghost use Rattle.std.specs.Prelude.{◌≡◌};
 ghost use Rattle.sam_link.specs.Hellos.{IsHello, spelled};
 ghost use Rattle.sam_link.specs.declared.hello.Hello.{Hello};
-ghost use Rattle.sam_link.specs.Meeting.{CarriedIsAll, HonestMeet, LacksAreKept};
+ghost use Rattle.sam_link.specs.Meeting.{CarriedIsAll, GoodLineDelivers, HonestMeet, LacksAreKept};
 ghost use Rattle.sam_link.specs.Sessions.{LinksCarry};
 
 /// States that no two hellos have the same bytes: so a hello is read as the one that was written.
@@ -30,4 +30,11 @@ pub fn honest_meet()
 pub fn carried_is_all()
     ensures kept { LacksAreKept }
     ensures carried { CarriedIsAll }
+{}
+
+/// States that a line which breaks no more delivers everything. Once two such ends have said hello on one connection, an end may take out
+/// what it has, and the other takes what comes, unless memory is refused or a count is full. After one turn all that the first had put came
+/// out, or waits there.
+pub fn good_line_delivers()
+    ensures { GoodLineDelivers }
 {}

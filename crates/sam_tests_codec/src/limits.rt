@@ -1,5 +1,8 @@
 //! Ends of a link whose counts are near 2^64-1, where no session comes: what each call answers there, and what stays as it was.
-use sam_link::{AnswerFault, CallFault, Counts, FeedFault, Hello, Id, Link, NoteFault, PacketFault, Phase, PutFault, Refusal, Role, What};
+use sam_link::{
+    AnswerFault, CallFault, Counts, FeedFault, Hello, Id, Link, NoteFault, PacketFault, Phase,
+    PutFault, Refusal, Role, What,
+};
 use sam_test_support::lent;
 use std::alloc::Global;
 
@@ -30,7 +33,12 @@ fn hello(what: What, attempt: u64, received: u64) -> Hello {
 #[test]
 fn last_attempt(rt: HostRuntime) {
     let called = lent(end(rt.alloc(), Role::Terminal, LAST - 1, 0, 0), |link| {
-        (link.call(false), link.call(true), link.attempt(), link.phase())
+        (
+            link.call(false),
+            link.call(true),
+            link.attempt(),
+            link.phase(),
+        )
     });
     let full = Err(CallFault::CountFull);
     assert_eq!(rt; called, (Ok(LAST), full, LAST, Phase::Asking));
@@ -41,7 +49,12 @@ fn last_attempt_of_a_host(rt: HostRuntime) {
     let last = hello(What::Resume, LAST, 0);
     let first = hello(What::Begin, LAST - 1, 0);
     let answered = lent(end(rt.alloc(), Role::Host, LAST - 2, 0, 0), |link| {
-        (link.answer(&first), link.answer(&last), link.answer(&last), link.attempt())
+        (
+            link.answer(&first),
+            link.answer(&last),
+            link.answer(&last),
+            link.attempt(),
+        )
     });
     let old = Err(AnswerFault::Refused(Refusal::OldAttempt));
     assert_eq!(rt; answered, (Ok(()), Ok(()), old, LAST));
@@ -91,14 +104,17 @@ fn no_room_to_receive(rt: HostRuntime) {
 #[test]
 fn last_byte_received(rt: HostRuntime) {
     let begin = hello(What::Begin, 1, LAST - 10);
-    let fed = lent(end(rt.alloc(), Role::Host, 0, LAST - 10, LAST - 4), |link| {
-        (
-            (link.answer(&begin).is_ok(), link.feed(1, &[4, 0, 0])),
-            // The acknowledgement that is asked for has no room, and is left out.
-            (link.put_len(), link.feed(1, &[1]), link.received()),
-            (link.feed(1, &[]), link.feed(1, &[0])),
-        )
-    });
+    let fed = lent(
+        end(rt.alloc(), Role::Host, 0, LAST - 10, LAST - 4),
+        |link| {
+            (
+                (link.answer(&begin).is_ok(), link.feed(1, &[4, 0, 0])),
+                // The acknowledgement that is asked for has no room, and is left out.
+                (link.put_len(), link.feed(1, &[1]), link.received()),
+                (link.feed(1, &[]), link.feed(1, &[0])),
+            )
+        },
+    );
     let taken = (LAST - 10, Ok(()), LAST);
     let full = Err(FeedFault::CountFull);
     assert_eq!(rt; fed, ((true, Ok(())), taken, (Ok(()), full)));

@@ -331,8 +331,9 @@ extern "C" {
     pub fn sam_term_scroll(term: *mut sam_term, tag: u16, lines: u32) -> sam_status;
     /// Shows at most len runes from a place on, and asks for those that are not loaded: at most 512 at a time, and then for the next.
     pub fn sam_term_view(term: *mut sam_term, tag: u16, place: u32, len: u32) -> sam_status;
-    /// Shows the same, and asks for all that is not loaded at once, in at most 64 stretches of 512 runes: so a page comes in one round
-    /// trip.
+    /// Shows the same, and asks for all that is not loaded at once, in at most 1,954 stretches of 512 runes: so the longest text comes in
+    /// one round trip. Each is a message of 11 bytes, and the file is locked until all are answered: ask for a long text in parts where the
+    /// user may want to type meanwhile.
     pub fn sam_term_load(term: *mut sam_term, tag: u16, place: u32, len: u32) -> sam_status;
     /// Opens a file; command lines work on it then. All other events that name a file want it open.
     pub fn sam_term_open(term: *mut sam_term, tag: u16) -> sam_status;
@@ -410,7 +411,7 @@ extern "C" {
     /// Whether a known file is dirty, as the host said last.
     pub fn sam_term_is_dirty(term: *mut sam_term, tag: u16, dirty: *mut bool) -> sam_status;
     /// Whether a file may differ from what was written last: the host said that it is dirty, or the user typed into it or cut from it here
-    /// since. An event that is held has changed nothing yet. The command file, which is never written, stays changed.
+    /// since. An event that is held has changed nothing yet. The command file is never written, and never changed.
     pub fn sam_term_is_changed(term: *mut sam_term, tag: u16, changed: *mut bool) -> sam_status;
     /// Whether a file is open.
     pub fn sam_term_is_open(term: *mut sam_term, tag: u16, open: *mut bool) -> sam_status;

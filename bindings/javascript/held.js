@@ -1,0 +1,86 @@
+/* What host, terminal and link share: a handle of the library, and the calls of it. */
+import * as module from "./module.js";
+import { call, lend, result, space } from "./module.js";
+import { Missing, Status, errorOf } from "./status.js";
+
+export const PREFIX = Symbol("prefix"); // how the names of its calls begin
+const handles = new WeakMap(); // of each side where its handle is, 0n once it was freed
+const lost = new FinalizationRegistry(({ prefix, at }) => {
+  if (module.canCall()) release(prefix, at);
+});
+
+function release(prefix, at) {
+  call(`${prefix}_free`, at);
+  module.dropHandle(at);
+}
+
+/** Whether it was freed. */
+export function isFreed(side) {
+  return handles.get(side) === 0n;
+}
+
+/** Makes a call of a side, and throws what it answers other than SAM_OK. */
+export function make(side, name, ...words) {
+  const code = call(`${side[PREFIX]}_${name}`, handles.get(side), ...words);
+  if (code !== Status.OK) throw errorOf(code);
+}
+
+/** What `reading` hands out; null if it answers SAM_NONE. */
+export function ifAny(reading) {
+  try {
+    return reading();
+  } catch (error) {
+    if (error instanceof Missing) return null;
+    throw error;
+  }
+}
+
+/** Makes a call whose last words are a text's place and length. */
+export function makeOfText(side, name, words, text) {
+  const length = module.written(text);
+  if (length >= 0) {
+    make(side, name, ...words, space(), BigInt(length));
+    return;
+  }
+  const bytes = module.bytesOf(text);
+  if (bytes === null) throw errorOf(isFreed(side) ? Status.NO_HANDLE : Status.NOT_TEXT);
+  makeOfBytes(side, name, words, bytes);
+}
+
+export function makeOfBytes(side, name, words, bytes) {
+  lend([bytes], (places) => {
+    if (places === null) throw errorOf(isFreed(side) ? Status.NO_HANDLE : Status.NO_MEMORY);
+    make(side, name, ...words, places[0], BigInt(bytes.length));
+  });
+}
+
+/** The call's first result, as `as` reads it. */
+export function one(side, name, as, ...words) {
+  make(side, name, ...words, result(0));
+  return as(0);
+}
+
+/** What host, terminal and link share: a handle. */
+export class Held {
+  /** Makes the handle, by the call `new` with these words. */
+  constructor(...words) {
+    const at = module.makeHandle();
+    if (at === 0n) throw errorOf(Status.NO_MEMORY);
+    const code = call(`${this[PREFIX]}_new`, at, ...words);
+    if (code !== Status.OK) {
+      module.dropHandle(at);
+      throw errorOf(code);
+    }
+    handles.set(this, at);
+    lost.register(this, { prefix: this[PREFIX], at }, this);
+  }
+
+  free() {
+    const at = handles.get(this);
+    if (at === 0n) return;
+    handles.set(this, 0n);
+    lost.unregister(this);
+    release(this[PREFIX], at);
+  }
+}
+if (Symbol.dispose) Held.prototype[Symbol.dispose] = Held.prototype.free;

@@ -1,0 +1,148 @@
+/* One end of a link, and hellos. */
+import { Held, PREFIX, ifAny, make, makeOfBytes, one } from "./held.js";
+import { PIECE, bytesOut, call, least, lend, long, part, result, size, space, u32, u64 } from "./module.js";
+import { Status, errorOf } from "./status.js";
+
+const ID_BYTES = 16;
+const HELLO_BYTES = 42;
+const MOST_NOTE = 4096;
+const MOST_BODY = 4096; // bytes that one packet has for the program
+
+/** What a hello says: the first three a terminal, the others a host. */
+export const What = Object.freeze({
+  BEGIN: 1,
+  RESUME: 2,
+  TAKE_OVER: 3,
+  WELCOME: 4,
+  NOT_A_LINK: 17,
+  OTHER_VERSION: 18,
+  BAD_HELLO: 19,
+  NO_SESSION: 20,
+  OTHER_SESSION: 21,
+  OLD_ATTEMPT: 22,
+  WRONG_COUNT: 23,
+});
+
+function bytesIn(bytes) {
+  if (!(bytes instanceof Uint8Array)) throw new TypeError("a link takes a Uint8Array");
+  return bytes;
+}
+
+/** Makes a call without a handle, of bytes that it is lent, and throws what it answers other than SAM_OK. */
+function ask(bytes, calling) {
+  lend([bytesIn(bytes)], (places) => {
+    if (places === null) throw errorOf(Status.NO_MEMORY);
+    const code = calling(places[0], BigInt(bytes.length));
+    if (code !== Status.OK) throw errorOf(code);
+  });
+}
+
+/** The hello with which the bytes begin; null if nothing is wrong so far, and there are fewer than 42. */
+export function readHello(bytes) {
+  return ifAny(() => {
+    ask(bytes, (place, length) => call("sam_link_read_hello", place, length, result(0), result(1), result(3)));
+    return { what: u32(0), id: part(result(1), ID_BYTES).slice(), attempt: u64(3) };
+  });
+}
+
+/** The hello by which a host refuses a connection, of which these bytes came. */
+export function writeRefusal(status, bytes) {
+  ask(bytes, (place, length) => call("sam_link_write_refusal", long(status), place, length, result(0)));
+  return part(result(0), HELLO_BYTES).slice();
+}
+
+/** One end of a link. */
+export class Link extends Held {
+  static TERMINAL = 0;
+  static HOST = 1;
+  static DOWN = 0;
+  static ASKING = 1;
+  static OPEN = 2;
+
+  constructor(role, id) {
+    if (bytesIn(id).length !== ID_BYTES) throw new RangeError(`an id has ${ID_BYTES} bytes, not ${id.length}`);
+    part(space(), ID_BYTES).set(id);
+    super(long(role), space());
+  }
+
+  get [PREFIX]() {
+    return "sam_link";
+  }
+
+  call(takeOver = false) {
+    return one(this, "call", u64, takeOver ? 1 : 0);
+  }
+
+  welcomed(hello) {
+    makeOfBytes(this, "welcomed", [], bytesIn(hello));
+  }
+
+  answer(hello) {
+    makeOfBytes(this, "answer", [], bytesIn(hello));
+  }
+
+  broken(attempt) {
+    make(this, "broken", size(attempt));
+  }
+
+  put(bytes) {
+    makeOfBytes(this, "put", [], bytesIn(bytes));
+  }
+
+  putNote(bytes) {
+    makeOfBytes(this, "put_note", [], bytesIn(bytes));
+  }
+
+  ask() {
+    make(this, "ask");
+  }
+
+  acknowledge() {
+    make(this, "acknowledge");
+  }
+
+  takeOut(attempt, most = PIECE) {
+    make(this, "take_out", size(attempt), space(), BigInt(least(most, PIECE)), result(0));
+    return bytesOut(u64(0)).slice();
+  }
+
+  feed(attempt, bytes) {
+    makeOfBytes(this, "feed", [size(attempt)], bytesIn(bytes));
+  }
+
+  takeIn(most = MOST_BODY) {
+    make(this, "take_in", space(), BigInt(least(most, MOST_BODY)), result(0));
+    return bytesOut(u64(0)).slice();
+  }
+
+  nextNote() {
+    return ifAny(() => {
+      make(this, "next_note", space(), BigInt(MOST_NOTE), result(0));
+      return bytesOut(u64(0)).slice();
+    });
+  }
+
+  get phase() {
+    return one(this, "phase", u32);
+  }
+
+  get attempt() {
+    return one(this, "attempt", u64);
+  }
+
+  get putCount() {
+    return one(this, "put_count", u64);
+  }
+
+  get acknowledged() {
+    return one(this, "acknowledged", u64);
+  }
+
+  get unsent() {
+    return one(this, "unsent", u64);
+  }
+
+  get received() {
+    return one(this, "received", u64);
+  }
+}

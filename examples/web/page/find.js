@@ -1,0 +1,149 @@
+/* Finding: as the user types, in what is loaded; and where that doesn't have it, by the host. */
+import { runesOf } from "./shown.js";
+import { AGAIN } from "./waiting.js";
+
+const COMMAND = 0; // the tag of the command file
+const SIGNS = /[!-/:-@[-`{-~]/g; // what a pattern of a command line has a backslash before
+
+/** A pattern of a command line that stands for a text. */
+function escaped(text) {
+  return text.replace(SIGNS, "\\$&").replaceAll("\n", "\\n");
+}
+
+export class Find {
+  #origin = { start: 0, end: 0 }; // what was selected when the search began
+
+  constructor(editor, bar, field) {
+    this.editor = editor;
+    this.bar = bar;
+    this.field = field;
+    field.addEventListener("input", () => this.#seek());
+    field.addEventListener("keydown", (event) => this.#key(event));
+  }
+
+  begin() {
+    const { active, cm } = this.editor;
+    if (active === null) return;
+    this.#origin = active.selection;
+    if (cm.somethingSelected() && !cm.getSelection().includes("\n")) this.field.value = cm.getSelection();
+    this.bar.hidden = false;
+    this.field.focus();
+    this.field.select();
+  }
+
+  end() {
+    this.bar.hidden = true;
+    this.editor.cm.focus();
+  }
+
+  #key(event) {
+    const keys = { Enter: event.shiftKey ? () => this.previous() : () => this.next(), Escape: () => this.end() };
+    keys.ArrowDown = () => this.next();
+    keys.ArrowUp = () => this.previous();
+    if (!(event.key in keys) || event.isComposing) return;
+    event.preventDefault();
+    keys[event.key]();
+  }
+
+  /** Shows the first place from where the search began, if it is loaded. */
+  #seek() {
+    this.editor.press("finding", () => {
+      const { value } = this.field;
+      const place = value ? this.#after(this.#origin.start, value) : null;
+      if (place !== null) this.#select(place, value);
+      this.editor.say(value && place === null ? "not in what is loaded below; Enter looks in all of it" : "");
+    });
+  }
+
+  /** Goes to the next place: in what is loaded up to the next gap, else the host looks. */
+  next() {
+    const { value } = this.field;
+    if (value === "") return;
+    let isAsked = false;
+    const act = () => {
+      if (isAsked) return this.#meetAnswer(value);
+      const { start, end } = this.editor.active.selection;
+      const place = this.#after(start === end ? start : start + 1, value);
+      if (place !== null) return this.#select(place, value);
+      if (!this.#isAllLoaded && !this.editor.line.isLate) {
+        isAsked = true;
+        this.#askHost(value);
+        return AGAIN;
+      }
+      return this.#wrap(this.#after(0, value), value);
+    };
+    this.editor.press("finding", act);
+  }
+
+  /** Goes to the place before, in what is loaded. */
+  previous() {
+    const { value } = this.field;
+    if (value === "") return;
+    this.editor.press("finding", () => {
+      const { shown, selection } = this.editor.active;
+      const place = this.#before(selection.start, value);
+      if (place !== null) this.#select(place, value);
+      else this.#wrap(this.#before(shown.runes, value), value);
+    });
+  }
+
+  get #isAllLoaded() {
+    const { terminal, active } = this.editor;
+    return terminal.firstGap(active.tag) === null;
+  }
+
+  #wrap(place, value) {
+    if (place !== null) this.#select(place, value);
+    const where = this.#isAllLoaded ? "" : " in what is loaded";
+    this.editor.say(place === null ? `it stands nowhere${where}` : "");
+  }
+
+  /** The first place from there on, up to the next gap. */
+  #after(place, value) {
+    const { terminal, active } = this.editor;
+    const text = terminal.text(active.tag, place);
+    const found = text.indexOf(value);
+    return found < 0 ? null : place + runesOf(text.slice(0, found));
+  }
+
+  /** The last place before, down to the next gap. */
+  #before(place, value) {
+    const { shown } = this.editor.active;
+    const gaps = [...shown.gaps(0, place)].map(({ gap, start }) => start + gap.runes).filter((end) => end <= place);
+    const first = gaps.at(-1) ?? 0;
+    const text = shown.text(first, place - first);
+    const found = text.lastIndexOf(value);
+    return found < 0 ? null : first + runesOf(text.slice(0, found));
+  }
+
+  #select(place, value) {
+    const { active, cm } = this.editor;
+    active.select(place, place + runesOf(value));
+    cm.scrollIntoView({ from: cm.getCursor("from"), to: cm.getCursor("to") }, cm.defaultTextHeight() * 3);
+    this.editor.say("");
+  }
+
+  /** Has the host look, by a command line. */
+  #askHost(value) {
+    const { terminal, active } = this.editor;
+    const { tag, selection } = active;
+    if (!terminal.isOpen(COMMAND)) terminal.openCmd();
+    terminal.select(tag, selection.end, selection.end);
+    terminal.work(tag);
+    terminal.type(COMMAND, `/${escaped(value)}/\n`);
+    this.editor.say("the host looks for it");
+  }
+
+  /** The host's answer is here: it has selected the place. */
+  #meetAnswer(value) {
+    const { terminal, active, line } = this.editor;
+    const { start, end } = terminal.dot(active.tag);
+    if (end - start !== runesOf(value)) return this.#wrap(null, value);
+    if (terminal.bytes(active.tag, start, end).gaps > 0) {
+      if (line.isLate) return undefined;
+      this.editor.loading.around(active.tag, start);
+      return AGAIN;
+    }
+    return this.#select(start, value);
+  }
+}

@@ -1,0 +1,183 @@
+/* What the user does in CodeMirror: keys, texts and the mouse. Where nothing has to wait CodeMirror does it, and the terminal is told; else
+ * it waits, and is done in its order. */
+import { OURS } from "./view.js";
+
+/** Commands of CodeMirror's keys that go by the lines beside the caret, and those that go by a page. */
+const BY_LINES = /^(go(Char|Column|Line|Group|Word|Doc)|del|newline|insertTab|transposeChars|killLine|openLine)/;
+const BY_PAGE = /^goPage/;
+const ANYWHERE = /^(goDoc|selectAll|insertTab|newline)/; // what needs no text beside the caret
+
+/** The names of CodeMirror's keys in the page: those that move, erase and select. Others are the editor's own, or the browser's. */
+const KEPT = /^(go|del|newline|insertTab|selectAll|killLine|openLine|transposeChars)/;
+const REPLACED = { defaultTab: "insertTab", newlineAndIndent: "newlineAsAbove", goLineStartSmart: "goLineStart" };
+
+const NAMES = { del: "erasing", go: "that move" };
+
+function nameOf(command) {
+  return NAMES[Object.keys(NAMES).find((front) => command.startsWith(front))] ?? "that key";
+}
+
+/** All keys of a map of CodeMirror's, with those that it falls through to. */
+function allKeys(CodeMirror, name, found = {}) {
+  const map = CodeMirror.keyMap[name];
+  for (const other of [map.fallthrough ?? []].flat()) allKeys(CodeMirror, other, found);
+  for (const [key, command] of Object.entries(map)) {
+    if (typeof command === "string" && key !== "fallthrough") found[key] = command;
+  }
+  return found;
+}
+
+/** Begins a line with the blanks of the one above, as far as they stand before the caret. */
+function newlineAsAbove(cm) {
+  const { line, ch } = cm.getCursor("from");
+  const [blanks] = cm.getLine(line).slice(0, ch).match(/^[ \t]*/);
+  cm.replaceSelection(`\n${blanks}`, "end", "+input");
+}
+
+export class Input {
+  #bookmark = null; // of a mouse's selection that waits
+
+  constructor(CodeMirror, cm, editor) {
+    this.CodeMirror = CodeMirror;
+    this.cm = cm;
+    this.editor = editor;
+    this.isComposing = false;
+    this.#composesAside = false;
+    CodeMirror.commands.newlineAsAbove = newlineAsAbove;
+    cm.setOption("keyMap", "sulgrevad");
+    cm.on("beforeChange", (_, change) => this.#meetChange(change));
+    cm.on("change", (_, change) => change.origin !== OURS && editor.take(change));
+    cm.on("beforeSelectionChange", (_, selection) => this.#meetSelection(selection));
+    for (const name of ["copy", "cut"]) cm.on(name, (_, event) => this.#meetCopy(event));
+    cm.on("keydown", () => editor.noteKey());
+    this.#hearCompositions(cm.getInputField());
+  }
+
+  #composesAside; // what is being composed waits, until it is whole
+
+  /** The keys of CodeMirror, each of which waits its turn, and those of the editor. */
+  static define(CodeMirror, editor) {
+    const keys = {};
+    for (const [key, name] of Object.entries(allKeys(CodeMirror, "default"))) {
+      const command = REPLACED[name] ?? name;
+      if (!KEPT.test(command)) continue;
+      keys[key] = () => editor.input.press(command);
+      if (command.startsWith("go")) keys[`Shift-${key}`] ??= () => editor.input.press(command, true);
+    }
+    CodeMirror.keyMap.sulgrevad = { ...keys, ...editor.keys };
+  }
+
+  /** A command of CodeMirror's; a move may extend the selection. */
+  press(command, isExtending = false) {
+    const { editor } = this;
+    editor.noteKey();
+    const isReady = () => this.#hasText(command);
+    editor.waiting.press({ name: nameOf(command), isReady, act: () => this.#run(command, isExtending) });
+  }
+
+  /** Runs a command as if Shift were held down as it was when its key was pressed, whatever is held down by now. */
+  #run(command, isExtending) {
+    const { display } = this.cm;
+    const { shift } = display;
+    display.shift = isExtending;
+    try {
+      this.cm.execCommand(command);
+    } finally {
+      display.shift = shift;
+    }
+  }
+
+  /** Whether the text is loaded by which a command goes; else it is asked for. */
+  #hasText(command) {
+    if (ANYWHERE.test(command) || !(BY_LINES.test(command) || BY_PAGE.test(command))) return this.#hasSelected(command);
+    const { cm, editor } = this;
+    const { line } = cm.getCursor("head");
+    const reach = BY_PAGE.test(command) ? Math.ceil(cm.getScrollInfo().clientHeight / cm.defaultTextHeight()) : 1;
+    const place = editor.active.shown.placeOf(cm.getCursor("head"));
+    const gap = editor.active.gapInLines(line - reach, line + reach, place);
+    if (gap !== null) editor.reach(gap);
+    return gap === null && this.#hasSelected(command);
+  }
+
+  /** Whether all is loaded that a command would take out: what went can be brought back then. */
+  #hasSelected(command) {
+    if (command.startsWith("go") || command.startsWith("select")) return true;
+    return this.editor.isLoaded(this.cm.getCursor("from"), this.cm.getCursor("to"));
+  }
+
+  // ---- Texts
+
+  #meetChange(change) {
+    const { editor } = this;
+    if (change.origin === OURS) return;
+    const { from, to } = change;
+    if (change.origin === "paste") change.update(from, to, change.text.map((line) => line.replace(/\r$/, "")));
+    const isOpen = editor.waiting.isOpenTo && !this.#composesAside;
+    if (isOpen && editor.isLoaded(from, to)) return;
+    change.cancel();
+    if (change.origin === "*compose" || this.isComposing) this.#composesAside = true;
+    else this.type(change.text.join("\n"), change.origin);
+  }
+
+  /** A text in the place of the selection, once its turn comes. */
+  type(text, origin) {
+    const { cm, editor } = this;
+    if (editor.isOver) {
+      editor.say("nothing can be changed any more");
+      return;
+    }
+    const isReady = () => editor.isLoaded(cm.getCursor("from"), cm.getCursor("to"));
+    const act = () => cm.replaceSelection(text, "end", origin);
+    editor.waiting.press({ name: "typing", text, isReady, act });
+  }
+
+  /** What an input method composes is shown as it grows, where nothing has to wait; else it comes when it is whole. */
+  #hearCompositions(field) {
+    field.addEventListener("compositionstart", () => {
+      this.isComposing = true;
+      this.#composesAside = !this.editor.waiting.isOpenTo;
+    });
+    field.addEventListener("compositionend", ({ data }) => {
+      const isAside = this.#composesAside;
+      this.isComposing = this.#composesAside = false;
+      if (isAside && data) this.type(data, "+input");
+      this.editor.noteKey();
+    });
+  }
+
+  // ---- The mouse
+
+  /** A place that is clicked while keys wait is gone to after them: as it stands in the text then. */
+  #meetSelection(selection) {
+    const { cm, editor } = this;
+    if (selection.origin !== "*mouse" || editor.waiting.isOpenTo || editor.waiting.count === 0) return;
+    const [{ anchor, head }] = selection.ranges;
+    const marks = [anchor, head].map((position) => cm.setBookmark(position));
+    const { doc } = cm;
+    selection.update(cm.listSelections());
+    const last = editor.waiting.last("click");
+    if (last) Object.assign(last, { marks, doc });
+    else this.#waitForClick({ kind: "click", name: "the mouse", marks, doc });
+  }
+
+  #waitForClick(click) {
+    const { cm, editor } = this;
+    click.act = () => {
+      const [anchor, head] = click.marks.map((mark) => mark.find());
+      if (anchor && head && cm.doc === click.doc) cm.setSelection(anchor, head);
+      for (const mark of click.marks) mark.clear();
+    };
+    editor.waiting.press(click);
+  }
+
+  // ---- The clipboard
+
+  /** A selection that isn't all loaded is loaded first. */
+  #meetCopy(event) {
+    const { cm, editor } = this;
+    if (editor.isLoaded(cm.getCursor("from"), cm.getCursor("to"))) return;
+    event.preventDefault();
+    event.codemirrorIgnore = true;
+    editor.say("what is selected is being loaded: copy or cut it again");
+  }
+}

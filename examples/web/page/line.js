@@ -1,0 +1,384 @@
+/* A line that goes on through breaks: the stream and the notes of a session that stays at the host, over one WebSocket after another. What
+ * the host has not acknowledged is kept, and goes out again over the next one. */
+import { Connection, first, nameOf, newId } from "./connecting.js";
+import { Link, SamError, What, readHello } from "./sulgrevad/sulgrevad.js";
+
+const MARK = [0x89, 0x73, 0x61, 0x6d, 0x6c, 0x69, 0x6e, 0x6b]; // with which a hello begins
+const HELLO_BYTES = 42;
+const PIECE = 65536; // bytes of one message
+const MOST_NOISE = 65536; // bytes that may come before a hello
+const MOST_BUFFERED = 1 << 18; // bytes that wait in a socket, above which it is given no more
+const LOOK_AGAIN = 50; // milliseconds until such a socket is looked at again
+
+// Milliseconds.
+const SILENCE_TO_BREAK = 15000; // without a byte, where an answer is due
+const TIME_TO_CONNECT = 30000; // until a connection is welcomed, and twice as long each time after that
+const MOST_TO_CONNECT = 960000;
+const PAUSES = [0, 1000, 2000, 4000, 8000, 16000, 30000]; // until another connection is tried; the last one from then on
+const LATE_AFTER = 1000; // and two round trips, after which an answer counts as late
+
+const STATUS_NO_SESSION = 7; // of samhost
+const CLOSED_WITH = 4000; // the code with which samweb closes a socket: this, and the status of the host
+
+/** Refusals of the host after which no connection comes any more. */
+const REFUSED = {
+  [What.OTHER_VERSION]: "the host knows another version of the link",
+  [What.NO_SESSION]: "the session is not there any more",
+  [What.OTHER_SESSION]: "another page has the session",
+  [What.WRONG_COUNT]: "the host has begun again, and lacks some of what it said",
+};
+
+const DECODER = new TextDecoder();
+const ENCODER = new TextEncoder();
+
+function joined(first, second) {
+  const all = new Uint8Array(first.length + second.length);
+  all.set(first);
+  all.set(second, first.length);
+  return all;
+}
+
+/** Where the mark of a hello begins; -1 where it isn't there whole. */
+function findMark(bytes) {
+  for (let at = bytes.indexOf(MARK[0]); at >= 0; at = bytes.indexOf(MARK[0], at + 1)) {
+    if (MARK.every((byte, more) => bytes[at + more] === byte)) return at;
+  }
+  return -1;
+}
+
+/** The terminal's end of a line. It calls `heard.bytes`, `heard.told` for each line that the host tells, `heard.note` with a verb and what
+ * stands after it, and `heard.changed` where the line stands otherwise. */
+export class Line {
+  #end;
+  #ways; // how a session is sought, the likeliest first, until a connection is welcomed
+  #takesOver;
+  #early = []; // what was put before a connection was welcomed, as what puts it into an end
+  #connection = null; // the newest connection; null between two
+  #attempt = 0;
+  #begun = new Uint8Array(0); // what has come of a connection before it was welcomed
+  #due = 0; // up to which byte of ours an answer is wanted
+  #asked = 0; // where the last question stands
+  #askedAt = 0;
+  #heardAt = 0;
+  #calledAt = 0;
+  #againAt = 0;
+  #lostAt = null; // since when there is no line
+  #failures = 0;
+  #connecting = TIME_TO_CONNECT;
+  #isMeasured = true; // the answer to the last question has come
+  #hasBegun = false; // a connection was welcomed
+  #timer = 0;
+
+  up = 0; // bytes that have gone each way
+  down = 0;
+  roundTrip = 0; // milliseconds that the last question took
+  isLost = false; // no connection comes any more
+  why = "";
+  endedWith = null; // the status with which the session has ended
+
+  /** Goes on with the first connection: it begins a session, or takes the one of this address over. */
+  constructor(heard) {
+    this.heard = heard;
+    this.#makeEnd(first.id, first.names);
+    this.#call(first.connection);
+  }
+
+  #makeEnd(id, taken) {
+    this.#end = new Link(Link.TERMINAL, id);
+    this.name = nameOf(id);
+    // A session that is taken over is named anew: if the first connection broke then, it is found by its new name.
+    this.#ways = taken.length > 0 ? [...taken.map((name) => ["take", name]), ["attach", this.name]] : [["serve", this.name]];
+    this.#takesOver = taken.length > 0;
+  }
+
+  // ---- Connections
+
+  #call(connection = null) {
+    const way = this.#hasBegun ? ["attach", this.name] : this.#ways[0];
+    this.#attempt = this.#end.call(this.#takesOver);
+    this.#begun = new Uint8Array(0);
+    this.#calledAt = this.#heardAt = performance.now();
+    this.#connection = connection ?? new Connection(...way);
+    this.#connection.hear({ open: () => this.#push(), message: (data) => this.#take(data), close: (code) => this.#closed(code) });
+    this.#push();
+    this.#wait();
+  }
+
+  /** Tries another connection now. */
+  connect() {
+    if (this.isLost || this.isOpen) return;
+    this.#drop();
+    this.#call();
+  }
+
+  /** Ends the newest connection. */
+  #drop() {
+    const connection = this.#connection;
+    this.#connection = null;
+    if (connection === null) return;
+    this.#end.broken(this.#attempt);
+    connection.end();
+  }
+
+  #closed(code) {
+    const status = code - CLOSED_WITH;
+    if (!this.#hasBegun && status === STATUS_NO_SESSION) this.#seek();
+    else if (!this.#hasBegun && status > 0 && status < 128) this.#lose("the host can't begin");
+    else this.#break();
+  }
+
+  /** No session was found: it is sought by the next name. Where it is nowhere, another one begins, to which goes what was put so far. */
+  #seek() {
+    this.#ways.shift();
+    this.#drop();
+    if (this.#ways.length === 0) {
+      const old = this.#end;
+      this.#makeEnd(newId(), []);
+      old.free();
+      for (const put of this.#early) put(this.#end);
+      this.#due = this.#end.putCount;
+      this.#asked = 0;
+      this.heard.told("samweb: the session is not there any more; another one begins");
+    }
+    this.#call();
+  }
+
+  /** The newest connection is broken: another is tried after a pause. */
+  #break() {
+    const now = performance.now();
+    this.#isMeasured = true;
+    this.#lostAt ??= this.#isAnswerDue ? Math.max(this.#askedAt, this.#heardAt) : now;
+    this.#drop();
+    this.#againAt = now + PAUSES[Math.min(this.#failures++, PAUSES.length - 1)];
+    this.#wait();
+    this.heard.changed();
+  }
+
+  #lose(why) {
+    if (this.isLost) return;
+    this.isLost = true;
+    this.why = why;
+    this.#drop();
+    this.heard.changed();
+  }
+
+  /** The page is left: nothing is tried any more. */
+  stop() {
+    clearTimeout(this.#timer);
+    this.isLost = true;
+    this.#drop();
+  }
+
+  // ---- What is due by the clock
+
+  #goOn() {
+    const now = performance.now();
+    if (this.isLost) return;
+    if (this.#connection === null) {
+      if (now >= this.#againAt) this.#call();
+    } else if (this.isOpen) {
+      if (this.#isAnswerDue && now - Math.max(this.#askedAt, this.#heardAt) >= SILENCE_TO_BREAK) this.#break();
+    } else if (now - this.#calledAt >= this.#connecting) {
+      this.#connecting = Math.min(2 * this.#connecting, MOST_TO_CONNECT);
+      this.#break();
+    }
+    this.#push();
+    this.#wait();
+  }
+
+  /** Has the clock wake this when the next thing is due. */
+  #wait() {
+    clearTimeout(this.#timer);
+    const wait = this.#delay();
+    if (wait !== null) this.#timer = setTimeout(() => this.#goOn(), Math.max(0, wait));
+  }
+
+  #delay() {
+    const now = performance.now();
+    if (this.isLost) return null;
+    if (this.#connection === null) return this.#againAt - now;
+    if (this.#connection.waiting >= MOST_BUFFERED) return LOOK_AGAIN;
+    if (!this.isOpen) return this.#calledAt + this.#connecting - now;
+    return this.#isAnswerDue ? Math.max(this.#askedAt, this.#heardAt) + SILENCE_TO_BREAK - now : null;
+  }
+
+  // ---- Bytes
+
+  /** Sends bytes of the terminal's stream, as many as go; the others wait in the end. */
+  send(bytes) {
+    if (bytes.length > 0) this.#put((end) => end.put(bytes));
+    this.#ask();
+    this.#push();
+  }
+
+  #put(put) {
+    put(this.#end);
+    this.#due = this.#end.putCount;
+    if (!this.#hasBegun) this.#early.push(put);
+  }
+
+  /** Sends a note, in its order with the stream. */
+  putNote(...words) {
+    const note = ENCODER.encode(words.join(" "));
+    this.#put((end) => end.putNote(note));
+    this.#ask();
+    this.#push();
+  }
+
+  /** Asks whether all has come, unless such a question is under way. */
+  #ask() {
+    const acknowledged = this.#end.acknowledged;
+    if (acknowledged >= this.#due || this.#asked > acknowledged) return;
+    this.#end.ask();
+    this.#asked = this.#end.putCount;
+    this.#askedAt = performance.now();
+    this.#isMeasured = false;
+  }
+
+  #push() {
+    const connection = this.#connection;
+    if (!connection?.isOpen || this.#end.phase === Link.DOWN) return;
+    while (connection.waiting < MOST_BUFFERED) {
+      const bytes = this.#end.takeOut(this.#attempt, PIECE);
+      if (bytes.length === 0) break;
+      connection.send(bytes);
+      this.up += bytes.length;
+    }
+    this.#wait();
+  }
+
+  #take(data) {
+    if (typeof data === "string") {
+      this.heard.told(data);
+      return;
+    }
+    const bytes = new Uint8Array(data);
+    this.down += bytes.length;
+    this.#heardAt = performance.now();
+    if (this.isOpen) this.#feed(bytes);
+    else this.#greet(bytes);
+    this.#handOn();
+    this.#ask();
+    this.#push();
+    this.heard.changed();
+  }
+
+  /** Bytes of a connection that is not welcomed yet. Other programs may have written something before the hello, as a `.bashrc` does. */
+  #greet(bytes) {
+    this.#begun = joined(this.#begun, bytes);
+    const at = findMark(this.#begun);
+    if (at > MOST_NOISE || (at < 0 && this.#begun.length > MOST_NOISE)) this.#break();
+    if (at < 0 || this.#begun.length < at + HELLO_BYTES) return;
+    const hello = this.#begun.subarray(at, at + HELLO_BYTES);
+    const rest = this.#begun.slice(at + HELLO_BYTES);
+    let what = 0;
+    try {
+      what = readHello(hello).what;
+      this.#end.welcomed(hello);
+    } catch (error) {
+      if (!(error instanceof SamError)) throw error;
+      if (what === What.NO_SESSION && !this.#hasBegun) this.#seek();
+      else if (what in REFUSED) this.#lose(REFUSED[what]);
+      else this.#break();
+      return;
+    }
+    this.#hasBegun = true;
+    this.#early = [];
+    this.#failures = 0;
+    this.#connecting = TIME_TO_CONNECT;
+    this.#lostAt = null;
+    this.#askedAt = performance.now();
+    this.#feed(rest);
+  }
+
+  #feed(bytes) {
+    try {
+      this.#end.feed(this.#attempt, bytes);
+    } catch (error) {
+      if (!(error instanceof SamError)) throw error;
+      this.#break(); // the packet is wrong, or memory is out: what it brought comes again
+      return;
+    }
+    if (!this.#isMeasured && this.#end.acknowledged >= this.#asked) {
+      this.#isMeasured = true;
+      this.roundTrip = performance.now() - this.#askedAt;
+    }
+  }
+
+  /** Hands on what of the host's stream is here: bytes, and notes between them. */
+  #handOn() {
+    for (;;) {
+      const bytes = this.#end.takeIn(PIECE);
+      if (bytes.length > 0) {
+        this.heard.bytes(bytes);
+        continue;
+      }
+      const note = this.#end.nextNote();
+      if (note === null) return;
+      this.#meet(DECODER.decode(note));
+    }
+  }
+
+  #meet(note) {
+    const [verb] = note.split(" ", 1);
+    const rest = note.slice(verb.length + 1);
+    if (verb === "told") {
+      this.heard.told(`samhost: ${rest}`);
+    } else if (verb === "session") {
+      [this.name] = rest.split(" ", 1);
+      this.heard.note(verb, rest);
+    } else if (verb === "ended") {
+      this.endedWith = Number(rest);
+      this.#end.acknowledge();
+      this.#push();
+      this.#lose("the session has ended");
+    } else if (verb === "gone") {
+      this.#lose(`another page or terminal has taken the session over: ${rest}`);
+    } else {
+      this.heard.note(verb, rest);
+    }
+  }
+
+  // ---- How the line is
+
+  get isOpen() {
+    return this.#end.phase === Link.OPEN;
+  }
+
+  get #isAnswerDue() {
+    return this.#end.acknowledged < this.#asked;
+  }
+
+  /** Whether the host is known to have all that was sent. */
+  get hasAll() {
+    return this.#end.acknowledged >= this.#due;
+  }
+
+  /** Bytes that the socket has not taken. */
+  get waiting() {
+    return this.#end.unsent + (this.#connection?.waiting ?? 0);
+  }
+
+  /** For how many milliseconds nothing has come, though an answer is due. */
+  get silence() {
+    if (this.#lostAt !== null) return performance.now() - this.#lostAt;
+    return this.#isAnswerDue ? performance.now() - Math.max(this.#askedAt, this.#heardAt) : 0;
+  }
+
+  /** Whether there is no line, though there was one. */
+  get isBroken() {
+    return this.#lostAt !== null;
+  }
+
+  /** Whether there is no line, or an answer is late: what would lock a file until the line is back is held back then. */
+  get isLate() {
+    return this.isBroken || this.silence >= LATE_AFTER + 2 * this.roundTrip;
+  }
+
+  /** What the status line says of a line that is lost. */
+  get told() {
+    const seconds = `LINE LOST ${Math.floor(this.silence / 1000)} s`;
+    if (this.#connection !== null) return `${seconds}, connecting`;
+    return `${seconds}, again in ${Math.max(0, Math.round((this.#againAt - performance.now()) / 1000))} s`;
+  }
+}

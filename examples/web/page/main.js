@@ -1,0 +1,224 @@
+/* The page: its parts, its keys, and the session that its address has. */
+import { PLACE, keepNames } from "./connecting.js";
+import { Copies } from "./copies.js";
+import { Editor } from "./editor.js";
+import { Find } from "./find.js";
+import { Line } from "./line.js";
+import { Opening } from "./opening.js";
+import { statusOf } from "./status.js";
+
+const { CodeMirror } = globalThis;
+const MOST_TOLD = 20; // lines of the host that stand in the page
+const COPY_AFTER = 2000; // milliseconds between two looks whether copies are due
+
+const part = (id) => document.getElementById(id);
+
+/** The page, as the editor sees it. */
+class Page {
+  #isDrawing = false;
+
+  constructor() {
+    const options = {
+      inputStyle: "textarea",
+      lineNumbers: true,
+      lineNumberFormatter: (line) => this.#numberOf(line),
+      lineSeparator: "\n",
+      lineWrapping: true,
+      lineWiseCopyCut: false,
+      dragDrop: false,
+      undoDepth: 0,
+      mode: null,
+      configureMouse: (_, repeat) => ({ addNew: false, unit: { single: "char", double: "word", triple: "line" }[repeat] }),
+      specialCharPlaceholder: (sign) => (sign === "\r" ? document.createElement("span") : CodeMirror.defaults.specialCharPlaceholder(sign)),
+    };
+    this.cm = CodeMirror(part("text"), options);
+    this.keys = this.#keys();
+    this.editor = new Editor(CodeMirror, this.cm, this);
+    this.find = new Find(this.editor, part("finding"), part("pattern"));
+    this.opening = new Opening(this.editor, part("opening"), part("path"), part("paths"));
+    this.copies = new Copies(this.editor, PLACE);
+    document.addEventListener("click", ({ target }) => this.#do(target.dataset?.action));
+    addEventListener("beforeunload", (event) => this.#meetLeaving(event));
+    for (const name of ["online", "focus"]) addEventListener(name, () => this.line?.connect());
+    setInterval(() => this.copies.keep(), COPY_AFTER);
+  }
+
+  /** The number of a line, where it is known: after a gap it isn't. */
+  #numberOf(line) {
+    const number = String(line);
+    const last = this.editor?.active?.shown.firstGapLine ?? Infinity;
+    return line - 1 <= last ? number : "\u00a0".repeat(number.length); // as wide as it would be
+  }
+
+  // ---- The session
+
+  /** Goes on with the session of this address, or begins one. */
+  begin() {
+    this.line = new Line({
+      bytes: (bytes) => this.editor.feed(bytes),
+      told: (line) => this.#hear(line),
+      note: (verb, rest) => this.#note(verb, rest),
+      changed: () => this.#meetLine(),
+    });
+    this.editor.begin(this.line);
+    for (const copy of this.copies.left) this.#offer(copy);
+    this.cm.focus();
+  }
+
+  /** A line that the host tells. */
+  #hear(line) {
+    this.editor.unwritten.hear(line);
+    this.tell(line);
+    this.draw();
+  }
+
+  #note(verb, rest) {
+    if (verb === "session") keepNames(this.line.name);
+    else this.opening.meet(verb, rest);
+  }
+
+  #meetLine() {
+    const { line, editor } = this;
+    if (!line?.isLost || editor.isOver) {
+      editor.update();
+      return;
+    }
+    if (line.endedWith !== null) keepNames();
+    editor.lose(line.why);
+  }
+
+  #meetLeaving(event) {
+    if (this.editor.isOver || this.line === undefined || !this.editor.lacksChanges) return;
+    this.copies.keep();
+    event.preventDefault();
+    event.returnValue = ""; // for browsers that go by this
+  }
+
+  // ---- What the user does
+
+  #keys() {
+    const keys = { "Shift-Ctrl-G": "previous", F3: "next", "Shift-F3": "previous", Esc: "escape" };
+    for (const front of ["Ctrl", "Cmd"]) {
+      const own = { S: "save", O: "open", F: "find", G: "next", Z: "undo", Y: "redo" };
+      for (const [letter, action] of Object.entries(own)) keys[`${front}-${letter}`] = action;
+      keys[`Shift-${front}-Z`] = "redo";
+    }
+    return Object.fromEntries(Object.entries(keys).map(([key, action]) => [key, () => this.#do(action)]));
+  }
+
+  #do(action) {
+    const { editor } = this;
+    const actions = {
+      open: () => this.opening.begin(),
+      save: () => editor.save(),
+      find: () => this.find.begin(),
+      next: () => this.find.next(),
+      previous: () => this.find.previous(),
+      undo: () => editor.undo(),
+      redo: () => editor.redo(),
+      escape: () => editor.say(""),
+      leave: () => this.#leave(),
+      begin: () => location.reload(),
+      read: () => (part("over").hidden = true),
+    };
+    if (!(action in actions)) return;
+    actions[action]();
+    if (["save", "undo", "redo"].includes(action)) this.cm.focus();
+  }
+
+  #leave() {
+    const { editor } = this;
+    const unwritten = editor.tags.filter((tag) => editor.isChanged(tag)).map((tag) => editor.nameOf(tag));
+    const question = unwritten.length > 0 ? `Not written: ${unwritten.join(", ")}. End the session without them?` : "End the session?";
+    if (confirm(question)) editor.leave();
+  }
+
+  // ---- What is drawn
+
+  /** A file is shown now. */
+  shows(tag) {
+    document.title = `${this.editor.nameOf(tag)} - Sulgrevad`;
+    this.draw();
+  }
+
+  /** What goes on by itself here. */
+  goOn() {
+    this.opening.goOn();
+  }
+
+  /** Draws what stands round the text, before the next frame. */
+  draw() {
+    if (this.#isDrawing) return;
+    this.#isDrawing = true;
+    requestAnimationFrame(() => {
+      this.#isDrawing = false;
+      part("status").textContent = statusOf(this.editor);
+      part("message").textContent = this.editor.message;
+      this.#drawFiles();
+    });
+  }
+
+  #drawFiles() {
+    const { editor } = this;
+    const files = [...editor.views.keys()].filter((tag) => editor.terminal.isOpen(tag));
+    const words = files.map((tag) => `${tag} ${editor.active?.tag === tag} ${editor.isChanged(tag)} ${editor.nameOf(tag)}`).join("\n");
+    if (words === this.filesDrawn) return;
+    this.filesDrawn = words;
+    part("files").replaceChildren(...files.map((tag) => this.#fileButton(tag)));
+  }
+
+  #fileButton(tag) {
+    const { editor } = this;
+    const button = document.createElement("button");
+    button.type = "button";
+    button.textContent = `${editor.nameOf(tag)}${editor.isChanged(tag) ? " *" : ""}`;
+    button.setAttribute("aria-current", editor.active?.tag === tag);
+    button.addEventListener("click", () => {
+      editor.show(tag);
+      this.cm.focus();
+    });
+    return button;
+  }
+
+  /** A line that stands until the user has read it. */
+  tell(line, ...buttons) {
+    const item = document.createElement("li");
+    const words = document.createElement("span");
+    words.textContent = line;
+    item.append(words, ...buttons, this.#button("Dismiss", () => item.remove()));
+    part("told").append(item);
+    while (part("told").children.length > MOST_TOLD) part("told").firstChild.remove();
+  }
+
+  #button(text, act) {
+    const button = Object.assign(document.createElement("button"), { type: "button", textContent: text });
+    button.addEventListener("click", act);
+    return button;
+  }
+
+  /** A copy of an earlier page is there: the user may save it as a file of his own, or drop it. */
+  #offer(copy) {
+    const when = new Date(copy.when).toLocaleString();
+    const download = document.createElement("a");
+    download.href = `data:text/plain;charset=utf-8,${encodeURIComponent(copy.text)}`;
+    download.download = copy.name.split("/").at(-1);
+    download.textContent = "Save it as a file";
+    const drop = this.#button("Drop it", () => {
+      this.copies.drop(copy);
+      drop.closest("li").remove();
+    });
+    this.tell(`${copy.name}: the host may lack what this browser kept of it at ${when}`, download, drop);
+  }
+
+  /** The session can't go on here. */
+  lose(why) {
+    this.copies.keep();
+    part("why").textContent = `${why}. What is loaded can still be read and copied.`;
+    part("over").hidden = false;
+    this.draw();
+  }
+}
+
+const page = new Page();
+page.begin();
+globalThis.sulgrevad = page.editor; // for tests, and for whoever looks into a page

@@ -1,0 +1,68 @@
+/* Files that are not written, though the terminal takes them for it: the host tells of a write that failed, and of files that a page before
+ * this one has not written. */
+
+const FAILED = /^samhost: \? write (?:file (\d{1,5}): )?(.*)/s;
+const MOST_RUNES_IN_NAME = 64; // in the session; of a longer path the host shows the end
+
+/** The name in the session of a path that the host tells. */
+function shownName(path) {
+  const runes = [...path];
+  return runes.length <= MOST_RUNES_IN_NAME ? path : `…${runes.slice(1 - MOST_RUNES_IN_NAME).join("")}`;
+}
+
+/** What the name may be of the file that words are about: it ends at a colon, and others may stand in it. The longest comes first. */
+function namesIn(words) {
+  const ends = [...words.matchAll(/: /g)].map(({ index }) => index).reverse();
+  return ends.map((end) => shownName(words.slice(0, end)));
+}
+
+export class Unwritten {
+  #files = new Map(); // tags, and whether the write that failed is answered
+  #writing = new Map(); // of each file how many writes are not answered
+  #early = []; // lines that were told before the names of files were known
+
+  constructor(editor) {
+    this.editor = editor;
+  }
+
+  has(tag) {
+    return this.#files.has(tag);
+  }
+
+  write(tag) {
+    this.#writing.set(tag, (this.#writing.get(tag) ?? 0) + 1);
+  }
+
+  /** A line that the host tells. It comes before the answer to the write that it is about. */
+  hear(line) {
+    if (!FAILED.test(line)) return;
+    this.#early.push(line);
+    this.goOn();
+  }
+
+  /** Goes on with lines that were told before the names were known. */
+  goOn() {
+    if (this.#early.length === 0 || this.editor.tags.length === 0) return;
+    for (const line of this.#early.splice(0)) {
+      const [, unnamed, words] = line.match(FAILED);
+      const tags = unnamed === undefined ? this.#tagsOf(namesIn(words)) : [Number(unnamed)];
+      for (const tag of tags) this.#files.set(tag, (this.#writing.get(tag) ?? 0) === 0);
+    }
+  }
+
+  #tagsOf(names) {
+    const { editor } = this;
+    for (const name of names) {
+      const tags = editor.tags.filter((tag) => editor.nameOf(tag) === name);
+      if (tags.length > 0) return tags;
+    }
+    return [];
+  }
+
+  /** A write is answered. */
+  meetClean(tag) {
+    this.#writing.set(tag, Math.max(0, (this.#writing.get(tag) ?? 0) - 1));
+    if (this.#files.get(tag) === false) this.#files.set(tag, true);
+    else this.#files.delete(tag);
+  }
+}

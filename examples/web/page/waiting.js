@@ -1,0 +1,106 @@
+/* The keys that wait. Each acts once what it acts on is settled, in the order in which they came; so the same keys do the same over any
+ * line. */
+
+export const AGAIN = Symbol("again"); // what an action returns that goes on once the host has answered
+const KNOWN_AFTER = 3000; // milliseconds for which answers are late until an action that needs them is given up
+
+/** What is pressed: `act` does it. Before that the file has to be free, unless it `isOfNoFile`; and `isReady`, where there is one, has to
+ * hold, which may ask the host for text. `text` is what the user has typed or pasted, `name` what he is told where it can't be done, and
+ * `giveUp` is called then. */
+export class Waiting {
+  #actions = [];
+  #isActing = false;
+  #lateSince = null;
+
+  constructor(editor) {
+    this.editor = editor;
+  }
+
+  get count() {
+    return this.#actions.length;
+  }
+
+  /** Whether a change of the document is one of an action, or may be one: nothing waits, and the file is free. */
+  get isOpenTo() {
+    return this.#isActing || (this.#actions.length === 0 && this.editor.isFree);
+  }
+
+  /** What was pressed last, if it waits and is of this kind: more of the same may be added to it. */
+  last(kind) {
+    const last = this.#actions.at(-1);
+    return last?.kind === kind ? last : null;
+  }
+
+  press(action) {
+    this.#actions.push(action);
+    this.editor.update();
+  }
+
+  /** Has an action act before those that wait. */
+  pressFirst(action) {
+    this.#actions.unshift(action);
+  }
+
+  /** Does what was pressed, up to the first action that has to wait. */
+  goOn() {
+    if (this.#isActing) return;
+    this.#noteLate();
+    while (this.#actions.length > 0) {
+      const [action] = this.#actions;
+      if (!this.#mayAct(action)) {
+        if (!this.#isGivenUp(action)) return;
+        this.#giveUp();
+        continue;
+      }
+      this.#actions.shift();
+      if (this.#act(action) === AGAIN) {
+        this.#actions.unshift(action);
+        if (!this.#isGivenUp(action)) return;
+        this.#giveUp();
+      }
+    }
+  }
+
+  #mayAct({ isOfNoFile, isReady }) {
+    return (isOfNoFile ? this.editor.isSettled : this.editor.isFree) && (isReady?.() ?? true);
+  }
+
+  /** What was typed and waits. */
+  get typed() {
+    return this.#actions.map(({ text }) => text ?? "").join("");
+  }
+
+  /** The same, which is not to be done any more. */
+  takeTyped() {
+    const { typed } = this;
+    this.#actions = [];
+    return typed;
+  }
+
+  #giveUp() {
+    const { name, giveUp } = this.#actions.shift();
+    giveUp?.();
+    this.editor.say(`${name} can't be done until the line is back`);
+  }
+
+  #act(action) {
+    this.#isActing = true;
+    try {
+      return action.act();
+    } finally {
+      this.#isActing = false;
+    }
+  }
+
+  #noteLate() {
+    if (!this.editor.line?.isLate) this.#lateSince = null;
+    else this.#lateSince ??= performance.now();
+  }
+
+  /** Whether the first action goes with a word, since the line is lost and the user knows. One that typed text waits behind stays: that
+   * text would go elsewhere. */
+  #isGivenUp(action) {
+    const isKnown = this.#lateSince !== null && performance.now() - this.#lateSince >= KNOWN_AFTER;
+    return isKnown && !this.#actions.some(({ text }) => text);
+  }
+}

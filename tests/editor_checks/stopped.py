@@ -1,0 +1,168 @@
+"""A line that stands still: how soon a key shows meanwhile, and how soon the host has all that was typed once it is back. samterm has a
+terminal of its own here, with nothing between it and the clock."""
+import contextlib
+import fcntl
+import os
+import pty
+import select
+import signal
+import struct
+import subprocess
+import sys
+import termios
+import time
+from pathlib import Path
+
+from checks import times_longer
+
+from .support import LIBRARY, SAMHOST, SAMTERM, SECONDS, STATE, below, expect, stat_of
+
+GATE = Path(__file__).with_name("gate.py")
+WIDTH, HEIGHT = 100, 30
+RUNES = "αβγδεζηθικλμνξοπρστυφχψω"  # that are typed: nothing else on the screen has them
+LAST = "Ω"  # typed last
+NAP = 0.0005  # seconds between two looks into the journal
+MOST_FOR_A_KEY = 0.02  # seconds until it shows
+MOST_WORK = 0.1  # seconds until the host has all, beside two round trips
+
+
+class OnTerminal:
+    """samterm on a terminal of its own, to a session that stays, over a line that may be stopped."""
+
+    def __init__(self, folder, *files, delay=0):
+        self.folder, self.block, self.log = folder, folder / "block", folder / "connected"
+        host = f"{sys.executable} {GATE} {self.block} {self.log} {delay} {SAMHOST}"
+        environment = {**os.environ, "SAM_LIBRARY": str(LIBRARY), "LC_ALL": "C.UTF-8", "TERM": "xterm-256color", "TMPDIR": str(folder)}
+        environment["XDG_STATE_HOME"] = str(folder / STATE)
+        self.end, inner = pty.openpty()
+        fcntl.ioctl(inner, termios.TIOCSWINSZ, struct.pack("HHHH", HEIGHT, WIDTH, 0, 0))
+        self.process = subprocess.Popen(
+            [sys.executable, SAMTERM, "--host", host, *files], stdin=inner, stdout=inner, stderr=subprocess.DEVNULL, cwd=folder,
+            env=environment, start_new_session=True, preexec_fn=lambda: fcntl.ioctl(0, termios.TIOCSCTTY, 0),
+        )  # fmt: skip
+        os.close(inner)
+
+    def __enter__(self):
+        return self
+
+    def __exit__(self, *_):
+        self.process.kill()
+        self.process.wait()
+        os.close(self.end)
+        for lock in (self.folder / STATE / "sulgrevad").glob("*/lock"):
+            with contextlib.suppress(OSError, ValueError):
+                os.kill(int(lock.read_text()), signal.SIGTERM)
+        if self.block.exists():
+            self.block.unlink()
+
+    def read(self, seconds):
+        """What the screen is sent within so long."""
+        ready, _, _ = select.select([self.end], [], [], max(0.0, seconds))
+        return os.read(self.end, 65536).decode("utf-8", "replace") if ready else ""
+
+    def read_until(self, words, seconds=SECONDS):
+        """Reads until these words are sent. Answers how many seconds that took."""
+        start, shown = time.monotonic(), ""
+        while words not in shown:
+            left = start + seconds - time.monotonic()
+            expect(left > 0, f"{words!r} doesn't show; what came last is {shown[-400:]!r}")
+            shown += self.read(left)
+        return time.monotonic() - start
+
+    def rest(self, seconds):
+        """Reads until nothing has come for so long."""
+        while self.read(seconds):
+            pass
+
+    def type(self, runes):
+        os.write(self.end, runes.encode())
+
+    # ---- The line
+
+    def relays(self):
+        """The processes that carry bytes now."""
+        return [child for child in below(self.process.pid) if (stat_of(child) or "Z")[0] != "Z"]
+
+    @contextlib.contextmanager
+    def stopped_line(self):
+        """Nothing is carried meanwhile, nor by a new connection."""
+        self.block.touch()
+        stopped = self.relays()
+        for relay in stopped:
+            os.kill(relay, signal.SIGSTOP)
+        try:
+            yield
+        finally:
+            self.log.unlink(missing_ok=True)
+            self.block.unlink()
+            self.back_at = time.monotonic()
+            for relay in stopped:
+                with contextlib.suppress(ProcessLookupError):
+                    os.kill(relay, signal.SIGCONT)
+
+    def host_has(self, words):
+        """Waits until the journal has these words: the host has got them then. Answers when that was."""
+        (journal,) = (self.folder / STATE / "sulgrevad").glob("*/journal")
+        until = time.monotonic() + 3 * SECONDS
+        with open(journal, "rb") as file:
+            file.seek(max(0, journal.stat().st_size - 65536))
+            data = b""
+            while words.encode() not in data:
+                expect(time.monotonic() < until, f"the host never gets {words!r}")
+                data = data[-8:] + file.read()
+                self.read(NAP)
+        return time.monotonic()
+
+    def connected_at(self):
+        """When the connection was made that the line has now."""
+        return float(self.log.read_text()) if self.log.exists() else self.back_at
+
+
+class Measured:
+    """Keys typed on loaded text while the line stands still: the seconds until each shows, and from the moment on that the line is back
+    until the host has all. The delay is that of the line each way, in milliseconds."""
+
+    def __init__(self, folder, seconds, delay):
+        (folder / "a.txt").write_text("".join(f"line {number}\n" for number in range(1, 400)))
+        self.keys = []
+        with OnTerminal(folder, "a.txt", delay=delay) as session:
+            session.read_until("line 1")
+            session.rest(1.0 + 0.004 * delay)
+            with session.stopped_line():
+                until, number = time.monotonic() + seconds, 0
+                while time.monotonic() < until:
+                    rune = RUNES[number % len(RUNES)]
+                    session.type(rune)
+                    self.keys.append(session.read_until(rune))
+                    session.rest(0.02)
+                    number += 1
+                    if number % len(RUNES) == 0:
+                        session.type("\r")  # a row that is drawn again has no rune twice
+                        session.rest(0.1)
+                session.type(LAST)
+                session.read_until(LAST)
+            self.all_after = session.host_has(LAST) - session.connected_at()
+
+    @property
+    def slowest(self):
+        return max(self.keys)
+
+    @property
+    def most(self):
+        """That all but one in a hundred need at most."""
+        return sorted(self.keys)[len(self.keys) * 99 // 100]
+
+    @property
+    def usual(self):
+        """That half of the keys need at most."""
+        return sorted(self.keys)[len(self.keys) // 2]
+
+
+def check_keys_while_the_line_stands_still(folder):
+    """Each key on loaded text shows at once while the line stands still, and the host has all soon after it is back. tests/editor_breaks
+    --stopped measures a minute of it."""
+    late = times_longer()
+    found = Measured(folder, 4, 50)
+    expect(len(found.keys) > 20, f"this test is wrong: it types {len(found.keys)} keys")
+    expect(found.usual < late * MOST_FOR_A_KEY, f"a key takes {found.usual * 1000:.1f} ms")
+    expect(found.all_after < 4 * 0.05 + late * MOST_WORK, f"the host has all after {found.all_after * 1000:.0f} ms")

@@ -1,0 +1,213 @@
+"""What a power cut leaves of a journal, and how quickly a long one is read."""
+import concurrent.futures
+import os
+import random
+import re
+import resource
+import shutil
+import subprocess
+
+from checks import SECONDS, Skipped, expect
+
+from .journals import kill, records_of
+from .line import Staying, home_of
+from .support import SAMHOST, expect_equal, made, text_of
+
+TAIL = 4096  # bytes of a journal that a power cut may take
+CUTS = int(os.environ.get("CUTS") or 256)  # at how many places of them it is cut
+TAKEN = 32  # of those, at how many a terminal takes the session over
+AT_ONCE = 4
+LONG = 16_000_000  # bytes
+SECONDS_TO_READ = 1.0  # of the processor, for so many bytes
+NAMES = ("a.txt", "b.txt")
+UP, DOWN, DONE = 5, 6, 9  # kinds of records
+
+
+def lived(place):
+    """A session with some life in it, whose samhost is killed: its name, its journal, and after each step, where all was acknowledged, how
+    many bytes that had, the texts of both files, and what they have on the disk."""
+    made(place, a="one\n" * 20, b="other\n")
+    numbers, states = random.Random(5), []
+    with Staying(place, *NAMES, options=("--undo",)) as session:
+        texts, cut = ["one\n" * 20, "other\n"], ""
+        journal = home_of(place, session.name) / "journal"
+        for number in range(120):
+            tag = 1 + (numbers.random() < 0.4)
+            what, text = numbers.random(), texts[tag - 1]
+            start = numbers.randrange(len(text) + 1)
+            end = min(len(text), start + numbers.randrange(30))
+            if what < 0.6:
+                word = f"<{number}>" + "y" * numbers.randrange(60)
+                session.terminal.select(tag, start, start)
+                session.terminal.type(tag, word)
+                texts[tag - 1] = text[:start] + word + text[start:]
+            elif what < 0.75:
+                session.terminal.select(tag, start, end)
+                session.terminal.cut(tag)
+                texts[tag - 1], cut = text[:start] + text[end:], text[start:end]
+            elif what < 0.85:
+                session.terminal.select(tag, start, start)
+                session.terminal.paste(tag)
+                texts[tag - 1] = text[:start] + cut + text[start:]
+            else:
+                session.terminal.write(tag)
+            session.settle()
+            states.append((journal.stat().st_size, tuple(texts), tuple(text_of(place / name) for name in NAMES)))
+            if number == 60:
+                session.let_pass(3)  # the texts are saved aside meanwhile
+        kill(place, session)
+        return session.name, journal.read_bytes(), states
+
+
+class Left:
+    """What a power cut leaves: the folder of the files, as it was, and a journal that is cut. Copies stay the very files that they were."""
+
+    def __init__(self, place):
+        self.place = place
+        self.name, self.journal, self.states = lived(place)
+        records, end = records_of(self.journal)
+        ends = [at for at, _ in records[1:]] + [end]
+        self.ends_of_writes = [after for (_, kind), after in zip(records, ends) if kind == DONE]
+        self.home = home_of(place, self.name)
+        self.kept = place / "temporary" / "kept"
+        self.kept.mkdir()
+        self.copies = [path.name for path in place.glob("*.sam-*")]
+        for name in self.copies:
+            os.link(place / name, self.kept / name)
+        self.files_of_home = {path.name: path.read_bytes() for path in self.home.iterdir() if path.is_file()}
+
+    def at(self, size):
+        """The last step that was acknowledged in so many bytes of the journal."""
+        return max((at for at, state in enumerate(self.states) if state[0] <= size), default=0)
+
+    def files_at(self, size):
+        """What the files had on the disk: a write is noted once it is there."""
+        at = self.at(size)
+        is_noted = any(self.states[at][0] <= end <= size for end in self.ends_of_writes)
+        return self.states[min(at + is_noted, len(self.states) - 1)][2]
+
+    def restore(self, size):
+        """All is as it was when the journal had so many bytes."""
+        for path in self.place.glob("*.sam-*"):
+            path.unlink()
+        for name, text in zip(NAMES, self.files_at(size)):
+            (self.place / name).write_bytes(text.encode())
+        for name in self.copies:
+            os.link(self.kept / name, self.place / name)
+        self.home.mkdir(mode=0o700, exist_ok=True)
+        for name, data in self.files_of_home.items():
+            (self.home / name).write_bytes(self.journal[:size] if name == "journal" else data)
+
+    def expect_texts(self, size, texts):
+        """The texts are those of the last step that was acknowledged before, or of the one that was under way."""
+        allowed = [state[1] for state in self.states[self.at(size) :][:2]]
+        steps = [[at for at, state in enumerate(self.states) if state[1][file] == texts[file]] for file in (0, 1)]
+        expect(texts in allowed, f"cut after {size} bytes: the texts are those after steps {steps}, wanted those after {self.at(size)}")
+
+    def texts_at_the_end(self, size):
+        """What --end saves of the session, which another samhost begins for that."""
+        environment = {**os.environ, "XDG_STATE_HOME": str(self.place / "temporary")}
+        words = [SAMHOST, "--end", self.name]
+        ended = subprocess.run(words, cwd=self.place, env=environment, capture_output=True, text=True, timeout=SECONDS)
+        expect(ended.returncode == 0 and "can't go on" not in ended.stderr, f"cut after {size} bytes: it says {ended.stderr!r}")
+        expect(not self.home.exists(), f"cut after {size} bytes: its folder stays")
+        copies = dict(re.findall(r"samhost: (\S+) was not written; its text is in (\S+)", ended.stderr))
+        return tuple(text_of(self.place / copies.get(name, name)) for name in NAMES)
+
+    def texts_for_another(self):
+        """What a terminal has that takes the session over."""
+        with Staying(self.place, takes=self.name) as session:
+            texts = session.text(1), session.text(2)
+            session.leave()
+        return texts
+
+
+def check_power_cut(folder):
+    """A journal that is cut at any of its last 4,096 bytes begins a session again, with the texts as they were acknowledged; so it does
+    where a terminal takes the session over."""
+
+    def cut(worker):
+        place = folder / str(worker)
+        place.mkdir()
+        left = Left(place)
+        size = len(left.journal)
+        kinds = {kind for at, kind in records_of(left.journal)[0] if at > size - TAIL}
+        expect({UP, DOWN, DONE} <= kinds, f"this test is wrong: the last records are of the kinds {kinds}")
+        sizes = [size - TAIL + at for at in range(worker * TAIL // CUTS, TAIL + 1, AT_ONCE * TAIL // CUTS)]
+        for at, cut_at in enumerate(sizes):
+            left.restore(cut_at)
+            left.expect_texts(cut_at, left.texts_at_the_end(cut_at))
+            if at % max(1, CUTS // TAKEN) == 0:
+                left.restore(cut_at)
+                left.expect_texts(cut_at, left.texts_for_another())
+        return len(sizes)
+
+    with concurrent.futures.ThreadPoolExecutor(AT_ONCE) as pool:
+        count = sum(pool.map(cut, range(AT_ONCE)))
+    expect(count >= CUTS, f"this test is wrong: it cuts {count} times")
+
+
+def check_power_cut_that_leaves_zeros(folder):
+    """A journal whose last bytes never reached the disk, so that there are zeros, begins a session again, too."""
+    left = Left(folder)
+    for count in (1, 100, TAIL):
+        left.restore(len(left.journal) - count)
+        with open(left.home / "journal", "ab") as journal:
+            journal.write(bytes(count))
+        left.expect_texts(len(left.journal) - count, left.texts_at_the_end(-count))
+
+
+def check_power_cut_keeps_the_folder(folder):
+    """The names of what a session has are on the disk before anything is acknowledged, also once another terminal has taken it over."""
+    if shutil.which("strace") is None:
+        raise Skipped("no strace")
+    made(folder, a="one\n")
+    log = folder / "calls"
+    words = ("strace", "-f", "-qq", "-y", "-s", "8", "-o", log, "-e", "trace=fsync,fdatasync,sendto,renameat,renameat2,listen")
+    with Staying(folder, "a.txt", prefix=words) as session:
+        session.type("two\n")
+        session.abandon()  # what traces the calls goes on
+        with Staying(folder, takes=session.name) as heir:
+            heir.leave()
+    forms = {r"listen\(": "begins", r"fdatasync\(\d+<.*/journal": "journal", r"fsync\(\d+<.*/sulgrevad/[0-9a-f]{16}>": "folder",
+             r"fsync\(\d+<.*/sulgrevad>": "all", r"rename.*\) = 0": "named", r"sendto\(": "sent"}  # fmt: skip
+    calls = [name for line in log.read_text().splitlines() for form, name in forms.items() if re.match(rf"\d+ +{form}", line)]
+    for first in ("begins", "named"):
+        at = calls.index("begins") if first == "begins" else len(calls) - 1 - calls[::-1].index("named")
+        before = calls[:at] if first == "begins" else calls[at : at + calls[at:].index("sent")]
+        expect({"folder", "all"} <= set(before), f"{first}: the folder is not on the disk: {calls}")
+    expect("journal" in calls[: calls.index("begins")], f"the journal is not on the disk: {calls}")
+
+
+def seconds_of_children():
+    used = resource.getrusage(resource.RUSAGE_CHILDREN)
+    return used.ru_utime + used.ru_stime
+
+
+def check_journal_is_read_quickly(folder):
+    """Another samhost reads a journal of 16 MB, of edits all over a text of some 50,000 characters, in less than a second of the processor.
+    Of longer texts each edit takes longer, as it did before."""
+    import sulgrevad
+
+    made(folder, a="one\n")
+    with Staying(folder, "a.txt", options=("--undo",), kind=sulgrevad.Link) as session:
+        terminal, journal = session.terminal, home_of(folder, session.name) / "journal"
+        line, count = "x" * 79 + "\n", 0
+        while journal.stat().st_size < LONG:
+            for _ in range(40):
+                place = count * 7919 % (terminal.len(1) + 1)
+                terminal.select(1, place, place)
+                terminal.type(1, line * 6)
+                count += 1
+            if terminal.len(1) > 60_000:
+                terminal.select(1, 0, 20_000)
+                terminal.cut(1)
+            session.settle()
+        wanted = terminal.len(1)
+        kill(folder, session)
+        before = seconds_of_children()
+        ended = session.run("--end", session.name)
+        took = seconds_of_children() - before
+        expect_equal((ended.returncode, ended.stdout), (0, ""), f"after {ended.stderr!r} what comes of it")
+    expect_equal(len(text_of(folder / "a.txt.sam-saved")), wanted, "the length of the text")
+    expect(took < SECONDS_TO_READ, f"{LONG:,} bytes with {count:,} edits took {took:.2f} s of the processor")

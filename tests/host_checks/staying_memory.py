@@ -1,0 +1,154 @@
+"""Requests for memory that are refused to a session that stays: while it begins and runs, while another terminal takes it over, and while
+another samhost makes it again of its journal."""
+import concurrent.futures
+import re
+
+from checks import SECONDS, Failed, expect, remove
+
+from .journals import kill
+from .line import Staying, home_of
+from .memory import build_refusing
+from .support import expect_equal, made, text_of
+
+MOST_REQUESTS = 1500  # that are refused: later ones are of steps that came before, too
+RUNS = 12  # sessions at once, which wait for the most part
+TRIES = 20  # takeovers that are tried: a samhost without memory answers none
+BROKEN, NO_MEMORY = 6, 4  # statuses
+FIRST, STEP = 60, 29  # of the requests from the first number on every so manieth is refused
+
+
+def refusing(place, library, number, count):
+    """Words that run a program which gets no memory at its request of that number, and those after it: so many in all. A refusal leaves a
+    byte in a file, which is handed out, too."""
+    met = place.parent / f"{place.name}.met"
+    settings = (f"LD_PRELOAD={library}", f"REFUSE={number}", f"REFUSE_COUNT={count}")
+    return ("sh", "-c", 'exec "$@" 9>>"$0"', met, "env", *settings), met
+
+
+def is_welcomed(session):
+    """Whether the relay that runs now brings the session's welcome; else it has ended."""
+    session.send()
+    while session.process is not None and not session.is_welcomed:
+        session.give()
+        expect(session.receive(SECONDS), "no welcome comes")
+    return session.process is not None
+
+
+def live(session):
+    """Types, writes, opens another file, goes on after a break, and cuts. Returns whether the other file was opened."""
+    session.begin()
+    session.type("two\n")
+    session.write()
+    session.link.put_note(b"open 1 b.txt")
+    session.terminal.offer_version(2)
+    session.settle()
+    tags = [tag for tag in session.terminal.files() if session.terminal.name(tag) == "b.txt"]
+    for tag in tags:
+        session.terminal.open(tag)
+        session.settle()
+        session.type("more\n", tag)
+    session.drop()
+    session.type("three\n")
+    session.terminal.select(1, 0, 4)
+    session.terminal.cut(1)
+    session.settle()
+    return bool(tags)
+
+
+def taken(place, name):
+    """A terminal that takes the session over."""
+    for _ in range(TRIES):
+        session = Staying(place, takes=name, begin=False)
+        if is_welcomed(session):
+            session.begin()
+            return session
+        session.__exit__()
+    raise Failed("the session can't be taken over")
+
+
+def texts_in(place, *sessions):
+    """What stands in the files of a folder, and in those that sessions have named: where memory is out a copy may stand elsewhere."""
+    named = [re.search(r"; its text is in (.*)$", note) for session in sessions for note in session.notes]
+    paths = [*place.rglob("*"), *(place / found[1] for found in named if found is not None)]
+    return {text_of(path) for path in paths if path.is_file()}
+
+
+def begin_and_live(place, prefix):
+    """A session without memory doesn't begin, and says so, or loses nothing."""
+    made(place, a="one\n", b="other\n")
+    with Staying(place, "a.txt", options=("--undo",), prefix=prefix, begin=False) as session:
+        if not is_welcomed(session):
+            status = session.others[-1].wait(SECONDS)
+            expect(status in (NO_MEMORY, BROKEN), f"the status is {status}: {session.errors!r}")
+            if status == NO_MEMORY:
+                expect(b"memory" in session.errors, f"it says {session.errors!r}")
+                expect(not home_of(place, session.name).exists(), "a session that has not begun leaves a folder")
+                return
+        has_other = live(session)
+        with taken(place, session.name) as heir:
+            expect_equal(heir.text(1), "two\nthree\n", "the text that is taken over")
+            heir.leave()
+    texts = texts_in(place, session, heir)
+    expect("two\nthree\n" in texts, f"its text is lost: there is {texts}")
+    expect(not has_other or "other\nmore\n" in texts, f"the text of the other file is lost: there is {texts}")
+
+
+def begin_again(place, prefix):
+    """So does one that another samhost is to make again: then the next one does."""
+    made(place, a="one\n")
+    with Staying(place, "a.txt", options=("--undo",)) as session:
+        session.type("two\n")
+        session.write()
+        session.terminal.select(1, 0, 4)
+        session.terminal.cut(1)
+        session.type("three\n")
+        session.drop()
+        kill(place, session)
+        session.prefix = prefix
+        session.attach()
+        session.type("four\n")
+        expect_equal(session.text(), "two\nthree\nfour\n", "the text")
+        session.leave()
+    texts = texts_in(place, session)
+    expect("two\nthree\nfour\n" in texts, f"its text is lost: there is {texts}")
+
+
+def sweep(folder, count, run):
+    """Runs sessions of which a request is refused, and those after it: so many in all. Each of the first requests is, and of those after
+    them every so manieth."""
+    library = build_refusing(folder)
+
+    def refuse(number):
+        place = folder / f"{run.__name__}-{count}-{number}"
+        place.mkdir()
+        prefix, met = refusing(place, library, number, count)
+        try:
+            run(place, prefix)
+        except Failed as why:
+            raise Failed(f"request {number}, {count} in a row: {why}") from why
+        remove(place)
+        return met.stat().st_size > 0
+
+    numbers = [*range(1, FIRST), *range(FIRST, MOST_REQUESTS, STEP)]
+    with concurrent.futures.ThreadPoolExecutor(RUNS) as pool:
+        for at in range(0, len(numbers), RUNS):
+            if not all(pool.map(refuse, numbers[at : at + RUNS])):
+                expect(at > RUNS, "this test is wrong: it makes so few requests for memory")
+                return
+
+
+def check_stays_where_memory_is_refused(folder):
+    """Where a request for memory is refused a session that stays doesn't begin, or loses nothing: as it goes on after breaks, opens files
+    and is taken over."""
+    sweep(folder, 1, begin_and_live)
+
+
+def check_stays_where_memory_is_short(folder):
+    """So it is where several requests in a row are refused."""
+    sweep(folder, 4, begin_and_live)
+
+
+def check_journal_where_memory_is_refused(folder):
+    """So it is where another samhost begins from its journal: it does, or the next one does."""
+    for count in (1, 4):
+        sweep(folder, count, begin_again)

@@ -1,0 +1,206 @@
+"""A page in a browser, and the server behind it."""
+import contextlib
+import json
+import os
+import shlex
+import signal
+import subprocess
+import sys
+import time
+from pathlib import Path
+
+from selenium import webdriver
+from selenium.webdriver.chrome.service import Service
+from selenium.webdriver.common.action_chains import ActionChains
+from selenium.webdriver.common.by import By
+
+from web_checks.proxy import Proxy
+
+ROOT = Path(__file__).resolve().parent.parent.parent
+SAMHOST = ROOT / "out/samhost"
+SECONDS = 60  # that something may take, on a busy machine, too
+
+# Notes in the page when the first text shows, and of each key: how many milliseconds pass until the document shows it, and whether the next
+# frame does.
+RECORDER = """
+window.keyTimes = [];
+window.firstText = null;
+const shown = () => document.querySelector(".CodeMirror-code")?.textContent ?? "";
+addEventListener("keydown", (event) => {
+  if (event.key.length !== 1 || event.ctrlKey) return;
+  const before = shown();
+  const key = { begun: event.timeStamp, took: null, isInFrame: false };
+  window.keyTimes.push(key);
+  addEventListener("input", () => { if (shown() !== before) key.took = performance.now() - key.begun; }, { once: true });
+  requestAnimationFrame(() => { key.isInFrame = shown() !== before; });
+}, true);
+const look = () => {
+  const line = document.querySelector(".CodeMirror-code .CodeMirror-line");
+  if (line && line.textContent.includes("line 1 ")) window.firstText = performance.now();
+  else requestAnimationFrame(look);
+};
+requestAnimationFrame(look);
+"""
+
+
+class Failed(Exception):
+    """What does not hold."""
+
+
+def expect(holds, told):
+    if not holds:
+        raise Failed(told)
+
+
+def wait_until(holds, told, seconds=SECONDS):
+    """Waits until something holds, and returns what it is."""
+    until = time.monotonic() + seconds
+    while not (found := holds()):
+        if time.monotonic() > until:
+            raise Failed(f"{told} (waited for {seconds} s)")
+        time.sleep(0.02)
+    return found
+
+
+class Site:
+    """samweb behind a proxy, with files in a folder of its own, over a line of so many milliseconds each way."""
+
+    def __init__(self, room, files, delay):
+        self.room, self.files, self.delay = room, files, delay
+        self.folder = room / "files"
+        self.folder.mkdir(parents=True)
+        for name, text in files.items():
+            (self.folder / name).write_text(text)
+        self.environment = {**os.environ, "HOME": str(room), "XDG_STATE_HOME": str(room / "state")}
+        self.server = self.proxy = None
+        self.start()
+
+    def start(self):
+        """Begins the server, at the address that it had before."""
+        host = [str(ROOT / "tools/slow"), str(self.delay), str(SAMHOST)] if self.delay else [str(SAMHOST)]
+        kept = self.room / "address"
+        port = json.loads(kept.read_text())["port"] if kept.exists() else 0
+        if self.proxy is None:
+            self.proxy = Proxy(port)
+        origin = f"http://127.0.0.1:{self.proxy.port}"
+        words = ["--host", shlex.join(host), "--address", str(kept), "--origin", origin]
+        with open(self.room / "server.log", "a") as log:
+            self.server = subprocess.Popen(
+                [sys.executable, str(ROOT / "examples/web/samweb"), *words, *self.files],
+                cwd=self.folder, env=self.environment, stdout=subprocess.PIPE, stderr=log, text=True,
+            )  # fmt: skip
+        self.address = self.server.stdout.readline().strip()
+        expect(self.address.startswith(origin), f"samweb prints {self.address!r}")
+        self.proxy.target = json.loads(kept.read_text())["port"]
+
+    def kill(self):
+        self.server.send_signal(signal.SIGKILL)
+        self.server.wait()
+        self.server.stdout.close()
+
+    def read(self, name):
+        return (self.folder / name).read_text()
+
+    def sessions(self):
+        """The names of the sessions that stay."""
+        said = subprocess.run([str(SAMHOST), "--list"], env=self.environment, capture_output=True, text=True, check=False, timeout=SECONDS)
+        return [line.split()[0] for line in said.stdout.splitlines() if line.strip()]
+
+    def close(self):
+        """Ends the server and its sessions. The server has told nothing."""
+        with contextlib.suppress(ProcessLookupError):
+            self.server.terminate()
+        try:
+            self.server.wait(SECONDS)
+        except subprocess.TimeoutExpired:
+            self.server.kill()
+            raise Failed("samweb doesn't end") from None
+        finally:
+            self.proxy.close()
+            self._end_sessions()
+        told = (self.room / "server.log").read_text()
+        expect(told == "", f"samweb tells: {told}")
+
+    def _end_sessions(self):
+        for name in self.sessions():
+            subprocess.run([str(SAMHOST), "--end", name], env=self.environment, capture_output=True, check=False, timeout=SECONDS)
+
+
+def browser(room):
+    """A browser without a screen, with a profile of its own."""
+    options = webdriver.ChromeOptions()
+    options.binary_location = "/usr/bin/chromium"
+    for word in ("--headless=new", "--no-sandbox", "--disable-gpu", "--window-size=1000,640", f"--user-data-dir={room / 'profile'}"):
+        options.add_argument(word)
+    options.set_capability("goog:loggingPrefs", {"browser": "ALL"})
+    driver = webdriver.Chrome(service=Service("/usr/bin/chromedriver"), options=options)
+    driver.set_script_timeout(SECONDS)
+    driver.execute_cdp_cmd("Page.addScriptToEvaluateOnNewDocument", {"source": RECORDER})
+    return driver
+
+
+class Page:
+    """The editor in a browser."""
+
+    def __init__(self, driver, site):
+        self.driver, self.site = driver, site
+
+    def open(self):
+        self.driver.get(self.site.address)
+        self.wait_for_text()
+
+    def reload(self):
+        self.driver.refresh()
+        with contextlib.suppress(Exception):  # some drivers show the question whether to leave, which others answer by themselves
+            self.driver.switch_to.alert.accept()
+
+    def js(self, expression):
+        return self.driver.execute_script(f"return {expression}")
+
+    def press(self, keys):
+        """Presses keys: texts, and chords of a modifier and a key."""
+        actions = ActionChains(self.driver, duration=0)
+        for key in keys:
+            if isinstance(key, tuple):
+                actions.key_down(key[0]).send_keys(key[1]).key_up(key[0])
+            else:
+                actions.send_keys(key)
+        actions.perform()
+
+    def part(self, name):
+        return self.driver.find_element(By.ID, name)
+
+    @property
+    def status(self):
+        return self.part("status").text
+
+    @property
+    def told(self):
+        return self.part("told").text
+
+    @property
+    def text(self):
+        return self.js("sulgrevad.active.doc.getValue()")
+
+    @property
+    def held(self):
+        """What the terminal holds of the file that is shown."""
+        return self.js("sulgrevad.terminal.text(sulgrevad.active.tag)")
+
+    def wait_for_text(self):
+        shown = "!!globalThis.sulgrevad?.active && sulgrevad.terminal.isOpen(sulgrevad.active.tag) && !sulgrevad.active.isFresh"
+        wait_until(lambda: self.js(shown), "no file is shown")
+
+    def wait_until_settled(self):
+        """Until the host has all, and has answered."""
+        rest = "sulgrevad.active && sulgrevad.isFree && !sulgrevad.lacks"
+        wait_until(lambda: self.js(rest), f"the page doesn't come to rest: {self.status}")
+
+    def wait_until_loaded(self):
+        tag = "sulgrevad.active.tag"
+        loaded = f"sulgrevad.active && sulgrevad.terminal.isOpen({tag}) && sulgrevad.terminal.firstGap({tag}) === null"
+        wait_until(lambda: self.js(loaded), "the file is not loaded whole", 4 * SECONDS)
+
+    def log(self):
+        """What the browser has to say: faults of the page."""
+        return [entry["message"] for entry in self.driver.get_log("browser") if "SEVERE" in entry["level"]]

@@ -1,0 +1,80 @@
+"""A proxy on the loopback that breaks connections: what stands between a browser and a server."""
+import contextlib
+import select
+import socket
+import threading
+
+PIECE = 65_536
+LINE = b"/line?"  # stands in the request for a WebSocket
+
+
+class Carried:
+    """A WebSocket's two connections, and how many bytes have gone to the browser."""
+
+    def __init__(self, near, far):
+        self.near, self.far, self.down = near, far, 0
+
+
+class Proxy:
+    """Carries connections to a port of this machine. `refuses_lines` has those for a WebSocket closed at once."""
+
+    def __init__(self, target):
+        self.target, self.refuses_lines = target, False
+        self.listener = socket.create_server(("127.0.0.1", 0))
+        self.port = self.listener.getsockname()[1]
+        self.lock, self.lines = threading.Lock(), []
+        threading.Thread(target=self._accept, daemon=True).start()
+
+    def _accept(self):
+        with contextlib.suppress(OSError):
+            while True:
+                near, _ = self.listener.accept()
+                threading.Thread(target=self._carry, args=(near,), daemon=True).start()
+
+    def _carry(self, near):
+        with contextlib.suppress(OSError), near:
+            first = near.recv(PIECE)
+            is_line = LINE in first.split(b"\r\n", 1)[0]
+            if is_line and self.refuses_lines:
+                return
+            with socket.create_connection(("127.0.0.1", self.target)) as far:
+                far.sendall(first)
+                carried = Carried(near, far)
+                if is_line:
+                    with self.lock:
+                        self.lines.append(carried)
+                try:
+                    self._pump(carried)
+                finally:
+                    with self.lock:
+                        self.lines = [line for line in self.lines if line is not carried]
+
+    def _pump(self, carried):
+        near, far = carried.near, carried.far
+        other = {near: far, far: near}
+        while True:
+            for ready in select.select([near, far], [], [], 60)[0]:
+                data = ready.recv(PIECE)
+                if not data:
+                    return
+                carried.down += len(data) if ready is far else 0
+                other[ready].sendall(data)
+
+    def has_line(self, least):
+        """Whether a WebSocket is there over which so many bytes have come."""
+        with self.lock:
+            return any(line.down >= least for line in self.lines)
+
+    def cut(self):
+        """Breaks the WebSockets that are there. Returns how many."""
+        with self.lock:
+            lines = list(self.lines)
+        for line in lines:
+            for end in (line.near, line.far):
+                with contextlib.suppress(OSError):
+                    end.shutdown(socket.SHUT_RDWR)
+        return len(lines)
+
+    def close(self):
+        self.listener.close()
+        self.cut()

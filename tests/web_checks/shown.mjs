@@ -1,0 +1,80 @@
+/* shown.mjs COUNT SEED: places and positions of examples/web/page/shown.js, beside a plain list of runes: after each of COUNT changes at
+ * random every place has the position, and every position the place, that the list says. */
+import { Gap, SHADE, Shown, piecesOf } from "../../examples/web/page/shown.js";
+
+const [count, seed] = process.argv.slice(2).map(Number);
+const RUNES = ["a", "b", "\n", "é", "𝄞", "\r", SHADE];
+const MOST_IN_GAP = 9;
+const LONG = "x𝄞\n𝄞".repeat(1500); // takes several pieces, which begin anywhere in it
+const GAP = null;
+const SHADED = `${SHADE}\n`;
+
+let state = (seed * 2654435761) >>> 0 || 1;
+function chance(below) {
+  state ^= state << 13;
+  state ^= state >>> 17;
+  state ^= state << 5;
+  return (state >>> 0) % below;
+}
+
+function expect(got, wanted, told) {
+  if (JSON.stringify(got) !== JSON.stringify(wanted)) throw new Error(`${told}: ${JSON.stringify(got)}, wanted ${JSON.stringify(wanted)}`);
+}
+
+/** What CodeMirror would have for a list of runes: of a gap a shade and a line end; and the position of each place. */
+function laidOut(runes) {
+  const positions = [];
+  let [line, ch, text] = [0, 0, ""];
+  runes.forEach((rune, at) => {
+    if (rune === GAP && at > 0 && runes[at - 1] === GAP) {
+      positions.push(positions.at(-1));
+      return;
+    }
+    positions.push({ line, ch });
+    text += rune ?? SHADED;
+    [line, ch] = rune === "\n" || rune === GAP ? [line + 1, 0] : [line, ch + rune.length];
+  });
+  positions.push({ line, ch });
+  return { positions, text };
+}
+
+function anyText(most) {
+  return Array.from({ length: chance(most) }, () => RUNES[chance(RUNES.length)]);
+}
+
+/** Gaps beside each other are one in the list, so a new one goes where none is. */
+function change(runes, shown) {
+  const start = chance(runes.length + 1);
+  const gone = chance(Math.min(20, runes.length - start + 1));
+  const isInGap = [start, start + gone].some((place) => runes[place - 1] === GAP || runes[place] === GAP);
+  const came = chance(150) === 0 ? [LONG] : anyText(12);
+  if (isInGap) return;
+  const gap = chance(4) === 0 ? 1 + chance(MOST_IN_GAP) : 0;
+  const text = came.join("");
+  const pieces = [...piecesOf(text), ...(gap > 0 ? [new Gap(gap)] : [])];
+  shown.replace(start, gone, pieces);
+  runes.splice(start, gone, ...text, ...Array(gap).fill(GAP));
+}
+
+function compare(runes, shown) {
+  const { positions, text } = laidOut(runes);
+  expect([shown.runes, shown.text(0, shown.runes) === text], [runes.length, true], "the text");
+  const step = 1 + Math.floor(positions.length / 60);
+  for (let place = 0; place < positions.length; place += step) {
+    expect(shown.positionOf(place), positions[place], `the position of ${place}`);
+    if (runes[place - 1] !== GAP || runes[place] !== GAP) expect(shown.placeOf(positions[place]), place, `the place of ${place}`);
+    const { line, ch } = positions[place];
+    if (runes[place]?.length === 2) expect(shown.placeOf({ line, ch: ch + 1 }), place, `the place within the pair at ${place}`);
+  }
+  const [start, end] = [chance(runes.length + 1), chance(runes.length + 1)].sort((one, other) => one - other);
+  const wanted = runes.slice(start, end).filter((rune, at) => rune !== GAP || at === 0 || runes[start + at - 1] !== GAP);
+  expect(shown.text(start, end - start), wanted.map((rune) => rune ?? SHADED).join(""), "a part of the text");
+}
+
+let [runes, shown] = [[], new Shown()];
+for (let made = 0; made < count; made++) {
+  if (chance(100) === 0) [runes, shown] = [[], new Shown()];
+  change(runes, shown);
+  compare(runes, shown);
+}
+console.log(`${count} changes compared`);
