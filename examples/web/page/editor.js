@@ -56,7 +56,7 @@ export class Editor {
     this.keys = page.keys;
     Input.define(CodeMirror, this);
     this.input = new Input(CodeMirror, cm, this);
-    cm.on("scroll", () => this.update());
+    cm.on("scroll", () => this.#wake(0));
     cm.on("cursorActivity", () => page.draw());
     this.terminal.offerVersion(VERSION);
   }

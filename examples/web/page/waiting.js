@@ -31,9 +31,11 @@ export class Waiting {
     return last?.kind === kind ? last : null;
   }
 
+  /** Adds an action, which acts once the event that it comes of is over: CodeMirror takes a key's event for one operation, and tells of
+   * changes at its end, and the terminal has to know of each before the next. */
   press(action) {
     this.#actions.push(action);
-    this.editor.update();
+    queueMicrotask(() => this.editor.update());
   }
 
   /** Has an action act before those that wait. */
