@@ -10,6 +10,7 @@ from typing import Callable, Dict, List, NamedTuple, Optional, Sequence, Union
 
 import sulgrevad
 from link import SECONDS_TO_END, Link, wait_for
+from network import Network
 from sulgrevad import SamError
 
 MARK = bytes.fromhex("8973616d6c696e6b")  # with which a hello begins
@@ -19,6 +20,7 @@ PIECE = 65_536  # bytes that are taken at once
 MOST_NOISE = 65_536  # bytes that may come before a hello
 
 SECONDS_TO_BREAK = 15.0  # without a byte, where an answer is due, after which a connection counts as broken
+SECONDS_ELSEWHERE = 2.0  # and four round trips: the same where an address of this machine has gone, and nothing has come since
 SECONDS_TO_CONNECT = 60.0  # the same until a connection is welcomed, and twice as many each time after that
 MOST_TO_CONNECT = 960.0
 PAUSES = (1, 2, 4, 8, 16, 30)  # seconds until another connection is tried; the last one from then on
@@ -60,6 +62,7 @@ class Staying:
         self._old: List[Link] = []  # those that are ended, until their processes are gone
         self._gone = (0, 0)  # bytes that older connections have carried each way
         self.is_lost, self.why = False, ""  # no connection comes any more
+        self._network, self._gone_at = Network(), 0.0  # when an address of this machine went
         self.ended_with: Optional[int] = None  # the status with which the session has ended
         self._last_line = ""  # of a connection's standard error
         self._noise = b""  # what came before the first hello
@@ -138,11 +141,29 @@ class Staying:
             if now >= self._again_at:
                 self.connect()
         elif self.is_open:
-            if self._is_answer_due and now - max(self._asked_at, self._heard_at) >= SECONDS_TO_BREAK:
+            if self._is_answer_due and now >= self._breaks_at:
                 self._break()
         elif now - self._called_at >= self._connecting:
             self._connecting = min(2 * self._connecting, MOST_TO_CONNECT)
             self._break()
+
+    @property
+    def _breaks_at(self) -> float:
+        """When the connection counts as broken, if no answer comes before."""
+        since = max(self._asked_at, self._heard_at)
+        if self._gone_at <= self._heard_at:
+            return since + SECONDS_TO_BREAK
+        return min(since + SECONDS_TO_BREAK, max(since, self._gone_at) + SECONDS_ELSEWHERE + 4 * self.round_trip)
+
+    def _hear_network(self, ready: Dict[int, int]) -> None:
+        """Where an address has gone, asks at once whether the connection is dead; where one has come and there is no line, tries it soon."""
+        heard, now = self._network.hear(ready), self.clock()
+        if heard.gone:
+            self._gone_at = now
+            if self.is_open and not self._is_answer_due:
+                self._question()
+        if heard.came and self.relay is None:
+            self._again_at = min(self._again_at, now + PAUSES[0])
 
     def delay(self) -> Optional[float]:
         """Seconds until something is due by the clock; None where nothing is."""
@@ -154,7 +175,7 @@ class Staying:
         if self.relay is None:
             return max(0.0, self._again_at - now)
         if self.is_open:
-            return max(0.0, max(self._asked_at, self._heard_at) + SECONDS_TO_BREAK - now) if self._is_answer_due else None
+            return max(0.0, self._breaks_at - now) if self._is_answer_due else None
         return max(0.0, self._called_at + self._connecting - now)
 
     # ---- Bytes
@@ -198,11 +219,14 @@ class Staying:
         """Asks whether all has come, unless such a question is under way."""
         acknowledged = self._end.acknowledged
         if acknowledged < self._due and self._asked <= acknowledged:
-            try:
-                self._end.ask()
-            except MemoryError:
-                return
-            self._asked, self._asked_at, self._is_measured = self._end.put_count, self.clock(), False
+            self._question()
+
+    def _question(self) -> None:
+        try:
+            self._end.ask()
+        except MemoryError:
+            return
+        self._asked, self._asked_at, self._is_measured = self._end.put_count, self.clock(), False
 
     def _push(self) -> None:
         relay = self.relay
@@ -216,7 +240,9 @@ class Staying:
 
     def wanted(self) -> Dict[int, int]:
         """What to wait for: events by descriptor."""
-        return {} if self.relay is None or self.is_lost else self.relay.wanted()
+        if self.is_lost:
+            return {}
+        return {**self._network.wanted(), **({} if self.relay is None else self.relay.wanted())}
 
     def take_early(self) -> List[Item]:
         """What has come already, in its order."""
@@ -226,6 +252,7 @@ class Staying:
     def take(self, ready: Dict[int, int]) -> List[Item]:
         """What has come, in its order."""
         items = self.take_early()
+        self._hear_network(ready)
         relay = self.relay
         if relay is not None:
             data = relay.receive() if relay.source in ready and not relay.is_lost else b""
@@ -385,6 +412,7 @@ class Staying:
         """Waits until the host's stream begins. Passes on what is told meanwhile. Returns whether it begins."""
         while not any(isinstance(item, bytes) for item in self._early) and not self.is_lost and self.relay is not None:
             relay, ready = self.relay, wait_for(self.wanted(), self.delay())
+            self._hear_network(ready)
             for line in relay.listen() if relay.messages in ready and not relay.is_quiet else []:
                 hear(line)
             if relay.source in ready and (data := relay.receive()):
@@ -426,6 +454,7 @@ class Staying:
         if self.relay is not None and self.ended_with is not None:
             self.relay.close(hear, seconds=SECONDS_TO_GO)
         self._drop()
+        self._network.close()
         for relay in self._old:
             relay.is_over(waits=True)
         return self.ended_with

@@ -5,8 +5,10 @@ import random
 import re
 import signal
 import subprocess
+import sys
 import threading
 import time
+from pathlib import Path
 
 from checks import Skipped
 
@@ -232,6 +234,21 @@ def wait_until_loaded(session):
         time.sleep(1)
         if session.bytes_down() == before:
             return
+
+
+def check_address_gone(folder):
+    """Where an address of this machine has gone, a silent line is replaced after 2 seconds and a pause of one, not after 15."""
+    apart = ["unshare", "-n"] if os.getuid() == 0 else ["unshare", "-rn"]
+    try:
+        subprocess.run([*apart, "ip", "address"], check=True, capture_output=True)
+    except (OSError, subprocess.CalledProcessError) as why:
+        raise Skipped("unshare or ip is missing, or may not be used here") from why
+    (folder / "a.txt").write_text("text\n")
+    own = {**os.environ, "TMPDIR": str(folder), "XDG_STATE_HOME": str(folder / STATE)}
+    words = [*apart, sys.executable, str(Path(__file__).with_name("elsewhere.py")), SAMHOST]
+    ran = subprocess.run(words, cwd=folder, env=own, capture_output=True, text=True, timeout=60)
+    seconds = float(ran.stdout.split()[-1]) if ran.returncode == 0 else ran.stderr
+    expect(isinstance(seconds, float) and 2 <= seconds < 9, f"another line is there after {seconds} seconds")
 
 
 def check_lost_line(folder):
