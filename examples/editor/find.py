@@ -20,8 +20,8 @@ def lowered(text: str) -> str:
 
 
 class Find:
-    """Takes keys until the user goes on; the selection shows what was found. A pattern without a capital letter finds letters of any case in
-    what is loaded; the host finds it as it stands."""
+    """Takes keys until the user goes on; the selection shows what was found. A pattern without a capital letter finds letters of any case
+    in what is loaded; the host finds it as it stands."""
 
     is_box = False  # it stands on the line at the bottom
     goes_by_place = True

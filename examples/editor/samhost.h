@@ -54,14 +54,7 @@ enum {
 };
 
 /* Messages of a terminal, as far as they are looked at before the host takes them. */
-enum {
-    KIND_OPEN = 6,
-    KIND_CUT = 9,
-    KIND_PASTE = 10,
-    KIND_SNARF = 11,
-    KIND_CLOSE = 14,
-    KIND_SET_SNARF = 20
-};
+enum { KIND_OPEN = 6, KIND_CUT = 9, KIND_PASTE = 10, KIND_SNARF = 11, KIND_CLOSE = 14, KIND_SET_SNARF = 20 };
 
 enum {
     STATUS_OK = 0,
@@ -349,7 +342,7 @@ struct session {
     struct cut cut;
     bool has_open;      /* the terminal has opened a file */
     int64_t watched_at; /* when files were looked at last */
-    bool is_lost; /* a text of a closed file could neither be saved nor held in memory, or what came last could not be taken */
+    bool is_lost;       /* a text of a closed file could neither be saved nor held in memory, or what came last could not be taken */
     struct wire wire;
     struct due due;
     mode_t mode_of_new_files;

@@ -99,10 +99,9 @@ static uint16_t tag_of(struct session *session, const char *digits, char **rest)
     unsigned long tag = strtoul(digits, rest, 10);
     bool has = false;
 
-    return *rest != digits && tag > 0 && tag < count_tags(session) &&
-                   sam_host_has_file(&session->host, (uint16_t)tag, &has) == SAM_OK && has
-               ? (uint16_t)tag
-               : 0;
+    if (*rest == digits || tag == 0 || tag >= count_tags(session))
+        return 0;
+    return sam_host_has_file(&session->host, (uint16_t)tag, &has) == SAM_OK && has ? (uint16_t)tag : 0;
 }
 
 /* Adds what stands at a path as a file of its own. */

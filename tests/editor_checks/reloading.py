@@ -47,8 +47,8 @@ def check_changed_while_shown(folder):
 
 
 def check_reload(folder):
-    """One key puts in what an unchanged file has now, though little of either text is loaded. `^Z` takes that back, `^R` makes it again. The
-    file counts as written then, and isn't written again; what was copied stays, and the caret where it was."""
+    """One key puts in what an unchanged file has now, though little of either text is loaded. `^Z` takes that back, `^R` makes it again.
+    The file counts as written then, and isn't written again; what was copied stays, and the caret where it was."""
     expect_joining()
     (path,) = made(folder, a=OLD)
     with Session(folder, "a.txt", stays=True, slow=20, width=120) as session:
