@@ -61,22 +61,12 @@ class Stream:
         return did.step not in (Step.IDLE, Step.LOCKED)
 
     def _take_edits(self) -> bool:
-        """Receives the edits of one file that come next, and tells of them. Returns whether there were any. A text that comes where another
-        went just before is one change with it."""
-        takes, edits, made = False, self._edits, tuple.__new__
-        cut_at = -1  # where the last edit took out a text and put none in
+        """Receives the edits of one file that come next, and tells of them. Returns whether there were any."""
+        takes, edits, made = False, self._edits, tuple.__new__  # there may be thousands
         for edit in self.terminal.edits(GAP):
             takes = True
-            tag, place, gone, came = edit
-            if gone:
+            if edit[2] or edit[3]:
                 edits.append(made(Change, edit))
-                cut_at = -1 if came else place
-            elif came:
-                if place == cut_at:
-                    edits[-1] = made(Change, (tag, place, edits[-1].gone, came))
-                else:
-                    edits.append(made(Change, edit))
-                cut_at = -1
         self._bound = None if takes else self._bound
         self._tell_edits()
         return takes
