@@ -76,6 +76,13 @@ class Actions(Commands, Moves):
         question = f"{gaps} characters of it are not loaded: ^Z can't bring them back. {key} goes on"
         return gaps == 0 or self.is_kept_or_sure(window.tag, start, end, question)
 
+    def may_go_whole(self, tag: int, key: str) -> bool:
+        """The same of the whole text of a file."""
+        length = self.terminal.len(tag)
+        gaps = self.texts.read(tag, 0, length).count(GAP)
+        question = f"{gaps} characters of the text are not loaded: ^Z can't bring them back. {key} again goes on"
+        return gaps == 0 or self.is_kept_or_sure(tag, 0, length, question)
+
     def is_kept_or_sure(self, tag: int, start: int, end: int, question: str) -> bool:
         """Whether a text may go that is not loaded: the host keeps it for `^Z`, or the user is sure. Where the host doesn't keep it yet
         and can, it is told to, and this key acts again then."""
@@ -180,6 +187,12 @@ class Actions(Commands, Moves):
 
     def do_old(self) -> None:
         self.left.begin()
+
+    def do_reload(self) -> None:
+        if self.active is self.command:
+            self.message = "no file is shown"
+        else:
+            self.reloading.begin(self.active.tag, "^U")
 
     def do_leave(self) -> None:
         if self.is_lost:

@@ -157,8 +157,7 @@ static bool is_changed(struct session *session, uint16_t tag)
     return sam_host_is_dirty(&session->host, tag, &is_dirty) != SAM_OK || is_dirty || session->documents[tag].is_unsaved;
 }
 
-/* Whether its file has the text in session->text already. A copy may be removed any time, so it is no file, whatever it is named as. */
-static bool stands_in_its_file(struct session *session, uint16_t tag)
+bool stands_in_its_file(struct session *session, uint16_t tag)
 {
     int error;
     char *path = path_of(session, tag, &error);

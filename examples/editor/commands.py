@@ -58,8 +58,9 @@ class Commands:
         if self._before is not None:
             tag = changes[0].tag
             end = self._ends.get(tag, -1)
-            for change in changes:
-                end = max(change.moved(end), change.place + len(change.came))  # a change moves no place past another
+            for _, place, gone, came in changes:  # a change moves no place past another
+                last = place + len(came)
+                end = last if end <= place else max(last, last + end - place - len(gone))
             self._ends[tag] = end
 
     def end_run(self) -> None:

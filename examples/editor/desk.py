@@ -2,9 +2,9 @@
 from typing import Dict, List, Optional
 
 from texts import COMMAND, Change, Texts
-from windows import Window
+from windows import LEAST_WITH_NUMBERS, Window
 
-SMALL = 2  # rows of a small command window, with its title, and the fewest of any
+SMALL = 2  # the fewest rows of a window with its title
 LEAST_LARGE = 5  # rows that a large one has at least, where the screen has them
 
 
@@ -43,17 +43,28 @@ class Desk:
             window.wants_numbers = self.has_numbers
         self.is_tiny = rows < SMALL * len(self.windows)
         if self.is_tiny:
+            self.command.is_row = False
             for window in self.windows:
                 window.put(0, max(1, rows - 1), columns)
             return
-        share = SMALL if self.is_small and rows > SMALL else max(LEAST_LARGE, rows // 4)
-        command_rows = rows if not self.files else min(share, max(SMALL, rows // 2), rows - SMALL * len(self.files))
-        self.command.put(0, max(1, command_rows - 1), columns)
+        command_rows = self._put_command(rows, columns)
         y, left = command_rows, rows - command_rows
         for at, window in enumerate(self.files):
             share = left // (len(self.files) - at)
             window.put(y, max(1, share - 1), columns)
             y, left = y + share, left - share
+
+    def _put_command(self, rows: int, columns: int) -> int:
+        """Gives the command window its place; answers its rows. A small one is a row with the title before the text, or where the screen is
+        narrow has one row below it."""
+        self.command.is_row = self.is_small and bool(self.files) and columns >= LEAST_WITH_NUMBERS
+        if self.command.is_row:
+            self.command.put(-1, 1, columns)
+            return 1
+        share = SMALL if self.is_small and rows > SMALL else max(LEAST_LARGE, rows // 4)
+        command_rows = rows if not self.files else min(share, max(SMALL, rows // 2), rows - SMALL * len(self.files))
+        self.command.put(0, max(1, command_rows - 1), columns)
+        return command_rows
 
     def go_to(self, window: Window) -> None:
         self.focus = window

@@ -13,6 +13,7 @@ from lines import Numbers
 from link import SECONDS_TO_END
 from notes import OFFER, REPEAT, Notes, said
 from pointing import Pointer
+from reloading import Reloading
 from slices import Slices
 from sulgrevad import Refusal, SamError, Status, Terminal
 from staying import Note
@@ -58,7 +59,7 @@ class Editor(Desk, Waiting, Actions):
         self.way, self.notes = Way(terminal, clock), Notes(clock)
         self.vault = Vault(terminal, self.texts)
         self.log, self.numbers, self.keeping = Undo(terminal, self.texts, self.vault), Numbers(self.texts), Keeping(self)
-        self.left, self.slices, self.joining = Left(self), Slices(self), Joining(self)
+        self.left, self.slices, self.joining, self.reloading = Left(self), Slices(self), Joining(self), Reloading(self)
         told = {CLEAN: self._meet_clean, CLOSE: self._meet_close, MOVETO: self._meet_move, SETDOT: self._meet_dot}
         told.update({NEWNAME: self._meet_name, DELNAME: self._meet_name})
         settled = {UNLOCK: self._meet_unlock, UNLOCKFILE: self._meet_pasted}
@@ -100,7 +101,8 @@ class Editor(Desk, Waiting, Actions):
         """The user's files."""
         if self._known is None:
             self._known = self.terminal.files()
-        return [tag for tag in self._known if tag not in (COMMAND, self.vault.tag) and tag not in self.left.tags]
+        hidden = {COMMAND, self.vault.tag, *self.left.tags, *self.reloading.hidden}
+        return [tag for tag in self._known if tag not in hidden]
 
     @property
     def is_alone(self) -> bool:
@@ -144,10 +146,14 @@ class Editor(Desk, Waiting, Actions):
         if not self.has_begun and "failed" in told.what:
             self._early_lines.append(line)  # the files that it is about have no names yet
         tags = self.keeping.hear_host(told, line)
+        for tag in tags if told.replaces else ():
+            self.reloading.forget(tag)
         if told.what == "written":
             self.left.hear_written(told.names[0], told.when)
         elif told.replaces and self.active.tag in tags and action_of(self._last.key) == "write" and not self.deferred:
             self._ask(self.keeping.question(self.active.tag), Key("^W"))
+        elif told.what == "changed":
+            self.reloading.meet_changed(tags, line)
         elif told.rank:
             self.notes.keep(told.rank, line + OFFER if told.what == "left" else line)
         else:
@@ -155,7 +161,8 @@ class Editor(Desk, Waiting, Actions):
 
     def meet_note(self, note: Note) -> None:
         """A note of the host that is no line to tell."""
-        self.joining.meet(note)
+        if not self.reloading.meet(note):
+            self.joining.meet(note)
 
     def give_back_typed(self, why: str) -> None:
         """What was typed for a file that doesn't come is put in nowhere: `^V` has it, or else a file here."""
@@ -173,13 +180,15 @@ class Editor(Desk, Waiting, Actions):
         """The host has written a file, or could not. It may say that a little later, so it is asked once more."""
         self.keeping.meet_clean(tag)
         self.left.meet_written(tag)
+        if tag not in self.keeping.unwritten:
+            self.reloading.forget(tag)
         self.way.confirm()
 
     def _meet_name(self, _tag: int) -> None:
         self._known = None
 
     def _meet_close(self, tag: int) -> None:
-        for memory in (self.log, self.numbers, self.keeping, self.left):
+        for memory in (self.log, self.numbers, self.keeping, self.left, self.reloading):
             memory.drop(tag)
         self._pasting.discard(tag)
 
@@ -224,6 +233,7 @@ class Editor(Desk, Waiting, Actions):
         """Shows the first file, and a file that was made; drops the windows of files that were closed."""
         if not self.has_begun and not self.terminal.command_locked:
             self.vault.find(self.tags)
+            self.reloading.find(self.tags)
             self.left.find(self.tags)
             self._begin_with(self.tags)
         known = self.tags
@@ -267,6 +277,7 @@ class Editor(Desk, Waiting, Actions):
         if not self.is_lost and not self.terminal.exited:
             self._meet_files()
             self.joining.go_on()
+            self.reloading.go_on()
             self._awaits_file = self._awaits_file and self.is_lock_held
             self._go_on_with_vault()
             self._act_in_order()
@@ -359,6 +370,11 @@ class Editor(Desk, Waiting, Actions):
             self.keeping.typed_late += "".join(key.runes for key in keys if isinstance(key, (Text, Paste)))
         else:
             self.deferred.extend(Pressed(key, self.clock()) for key in keys)
+
+    @property
+    def acts_again(self) -> bool:
+        """Whether the key that acts now does so again."""
+        return self._is_again
 
     def act_again(self, why: str) -> None:
         """The key that acts now does so again, once the host has answered."""

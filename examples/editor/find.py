@@ -13,8 +13,15 @@ AFTER = ("Down", "^S", "^F", "F7")  # keys to the next place, and to the one bef
 BEFORE = ("Up", "^B")
 
 
+def lowered(text: str) -> str:
+    """A text in small letters, in which each rune has its place."""
+    small = text.lower()
+    return small if len(small) == len(text) else "".join(rune.lower() if len(rune.lower()) == 1 else rune for rune in text)
+
+
 class Find:
-    """Takes keys until the user goes on; the selection shows what was found."""
+    """Takes keys until the user goes on; the selection shows what was found. A pattern without a capital letter finds letters of any case
+    in what is loaded; the host finds it as it stands."""
 
     is_box = False  # it stands on the line at the bottom
     goes_by_place = True
@@ -23,10 +30,14 @@ class Find:
         self.editor, self.window, self.is_over = editor, editor.focus, False
         self.origin = self.window.dot
         self.pattern, self._why, self._gap = "", "", 0
+        self._takes_any_case = False
 
     @property
     def line(self) -> str:
-        return f"find: {self.pattern}{self._why}".replace("\n", "\\n")
+        start, end = self.window.dot
+        found = "" if self._why or not self._takes_any_case else self.window.read(start, end - start)
+        other = f" (in any case; Enter has the host look for {found})" if found != self.pattern and lowered(found) == self.pattern else ""
+        return f"find: {self.pattern}{self._why}{other}".replace("\n", "\\n")
 
     def take(self, key: Input) -> bool:
         """Returns whether the key is for the windows, as this is over."""
@@ -82,7 +93,7 @@ class Find:
 
     def _seek(self, pattern: str) -> None:
         """Shows the first place from where the search began."""
-        self.pattern = pattern
+        self.pattern, self._takes_any_case = pattern, pattern == pattern.lower()
         if pattern:
             self._show(self._after(self.origin[0]))
         else:
@@ -98,10 +109,15 @@ class Find:
         self.window.select(start)
         self.editor.texts.select(self.window.tag, start, end)
 
+    def _read(self, place: int, count: int) -> str:
+        """A part of the text, as the pattern is compared with it."""
+        text = self.window.read(place, count)
+        return lowered(text) if self._takes_any_case else text
+
     def _after(self, place: int) -> Optional[int]:
         """The first place from there on, up to the next gap."""
         while self.pattern:
-            text = self.window.read(place, PIECE + len(self.pattern) - 1)
+            text = self._read(place, PIECE + len(self.pattern) - 1)
             found, gap = text.find(self.pattern), text.find(GAP)
             if found >= 0 and (gap < 0 or found < gap):
                 return place + found
@@ -116,7 +132,7 @@ class Find:
         end = place + len(self.pattern) - 1
         while self.pattern and end > 0:
             low = max(0, end - PIECE)
-            text = self.window.read(low, end - low)
+            text = self._read(low, end - low)
             found, gap = text.rfind(self.pattern), text.rfind(GAP)
             if found > gap:
                 return low + found
@@ -132,12 +148,15 @@ class Find:
         self.editor.run_aside(f"/{escaped(pattern)}/")
 
     def _finish(self) -> None:
-        """The host goes to the place, also where it is not loaded, and knows the pattern from then on."""
+        """The host goes to the place, also where it is not loaded, and knows the pattern from then on: as it stands where it was found."""
         self.is_over = True
+        start, end = self.window.dot
+        found = self.window.read(start, end - start)
+        if self._takes_any_case and lowered(found) == self.pattern:
+            self.pattern = found
         self.editor.sought_here = self.pattern if self.editor.is_alone else ""
         if not self.pattern or self.window is self.editor.command or self.editor.is_alone or not self.editor.command.is_open:
             return
-        start, end = self.window.dot
-        is_found = self.window.read(start, end - start) == self.pattern
-        self._select(*((start, start) if is_found else (self.origin[0], self.origin[0])))
+        place = start if found == self.pattern else self.origin[0]
+        self._select(place, place)
         self.editor.run_aside(f"/{escaped(self.pattern)}/")

@@ -151,5 +151,9 @@ bool do_note(struct session *session, const char *note)
         return open_file(session, id, end + 1);
     if (verb_len == 5 && strncmp(note, "names", 5) == 0)
         return find_names(session, id, end + 1);
+    if (verb_len == 6 && strncmp(note, "reload", 6) == 0)
+        return reload_file(session, id, end + 1);
+    if (verb_len == 8 && strncmp(note, "reloaded", 8) == 0)
+        return note_reloaded(session, end + 1);
     return true;
 }

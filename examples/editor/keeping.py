@@ -80,7 +80,7 @@ class Keeping:
             self.is_hopeless = True
         self.is_cut_saved = self.is_cut_saved or told.what == "cut"
         tags = self._tags_of(told)
-        for tag in () if told.what in ("left", "written") else tags:
+        for tag in () if told.what in ("left", "written", "changed") else tags:
             if told.replaces:
                 name, self.refusals[tag] = self.name(tag), line
                 self._refused[tag] = (name, f"{name}: {told.replaces}. ^W again replaces it, and keeps what it has beside it")

@@ -41,6 +41,7 @@ BINDINGS = (
     Binding(("F9",), "old", "takes, compares or drops what an earlier session left", WINDOWS, leads=True),
     Binding(("^N",), "new", "makes a new file; the command line `f NAME` names it", WINDOWS, leads=True, asks=True),
     Binding(("^W",), "write", "writes the file", WRITTEN),
+    Binding(("^U",), "reload", "puts in what the file has now, where another program changed it", ANSWERS, asks=True),
     Binding(("^K",), "close", "closes the file for good; asks if it was not written", ANSWERS, leads=True, asks=True),
     Binding(("^Q",), "leave", "leaves; asks if a file was not written", ANSWERS, reads=True, leads=True, asks=True),
     Binding(("^Z",), "undo", "takes back the last change of this window"),

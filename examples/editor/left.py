@@ -4,13 +4,13 @@ import difflib
 import os
 import re
 import time
-from typing import Dict, List, NamedTuple, Optional, Tuple
+from typing import Dict, List, NamedTuple, Optional, Tuple, Union
 
 import rescue
 from keeping import shown_name
 from keys import Input, Key, Mouse, Paste, Text
 from notes import printable
-from texts import COMMAND, GAP, MOST_RUNES, Change
+from texts import COMMAND, MOST_RUNES, Change
 from undo import Step
 from windows import end_of_load
 
@@ -19,6 +19,7 @@ from windows import end_of_load
 NAMED = re.compile(r"~~left~~ (\d{1,5}) ([+-]) (.*)")
 MOST_COMPARED = 1_000  # lines that differ, from the first to the last, of which it is shown how
 REACH = 32_768  # runes that are loaded in one round trip
+RELOADS = "Enter puts in what the file has now"
 
 
 class Old(NamedTuple):
@@ -29,6 +30,13 @@ class Old(NamedTuple):
     is_newer: Optional[bool]  # than the file; None where nobody knows
     tag: int = COMMAND  # of the text, where the host has it
     path: str = ""  # else where it is here
+
+
+class Changed(NamedTuple):
+    """A file that another program has changed."""
+
+    of: int
+    when: str = ""
 
 
 class Left:
@@ -73,10 +81,13 @@ class Left:
         self.editor.notes.keep(1, f"of {name} a text was written here: it is in {path}, of {when}{age}; F9 takes it, compares or drops it")
 
     @property
-    def all(self) -> List[Old]:
-        return sorted([*self.tags.values(), *self._here.values()], key=lambda old: (old.of, old.when))
+    def all(self) -> List[Union[Old, Changed]]:
+        changed = map(Changed, self.editor.reloading.all)
+        return sorted([*changed, *self.tags.values(), *self._here.values()], key=lambda old: (old.of, old.when))
 
-    def line(self, old: Old) -> str:
+    def line(self, old: Union[Old, Changed]) -> str:
+        if isinstance(old, Changed):
+            return f"{self.editor.name(old.of)}: another program changed it"
         what = "what was cut last" if old.of == COMMAND else self.editor.name(old.of)
         age = {None: "", True: ", newer than the file", False: ", older than the file"}[None if old.of == COMMAND else old.is_newer]
         return f"{what}: {'written here' if old.path else 'saved by the host'} {old.when}{age}"
@@ -85,7 +96,7 @@ class Left:
         if self.all:
             self.editor.menu = Choice(self)
         else:
-            self.editor.message = "no earlier session left a text of these files"
+            self.editor.message = "no earlier session left a text of these files, and no other program has changed one"
 
     def drop(self, tag: int) -> None:
         """The file is closed."""
@@ -97,6 +108,9 @@ class Left:
     def take(self, old: Old) -> bool:
         """Puts a text in the place of its file's. Returns whether that is done; else the key acts again."""
         editor, tag = self.editor, old.of
+        if isinstance(old, Changed):
+            editor.show(tag)
+            return editor.reloading.begin(tag, "Enter")
         if tag == COMMAND:
             return self._snarf(old)
         if not self.terminal.is_known(tag):
@@ -111,7 +125,7 @@ class Left:
             editor.message = f"{old.path} can't be read"
             return True
         filled = self._filled(old, text)
-        if filled is None or not self._may_go(tag):
+        if filled is None or not editor.may_go_whole(tag, "Enter"):
             return False
         if len(filled) > MOST_RUNES:
             editor.message = f"{old.path} is too long"
@@ -146,13 +160,6 @@ class Left:
         came = f"; {before - lacks} that it lacked came from {source}" if lacks < before else ""
         return self.editor.is_sure(f"it lacks {lacks} characters that were not loaded{came}. Enter again takes it")
 
-    def _may_go(self, tag: int) -> bool:
-        """Whether the file's text may go, which `^Z` brings back."""
-        length = self.terminal.len(tag)
-        gaps = self.editor.texts.read(tag, 0, length).count(GAP)
-        question = f"{gaps} characters of the text are not loaded: ^Z can't bring them back. Enter again goes on"
-        return gaps == 0 or self.editor.is_kept_or_sure(tag, 0, length, question)
-
     def _put(self, old: Old, text: str) -> None:
         """Puts a text of this machine, or one that the host has, in the place of its file's."""
         editor, tag = self.editor, old.of
@@ -160,7 +167,7 @@ class Left:
         olds = [old] if self._whole is None else [old, self._whole]  # the text has all of both
         self._taken[tag] = (olds, editor.log.past[tag][-1])
         if not old.path:
-            editor.vault.bring(old.tag, tag)
+            editor.vault.bring(old.tag, tag, lambda: None)
             return
         gone = editor.texts.read(tag, 0, self.terminal.len(tag))
         self.terminal.edit(tag, 0, len(gone), text)
@@ -192,6 +199,9 @@ class Left:
 
     def remove(self, old: Old) -> bool:
         """Drops a text for good, once the user is sure. The host does so where it is written empty. Returns whether that is done."""
+        if isinstance(old, Changed):
+            self.editor.message = RELOADS
+            return False
         if not old.path and not self._is_opened(old):
             return False
         if not self.editor.is_sure(f"{self.line(old)}. d again drops it for good"):
@@ -233,6 +243,9 @@ class Left:
     def compare(self, old: Old) -> bool:
         """Shows in which lines a text and its file differ, once both are loaded. Returns whether that is done."""
         editor = self.editor
+        if isinstance(old, Changed):
+            editor.message = RELOADS
+            return False
         if not self.terminal.is_known(old.of) or old.of == COMMAND:
             editor.message = "there is no file to compare it with"
             return True
@@ -280,7 +293,7 @@ def differences(file: str, other: str) -> List[str]:
 
 
 class Choice:
-    """The menu of what is left."""
+    """The menu of what is left, and of files that another program has changed."""
 
     title, is_box, goes_by_place = "Left of earlier sessions: Enter takes the text, c compares it, d drops it", True, False
 

@@ -11,6 +11,7 @@
  *     disk.c      puts a text into a file: by a new file in its place, or in place
  *     paths.c     names of files, and what stands in them
  *     places.c    folders for what can't stand beside its file
+ *     watching.c  notices that another program changed a file, and reads it anew
  *     saying.c    writes lines to standard error
  *
  * Of a session that stays when its line breaks:
@@ -53,13 +54,7 @@ enum {
 };
 
 /* Messages of a terminal, as far as they are looked at before the host takes them. */
-enum {
-    KIND_CUT = 9,
-    KIND_PASTE = 10,
-    KIND_SNARF = 11,
-    KIND_CLOSE = 14,
-    KIND_SET_SNARF = 20
-};
+enum { KIND_OPEN = 6, KIND_CUT = 9, KIND_PASTE = 10, KIND_SNARF = 11, KIND_CLOSE = 14, KIND_SET_SNARF = 20 };
 
 enum {
     STATUS_OK = 0,
@@ -85,6 +80,7 @@ enum ending { GOES_ON, LEFT, INPUT_ENDED, LINE_BROKE, FAULT };
 #define CUT "cut"            /* the name of the copy of what was cut last */
 #define VAULT "~~undo~~"     /* the name of the file in which a terminal keeps text for undo; it is nowhere on disk */
 #define LEFT_OVER "~~left~~" /* what names begin with, in the session, of texts that an earlier session saved */
+#define ANEW "~~anew~~ "     /* the same of files that were read anew; the tag of the old one follows */
 
 struct text {
     uint8_t *bytes;
@@ -122,6 +118,16 @@ struct copy_mark {
     struct timespec written;
 };
 
+/* The marks of a file at the last look, and what it was known to have when it was told that another program changed it. */
+struct watch {
+    dev_t device;
+    ino_t inode;
+    off_t size;
+    struct timespec written, marked;
+    bool is_told;
+    struct content told;
+};
+
 /* What the host of the library doesn't know of a file. */
 struct document {
     char *path;  /* where it was read; NULL for a file that the terminal made */
@@ -131,7 +137,10 @@ struct document {
     struct copy_mark noted; /* the copy that the journal has */
     bool is_unsaved;        /* the terminal believes it written, and it is not */
     bool is_reported;       /* it was said that its text can't be saved */
-    bool is_left;           /* it is what an earlier session saved aside, which goes where it is written empty */
+    bool is_left;           /* it is what an earlier session saved aside, which goes where it is written empty; or a file read anew */
+    bool is_open;           /* the terminal has opened it, so it is watched */
+    bool is_reloaded;       /* its text was read anew, and the next write may find it in its file */
+    struct watch watch;
 };
 
 /* A text that could not be saved when its file was closed. */
@@ -333,7 +342,9 @@ struct session {
     struct text text;           /* room for one text (MOST_BYTES) */
     struct closed *closed;
     struct cut cut;
-    bool is_lost; /* a text of a closed file could neither be saved nor held in memory, or what came last could not be taken */
+    bool has_open;      /* the terminal has opened a file */
+    int64_t watched_at; /* when files were looked at last */
+    bool is_lost;       /* a text of a closed file could neither be saved nor held in memory, or what came last could not be taken */
     struct wire wire;
     struct due due;
     mode_t mode_of_new_files;
@@ -450,6 +461,9 @@ void send_pending(struct session *session);
 /* Saves changed texts aside where it is time. Returns whether it was. */
 bool save_due(struct session *session);
 
+/* The earlier of two times; -1 is no time. */
+int64_t earlier(int64_t one, int64_t other);
+
 /* In how many milliseconds save_due, or take_input where memory is out, is to be called; -1 where neither is. */
 int64_t save_is_due_in(const struct session *session);
 
@@ -473,6 +487,9 @@ int note_known(struct document *document, const char *path, struct content conte
 /* The path of a file as it is named now, in memory of its own. NULL where it has none, with the reason in `error`. */
 char *path_of(struct session *session, uint16_t tag, int *error);
 
+/* What is known of a path; NULL where nothing is. */
+struct known *find_known(const struct document *document, const char *path);
+
 /* What is wrong, by its error number. */
 const char *cause(int error);
 
@@ -484,6 +501,9 @@ int take_text(struct session *session, uint16_t tag);
 /* Has the text of a file stand on disk, and hands out where: in its file where that has it, else in the document's copy. */
 enum place { IN_ITS_FILE, ASIDE };
 int secure(struct session *session, uint16_t tag, enum place *place);
+
+/* Whether its file has the text in session->text already. A copy may be removed any time, so it is no file, whatever it is named as. */
+bool stands_in_its_file(struct session *session, uint16_t tag);
 
 /* Whether a copy is still there as the host saved it, so that the host may replace or remove it. */
 bool is_own(const struct copy *copy);
@@ -743,6 +763,23 @@ bool do_note(struct session *session, const char *note);
  * that memory is out. */
 const char *join_file(struct session *session, const char *path, uint16_t *tag, bool *is_short);
 
+/* watching.c */
+
+/* Notes that the terminal has opened a file: it is watched from then on. */
+void note_opened(struct session *session, uint16_t tag);
+
+/* In how many milliseconds files are to be looked at; -1 where none is watched, or nobody is there to be told. */
+int64_t watch_is_due_in(const struct session *session);
+
+/* If that is due, looks at the files, and tells of those that another program has changed. */
+void watch_files(struct session *session);
+
+/* Adds what the file of a tag has on disk now as a file of its own, and answers by a note. Returns whether there was memory for it. */
+bool reload_file(struct session *session, const char *id, const char *words);
+
+/* The terminal has put such a file, the second tag, in the place of the first one's text. Returns whether there was memory for it. */
+bool note_reloaded(struct session *session, const char *words);
+
 /* journal.c */
 
 /* Makes a journal of this name in the folder of a session, in the place of one that is there. */
@@ -783,6 +820,9 @@ void note_start(struct session *session);
 
 /* Notes a file that the host was given. */
 void note_file(struct session *session, uint16_t tag);
+
+/* Notes what is known of a file. */
+void note_document(struct session *session, uint16_t tag);
 
 /* Notes what was done to a file; or that a text which could not be saved is held in memory. */
 void note_done(struct session *session, enum doing doing, uint16_t tag, bool is_held);

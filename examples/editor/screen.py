@@ -182,10 +182,18 @@ def window_rows(editor: Editor, window: Window) -> Dict[int, List[Run]]:
     mark = "*" if editor.is_changed(window.tag) else " "
     title = f"{'>' if is_focus else ' '}{mark} {editor.name(window.tag)}"
     attributes = curses.A_REVERSE | (curses.A_BOLD if is_focus else curses.A_NORMAL)
-    frame: Dict[int, List[Run]] = {window.y: [(fitted(title, window.width + window.gutter), attributes)]}
+    frame: Dict[int, List[Run]] = {}
+    if window.is_row:
+        title = fitted(title, window.gutter - 1)
+        frame[window.y + 1] = [(title, attributes)]
+    else:
+        frame[window.y] = [(fitted(title, window.width + window.gutter), attributes)]
     if window.is_open:
         dot, rows = window.dot, window.layout().rows
-        heads = numbers_of(editor, window, rows) if window.gutter else [[]] * len(rows)
+        if window.is_row:
+            heads = [[(title, attributes), (" ", curses.A_NORMAL)]] * len(rows)
+        else:
+            heads = numbers_of(editor, window, rows) if window.gutter else [[]] * len(rows)
         for at, (row, head) in enumerate(zip(rows, heads)):
             frame[window.y + 1 + at] = head + row_runs(row, dot, window.width, is_focus)
     return frame

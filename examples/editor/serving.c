@@ -64,6 +64,11 @@ bool save_due(struct session *session)
     return true;
 }
 
+int64_t earlier(int64_t one, int64_t other)
+{
+    return one < 0 || (other >= 0 && other < one) ? other : one;
+}
+
 int64_t save_is_due_in(const struct session *session)
 {
     int64_t left = session->due.is_waiting ? time_left(&session->due) : -1;
@@ -143,6 +148,8 @@ static void follow_step(struct session *session, const sam_did *did)
     write_files(session);
     if (did->kind == KIND_CLOSE)
         forget_closed(session, did->tag);
+    else if (did->kind == KIND_OPEN && !is_edit)
+        note_opened(session, did->tag);
 }
 
 /* Has the host take what it was brought, step by step, up to the last message that is whole or to where memory is out. Returns SAM_OK, or
@@ -243,19 +250,16 @@ static bool wait_for_bytes(const struct session *session, const sigset_t *mask, 
 {
     const struct wire *wire = &session->wire;
     fd_set in, out;
-    bool is_waiting = is_reading && session->due.is_waiting;
-    int64_t left = is_waiting ? time_left(&session->due) : PAUSE;
-
-    if (wire->is_short && left > PAUSE)
-        left = PAUSE;
+    int64_t left = is_reading ? earlier(save_is_due_in(session), watch_is_due_in(session)) : wire->is_short ? PAUSE : -1;
     struct timespec pause = {left / 1000, left % 1000 * 1000000};
+
     FD_ZERO(&in);
     FD_ZERO(&out);
     if (is_reading && may_read(wire))
         FD_SET(STDIN_FILENO, &in);
     if (wire->output_error == 0 && wire->sent < wire->output_len)
         FD_SET(STDOUT_FILENO, &out);
-    if (pselect(STDOUT_FILENO + 1, &in, &out, NULL, is_waiting || wire->is_short ? &pause : NULL, mask) < 0)
+    if (pselect(STDOUT_FILENO + 1, &in, &out, NULL, left < 0 ? NULL : &pause, mask) < 0)
         return errno != EINTR; /* what is wrong with the input shows when it is read */
     return FD_ISSET(STDIN_FILENO, &in);
 }
@@ -320,6 +324,7 @@ enum ending serve(struct session *session, const sigset_t *mask)
         if (has_come || wire->is_short)
             ending = take_input(session);
         save_due(session);
+        watch_files(session);
     }
     return ending == GOES_ON ? take_the_rest(session) : ending;
 }

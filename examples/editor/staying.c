@@ -248,17 +248,11 @@ void drop_line(struct stay *stay)
 
 /* ---- Waiting ---- */
 
-/* The earlier of two times; -1 is no time. */
-static int64_t earlier(int64_t one, int64_t other)
-{
-    return one < 0 || (other >= 0 && other < one) ? other : one;
-}
-
 /* In how many milliseconds something is to be done that nothing which comes asks for; -1: never. */
 static int64_t time_to_wait(const struct session *session, int64_t longest)
 {
     struct stay *stay = session->stay;
-    int64_t wait = earlier(earlier(longest, save_is_due_in(session)), drop_callers(stay));
+    int64_t wait = earlier(earlier(longest, save_is_due_in(session)), earlier(drop_callers(stay), watch_is_due_in(session)));
 
     if (stay->line < 0 && stay->longest_alone >= 0) {
         int64_t left = stay->alone_since + stay->longest_alone - now();
@@ -338,6 +332,7 @@ static enum ending serve_line(struct session *session, const sigset_t *mask)
         ending = take_packets(session);
         send_pending(session);
         write_line(session);
+        watch_files(session);
         if (save_due(session)) {
             note_copies(session);
             sync_journal(session);
@@ -359,6 +354,7 @@ static void say_the_end(struct session *session, const sigset_t *mask, int statu
     int64_t until = now() + (has_left ? LONGEST_END : stay->line >= 0 ? SIGNAL_END : 0);
 
     stay->longest_alone = -1;
+    session->has_open = false; /* nobody is told of files any more */
     while (stay->attempt > 0 && now() < until && is_signalled() == was_signalled) {
         say_missing(stay); /* no line comes after the last note */
         if (!stay->has_ended && stay->missing == 0)

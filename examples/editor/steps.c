@@ -108,6 +108,7 @@ void take_document(struct session *session, struct record *record)
     take_copy(record, &document.aside);
     take_known(record, &document);
     free_document(&session->documents[tag]);
+    document.is_open = session->documents[tag].is_open;
     document.noted = (struct copy_mark){document.aside.device, document.aside.inode, document.aside.written};
     session->documents[tag] = document;
 }
@@ -126,6 +127,17 @@ static void note_mark(const struct copy *copy, struct copy_mark *mark)
     *mark = copy->path == NULL ? (struct copy_mark){0} : (struct copy_mark){copy->device, copy->inode, copy->written};
 }
 
+void note_document(struct session *session, uint16_t tag)
+{
+    struct body body = {0};
+
+    if (session->stay == NULL)
+        return;
+    note_mark(&session->documents[tag].aside, &session->documents[tag].noted);
+    add_document(&body, tag, &session->documents[tag]);
+    add_body(session, STEP_KEPT, &body);
+}
+
 void note_copies(struct session *session)
 {
     struct cut *cut = &session->cut;
@@ -134,13 +146,8 @@ void note_copies(struct session *session)
     if (session->stay == NULL)
         return;
     for (size_t tag = 1; tag < tags; tag++) {
-        struct document *document = &session->documents[tag];
-        struct body body = {0};
-        if (is_noted(&document->aside, &document->noted))
-            continue;
-        note_mark(&document->aside, &document->noted);
-        add_document(&body, (uint16_t)tag, document);
-        add_body(session, STEP_KEPT, &body);
+        if (!is_noted(&session->documents[tag].aside, &session->documents[tag].noted))
+            note_document(session, (uint16_t)tag);
     }
     if (!is_noted(&cut->aside, &cut->noted)) {
         struct body body = {0};

@@ -62,11 +62,12 @@ class Stream:
 
     def _take_edits(self) -> bool:
         """Receives the edits of one file that come next, and tells of them. Returns whether there were any."""
-        takes = False
+        takes, edits, made = False, self._edits, tuple.__new__  # there may be thousands
         for edit in self.terminal.edits(GAP):
-            takes, self._bound = True, None
-            if edit.gone or edit.came:
-                self._edits.append(Change._make(edit))
+            takes = True
+            if edit[2] or edit[3]:
+                edits.append(made(Change, edit))
+        self._bound = None if takes else self._bound
         self._tell_edits()
         return takes
 

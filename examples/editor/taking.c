@@ -57,6 +57,8 @@ static void hand_documents(struct session *session, struct session *heir)
         struct document *document = &heir->documents[next++];
         *document = session->documents[old];
         session->documents[old] = (struct document){0};
+        document->is_open = false;
+        document->watch = (struct watch){0}; /* the new terminal is told, too */
         document->is_unsaved |= sam_host_is_dirty(&session->host, (uint16_t)old, &is_dirty) != SAM_OK || is_dirty;
     }
     heir->closed = session->closed;

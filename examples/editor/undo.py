@@ -74,11 +74,6 @@ def _filled(text: str, known: str) -> str:
     return "".join(other if rune == GAP else rune for rune, other in zip(text, known))
 
 
-def _with_known(change: Change, gone: str, came: str) -> Change:
-    """A change whose gaps are filled as far as what went and came is known."""
-    return Change(change.tag, change.place, _filled(change.gone, gone), _filled(change.came, came))
-
-
 class Undo:
     """What was done to each file, and what was taken back."""
 
@@ -125,9 +120,13 @@ class Undo:
         if not steps:
             steps.append(Step())
         if self.goes or self.comes:
-            goes, comes = self.goes, self.comes
-            changes = [_with_known(each, goes, comes) if GAP in each.gone or GAP in each.came else each for each in changes]
+            changes = [self._with_known(each) if GAP in each.gone or GAP in each.came else each for each in changes]
         steps[-1].add(changes)
+
+    def _with_known(self, change: Change) -> Change:
+        """A change whose gaps are filled as far as what the host takes out or puts in is known."""
+        tag, place, gone, came = change
+        return Change(tag, place, _filled(gone, self.goes), _filled(came, self.comes))
 
     def _stay(self, tag: int) -> None:
         """What was taken back stays so."""

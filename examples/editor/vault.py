@@ -102,8 +102,8 @@ class Vault:
             then,
         ]
 
-    def bring(self, source: int, tag: int) -> None:
-        """Has the host put the text of another file in the place of a file's."""
+    def bring(self, source: int, tag: int, then: Callable[[], None]) -> None:
+        """Has the host put the text of another file in the place of a file's. The caret stands before it then."""
         self._begin(tag)
         self._steps += [
             lambda: self.terminal.open(source),
@@ -113,6 +113,7 @@ class Vault:
             lambda: self._replace(tag, 0, self.terminal.len(tag)),
             self._give_copied_back,
             lambda: self.terminal.select(tag, 0, 0),
+            then,
         ]
 
     def go_on(self) -> None:

@@ -76,7 +76,8 @@ class Waiting:
     @property
     def is_lock_held(self) -> bool:
         """Whether a lock is held, so that the host will answer, or an event waits for one."""
-        return self.vault.is_busy or self.terminal.held > 0 or any(map(self.terminal.locked, (*self.all_windows, *self.left.tags)))
+        tags = (*self.all_windows, *self.left.tags, *self.reloading.hidden)
+        return self.vault.is_busy or self.terminal.held > 0 or any(map(self.terminal.locked, tags))
 
     @property
     def _is_answer_due(self) -> bool:

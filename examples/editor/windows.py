@@ -9,6 +9,7 @@ from texts import GAP, Change, Texts, moved
 MOST_STRETCHES, MOST_IN_STRETCH = 64, 512  # that are asked for at once, so that no key waits long, and the runes of each
 MOST_IN_LOAD = MOST_STRETCHES * MOST_IN_STRETCH
 GUTTER, LEAST_WITH_NUMBERS = 8, 40  # columns of the numbers of lines, with a blank; and of a screen that has them
+HEAD = 11  # columns of the title of the command window where that stands before its one row, with a blank
 
 
 def ask(terminal: Terminal, tag: int, top: int, end: int, page: int, turns: int = 0) -> None:
@@ -53,6 +54,7 @@ class Window:
         self.targets = Targets(self)
         self.y, self.height, self.width = 0, 1, 80  # row of the title, rows of text, columns of text
         self.gutter, self.wants_numbers = 0, False  # columns before the text, for the numbers of lines
+        self.is_row = False  # it is one row, with its title before the text
         self.anchor: Optional[int] = None  # the end of the selection that stays while the user extends it
         self.goal: Optional[Tuple[int, int]] = None  # the column that moves by rows keep to, and where the last one led
         self._top = 0
@@ -111,7 +113,7 @@ class Window:
     def put(self, y: int, height: int, width: int) -> None:
         """Gives it a place on the screen. A caret that was shown stays so, and the window begins with a row of the new width. Where a screen
         is narrow it has no numbers of lines."""
-        self.gutter = GUTTER if self.wants_numbers and width >= LEAST_WITH_NUMBERS else 0
+        self.gutter = HEAD if self.is_row else GUTTER if self.wants_numbers and width >= LEAST_WITH_NUMBERS else 0
         width -= self.gutter
         if (height, width) != (self.height, self.width) and self.is_open:
             if self.layout().shows(self.caret):

@@ -54,7 +54,7 @@ char *path_of(struct session *session, uint16_t tag, int *error)
 
 /* ---- What is known of files ---- */
 
-static struct known *find_known(const struct document *document, const char *path)
+struct known *find_known(const struct document *document, const char *path)
 {
     struct known *known = document->known;
 
@@ -205,6 +205,18 @@ static void drop_left(struct session *session, uint16_t tag, const char *path)
         say("%s is not dropped: %s", path, cause(errno));
 }
 
+/* Whether the text of a file was read anew, and its file has it still: then it is not written once more. */
+static bool has_it_anew(struct session *session, uint16_t tag)
+{
+    struct document *document = &session->documents[tag];
+    bool has_it = document->is_reloaded && take_text(session, tag) == 0 && stands_in_its_file(session, tag);
+
+    document->is_reloaded = false;
+    if (has_it)
+        drop_copy(&document->aside);
+    return has_it;
+}
+
 static void write_file(struct session *session, uint16_t tag)
 {
     int error;
@@ -217,7 +229,7 @@ static void write_file(struct session *session, uint16_t tag)
     if (path != NULL && is_dropped(session, tag)) {
         drop_left(session, tag, path);
     } else {
-        if (path != NULL)
+        if (path != NULL && !has_it_anew(session, tag))
             error = put_text(session, tag, path);
         session->documents[tag].is_unsaved = error != 0;
         if (error != 0)

@@ -1,6 +1,8 @@
 """What terminals send for keys, pastes, finding, line numbers and the clipboard."""
 import time
 
+from checks import expect_equal
+
 from .pairs import LONG, in_a_small_window, opened
 from .support import Session, expect, made, wait_for_text, wait_until
 
@@ -355,6 +357,40 @@ def check_find(folder):
         wait_until(lambda: not session.shows("find:"), "Esc doesn't end the search")
         session.wait_for(f"{origin},{origin + 7} of")
         session.leave()
+
+
+def check_find_in_any_case(folder):
+    """What is typed without a capital letter finds letters of any case in what is loaded, up and down; with one it is exact. At Enter the
+    host looks for what was found, as it stands there: `^F` goes on so. What isn't loaded, or isn't found, it looks for as it was typed."""
+    first = "one\nÖre İx TWO ix\nTwo two\nTWO\n"
+    pair, editor, key, text = opened(first + "-\n" * 20_000 + "far FAR far\n")
+
+    def selected():
+        start, end = editor.focus.dot
+        return start, editor.focus.read(start, end - start)
+
+    pair.press(key("^S"), text("two"))
+    expect_equal(selected(), (first.index("TWO"), "TWO"))
+    expect_equal(editor.message, "find: two (in any case; Enter has the host look for TWO)")
+    pair.press(key("Down"))
+    expect_equal(selected(), (first.index("Two"), "Two"))
+    pair.press(key("Down"))
+    expect_equal((selected(), editor.message), ((first.index("two"), "two"), "find: two"))
+    pair.press(key("Up"), key("Up"), text("\n"))
+    expect_equal(selected(), (first.index("TWO"), "TWO"))
+    pair.press(key("^F"))
+    expect_equal(selected(), (first.rindex("TWO"), "TWO"))
+    pair.press(key("^Home"), key("^S"), text("Two"))
+    expect_equal(selected(), (first.index("Two"), "Two"))
+    pair.press(key("Esc"), key("^S"), text("öre"))
+    expect_equal(selected(), (first.index("Öre"), "Öre"))
+    pair.press(key("Esc"), key("^S"), text("ix"))
+    expect_equal(selected(), (first.index("ix"), "ix"))
+    pair.press(key("Esc"), key("^S"), text("far"))
+    expect("not in what is loaded" in editor.message, f"it says {editor.message!r}")
+    pair.press(text("\n"))
+    expect_equal(selected()[1], "far")
+    pair.check()
 
 
 def check_find_in_process(folder):

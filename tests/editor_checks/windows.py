@@ -93,7 +93,7 @@ def check_small_command_window(folder):
         session.wait_for("one")
         rows = [next(at for at, line in enumerate(session.screen()) if "a.txt" in line)]
         session.keys("F8")
-        wait_until(lambda: session.screen()[2].startswith(">  a.txt"), "the command window is not small")
+        wait_until(lambda: session.screen()[1].startswith(">  a.txt"), "the command window is not small")
         session.command("2p")
         session.keys("F8")
         wait_until(lambda: session.screen()[rows[0]].startswith(">  a.txt"), "it is not large again")
@@ -151,3 +151,46 @@ def check_tab_after_a_full_row(folder):
 
     widths = [strip.width for strip in layout.strips_of("a" * 101 + "\tb", 101, False)]
     expect(widths == [101, 9], f"the rows have {widths} columns")
+
+
+def check_rows_without_text(folder):
+    """With one file and a small command window four of 24 rows show none of the file: that window, the title, the status and the bottom
+    line. The command window then has its title before the one row that it shows, and runs lines there; on a narrow screen it is above."""
+    made(folder, a="".join(f"line {number}\n" for number in range(1, 101)))
+    with Session(folder, "a.txt") as session:
+        session.wait_for("line 10")
+        session.wait_for_quiet()
+        session.keys("F8")
+        wait_until(lambda: len(session.rows("a.txt")) == 20, lambda: f"the file has {len(session.rows('a.txt'))} rows")
+        expect(session.rows("a.txt") == [f"line {number}" for number in range(1, 21)], "the rows are not those of the file")
+        session.keys("Escape")
+        wait_until(lambda: session.screen()[0].startswith(">  ~~sam~~"), lambda: f"keys go elsewhere: {session.screen()[0]!r}")
+        session.type("1d")
+        wait_until(lambda: session.screen()[0] == ">  ~~sam~~ 1d", lambda: f"the first row is {session.screen()[0]!r}")
+        session.keys("Enter", "Escape")
+        wait_until(lambda: session.rows("a.txt")[:1] == ["line 2"], "the line doesn't run")
+        session.mouse((0, 12, 0), (3, 12, 0))
+        wait_until(lambda: session.screen()[0].startswith(">"), "a click doesn't go to the command window")
+        session.tmux("resize-window", "-x", "30", "-y", "24")
+        wait_until(lambda: session.goes_to("~~sam~~") and "a.txt" in session.screen()[2], "the title is not above on a narrow screen")
+
+
+def check_write_and_paste_lock_their_file(folder):
+    """`^W` and `^V` hold back no key of another file, which show at once. What is typed into the same file shows again after one round
+    trip, and none of it goes elsewhere."""
+    for name in ("^W", "^V"):
+        pair, editor, key, text = opened("one\n", "two\n", has_vault=True)
+        pair.press(*[key("^P")] * (1 if editor.focus.tag == 0 else 2), key("Shift-Right"), key("^C"), text("a"))
+        expect(editor.focus.tag == 1, f"this test is wrong: keys go to {editor.focus.tag}")
+        for pressed in (key(name), key("^P"), text("d")):
+            editor.take(pressed)
+        expect(pair.terminal.locked(1) and editor.focus.tag == 2 and not editor.deferred, f"{name}: {len(editor.deferred)} keys wait")
+        shown = pair.terminal.text(2, 0, 9)
+        expect("d" in shown, f"{name}: the other file has {shown!r}")
+        for pressed in (key("^P"), key("^P"), text("e")):
+            editor.take(pressed)
+        expect(editor.focus.tag == 1 and len(editor.deferred) == 1, f"{name}: {len(editor.deferred)} keys wait, of {editor.focus.tag}")
+        pair.trip()
+        expect(not editor.deferred and "e" in pair.terminal.text(1, 0, 9), f"{name}: it is not there after one round trip")
+        pair.finish()
+        pair.check()

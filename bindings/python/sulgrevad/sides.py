@@ -17,7 +17,7 @@ GAP = 2**32 - 1  # what stands for a rune that is not loaded
 
 # SAM_OK as a plain number: once a call is done nothing may want memory, and up to Python 3.11 to look up a Status does.
 OK, NONE = int(Status.OK), int(Status.NONE)
-STEPS = tuple(Step)  # by their numbers
+STEPS, RECEIVED = tuple(Step), int(Step.RECEIVED)  # by their numbers
 EDITING = (77, 81)  # the kinds Hgrowdata and Hcut
 
 _FEW_RUNES = c_uint32 * FEW
@@ -545,18 +545,24 @@ class Terminal(_Side):
         look, take, read = LIBRARY.sam_term_next_frame, LIBRARY.sam_term_step, LIBRARY.sam_term_read
 
         def cells(tag: int, place: int, count: int) -> str:
+            if count == 1 and read(at, tag, place, into, 1, got_at) == OK:
+                rune = into[0]
+                return gap if rune == GAP else chr(rune)
             if count > FEW or read(at, tag, place, into, count, got_at) != OK:
                 return "".join([rune or gap for rune in self.read(tag, place, count)])
             return "".join([gap if rune == GAP else chr(rune) for rune in into[: got.value]])
 
-        while (code := look(at, did_at)) == OK and did.kind in EDITING and first in (None, did.tag):
+        # A command line may edit thousands of places, so here each call counts.
+        made, edit = tuple.__new__, Edit
+        while (code := look(at, did_at)) == OK and did.kind in EDITING and (first is None or first == did.tag):
             first = tag = did.tag
-            gone = cells(tag, did.start, did.gone) if did.gone else ""
+            start, count = did.start, did.gone
+            gone = cells(tag, start, count) if count else ""
             if (code := take(at, did_at)) != OK:
                 raise error_of(code)
-            if did.step == Step.RECEIVED:
-                start, came = did.start, did.came
-                yield Edit(tag, start, gone, cells(tag, start, came) if came else "")
+            if did.step == RECEIVED:
+                start, count = did.start, did.came
+                yield made(edit, (tag, start, gone, cells(tag, start, count) if count else ""))
         if code not in (OK, NONE):
             raise error_of(code)
 

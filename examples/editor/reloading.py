@@ -1,0 +1,123 @@
+"""Files that another program has changed: the host tells of them, and a key puts in what they have now.
+
+The host reads the file anew as a hidden file of the session, whose text goes in the place of the old one's. Of that nothing crosses the
+line, `^Z` takes it back, and the file counts as written then.
+"""
+from typing import Dict, Iterable, List, Optional, Set
+
+from joining import VERSION
+from staying import Note
+
+NAME = "~~anew~~ "  # what names of the hidden files begin with
+OFFER = "; ^U reloads it"
+
+
+class Reloading:
+    """What was changed by others, and what is read anew."""
+
+    def __init__(self, editor):
+        self.editor, self.terminal = editor, editor.terminal
+        self.changed: Dict[int, str] = {}  # files that another program has changed since they were read or written here; and the lines
+        self.hidden: Set[int] = set()  # what was read anew
+        self._number = 0  # of the last question
+        self._tag: Optional[int] = None  # the file that is read anew
+        self._anew: Optional[int] = None  # its new text, once the host has told it
+        self._sure_of: Optional[int] = None  # the file of which the user is sure, though it was not written
+
+    def find(self, known: Iterable[int]) -> None:
+        """The names of the host's files are known: an earlier terminal may have left some."""
+        self.hidden.update(tag for tag in known if self.terminal.name(tag).startswith(NAME))
+
+    def drop(self, tag: int) -> None:
+        """The file is closed."""
+        self.forget(tag)
+        self.hidden.discard(tag)
+
+    def meet_changed(self, tags: Iterable[int], line: str) -> None:
+        """The host has told, by a line, that another program changed a file of these."""
+        line += OFFER if self.is_there else ""
+        self.changed.update((tag, line) for tag in tags)
+        self.editor.notes.keep(1, line)
+
+    def forget(self, tag: int) -> None:
+        """A file has been written, or read anew; or a question says that another program changed it."""
+        line = self.changed.pop(tag, "")
+        if line and line not in self.changed.values():
+            self.editor.notes.forget(line)
+
+    @property
+    def is_there(self) -> bool:
+        """Whether the host reads files anew."""
+        return self.editor.way.line is not None and self.editor.vault.tag is not None
+
+    @property
+    def all(self) -> List[int]:
+        return sorted(tag for tag in self.changed if self.terminal.is_known(tag))
+
+    # ---- Reading one anew
+
+    @property
+    def _id(self) -> str:
+        """What the last question is known by; those for paths have numbers alone."""
+        return f"anew{self._number}"
+
+    def begin(self, tag: int, key: str) -> bool:
+        """Has the host read a file anew, once the user is sure where it was not written. Returns whether that is done or can't be; else the
+        key acts again, or asks."""
+        editor = self.editor
+        if not self.is_there or editor.is_alone:
+            editor.message = "no file can be reloaded here" if not self.is_there else "that can be done when the line is back"
+            return True
+        if editor.is_lock_held or not editor.window_of(tag).is_settled:
+            editor.act_again("waits for the host")
+            return False
+        question = f"{editor.name(tag)} was not written; {key} again puts in its place what the file has, and ^Z takes that back"
+        self._sure_of = self._sure_of if editor.acts_again else None
+        if editor.is_changed(tag) and self._sure_of != tag and not editor.is_sure(question):
+            return False
+        self._sure_of = tag
+        if not editor.may_go_whole(tag, key):
+            return False
+        self._number += 1
+        self._tag, self._anew, self._sure_of = tag, None, None
+        editor.way.line.put_note("reload", self._id, str(tag))
+        self.terminal.offer_version(VERSION)
+        editor.await_file()
+        return True
+
+    def meet(self, note: Note) -> bool:
+        """A note of the host. Returns whether it is of a file that is read anew."""
+        word, _, rest = note.rest.partition(" ")
+        if self._tag is None or word != self._id or note.verb not in ("anew", "refused"):
+            return False
+        if note.verb == "anew" and rest.isdecimal():
+            self._anew = int(rest)
+            self.hidden.add(self._anew)
+        else:
+            self.editor.notes.keep(1, f"{self.editor.name(self._tag)} is not reloaded: {rest}")
+            self._tag = None
+        return True
+
+    def go_on(self) -> None:
+        """Puts in what was read anew, once its name has come."""
+        tag, anew = self._tag, self._anew
+        if tag is None or anew is None or self.terminal.command_locked or not self.terminal.is_known(anew):
+            return
+        self._tag = self._anew = None
+        self.forget(tag)
+        if self.terminal.is_open(tag):
+            place = self.terminal.dot(tag)[0]
+            self.editor.log.begin(tag)
+            self.editor.vault.bring(anew, tag, lambda: self._end(tag, anew, place))
+
+    def _end(self, tag: int, anew: int, place: int) -> None:
+        """The new text stands in the old one's place."""
+        editor = self.editor
+        editor.window_of(tag).select(min(place, self.terminal.len(tag)))
+        if self.terminal.len(tag) == self.terminal.len(anew):
+            editor.way.line.put_note("reloaded", self._id, f"{tag} {anew}")
+            editor.write(tag)
+            editor.message = f"{editor.name(tag)} is reloaded; ^Z takes that back"
+        else:
+            editor.message = f"{editor.name(tag)} could not be reloaded"
+        self.terminal.close(anew)

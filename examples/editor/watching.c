@@ -1,0 +1,179 @@
+/* watching.c: notices that another program has changed a file which the terminal has open, and reads a file anew where a note asks for it.
+ *
+ * Every two seconds the marks of these files are looked at; only a file whose marks have changed is read. The terminal is told once for
+ * each text that the session has read or written, so a file that grows all the time is told once.
+ *
+ * A file that is read anew joins as a file of its own, whose text the terminal puts in the old one's place. It says so by another note:
+ * from then on the new text is what the file is known to have.
+ */
+#define _XOPEN_SOURCE 700
+#include <errno.h>
+#include <stdlib.h>
+#include <string.h>
+#include <sys/stat.h>
+#include <unistd.h>
+
+#include "samhost.h"
+
+enum { PERIOD = 2000 }; /* milliseconds between two looks */
+
+/* ---- Watching ---- */
+
+static bool is_same_time(struct timespec one, struct timespec other)
+{
+    return one.tv_sec == other.tv_sec && one.tv_nsec == other.tv_nsec;
+}
+
+/* Whether a file has other marks than at the last look, or there was none; notes them. */
+static bool has_new_marks(struct watch *watch, const struct stat *now)
+{
+    struct watch seen = {now->st_dev, now->st_ino, now->st_size, now->st_mtim, now->st_ctim, watch->is_told, watch->told};
+    bool is_same = watch->device == seen.device && watch->inode == seen.inode && watch->size == seen.size &&
+                   is_same_time(watch->written, seen.written) && is_same_time(watch->marked, seen.marked);
+
+    *watch = seen;
+    return !is_same;
+}
+
+/* Looks whether a file has what the session knows of it. One that is gone may be about to be replaced: it is looked at again. */
+static void look_at(struct document *document, const char *path)
+{
+    struct watch *watch = &document->watch;
+    struct stat status;
+    char *end = NULL;
+    const struct known *known = end_of_links(path, &end) == 0 ? find_known(document, end) : NULL;
+
+    if (known != NULL && stat(end, &status) == 0 && has_new_marks(watch, &status)) {
+        bool was_told = watch->is_told && is_same(watch->told, known->content);
+        if (!was_told && !is_same(content_at(end), known->content)) {
+            watch->is_told = true;
+            watch->told = known->content;
+            say("%s: another program changed it", path);
+        }
+    }
+    free(end);
+}
+
+static bool is_watched(struct session *session, size_t tag)
+{
+    bool has = false;
+
+    return session->documents[tag].is_open && !session->documents[tag].is_left && tag != session->vault &&
+           sam_host_has_file(&session->host, (uint16_t)tag, &has) == SAM_OK && has;
+}
+
+int64_t watch_is_due_in(const struct session *session)
+{
+    int64_t left = session->watched_at + PERIOD - now();
+
+    if (!session->has_open || (session->stay != NULL && session->stay->line < 0))
+        return -1;
+    return left > 0 ? left : 0;
+}
+
+void watch_files(struct session *session)
+{
+    size_t tags = watch_is_due_in(session) == 0 ? count_tags(session) : 0;
+    int error;
+
+    for (size_t tag = 1; tag < tags; tag++) {
+        char *path = is_watched(session, tag) ? path_of(session, (uint16_t)tag, &error) : NULL;
+        if (path != NULL)
+            look_at(&session->documents[tag], path);
+        free(path);
+    }
+    if (tags > 0)
+        session->watched_at = now();
+}
+
+void note_opened(struct session *session, uint16_t tag)
+{
+    session->documents[tag].is_open = session->has_open = true;
+}
+
+/* ---- Reading a file anew ---- */
+
+/* The tag that digits are; 0 where they are none of a file. */
+static uint16_t tag_of(struct session *session, const char *digits, char **rest)
+{
+    unsigned long tag = strtoul(digits, rest, 10);
+    bool has = false;
+
+    if (*rest == digits || tag == 0 || tag >= count_tags(session))
+        return 0;
+    return sam_host_has_file(&session->host, (uint16_t)tag, &has) == SAM_OK && has ? (uint16_t)tag : 0;
+}
+
+/* Adds what stands at a path as a file of its own. */
+static uint32_t add_anew(struct session *session, uint16_t tag, const char *end, const struct text *text, uint16_t *anew)
+{
+    struct document document = {.is_left = true};
+    char *name = formatted(ANEW "%u", (unsigned)tag);
+    uint32_t code = SAM_NO_MEMORY;
+
+    if (name != NULL && note_known(&document, end, content_of(text)) == 0)
+        code = sam_host_add_file(&session->host, (const uint8_t *)name, strlen(name), text->bytes, text->len, anew);
+    if (code == SAM_OK)
+        session->documents[*anew] = document;
+    else
+        free_document(&document);
+    free(name);
+    return code;
+}
+
+/* Reads a file anew. Returns NULL, or why that can't be. */
+static const char *read_anew(struct session *session, uint16_t tag, uint16_t *anew, bool *is_short)
+{
+    struct text text = {0};
+    char *end = NULL;
+    int error = 0;
+    char *path = path_of(session, tag, &error);
+    uint32_t code = SAM_OK;
+
+    if (error == 0)
+        error = end_of_links(path, &end);
+    if (error == 0)
+        error = access(end, F_OK) != 0 ? errno : read_whole(end, &text);
+    if (error == 0)
+        code = add_anew(session, tag, end, &text, anew);
+    free(text.bytes);
+    free(end);
+    free(path);
+    *is_short = error == ENOMEM || code == SAM_NO_MEMORY;
+    if (error != 0)
+        return error == EFBIG ? why_not_added(SAM_ADD_TOO_LONG) : cause(error);
+    return code == SAM_OK ? NULL : why_not_added(code);
+}
+
+bool reload_file(struct session *session, const char *id, const char *words)
+{
+    char *rest;
+    uint16_t tag = tag_of(session, words, &rest), anew = 0;
+    bool is_short = false;
+    const char *why = tag == 0 ? "there is no such file" : read_anew(session, tag, &anew, &is_short);
+
+    if (is_short)
+        return false;
+    if (why != NULL)
+        return say_note(session, "refused %s %s", id, why);
+    note_file(session, anew);
+    return say_note(session, "anew %s %u", id, (unsigned)anew);
+}
+
+bool note_reloaded(struct session *session, const char *words)
+{
+    char *rest;
+    uint16_t tag = tag_of(session, words, &rest), anew = tag_of(session, rest, &rest);
+    const struct known *known = tag == 0 || anew == 0 ? NULL : session->documents[anew].known;
+
+    if (known == NULL)
+        return true;
+    int error = take_text(session, tag);
+    if (error != 0 || !is_same(content_of(&session->text), known->content)) /* something else stands there: its next write asks */
+        return error != ENOMEM;
+    if (note_known(&session->documents[tag], known->path, known->content) != 0)
+        return false;
+    session->documents[tag].is_reloaded = true;
+    note_document(session, tag);
+    return true;
+}
