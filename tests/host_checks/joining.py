@@ -51,6 +51,22 @@ def check_join_of_a_known_file(folder):
         session.leave()
 
 
+def check_read_anew_and_not_put_in(folder):
+    """A file has what was read anew only once its text is that: until then a write asks first, and replaces nothing."""
+    (path,) = made(folder, a="one\n")
+    with Staying(folder, "a.txt", options=("--undo",)) as session:
+        path.write_text("other\n")
+        answer = asked(session, "reload anew1 1")
+        expect(answer.startswith("anew anew1 "), f"it answers {answer!r}")
+        session.link.put_note(f"reloaded anew1 1 {answer.split(' ')[2]}".encode())
+        session.type("two\n")
+        session.write()
+        asks = [note for note in session.notes if note.startswith("told ? write a.txt: another program changed it")]
+        expect_equal(len(asks), 1, f"how often it asks, in {session.notes}: it")
+        expect_equal(text_of(path), "other\n", "the file")
+        session.leave()
+
+
 def check_join_refused(folder):
     """What can't be opened is refused in words, and nothing is added; a folder is said to be one."""
     made(folder, a="one\n")
