@@ -211,10 +211,15 @@ def check_join_wished_in_one_of_several(folder):
             before = {each: len(each.notes) for each in (older, newer)}
             ended = older.run("--open", *words, "a.txt", "+7")
             expect_equal((ended.returncode, ended.stderr), (0, ""), f"what comes of {words}")
-            for each in (older, newer):
-                if each.process is not None:
-                    each.settle()
-            return [each.name for each, count in before.items() if any(note.startswith("wish ") for note in each.notes[count:])]
+
+            def shown():
+                for each in (older, newer):
+                    if each.process is not None:
+                        each.settle()
+                return [each.name for each, count in before.items() if any(note.startswith("wish ") for note in each.notes[count:])]
+
+            wait_until(shown, "no session shows it")
+            return shown()
 
         expect_equal(shown_by(), [newer.name], "where it is shown")
         expect_equal(shown_by("--session", older.name), [older.name], "where it is shown by name")
