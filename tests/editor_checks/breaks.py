@@ -430,8 +430,7 @@ def check_open_by_path(folder):
         session.keys("Escape")
         session.keys("F2")
         session.type("nowhere/x.txt")
-        session.keys("Enter")
-        session.type("stray")
+        session.keys("Enter", *"stray")  # at once, before the host's answer
         session.wait_for("is not opened")
         session.wait_for("^V has what you typed")
         session.wait_for_quiet()
