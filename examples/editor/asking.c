@@ -199,7 +199,8 @@ static int find_newest(struct home *home, void *at)
     if (fstatat(home->folder, ABOUT, &status, AT_SYMLINK_NOFOLLOW) != 0 || ask_state(home, &state) != 0)
         return 0;
     const struct timespec *begun = &status.st_mtim;
-    bool is_in_use = state.alone_for < 0, is_newer = begun->tv_sec > newest->begun.tv_sec;
+    bool is_in_use = state.alone_for < 0;
+    bool is_newer = begun->tv_sec > newest->begun.tv_sec;
     is_newer |= begun->tv_sec == newest->begun.tv_sec && begun->tv_nsec > newest->begun.tv_nsec;
     if (*newest->name == '\0' || (is_in_use == newest->is_in_use ? is_newer : is_in_use)) {
         memcpy(newest->name, home->name, sizeof newest->name);

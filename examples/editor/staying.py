@@ -156,7 +156,7 @@ class Staying:
         return min(since + SECONDS_TO_BREAK, max(since, self._gone_at) + SECONDS_ELSEWHERE + 4 * self.round_trip)
 
     def _hear_network(self, ready: Dict[int, int]) -> None:
-        """Where an address has gone, asks at once whether the connection is dead; where one has come and there is no line, tries it soon."""
+        """Where an address has gone, asks at once whether the connection is dead; where one has come and there is no line, tries it."""
         heard, now = self._network.hear(ready), self.clock()
         if heard.gone:
             self._gone_at = now
