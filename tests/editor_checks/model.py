@@ -185,8 +185,19 @@ class Model:
         for rune in runes:
             if rune == "\n":
                 self.enter()
+            elif rune == "\t" and "\n" in self.selected:
+                self.indent()
             else:
                 self.replace(rune)
+
+    def indent(self):
+        """Puts a tab before each line of which something is selected; the same text stays selected, and the caret is at its end."""
+        start, end = self.dot
+        first = self.line_start(start)
+        for line in reversed([first, *(at + 1 for at in range(first, end - 1) if self.text[at] == "\n")]):
+            self.text = self.text[:line] + "\t" + self.text[line:]
+            start, end = (place + (place > line) for place in (start, end))
+        self.select(start, end)
 
     def enter(self):
         start, end = self.dot
