@@ -146,3 +146,31 @@ struct report both_ends(uint32_t size)
         found.check = check_host(&host, tag, found.check);
     return found;
 }
+
+/* Opens half of so many files, which the host has, makes the other half, and closes all. The bytes are carried after each. */
+struct report files(uint32_t size)
+{
+    enum { LENGTH = 10 };
+    sam_host host = SAM_HOST_INIT;
+    sam_term term = SAM_TERM_INIT;
+    struct report found = {0};
+    int64_t begin;
+    new_host(&host, letters(LENGTH), (int)size / 2);
+    WANT(sam_term_new(&term));
+    WANT(sam_term_offer_version(&term, 2));
+    carry(&host, &term);
+    begin = nanoseconds();
+    for (uint32_t tag = 1; tag <= size; tag++) {
+        if (tag <= size / 2)
+            WANT(sam_term_open(&term, (uint16_t)tag));
+        else
+            WANT(sam_term_new_file(&term));
+        found.check = mix(found.check, carry(&host, &term));
+    }
+    for (uint32_t tag = 1; tag <= size; tag++) {
+        WANT(sam_term_close(&term, (uint16_t)tag));
+        found.check = mix(found.check, carry(&host, &term));
+    }
+    found.took = nanoseconds() - begin;
+    return found;
+}

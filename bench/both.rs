@@ -65,3 +65,20 @@ pub fn carried(size: usize) -> Report {
     let took = begin.elapsed();
     Report { took, check: host.host.texts().fold(check, |check, (_, text)| mix(check, check_of(text))) }
 }
+
+/// Opens half of so many files, which the host has, makes the other half, and closes all.
+pub fn opened(size: usize) -> Report {
+    let mut host = HostEnd::new(vec![letters(10); size / 2]);
+    let mut term = TermEnd::new();
+    term.put(Event::Version(2));
+    carry(&mut host, &mut term).expect("bytes that fit");
+    let mut check = 0;
+    let begin = Instant::now();
+    let tags = 1..=size as u16;
+    let opening = tags.clone().map(|tag| if tag as usize <= size / 2 { Event::Open(tag) } else { Event::New });
+    for event in opening.chain(tags.map(Event::Close)) {
+        term.put(event);
+        check = mix(check, carry(&mut host, &mut term).expect("bytes that fit"));
+    }
+    Report { took: begin.elapsed(), check }
+}

@@ -117,6 +117,7 @@ impl Host {
             Tmesg::StartCmdFile => self.start_command_file(),
             Tmesg::StartFile(tag) => self.start_file(tag),
             Tmesg::StartNewFile => self.start_new_file(),
+            Tmesg::Close(tag) => self.close(tag),
             Tmesg::WorkFile(tag, p, q) => self.work_file(tag, p, q),
             Tmesg::Type(tag, p, text) if tag == COMMAND_FILE && text.last() == Some(&'\n') => self.type_line(p, &text),
             Tmesg::Type(tag, p, text) => self.type_in(tag, p, &text),
@@ -138,7 +139,7 @@ impl Host {
                 self.done = true;
                 Some(vec![Hmesg::Exit])
             }
-            Tmesg::Write(_) | Tmesg::Close(_) | Tmesg::Send(..) | Tmesg::StartSnarf => None,
+            Tmesg::Write(_) | Tmesg::Send(..) | Tmesg::StartSnarf => None,
         }
     }
 
@@ -200,6 +201,13 @@ impl Host {
         self.files.push(Some(File { open: true, announced: true, ..File::default() }));
         self.work = Some(tag);
         Some(vec![Hmesg::NewName(tag), Hmesg::BindName(tag), Hmesg::Current(tag), Hmesg::Unlock])
+    }
+
+    fn close(&mut self, tag: u16) -> Option<Vec<Hmesg>> {
+        self.open(tag).filter(|_| tag != COMMAND_FILE)?;
+        self.files[tag as usize] = None;
+        self.work.take_if(|work| *work == tag);
+        Some(vec![Hmesg::Close(tag), Hmesg::DelName(tag), Hmesg::Unlock])
     }
 
     fn work_file(&mut self, tag: u16, p: u32, q: u32) -> Option<Vec<Hmesg>> {

@@ -28,6 +28,7 @@ static const struct {
     {"handle", handle},
     {"undo", undo},
     {"both_ends", both_ends},
+    {"files", files},
     {"linked", linked},
     {"unlinked", unlinked},
 };

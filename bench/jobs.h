@@ -29,6 +29,7 @@ struct report receive(uint32_t size);
 struct report handle(uint32_t size);
 struct report undo(uint32_t size);
 struct report both_ends(uint32_t size);
+struct report files(uint32_t size);
 struct report linked(uint32_t size);
 struct report unlinked(uint32_t size);
 

@@ -57,30 +57,29 @@ static uint64_t join_ends(sam_link *terminal, sam_link *host)
     return attempt;
 }
 
-/* Takes in what has come, and returns its check value. */
-static uint64_t take_in(sam_link *link, uint64_t check)
+/* What bytes of a program that have come add to its check value. */
+static uint64_t check_more(uint64_t check, const uint8_t *bytes, size_t len)
 {
-    uint8_t bytes[SAM_LINK_MOST_NOTE];
-    size_t count;
-    for (;;) {
-        WANT(sam_link_take_in(link, bytes, sizeof bytes, &count));
-        if (count == 0)
-            return check;
-        check = mix(check, check_bytes(bytes, count));
-    }
+    for (size_t at = 0; at < len; at += SAM_LINK_MOST_NOTE)
+        check = mix(check, check_bytes(bytes + at, len - at < SAM_LINK_MOST_NOTE ? len - at : SAM_LINK_MOST_NOTE));
+    return check;
 }
 
-/* Carries what one end has for a connection to the other. */
-static void carry_end(const int line[2], sam_link *from, sam_link *to, uint64_t attempt)
+/* Carries what one end has for a connection to the other, which takes in what comes. Returns its check value. */
+static uint64_t carry_end(const int line[2], sam_link *from, sam_link *to, uint64_t attempt, uint64_t check)
 {
-    uint8_t piece[ROOM];
+    uint8_t piece[ROOM], bytes[PIECE];
     size_t count;
     for (;;) {
         WANT(sam_link_take_out(from, attempt, piece, sizeof piece, &count));
         if (count == 0)
-            return;
+            return check;
         carry_piece(line, piece, count);
-        WANT(sam_link_feed(to, attempt, piece, count));
+        WANT(sam_link_feed_into(to, attempt, piece, count, bytes, sizeof bytes, &count));
+        while (count > 0) {
+            check = check_more(check, bytes, count);
+            WANT(sam_link_take_in(to, bytes, sizeof bytes, &count));
+        }
     }
 }
 
@@ -96,9 +95,8 @@ struct report linked(uint32_t size)
     int64_t begin = nanoseconds();
     for (uint32_t i = 0; i < size / PIECE; i++) {
         WANT(sam_link_put(&terminal, text.at, PIECE));
-        carry_end(line, &terminal, &host, attempt);
-        carry_end(line, &host, &terminal, attempt);
-        found.check = take_in(&host, found.check);
+        found.check = carry_end(line, &terminal, &host, attempt, found.check);
+        (void)carry_end(line, &host, &terminal, attempt, 0);
     }
     found.took = nanoseconds() - begin;
     return found;
@@ -116,8 +114,7 @@ struct report unlinked(uint32_t size)
     for (uint32_t i = 0; i < size / PIECE; i++) {
         memcpy(piece, text.at, PIECE);
         carry_piece(line, piece, PIECE);
-        for (size_t at = 0; at < PIECE; at += SAM_LINK_MOST_NOTE)
-            found.check = mix(found.check, check_bytes(piece + at, SAM_LINK_MOST_NOTE));
+        found.check = check_more(found.check, piece, PIECE);
     }
     found.took = nanoseconds() - begin;
     return found;

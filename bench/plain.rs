@@ -76,6 +76,7 @@ fn main() {
         "handle" => handling::handled(size),
         "undo" => undo::undone(size),
         "both_ends" => both::carried(size),
+        "files" => both::opened(size),
         _ => panic!("no such job"),
     };
     println!("{job} {size} {} {}", report.took.as_nanos(), report.check);

@@ -15,6 +15,8 @@ pub enum Event {
     View(u16, u32, u32),
     Open(u16),
     Work(u16),
+    Close(u16),
+    New,
     OpenCmd,
     Version(u16),
 }
@@ -23,8 +25,17 @@ impl Event {
     fn file(&self) -> Option<u16> {
         match self {
             Event::Typed(tag, _) | Event::Select(tag, _, _) | Event::View(tag, _, _) => Some(*tag),
-            Event::Open(tag) | Event::Work(tag) => Some(*tag),
-            Event::OpenCmd | Event::Version(_) => None,
+            Event::Open(tag) | Event::Work(tag) | Event::Close(tag) => Some(*tag),
+            Event::New | Event::OpenCmd | Event::Version(_) => None,
+        }
+    }
+
+    /// Whether the event takes the command lock, and so waits for the locks of all files.
+    fn waits_for_all(&self) -> bool {
+        match self {
+            Event::Typed(tag, runes) => *tag == COMMAND_FILE && runes.last() == Some(&'\n'),
+            Event::Open(_) | Event::Close(_) | Event::New | Event::OpenCmd | Event::Version(_) => true,
+            Event::Select(..) | Event::View(..) | Event::Work(_) => false,
         }
     }
 }
@@ -61,6 +72,8 @@ pub struct Terminal {
     sent: u64,
     version: u16,
     command_lock: bool,
+    /// The locks of all files together.
+    file_locks: u64,
     exited: bool,
     current: Option<u16>,
     pattern: Vec<char>,
@@ -139,12 +152,15 @@ impl Terminal {
     /// Counts a message and takes its lock.
     fn compose(&mut self, message: Tmesg, out: &mut Vec<Tmesg>) {
         match &message {
-            Tmesg::Version(_) | Tmesg::StartCmdFile | Tmesg::StartFile(_) | Tmesg::StartNewFile => self.command_lock = true,
+            Tmesg::Version(_) | Tmesg::StartCmdFile | Tmesg::StartFile(_) | Tmesg::StartNewFile | Tmesg::Close(_) => {
+                self.command_lock = true;
+            }
             Tmesg::Type(COMMAND_FILE, _, text) if text.last() == Some(&'\n') => self.command_lock = true,
             Tmesg::Request(tag, _, _) => {
                 if let Some(window) = self.window(*tag) {
                     window.locks += 1;
                     window.awaits = true;
+                    self.file_locks += 1;
                 }
             }
             _ => {}
@@ -176,8 +192,10 @@ impl Terminal {
     /// Whether a lock holds back the oldest event, or there is none.
     fn waits(&mut self) -> bool {
         let Some(event) = self.held.front() else { return true };
-        let file = event.file();
-        self.command_lock || file.and_then(|tag| self.window(tag)).is_some_and(|window| window.locks > 0)
+        let (file, waits_for_all) = (event.file(), event.waits_for_all());
+        self.command_lock
+            || (waits_for_all && self.file_locks > 0)
+            || file.and_then(|tag| self.window(tag)).is_some_and(|window| window.locks > 0)
     }
 
     /// Does the oldest held event, unless a lock holds it back. A refused event composes nothing.
@@ -210,6 +228,11 @@ impl Terminal {
                 let (p, q) = self.window(tag).filter(|_| tag != COMMAND_FILE)?.dot;
                 Some(self.send(Tmesg::WorkFile(tag, p, q)))
             }
+            Event::Close(tag) => {
+                self.window(tag).filter(|_| tag != COMMAND_FILE)?;
+                Some(self.send(Tmesg::Close(tag)))
+            }
+            Event::New => Some(self.send(Tmesg::StartNewFile)),
             Event::OpenCmd => Some(self.send(Tmesg::StartCmdFile)),
             Event::Version(version) => (version > 0).then(|| self.send(Tmesg::Version(version))),
         }
@@ -268,7 +291,9 @@ impl Terminal {
             Hmesg::UnlockFile(tag) => {
                 let window = self.window(tag).filter(|window| window.locks > 0)?;
                 window.locks -= 1;
-                let wanted = window.wanted(tag).filter(|_| !self.exited);
+                let wanted = window.wanted(tag);
+                self.file_locks -= 1;
+                let wanted = wanted.filter(|_| !self.exited);
                 return Some(wanted.map_or_else(Vec::new, |message| self.send(message)));
             }
             Hmesg::Grow(tag, p, n) => self.grow(tag, p, n as usize)?,
@@ -321,9 +346,19 @@ impl Terminal {
             Hmesg::SetPat(pattern) => self.pattern = pattern,
             Hmesg::SetSnarf(text) => self.snarf = text,
             Hmesg::SnarfLen(length) => self.snarf_length = length,
+            Hmesg::Close(tag) => {
+                let window = self.known(tag)?.window.take()?;
+                self.file_locks -= window.locks;
+                self.unsent.take_if(|unsent| unsent.tag == tag);
+            }
+            Hmesg::DelName(tag) => {
+                self.known(tag).filter(|file| file.window.is_none())?;
+                self.files[tag as usize] = None;
+            }
             Hmesg::Exit => {
                 self.exited = true;
                 self.command_lock = false;
+                self.file_locks = 0;
                 for window in self.files.iter_mut().flatten().filter_map(|file| file.window.as_mut()) {
                     (window.locks, window.awaits) = (0, false);
                 }

@@ -229,7 +229,7 @@ typedef enum sam_step sam_step;
 /* What a step did, in full. A field that its step doesn't say is 0, and so is the tag where the message, frame or event names no file. */
 struct sam_did {
     uint64_t event; /* the event's number, counted from 1 over all event calls that were taken */
-    size_t count;   /* how many messages the host took: 1 for SAM_STEP_ANSWERED, 2 or more for SAM_STEP_EDITED */
+    size_t count;   /* how many messages the host took: 1 for SAM_STEP_ANSWERED, 1 or more for SAM_STEP_EDITED */
     sam_step step;
     sam_status why; /* why the event was refused: SAM_REFUSAL.. */
     uint32_t start; /* the change: in the old text `gone` runes or gaps from this place on gave way to `came` of the new one */
@@ -321,6 +321,10 @@ SAM_MUST_USE sam_status sam_host_step(sam_host *host, sam_did *did);
  * SAM_NO_HANDLE, why the host has stopped before (SAM_STREAM.., SAM_HOST_REFUSED..), SAM_UNFINISHED if some of what came still
  * waits for memory, or SAM_TRUNCATED if the stream ends inside a message. */
 SAM_MUST_USE sam_status sam_host_finish(sam_host *host);
+
+/* How many bytes of the terminal's stream stand before the frame that is wrong, where the host has stopped for a fault of the stream
+ * (SAM_STREAM..). SAM_NONE if it goes on, or has stopped at a message that it refused. */
+SAM_MUST_USE sam_status sam_host_fault_place(sam_host *host, uint64_t *place);
 
 /* How many bytes are pending. */
 SAM_MUST_USE sam_status sam_host_pending(sam_host *host, size_t *len);
@@ -421,6 +425,10 @@ SAM_MUST_USE sam_status sam_term_step(sam_term *term, sam_did *did);
  * SAM_NO_HANDLE, why the terminal has stopped before (SAM_STREAM.., SAM_TERM_REFUSED..), SAM_UNFINISHED if some of what came or was
  * composed still waits for memory, or SAM_TRUNCATED if the stream ends inside a frame. sam_term_held has the events that wait. */
 SAM_MUST_USE sam_status sam_term_finish(sam_term *term);
+
+/* How many bytes of the host's stream stand before the frame that is wrong, where the terminal has stopped for a fault of the stream
+ * (SAM_STREAM..). SAM_NONE if it goes on, or has stopped since it refused. */
+SAM_MUST_USE sam_status sam_term_fault_place(sam_term *term, uint64_t *place);
 
 /* How many bytes are pending. */
 SAM_MUST_USE sam_status sam_term_pending(sam_term *term, size_t *len);
@@ -648,6 +656,16 @@ SAM_MUST_USE sam_status sam_term_place(sam_term *term, uint16_t tag, uint32_t st
  * at, and not by those before it. */
 SAM_MUST_USE sam_status sam_term_line(sam_term *term, uint16_t tag, uint32_t start, uint32_t lines, uint32_t *place);
 
+/* The place where the line of an open file begins that is that many lines before the line of the place `start`; for 0 of them that line
+ * itself. SAM_NONE also if a gap comes before that place, read backwards, if there are fewer lines, or if `start` is after the end of the
+ * text. It costs by the runes back to that place. */
+SAM_MUST_USE sam_status sam_term_line_before(sam_term *term, uint16_t tag, uint32_t start, uint32_t lines, uint32_t *place);
+
+/* How many of the loaded runes of an open file from the place `start` to the place `end` are line ends (U+000A), and how many of its runes
+ * there are not loaded. What is after the end of the text counts as nothing, and so does all if `end` is not after `start`. So a place
+ * before which all is loaded stands in line 1 plus the line ends from 0 to it. */
+SAM_MUST_USE sam_status sam_term_lines(sam_term *term, uint16_t tag, uint32_t start, uint32_t end, uint32_t *lines, uint32_t *gaps);
+
 /* What changed in an open file since this was asked of it last: in the old text `gone` runes or gaps from the place `start` on gave way to
  * `came` of the new one, and all else is as it was. It is the smallest such stretch that holds what each frame and each event of the user
  * touched by itself; gone and came are both 0 if none did. Loading touches what is loaded: gone and came are the same there. On the
@@ -693,7 +711,7 @@ SAM_MUST_USE sam_status sam_term_snarf_len(sam_term *term, uint32_t *runes);
  *     sam_link_take_in(&link, ..)                     what of it is for the program, and sam_link_next_note the notes
  *
  * A count of a stream counts all its bytes, those of heads too. A piece, a note and an answer are taken whole or not at all. Of these
- * calls sam_link_new, _put, _put_note, _ask, _acknowledge and _feed take memory, the others none. */
+ * calls sam_link_new, _put, _put_note, _ask, _acknowledge, _feed and _feed_into take memory, the others none. */
 
 /* The side of an end. */
 enum sam_link_role { SAM_LINK_TERMINAL = 0, SAM_LINK_HOST = 1 };
@@ -786,6 +804,13 @@ SAM_MUST_USE sam_status sam_link_take_out(sam_link *link, uint64_t attempt, uint
  * has none, but acknowledges what this connection wasn't given, SAM_LINK_ACK_AHEAD: then this connection is over, and nothing else has
  * changed. */
 SAM_MUST_USE sam_status sam_link_feed(sam_link *link, uint64_t attempt, const uint8_t *bytes, size_t len);
+
+/* Takes bytes that came as sam_link_feed does, and then moves bytes into the buffer as sam_link_take_in does, again and again, until that
+ * hands out 0. Hands out how many it moved: if they fill the buffer, more may wait for sam_link_take_in. The buffer may not overlap the
+ * bytes that came. Where nothing is left of earlier pieces, no note and no part of a packet, they are copied once instead of twice. Refused
+ * as sam_link_feed is. */
+SAM_MUST_USE sam_status sam_link_feed_into(sam_link *link, uint64_t attempt, const uint8_t *bytes, size_t len, uint8_t *into, size_t room,
+                                           size_t *count);
 
 /* Moves the next bytes of the other side's program into the buffer, as many as one packet has left and have room, and hands out how many:
  * call it until it hands out 0, where a note is next, or nothing. */

@@ -11,6 +11,7 @@ from pathlib import Path
 
 SECONDS = 20  # how long something may take; on a busy machine `wait_until` waits longer
 MOST_TIMES = 5
+GIVEN_UP = 100  # seconds after which what doesn't end counts as hanging, however busy the machine is
 ROOT = Path(__file__).resolve().parent.parent
 LIBRARY = Path(os.environ.get("SAM_LIBRARY") or ROOT / "out" / "libsulgrevad.so").resolve()
 SAMHOST = Path(os.environ.get("SAMHOST") or ROOT / "out" / "samhost").resolve()
@@ -59,6 +60,18 @@ def times_longer():
     while time.process_time() - processor < 0.3:
         pass
     return max(1, min(MOST_TIMES, (time.monotonic() - clock) / (time.process_time() - processor)))
+
+
+def times_slower():
+    """How many times more of the processor a piece of work takes now, beside the work of others, than at its quickest: once where the
+    machine is quiet."""
+    pieces = []
+    for _ in range(200):
+        start = time.process_time()
+        sum(range(50_000))
+        pieces.append(time.process_time() - start)
+    pieces.sort()
+    return max(1, min(MOST_TIMES, pieces[len(pieces) // 2] / pieces[0]))
 
 
 def wait_until(holds, told, seconds=None):

@@ -138,12 +138,15 @@
   "That the host has not written FILE is said, and not that it has."
   (write-region "another's\n" nil file nil 'silent)
   (let ((words (said #'sulgrevad-save)))
-    (check "that another program changed a file is said" (string-search "another program changed it" (or (car words) "")) words)
+    (check "that another program changed a file is said"
+           (cl-some (lambda (one) (string-search "another program changed it" one)) words)
+           words)
     (check "and not that it is written" (not (cl-some (lambda (one) (string-search "has written" one)) words)) words))
   (check "it is as it was" (equal (disk file) "another's\n") (disk file))
   (check "the buffer is known as changed" (buffer-modified-p))
   (check "who leaves is asked" (asked nil (sulgrevad-quit)))
-  (check "the next write is said" (string-search "has written" (or (car (said #'sulgrevad-save)) "")))
+  (let ((words (said #'sulgrevad-save)))
+    (check "the next write is said" (cl-some (lambda (one) (string-search "has written" one)) words) words))
   (check "the disk has it" (equal (disk file) (sulgrevad--text)) (disk file)))
 
 (defun check-beginning (host file)

@@ -14,8 +14,13 @@ class Missing(Exception):
 
 
 def cells_of(line):
-    """The cells of a line of a table."""
-    return [cell.strip() for cell in re.split(r"(?<!\\)\|", line.strip())[1:-1]]
+    """The cells of a line of a table: a bar before the first or after the last parts nothing."""
+    return [cell.strip() for cell in re.split(r"(?<!\\)\|", re.sub(r"^\||(?<!\\)\|$", "", line.strip()))]
+
+
+def is_rule(line):
+    """Whether the line is the second one of a table."""
+    return "|" in line and not line.strip("|- ")
 
 
 class Page:
@@ -25,7 +30,7 @@ class Page:
         self.name = path.relative_to(TOP)
         self.text = path.read_text(encoding="utf-8")
         self.tables = {}
-        heading, is_fenced, table = None, False, None
+        heading, is_fenced, table, before = None, False, None, ""
         for line in self.text.splitlines():
             if line.startswith("```"):
                 is_fenced = not is_fenced
@@ -33,13 +38,15 @@ class Page:
                 continue
             elif line.startswith("#"):
                 heading, table = line.lstrip("#").strip(), None
-            elif line.startswith("|"):
-                if table is None:
-                    table = []
-                    self.tables.setdefault(heading, []).append(table)
-                table.append(cells_of(line))
+            elif is_rule(line):
+                table = [cells_of(before), cells_of(line)]
+                self.tables.setdefault(heading, []).append(table)
+            elif table is not None and line:
+                row = cells_of(line)
+                table.append(row + [""] * (len(table[0]) - len(row)))
             else:
                 table = None
+            before = line
 
     def rows(self, heading, first):
         """The rows of the table below the heading whose first column has this title."""

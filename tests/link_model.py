@@ -351,6 +351,13 @@ class Link:
             except CountFull:
                 pass  # it is left out
 
+    def feed_into(self, attempt: int, data: bytes, most: int = 65_536) -> bytes:
+        self.feed(attempt, data)
+        out = b""
+        while more := self.take_in(most - len(out)):
+            out += more
+        return out
+
     def take_in(self, most: int = 65_536) -> bytes:
         self._open()
         if most == 0 or not self._items or self._items[0][0] != DATA:

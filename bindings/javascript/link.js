@@ -1,5 +1,5 @@
 /* One end of a link, and hellos. */
-import { Held, PREFIX, ifAny, make, makeOfBytes, one } from "./held.js";
+import { Held, PREFIX, ifAny, isFreed, make, makeOfBytes, one } from "./held.js";
 import { PIECE, bytesOut, call, least, lend, long, part, result, size, space, u32, u64 } from "./module.js";
 import { Status, errorOf } from "./status.js";
 
@@ -108,6 +108,15 @@ export class Link extends Held {
 
   feed(attempt, bytes) {
     makeOfBytes(this, "feed", [size(attempt)], bytesIn(bytes));
+  }
+
+  feedInto(attempt, bytes, most = PIECE) {
+    const room = new Uint8Array(least(most, PIECE));
+    return lend([bytesIn(bytes), room], (places) => {
+      if (places === null) throw errorOf(isFreed(this) ? Status.NO_HANDLE : Status.NO_MEMORY);
+      make(this, "feed_into", size(attempt), places[0], BigInt(bytes.length), places[1], BigInt(room.length), result(0));
+      return part(places[1], u64(0)).slice();
+    });
   }
 
   takeIn(most = MOST_BODY) {

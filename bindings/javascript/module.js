@@ -6,20 +6,21 @@ const LARGEST = 2 ** 32 - 1;
 
 export const PIECE = 65536; // bytes of a text that are moved at a time
 
-async function read() {
+/** Compiles the module as it comes; where a server gives it another type, which that doesn't take, once all of it is there. */
+async function instantiate() {
   if (PLACE.protocol === "file:") {
     const files = "node:fs/promises"; // not a constant of the import, so that no packer looks for it
-    return (await import(/* @vite-ignore */ files)).readFile(PLACE);
+    return WebAssembly.instantiate(await (await import(/* @vite-ignore */ files)).readFile(PLACE), {});
   }
   const answer = await fetch(PLACE);
   if (!answer.ok) throw new Error(`${PLACE} can't be read: ${answer.status}`);
-  return answer.arrayBuffer();
+  const isStreamed = answer.headers.get("Content-Type") === "application/wasm";
+  return isStreamed ? WebAssembly.instantiateStreaming(answer, {}) : WebAssembly.instantiate(await answer.arrayBuffer(), {});
 }
 
 async function load() {
-  const bytes = await read();
   try {
-    return (await WebAssembly.instantiate(bytes, {})).instance.exports;
+    return (await instantiate()).instance.exports;
   } catch (error) {
     if (!(error instanceof WebAssembly.CompileError)) throw error;
     throw new Error("this engine has no WebAssembly with a memory of 64 bits", { cause: error });

@@ -64,6 +64,10 @@ class Side extends Held {
     make(this, "finish");
   }
 
+  get faultPlace() {
+    return ifAny(() => one(this, "fault_place", u64));
+  }
+
   get pending() {
     return one(this, "pending", u64);
   }
@@ -308,6 +312,15 @@ export class Terminal extends Side {
 
   line(tag, start, lines) {
     return ifAny(() => one(this, "line", u32, short(tag), long(start), long(lines)));
+  }
+
+  lineBefore(tag, start, lines) {
+    return ifAny(() => one(this, "line_before", u32, short(tag), long(start), long(lines)));
+  }
+
+  lines(tag, start, end) {
+    make(this, "lines", short(tag), long(start), long(end), result(0), result(1));
+    return { lines: u32(0), gaps: u32(1) };
   }
 
   changed(tag) {

@@ -135,6 +135,9 @@ declare class Side extends Held {
   /** Asks whether the other side's stream may end here. It changes nothing. Throws StreamFault with the code TRUNCATED if it ends inside a
    * message or frame, Unfinished if some of what came still waits for memory, or why this side has stopped before. */
   finish(): void;
+  /** How many bytes of the other side's stream stand before the frame that is wrong, where this side has stopped by StreamFault; null if it
+   * goes on, or has stopped since it refused. */
+  readonly faultPlace: number | null;
   /** How many bytes are pending for the other side. */
   readonly pending: number;
   /** Moves out the pending bytes, all or the first `most`. */
@@ -324,6 +327,12 @@ export declare class Terminal extends Side {
   place(tag: number, start: number, bytes: number): number;
   /** The place after so many line ends from a place on; null if a gap or the end comes before, or the file isn't open. */
   line(tag: number, start: number, lines: number): number | null;
+  /** Where the line of an open file begins that is so many lines before that of a place, 0 for that line itself; null if a gap comes before
+   * it, there are fewer lines, the place is after the end, or it isn't open. */
+  lineBefore(tag: number, start: number, lines: number): number | null;
+  /** How many of the loaded runes of an open file from a place to a place are line ends, and how many of its runes there are not loaded.
+   * Throws Missing. */
+  lines(tag: number, start: number, end: number): { lines: number; gaps: number };
   /** What changed in an open file since this was asked of it last. Throws Missing, and the first time NoMemory. */
   changed(tag: number): Change;
   /** The first place, there or after it, whose rune is not loaded; null if there is none, or the file isn't open. */
@@ -386,7 +395,7 @@ export declare function writeRefusal(status: number, bytes: Uint8Array): Uint8Ar
  *     link.takeIn();                        what of it is for the program, until it has no bytes; then nextNote()
  *
  * A put, a note, a piece and a hello are taken whole or not at all: where a call throws nothing has changed, but that after LINK_BAD_KIND,
- * LINK_BAD_LENGTH and LINK_ACK_AHEAD of `feed` the connection is over. */
+ * LINK_BAD_LENGTH and LINK_ACK_AHEAD of `feed` and `feedInto` the connection is over. */
 export declare class Link extends Held {
   static readonly TERMINAL: 0;
   static readonly HOST: 1;
@@ -431,6 +440,9 @@ export declare class Link extends Held {
    * for a wrong packet, LINK_BAD_KIND or LINK_BAD_LENGTH, and if there is none, for bytes that are acknowledged and did not go,
    * LINK_ACK_AHEAD: the connection is then over. */
   feed(attempt: number, bytes: Uint8Array): void;
+  /** Takes bytes that came as `feed` does, and returns the next bytes of the other side's program, at most so many, never more than 65,536,
+   * and none behind a note: `takeIn` has those after them. Throws what `feed` throws. */
+  feedInto(attempt: number, bytes: Uint8Array, most?: number): Uint8Array;
   /** The next bytes of the other side's program, at most so many and of one packet: call it until it returns none, where a note is next, or
    * nothing. */
   takeIn(most?: number): Uint8Array;

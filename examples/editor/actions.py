@@ -39,17 +39,17 @@ class Actions(Commands, Moves):
     def _typed_at_once(self, window: Window, runes: str) -> int:
         """How many of typed runes act as one. They do what they do where they come one by one: a newline is a key of its own, and ends a
         step of undo; and so does so much text."""
-        if runes.startswith("\n") or (runes.startswith("\t") and window.targets.are_lines_selected()):
+        if runes.startswith("\n") or (runes.startswith("\t") and window.targets.may_indent()):
             return 1
         return min(len(runes.partition("\n")[0]), self.log.room(window.tag, *window.dot))
 
     def _type_in_file(self, window: Window, runes: str, is_paste: bool) -> None:
         start, end = window.dot
+        if runes == "\t" and not is_paste and window.targets.may_indent():
+            self._indent("\t")
+            return
         self.texts.left = runes
         if not self._may_go(window, "the same key again"):
-            return
-        if runes == "\t" and not is_paste and window.targets.are_lines_selected():
-            self._indent("\t")
             return
         if runes == "\n" and not is_paste and self.indents and start == end:
             runes += window.targets.indentation()
@@ -242,7 +242,7 @@ class Actions(Commands, Moves):
         if self.way.is_late or is_short:
             self._paste_here()
         elif self._has_room(len(self._snarfed)) and self._goes("^V"):
-            self.log.comes = self._snarfed
+            self.log.comes[self.focus.tag] = self._snarfed
             self.texts.paste(self.focus.tag)
             if self.terminal.locked(self.focus.tag):
                 self._pasting.add(self.focus.tag)
@@ -319,7 +319,10 @@ class Actions(Commands, Moves):
     def _indent(self, came: str) -> None:
         """Puts a tab before each selected line; or takes out one, or as many blanks."""
         window = self.focus
-        lines = window.targets.selected_lines()
+        lines, lacking = window.targets.selected_lines(), window.targets.lacking()
+        if lacking or not lines:
+            self.message = f"nothing is indented: {lacking:,} characters of the selection are not loaded. Select less"
+            return
         blanks = [0 if came else window.targets.indent_of(line) for line in lines]
         if not self._has_room(window.dot[1] - window.dot[0] + len(came) * len(lines)):
             return

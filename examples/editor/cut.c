@@ -42,15 +42,20 @@ static uint32_t count_runes(const struct text *text)
     return runes;
 }
 
-/* Takes what the host's snarf buffer has. */
-static void take_snarf(struct session *session, struct text *text)
+/* Takes what the host's snarf buffer has, where that is not taken yet. */
+static const struct text *take_snarf(struct session *session)
 {
+    struct text *text = &session->cut.snarf;
     size_t bytes = 0;
     uint32_t runes = 1, place = 0;
 
+    if (!session->cut.is_stale)
+        return text;
+    session->cut.is_stale = false;
     for (text->len = 0; runes > 0; text->len += bytes, place += runes)
         if (sam_host_snarf(&session->host, place, text->bytes + text->len, MOST_BYTES - text->len, &bytes, &runes) != SAM_OK)
-            return;
+            break;
+    return text;
 }
 
 void note_paste(struct session *session, uint16_t tag)
@@ -60,10 +65,11 @@ void note_paste(struct session *session, uint16_t tag)
 
     if (tag == 0 || tag != session->vault || cut->is_moved)
         return;
-    if (sam_host_len(&session->host, tag, &len) != SAM_OK || len + count_runes(&cut->snarf) > MOST_RUNES)
+    const struct text *snarf = take_snarf(session);
+    if (sam_host_len(&session->host, tag, &len) != SAM_OK || len + count_runes(snarf) > MOST_RUNES)
         return;
-    memcpy(cut->moved.bytes, cut->snarf.bytes, cut->snarf.len);
-    cut->moved.len = cut->snarf.len;
+    memcpy(cut->moved.bytes, snarf->bytes, snarf->len);
+    cut->moved.len = snarf->len;
     cut->is_moved = true;
 }
 
@@ -71,8 +77,7 @@ void note_snarf(struct session *session, uint8_t kind, uint16_t tag)
 {
     struct cut *cut = &session->cut;
 
-    if (kind == KIND_SNARF || kind == KIND_SET_SNARF)
-        take_snarf(session, &cut->snarf);
+    cut->is_stale |= kind == KIND_SNARF || kind == KIND_SET_SNARF;
     if (kind == KIND_SET_SNARF || (kind == KIND_CUT && tag != 0 && tag == session->vault))
         cut->is_moved = false;
 }
@@ -80,9 +85,9 @@ void note_snarf(struct session *session, uint8_t kind, uint16_t tag)
 /* ---- Saving ---- */
 
 /* What the user has cut or copied last. */
-static const struct text *text_of(const struct cut *cut)
+static const struct text *text_of(struct session *session)
 {
-    return cut->is_moved ? &cut->moved : &cut->snarf;
+    return session->cut.is_moved ? &session->cut.moved : take_snarf(session);
 }
 
 /* Whether a text stands in another. */
@@ -123,7 +128,7 @@ static int secure_cut(struct session *session)
 {
     struct cut *cut = &session->cut;
     struct copy *aside = &cut->aside, copy;
-    const struct text *text = text_of(cut);
+    const struct text *text = text_of(session);
 
     if (text->len == 0 || stands_in_a_file(session, text)) {
         drop_copy(aside);
@@ -154,7 +159,7 @@ bool save_cut(struct session *session, bool is_alone)
     const struct copy *aside = &session->cut.aside;
     int error, tries = 0;
 
-    if (is_alone && is_seen_to(aside, text_of(&session->cut)))
+    if (is_alone && is_seen_to(aside, text_of(session)))
         return true;
     do
         error = secure_cut(session);

@@ -1,9 +1,11 @@
 """The editor: what comes from the host, and the keys that act. Windows stand in desk.py, keys that wait in waiting.py, and what a key does
 in actions.py."""
 import time
+from collections import deque
 from typing import Callable, Iterable, List, Optional, Sequence, Set, Tuple
 
 from actions import TOO_LONG, Actions
+from colours import Colours
 from desk import Desk
 from joining import Joining
 from keeping import Keeping, shown_name
@@ -63,8 +65,10 @@ class Editor(Desk, Waiting, Actions):
         told = {CLEAN: self._meet_clean, CLOSE: self._meet_close, MOVETO: self._meet_move, SETDOT: self._meet_dot}
         told.update({NEWNAME: self._meet_name, DELNAME: self._meet_name})
         settled = {UNLOCK: self._meet_unlock, UNLOCKFILE: self._meet_pasted}
+        self.colours = Colours(self.name)
         self.stream = Stream(terminal, self.texts, told, settled)
-        self.texts.listeners = [self.log.hear, self.numbers.hear, self.keeping.hear_changes, self.hear_changes, self.hear_run]
+        hear = self.log.hear, self.numbers.hear, self.keeping.hear_changes, self.hear_changes, self.hear_run, self.colours.hear
+        self.texts.listeners = [*hear]
         self._known: Optional[List[int]] = None  # all files, since thousands take long to ask for; None where some came or went
         self.pointer, self.menu, self.help = Pointer(self), None, None  # the help lies over all else
         self.is_lost = self.is_leaving = self.is_over = self.has_begun = False
@@ -75,6 +79,8 @@ class Editor(Desk, Waiting, Actions):
         self._awaits_file = False  # the host makes a file or closes one
         self._acting: Input = Key("")  # the key that acts now, and the one that made it ask
         self._asked_by: Input = Key("")
+        self._asked_in, self._asked_at = self.focus, 0.0  # in which window, and when the key was pressed that made it ask
+        self._acts_since = 0.0  # when the key was pressed that acts now
         self._again: Optional[Input] = None  # the key that acts again once the host has answered
         self._is_again = False  # whether the key that acts does so again
         self._sought_above: Optional[Tuple[int, int]] = None  # from where a search above goes on, and how much it loads next
@@ -166,8 +172,12 @@ class Editor(Desk, Waiting, Actions):
 
     def give_back_typed(self, why: str) -> None:
         """What was typed for a file that doesn't come is put in nowhere: `^V` has it, or else a file here."""
-        typed = self.typed_ahead
-        self.deferred.clear()
+        typed = self.typed_in(None)
+        self.deferred = deque(pressed for pressed in self.deferred if pressed.window is not None)
+        self.give_back(typed, why)
+
+    def give_back(self, typed: str, why: str) -> None:
+        """Tells of it; and has `^V` have what was typed, or a file here."""
         if typed and self.cut_text:
             why += f"; {self.keeping.keep_typed(typed)}"
         elif typed:
@@ -188,7 +198,7 @@ class Editor(Desk, Waiting, Actions):
         self._known = None
 
     def _meet_close(self, tag: int) -> None:
-        for memory in (self.log, self.numbers, self.keeping, self.left, self.reloading):
+        for memory in (self.log, self.numbers, self.keeping, self.left, self.reloading, self.colours):
             memory.drop(tag)
         self._pasting.discard(tag)
 
@@ -241,6 +251,9 @@ class Editor(Desk, Waiting, Actions):
         for window in gone:
             self.drop(window)
             del self.all_windows[window.tag]
+        for window in {pressed.window for pressed in self.deferred} - {None, self.command}:
+            if window.tag not in known:
+                self.let_go_of(window)
         current = self.terminal.current
         if current in known and current not in self.all_windows:  # it was made; command lines work on a file that had a window
             self.show(current)
@@ -304,6 +317,8 @@ class Editor(Desk, Waiting, Actions):
         is_busy, rests = self.is_busy, self.rests
         for window in self.windows:
             window.update(is_busy, rests)
+        if rests:
+            self.colours.rest(self.windows)
 
     def wakes_in(self) -> Optional[float]:
         """Seconds until something is to be done though nothing comes; None where that has no end. A time that has come since the last
@@ -311,8 +326,7 @@ class Editor(Desk, Waiting, Actions):
         waits = [self.way.seconds, self.keeping.seconds_until_here, self.joining.seconds, *(when - self.clock() for when in self._asks_at)]
         if not self.is_lost:
             waits.append(self.way.seconds_of_silence)
-        if self.deferred and self.deferred[0].answers:
-            waits.append(self.deferred[0].when + REPEAT - self.clock())
+        waits += [pressed.when + REPEAT - self.clock() for pressed in self.deferred if pressed.answers]
         if self._leaves_at is not None:
             waits.append(self._leaves_at - self.clock())
         return min((max(0.0, wait) for wait in waits if wait is not None), default=None)
@@ -324,19 +338,20 @@ class Editor(Desk, Waiting, Actions):
 
     def _act(self, pressed: Pressed) -> None:
         """Does what a key says. A question is over then: the key answers it, or takes it back."""
-        key = pressed.key
-        self.notes.take(pressed.has_read)
-        if self.is_lost and not self._is_for_menu(key) and not reads(key):
+        key, is_for_menu = pressed.key, pressed.window is None and self._is_for_menu(pressed.key)
+        if not self.notes.question or pressed.when >= self._asked_at:  # else the key came before that was asked
+            self.notes.take(pressed.has_read)
+        if self.is_lost and not is_for_menu and not reads(key):
             self.take_late([key])
             self.message = self._why_not(key)
             return
-        self._answered, self._acting, self._is_again = pressed.answers, key, pressed.is_again
+        self._answered, self._acting, self._acts_since, self._is_again = pressed.answers, key, pressed.when, pressed.is_again
         self.texts.left = ""
         try:
-            if self._is_for_menu(key):
+            if is_for_menu:
                 self._act_in_menu(pressed)
             elif isinstance(key, Mouse):
-                self.pointer.take(key)
+                self.pointer.take(key, pressed.window or self.focus)
             elif isinstance(key, (Text, Paste)):
                 self.type(pressed)
             else:
@@ -352,7 +367,7 @@ class Editor(Desk, Waiting, Actions):
             raise
         self._answered = ""
         if self._again is not None:
-            self.deferred.appendleft(pressed._replace(key=self._again, answers="", has_read=False, is_again=True))
+            self._put_back(pressed._replace(key=self._again, answers="", has_read=False, is_again=True))
             self._again = None
 
     def _why_not(self, key: Input) -> str:
@@ -394,7 +409,7 @@ class Editor(Desk, Waiting, Actions):
             if menu.is_over and self.menu is menu:
                 self.menu = None
         if goes_on:
-            self.deferred.appendleft(pressed)
+            self._put_back(pressed)
 
     def _act_in_help(self, pressed: Pressed) -> Optional[Input]:
         """What is pressed over the help. Returns what of it is for the windows."""
@@ -410,7 +425,7 @@ class Editor(Desk, Waiting, Actions):
         return rest
 
     def _ask(self, question: str, key: Input) -> None:
-        self._asked_by = last_of(key)
+        self._asked_by, self._asked_in, self._asked_at = last_of(key), self.focus, self._acts_since
         self.notes.ask(question)
 
     def say_leaving(self) -> None:

@@ -33,26 +33,40 @@ enum {
 
 /* ---- Sums ---- */
 
-static uint32_t sum_table[256];
+enum { AT_ONCE = 8 }; /* bytes that a step of the sum takes */
 
-static void make_table(void)
+/* What a byte makes of the sum, with so many zeros behind it. */
+static uint32_t sum_tables[AT_ONCE][256];
+
+static void make_tables(void)
 {
     for (uint32_t byte = 0; byte < 256; byte++) {
         uint32_t sum = byte;
         for (int bit = 0; bit < 8; bit++)
             sum = sum >> 1 ^ ((sum & 1) != 0 ? POLYNOMIAL : 0);
-        sum_table[byte] = sum;
+        sum_tables[0][byte] = sum;
+    }
+    for (int zeros = 1; zeros < AT_ONCE; zeros++) {
+        for (uint32_t byte = 0; byte < 256; byte++) {
+            uint32_t before = sum_tables[zeros - 1][byte];
+            sum_tables[zeros][byte] = before >> 8 ^ sum_tables[0][before & 0xFF];
+        }
     }
 }
 
 /* CRC-32C of bytes behind others, whose sum is given; 0 where there are none. */
 static uint32_t sum_of(uint32_t sum, const uint8_t *bytes, size_t len)
 {
-    if (sum_table[1] == 0)
-        make_table();
+    if (sum_tables[0][1] == 0)
+        make_tables();
     sum = ~sum;
+    for (; len >= AT_ONCE; bytes += AT_ONCE, len -= AT_ONCE) {
+        uint32_t low = sum ^ ((uint32_t)bytes[0] | (uint32_t)bytes[1] << 8 | (uint32_t)bytes[2] << 16 | (uint32_t)bytes[3] << 24);
+        sum = sum_tables[7][low & 0xFF] ^ sum_tables[6][low >> 8 & 0xFF] ^ sum_tables[5][low >> 16 & 0xFF] ^ sum_tables[4][low >> 24] ^
+              sum_tables[3][bytes[4]] ^ sum_tables[2][bytes[5]] ^ sum_tables[1][bytes[6]] ^ sum_tables[0][bytes[7]];
+    }
     for (size_t at = 0; at < len; at++)
-        sum = sum >> 8 ^ sum_table[(sum ^ bytes[at]) & 0xFF];
+        sum = sum >> 8 ^ sum_tables[0][(sum ^ bytes[at]) & 0xFF];
     return ~sum;
 }
 

@@ -1,11 +1,9 @@
 """What became of the texts: which could not be written, which the host has saved aside, and which have to be written here."""
-import contextlib
-import os
-import threading
 from collections import Counter
 from typing import Dict, List, Optional, Set, Tuple
 
 import rescue
+from copies import Copies
 from notes import Said, printable
 from texts import GAP, Change
 
@@ -36,9 +34,8 @@ class Keeping:
         self._saved: Dict[int, int] = {}  # how many of them are in what the host has saved aside
         self._dropped: Dict[int, Tuple[str, str]] = {}  # names and texts of files that were dropped with open eyes, until they are saved
         self.put_off: List[int] = []  # files that are written when the line is back
-        self._here: Dict[Tuple[Optional[int], str], str] = {}  # what was written here while the line was lost: the path, by tag and name
+        self._copies = Copies()  # what was written here while the line was lost
         self._here_at: Optional[float] = None  # when
-        self._writer: Optional[threading.Thread] = None  # that writes them: no key waits for the disk
 
     def name(self, tag: int) -> str:
         return self.terminal.name(tag) or f"unnamed-{tag}"
@@ -124,9 +121,9 @@ class Keeping:
             tag, (name, text) = next(iter(self._dropped.items()))
             lines.append(self._kept(name, text, tag))
             del self._dropped[tag]
-        waiting = self.editor.typed_ahead
+        waiting = self._typed_ahead()
         for tag in filter(self.terminal.is_open, self.editor.tags):
-            more = f"\n[typed, and not put in yet:]\n{waiting}" if waiting and tag == self.editor.active.tag else ""
+            more = f"\n[typed, and not put in yet:]\n{waiting[tag]}" if tag in waiting else ""
             is_saved = has_all and (has_ended_well or self._saved.get(tag) == self._changes[tag])
             if more or (self.editor.is_changed(tag) and not is_saved):
                 try:
@@ -137,12 +134,21 @@ class Keeping:
                     lines.append(f"the text of {self.name(tag)} is lost: {error}")
                     continue
                 self._saved[tag] = self._changes[tag]
-                waiting = "" if more else waiting
+                waiting.pop(tag, None)
         begun = "" if has_ended_well else self.editor.begun_line()
-        lines += [self._kept(name, text) for name, text in (("typed", waiting), ("command", begun)) if text]
+        lines += [self._kept(name, text) for name, text in (("typed", "".join(waiting.values())), ("command", begun)) if text]
         lines += self._kept_cut(has_all and self.is_cut_saved)
-        self.drop_here()
+        self._copies.drop()
         return lines
+
+    def _typed_ahead(self) -> Dict[int, str]:
+        """What was typed in each file and still waits. What may go to any is told with the file that was used last."""
+        editor, typed = self.editor, {}
+        for window in (None, *editor.all_windows.values()):
+            if text := editor.typed_in(window):
+                tag = (window or editor.active).tag
+                typed[tag] = typed.get(tag, "") + text
+        return typed
 
     # ---- While the line is lost
 
@@ -160,11 +166,10 @@ class Keeping:
         way, left = self.editor.way, self.seconds_until_here
         if left is not None and left <= 0:
             self._here_at = self.editor.clock()
-            if self._writer is None or not self._writer.is_alive():
-                self._keep_all_here()
+            self._keep_all_here()
         elif left is None and self._here_at is not None and way.has_all:
             self._here_at = None
-            self.drop_here()
+            self._copies.drop()
         for tag in [] if way.is_late else list(self.put_off):
             if not self.terminal.is_open(tag):
                 self.put_off.remove(tag)
@@ -181,38 +186,7 @@ class Keeping:
                  for tag in filter(self.terminal.is_open, editor.tags) if editor.is_changed(tag)]  # fmt: skip
         texts += [(None, "typed", lambda: editor.typed_ahead), (None, "command", editor.begun_line)]
         texts.append((None, "cut", lambda: rescue.told(editor.cut_text)))
-        found = []
-        for tag, name, text_of in texts:
-            with contextlib.suppress(Exception):  # it is tried again, and at the end it is told
-                found.append(((tag, name), text_of()))
-        self._writer = threading.Thread(target=self._write_here, args=(found,))
-        try:
-            self._writer.start()
-        except RuntimeError:  # there can be no more threads
-            self._writer = None
-            self._write_here(found)
-
-    def _write_here(self, texts: List[Tuple[Tuple[Optional[int], str], str]]) -> None:
-        for which, text in texts:
-            with contextlib.suppress(Exception):
-                path = self._here.get(which)
-                if path is not None:
-                    rescue.write_again(path, text)
-                elif text and (path := rescue.keep(which[1], text)) is not None:
-                    self._here[which] = path
-
-    def _finish_writing_here(self) -> None:
-        if self._writer is not None:
-            self._writer.join()
-            self._writer = None
-
-    def drop_here(self) -> None:
-        """What was written here while the line was lost goes."""
-        self._finish_writing_here()
-        while self._here:
-            _, path = self._here.popitem()
-            with contextlib.suppress(OSError):
-                os.unlink(path)
+        self._copies.write([((tag, name), text_of) for tag, name, text_of in texts])
 
     def _kept_cut(self, is_saved: bool) -> List[str]:
         """The same of what was cut, unless the host has told that it has saved all of that."""
@@ -235,8 +209,7 @@ class Keeping:
         return [self._kept("typed", text)] if text else []
 
     def _kept(self, name: str, text: str, tag: Optional[int] = None) -> str:
-        self._finish_writing_here()
-        path = self._here.pop((tag, name), None)
+        path = self._copies.take((tag, name))
         try:
             path = rescue.keep(name, text) if path is None else rescue.write_again(path, text)
         except Exception:  # out of memory, say: the other texts are written

@@ -11,6 +11,13 @@ ANSWERS = "answers"  # until no answer of the host is due: what is on the way ma
 
 ROWS = "rows"  # what an action needs that goes by all that is shown
 
+# Among which keys that wait an action keeps its order.
+FREE = "free"  # none: it changes no file and no place, and says alone where the keys after it go
+FILE = "file"  # those of the same file
+ALL = "all"  # all: it goes by several files, or by how the screen is shared
+
+CLIPBOARD, PATTERN = "clipboard", "pattern"  # what keys of several files share
+
 
 class Binding(NamedTuple):
     """Keys with one action (a method of `Actions` or of a menu), what the help window says of them, and all that is known of the action.
@@ -25,40 +32,42 @@ class Binding(NamedTuple):
     extends: bool = False  # with Shift it selects
     leads: bool = False  # keys go elsewhere after it
     asks: bool = False  # the host has to answer before other keys act, so it doesn't act while the line is lost
+    order: str = FILE
+    shares: str = ""  # CLIPBOARD or PATTERN: it keeps its order among the keys of all files that share this
 
 
 BINDINGS = (
     Binding(("F1", "^G"), "help", "shows these keys; arrows scroll, any other key goes back", NOTHING, reads=True),
-    Binding(("Esc",), "switch", "goes to the command window, and back to the file", WINDOWS, reads=True, leads=True),
-    Binding(("^P", "F6"), "next_window", "goes to the next window", WINDOWS, reads=True, leads=True),
-    Binding(("^O", "F2"), "menu", "menu of files: type or use arrows, Enter opens, Esc ends", WINDOWS, reads=True, leads=True),
-    Binding(("^T", "F3"), "split", "another window, for the next file without one", WINDOWS, reads=True, leads=True),
-    Binding(("^Y", "F4"), "unsplit", "takes the window off the screen; its file stays open", WINDOWS, reads=True, leads=True),
-    Binding(("F8",), "small", "makes the command window small, and large again", WINDOWS, reads=True),
-    Binding(("F10",), "numbers", "shows the numbers of lines, or hides them", WINDOWS, reads=True),
-    Binding(("F5",), "redraw", "draws the screen anew; tries a lost line at once", WINDOWS, reads=True),
-    Binding(("^\\", "F12"), "suspend", "goes back to the shell, until its `fg`", WINDOWS, reads=True),
-    Binding(("F9",), "old", "takes, compares or drops what an earlier session left", WINDOWS, leads=True),
-    Binding(("^N",), "new", "makes a new file; the command line `f NAME` names it", WINDOWS, leads=True, asks=True),
+    Binding(("Esc",), "switch", "goes to the command window, and back to the file", WINDOWS, reads=True, leads=True, order=FREE),
+    Binding(("^P", "F6"), "next_window", "goes to the next window", WINDOWS, reads=True, leads=True, order=FREE),
+    Binding(("^O", "F2"), "menu", "menu of files: type or use arrows, Enter opens, Esc ends", WINDOWS, reads=True, leads=True, order=FREE),
+    Binding(("^T", "F3"), "split", "another window, for the next file without one", WINDOWS, reads=True, leads=True, order=ALL),
+    Binding(("^Y", "F4"), "unsplit", "takes the window off the screen; its file stays open", WINDOWS, reads=True, leads=True, order=ALL),
+    Binding(("F8",), "small", "makes the command window small, and large again", WINDOWS, reads=True, order=ALL),
+    Binding(("F10",), "numbers", "shows the numbers of lines, or hides them", WINDOWS, reads=True, order=ALL),
+    Binding(("F5",), "redraw", "draws the screen anew; tries a lost line at once", WINDOWS, reads=True, order=FREE),
+    Binding(("^\\", "F12"), "suspend", "goes back to the shell, until its `fg`", WINDOWS, reads=True, order=FREE),
+    Binding(("F9",), "old", "takes, compares or drops what an earlier session left", WINDOWS, leads=True, order=ALL),
+    Binding(("^N",), "new", "makes a new file; the command line `f NAME` names it", WINDOWS, leads=True, asks=True, order=ALL),
     Binding(("^W",), "write", "writes the file", WRITTEN),
-    Binding(("^U",), "reload", "puts in what the file has now, where another program changed it", ANSWERS, asks=True),
-    Binding(("^K",), "close", "closes the file for good; asks if it was not written", ANSWERS, leads=True, asks=True),
-    Binding(("^Q",), "leave", "leaves; asks if a file was not written", ANSWERS, reads=True, leads=True, asks=True),
+    Binding(("^U",), "reload", "puts in what the file has now, where another program changed it", ANSWERS, asks=True, order=ALL),
+    Binding(("^K",), "close", "closes the file for good; asks if it was not written", ANSWERS, leads=True, asks=True, order=ALL),
+    Binding(("^Q",), "leave", "leaves; asks if a file was not written", ANSWERS, reads=True, leads=True, asks=True, order=ALL),
     Binding(("^Z",), "undo", "takes back the last change of this window"),
     Binding(("^R",), "redo", "makes again what was taken back"),
-    Binding(("^X",), "cut", "cuts the selection", needs="selection"),
-    Binding(("^C",), "snarf", "copies the selection", reads=True),
-    Binding(("^V",), "paste", "pastes what was cut or copied last", needs="selection"),
+    Binding(("^X",), "cut", "cuts the selection", needs="selection", shares=CLIPBOARD),
+    Binding(("^C",), "snarf", "copies the selection", reads=True, shares=CLIPBOARD),
+    Binding(("^V",), "paste", "pastes what was cut or copied last", needs="selection", shares=CLIPBOARD),
     Binding(("^A",), "select_all", "selects the whole file", reads=True),
     Binding(("^D",), "word", "selects the word; so does a double click", asks=True),
-    Binding(("^S", "F7"), "find", "finds as you type; Enter has the host look", reads=True, leads=True),
-    Binding(("^L",), "look", "looks for the next place of the selected text", reads=True),
-    Binding(("^F",), "search", "searches the last pattern again", reads=True),
-    Binding(("^B",), "search_back", "searches it above", reads=True),
-    Binding(("^E",), "send", "runs the selection as a command line", ANSWERS, ROWS, asks=True),
+    Binding(("^S", "F7"), "find", "finds as you type; Enter has the host look", reads=True, leads=True, shares=PATTERN),
+    Binding(("^L",), "look", "looks for the next place of the selected text", reads=True, shares=PATTERN),
+    Binding(("^F",), "search", "searches the last pattern again", reads=True, shares=PATTERN),
+    Binding(("^B",), "search_back", "searches it above", reads=True, shares=PATTERN),
+    Binding(("^E",), "send", "runs the selection as a command line", ANSWERS, ROWS, asks=True, order=ALL),
     Binding(("Backspace",), "erase_left", "erase the selection, or a character", needs="erased_left"),
     Binding(("Delete",), "erase_right", "erase the selection, or a character", needs="erased_right"),
-    Binding(("Shift-Tab",), "unindent", "takes a tab from the line or each selected one; Tab puts them in", needs="selection"),
+    Binding(("Shift-Tab",), "unindent", "takes a tab from the line or each selected one; Tab puts them in", needs="untabbed"),
     Binding(("Left",), "left", "move; with Shift they select", needs="left", reads=True, extends=True),
     Binding(("Right",), "right", "move; with Shift they select", needs="right", reads=True, extends=True),
     Binding(("Up",), "up", "move; with Shift they select", needs="up", reads=True, extends=True),

@@ -38,6 +38,11 @@ def looks(rune: str) -> Tuple[str, int]:
     return rune, 2 if unicodedata.east_asian_width(rune) in "WF" else 1
 
 
+def has_wide(text: str) -> bool:
+    """Whether a rune of a text takes two columns."""
+    return not text.isascii() and any(looks(rune)[1] > 1 for rune in text)
+
+
 class Strip(NamedTuple):
     """A row of a line, by offsets from the line's start. A cell is one or more columns that belong together: a rune with those that
     stand on it. All four lists are as long."""

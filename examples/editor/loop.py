@@ -3,6 +3,7 @@
 What the user does goes one way: keys, the terminal, the link, the host, the link, the terminal, the screen.
 """
 import functools
+import gc
 import os
 import select
 import signal
@@ -24,6 +25,7 @@ ENDS = (signal.SIGTERM, signal.SIGHUP, signal.SIGINT, signal.SIGQUIT)
 SCREENS = (signal.SIGWINCH, signal.SIGCONT, signal.SIGTSTP)
 RETRY = 0.1  # seconds until that for which the memory was too small is tried again
 MOST_READ = 65_536  # bytes of keys that are read at once
+MOST_UNCOLLECTED = 200_000  # objects that are made and not freed until it is looked which of them only lead to themselves
 MOST_SIGNALS = 4096  # numbers of signals that are read at once
 BROKEN_PASTE = "the end of a paste has not come, so all keys are part of it. Esc twice ends it"
 
@@ -47,6 +49,8 @@ class Loop:
     def run(self) -> None:
         """Returns when the user has left, or can't be reached any more."""
         self.editor.arrange(*self.screen.size)
+        self._collect()
+        gc.disable()
         try:
             while not self.editor.is_over:
                 self._go_round()
@@ -83,12 +87,19 @@ class Loop:
         waits = [self.editor.wakes_in(), self.link.delay(), self.decoder.delay(time.monotonic())]
         if self.editor.is_over:
             return 0
-        waits.append(self.screen.draw(self.editor, self.link))
+        waits += [self.screen.draw(self.editor, self.link), self.editor.colours.seconds]
         self.editor.notes.drawn()
         waits.append(self.editor.notes.left)
         if self.is_short:
             waits.append(RETRY)
+        if self.editor.rests and gc.get_count()[0] > MOST_UNCOLLECTED:
+            self._collect()
         return min((wait for wait in waits if wait is not None), default=None)
+
+    def _collect(self) -> None:
+        """Frees what only leads to itself, and looks at what is left no more: while keys come one would wait for that."""
+        gc.collect()
+        gc.freeze()
 
     def _take_keys(self, ready: Dict[int, int]) -> None:
         now = time.monotonic()

@@ -18,13 +18,13 @@ class Pointer:
         self._clicked: Tuple[float, Optional[Spot]] = (0.0, None)  # when, by the event's own time: a click may wait for the host
         self._pressed: Optional[Spot] = None
 
-    def take(self, mouse: Mouse) -> None:
+    def take(self, mouse: Mouse, window: Window) -> None:
+        """Does what the mouse does over a window, or below all windows."""
         if mouse.what in ("move", "release"):
             self._drag(mouse)
         if mouse.what in ("press", "release"):
             self._pressed = None
-        window = self.editor.window_at(mouse.row)
-        if window is None or not window.is_open:
+        if not window.is_open or not window.y <= mouse.row <= window.y + window.height:
             return
         if mouse.what == "wheel up":
             window.page_up(WHEEL_ROWS)

@@ -135,8 +135,9 @@ static void take_file(struct session *session, struct record *record)
 }
 
 /* Has a new link take a hello that the old one took. */
-static uint32_t answer_again(struct stay *stay, const struct record *record)
+static uint32_t answer_again(struct session *session, const struct record *record)
 {
+    struct stay *stay = session->stay;
     uint32_t what;
 
     if (stay->attempt == 0 && record->len == SAM_LINK_HELLO_BYTES) {
@@ -145,6 +146,7 @@ static uint32_t answer_again(struct stay *stay, const struct record *record)
             code = sam_link_new(&stay->link, SAM_LINK_HOST, stay->id);
         if (code != SAM_OK)
             return code;
+        session->is_met = what == SAM_LINK_TAKE_OVER;
     }
     uint32_t code = sam_link_answer(&stay->link, record->body, record->len);
     return code == SAM_OK ? (uint32_t)sam_link_attempt(&stay->link, &stay->attempt) : code;
@@ -162,16 +164,17 @@ static uint32_t feed_again(struct stay *stay, const struct record *record)
     return code == SAM_OK ? (uint32_t)sam_link_feed(&stay->link, stay->attempt, record->body, record->len) : code;
 }
 
-static void note_again(struct session *session, const struct record *record)
+static void note_again(struct session *session, const uint8_t *bytes, size_t len)
 {
     struct stay *stay = session->stay;
 
-    stay->has_ended |= record->len > 6 && memcmp(record->body, "ended ", 6) == 0;
-    if (sam_link_put_note(&stay->link, record->body, record->len) != SAM_OK)
+    stay->has_ended |= len > 6 && memcmp(bytes, "ended ", 6) == 0;
+    if (sam_link_put_note(&stay->link, bytes, len) != SAM_OK)
         stay->replay->fault = REPLAY_SHORT;
 }
 
-static void forget_note(struct session *session)
+/* The next note of the terminal was done, and answered by these notes. */
+static void answer_note_again(struct session *session, struct record *record)
 {
     uint8_t note[SAM_LINK_MOST_NOTE];
     size_t len;
@@ -179,6 +182,11 @@ static void forget_note(struct session *session)
     take_all(session);
     if (sam_link_next_note(&session->stay->link, note, sizeof note, &len) != SAM_OK)
         session->stay->replay->fault = REPLAY_DIFFERS;
+    while (record->len > 0 && !record->is_wrong) {
+        const uint8_t *answer = take_data(record, &len);
+        if (answer != NULL)
+            note_again(session, answer, len);
+    }
 }
 
 static void replay_step(struct session *session, struct record *record)
@@ -193,15 +201,15 @@ static void replay_step(struct session *session, struct record *record)
     else if (record->step == STEP_FILE)
         take_file(session, record);
     else if (record->step == STEP_HELLO)
-        code = answer_again(session->stay, record);
+        code = answer_again(session, record);
     else if (record->step == STEP_UP)
         code = feed_again(session->stay, record);
     else if (record->step == STEP_DOWN)
         put_again(session, record);
     else if (record->step == STEP_NOTE)
-        note_again(session, record);
+        note_again(session, record->body, record->len);
     else if (record->step == STEP_NOTED)
-        forget_note(session);
+        answer_note_again(session, record);
     else if (record->step == STEP_KEPT)
         take_document(session, record);
     else if (record->step == STEP_KEPT_CUT)

@@ -54,7 +54,16 @@ enum {
 };
 
 /* Messages of a terminal, as far as they are looked at before the host takes them. */
-enum { KIND_OPEN = 6, KIND_CUT = 9, KIND_PASTE = 10, KIND_SNARF = 11, KIND_CLOSE = 14, KIND_SET_SNARF = 20 };
+enum {
+    KIND_VERSION = 1,
+    KIND_OPEN_COMMANDS = 2,
+    KIND_OPEN = 6,
+    KIND_CUT = 9,
+    KIND_PASTE = 10,
+    KIND_SNARF = 11,
+    KIND_CLOSE = 14,
+    KIND_SET_SNARF = 20
+};
 
 enum {
     STATUS_OK = 0,
@@ -150,9 +159,10 @@ struct closed {
     struct text text;
 };
 
-/* What the host's snarf buffer has; and what of the user's is in the file for undo meanwhile. */
+/* What the host's snarf buffer has, once that was asked for; and what of the user's is in the file for undo meanwhile. */
 struct cut {
     struct text snarf, moved; /* room for one text each (MOST_BYTES) */
+    bool is_stale;            /* the host's snarf buffer has another text by now than `snarf` */
     bool is_moved;
     struct copy aside; /* of the user's */
     struct copy_mark noted;
@@ -260,7 +270,7 @@ enum step {
     STEP_UP,        /* bytes that the link took */
     STEP_DOWN,      /* bytes of the host that the link put */
     STEP_NOTE,      /* a note that the link put */
-    STEP_NOTED,     /* the next note of the terminal was done */
+    STEP_NOTED,     /* the next note of the terminal was done, and the link put these notes then */
     STEP_DONE,      /* a file was written, or saved before it was closed, and what is known of it since */
     STEP_KEPT,      /* what is known of a file since its text was saved aside */
     STEP_KEPT_CUT   /* the copy of what was cut last */
@@ -330,8 +340,9 @@ struct stay {
     uint8_t note[SAM_LINK_MOST_NOTE + 1]; /* of the terminal, that is to be done, and a zero after it */
     size_t note_len;
     bool has_note;
-    bool has_ended; /* the last note is put */
-    bool is_again;  /* it was made again of its journal */
+    bool is_answering; /* that is being done, and notes wait for it */
+    bool has_ended;    /* the last note is put */
+    bool is_again;     /* it was made again of its journal */
     int64_t begun, alone_since, longest_alone;
 };
 
@@ -343,6 +354,7 @@ struct session {
     struct closed *closed;
     struct cut cut;
     bool has_open;      /* the terminal has opened a file */
+    bool is_met;        /* a terminal has said more than its first words, so it has heard something; or has taken over what another had */
     int64_t watched_at; /* when files were looked at last */
     bool is_lost;       /* a text of a closed file could neither be saved nor held in memory, or what came last could not be taken */
     struct wire wire;

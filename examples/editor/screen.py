@@ -6,10 +6,11 @@ import os
 import signal
 import sys
 import time
-from typing import Dict, List, Optional, Tuple
+from typing import Dict, List, Optional, Sequence, Tuple
 
+from colours import Spans, painted
 from editor import Editor
-from layout import Row, fitted
+from layout import Row, fitted, has_wide
 from staying import Line
 from windows import Window
 
@@ -24,6 +25,12 @@ COUNTS_AFTER = 0.1  # seconds after which counts of bytes are drawn where nothin
 MOUSE = ("\x1b[?1000;1002;1006h", "\x1b[?1006;1002;1000l")
 PASTES = ("\x1b[?2004h", "\x1b[?2004l")
 CLIPPING = ("xterm", "tmux", "screen", "rxvt-unicode", "alacritty", "foot", "kitty", "st-", "wezterm", "contour")  # that know OSC 52
+
+# How the colours of languages are drawn, in their order.
+PALETTE = (
+    (curses.COLOR_MAGENTA, 0), (curses.COLOR_GREEN, 0), (curses.COLOR_CYAN, 0), (curses.COLOR_RED, 0), (curses.COLOR_BLUE, curses.A_BOLD),
+    (curses.COLOR_YELLOW, 0), (curses.COLOR_RED, 0), (curses.COLOR_GREEN, 0),
+)  # fmt: skip
 
 # Keys by the names that terminfo has for what a terminal sends.
 SENT = {
@@ -70,6 +77,19 @@ class Screen:
         with contextlib.suppress(OSError):  # of a screen that is gone
             sys.stdout.write(sequence)
             sys.stdout.flush()
+
+    def colours(self) -> List[int]:
+        """How each colour of colours.py is drawn; none where the terminal has no colours."""
+        attributes = [curses.A_NORMAL]
+        try:
+            if not curses.has_colors() or curses.COLORS < len(PALETTE) or curses.COLOR_PAIRS <= len(PALETTE):
+                return []
+            for at, (colour, more) in enumerate(PALETTE, 1):
+                curses.init_pair(at, colour, -1)
+                attributes.append(curses.color_pair(at) | more)
+        except curses.error:  # it has no colours of its own to write on
+            return []
+        return attributes
 
     def put_on_clipboard(self, text: str) -> None:
         """Has the user's terminal keep a text, where it knows how. It may refuse without a word."""
@@ -118,6 +138,7 @@ class Screen:
     def draw(self, editor: Editor, link: Line) -> Optional[float]:
         """Draws what changed. Where that is the count of bytes alone it is drawn a little later: returns in how many seconds."""
         rows, columns = self.screen.getmaxyx()
+        editor.colours.begin()
         shown = (frame_of(editor, rows, columns), cursor_of(editor), status(editor, link))
         left = self._drawn_at + COUNTS_AFTER - time.monotonic()
         if shown == self._shown and left > 0:
@@ -133,9 +154,12 @@ class Screen:
         return None
 
     def _put(self, y: int, runs: List[Run]) -> None:
-        if self.drawn.get(y) == tuple(runs):
+        before = self.drawn.get(y)
+        if before == tuple(runs):
             return
         self.drawn[y] = tuple(runs)
+        if any(has_wide(text) for text, _ in (*(before or ()), *runs)):
+            self.screen.redrawln(y, 1)  # screens differ in what they leave of a wide character that is written over in part
         self.screen.move(y, 0)
         self.screen.clrtoeol()
         for text, attributes in runs:
@@ -194,8 +218,9 @@ def window_rows(editor: Editor, window: Window) -> Dict[int, List[Run]]:
             heads = [[(title, attributes), (" ", curses.A_NORMAL)]] * len(rows)
         else:
             heads = numbers_of(editor, window, rows) if window.gutter else [[]] * len(rows)
+        spans, attributes = editor.colours.of(window), editor.colours.attributes
         for at, (row, head) in enumerate(zip(rows, heads)):
-            frame[window.y + 1 + at] = head + row_runs(row, dot, window.width, is_focus)
+            frame[window.y + 1 + at] = head + row_runs(row, dot, window.width, is_focus, spans.get(row.base, ()), attributes)
     return frame
 
 
@@ -212,12 +237,15 @@ def numbers_of(editor: Editor, window: Window, rows: List[Row]) -> List[List[Run
     return heads
 
 
-def row_runs(row: Row, dot: Tuple[int, int], width: int, is_focus: bool) -> List[Run]:
-    """A row as runs of equal attributes: the selection reversed, gaps dim, the caret of another window underlined."""
+def row_runs(row: Row, dot: Tuple[int, int], width: int, is_focus: bool, spans: Spans = (), attributes: Sequence[int] = ()) -> List[Run]:
+    """A row as runs of equal attributes: the selection reversed, gaps dim, the caret of another window underlined, all else coloured."""
     has_caret = not is_focus and row.start <= dot[0] == dot[1] < row.end
     has_dot = dot[0] < dot[1] and dot[0] < row.end and row.start < dot[1]
+    strip = row.strip
     if not (has_caret or has_dot or row.has_gap):
-        return [("".join(row.strip.texts), curses.A_NORMAL)] if row.strip.texts else []
+        if spans:
+            return [("".join(strip.texts[low:high]), attributes[colour] if colour else 0) for low, high, colour in painted(strip, spans)]
+        return [("".join(strip.texts), curses.A_NORMAL)] if strip.texts else []
     runs: List[Run] = []
 
     def add(text: str, attributes: int) -> None:
@@ -231,10 +259,11 @@ def row_runs(row: Row, dot: Tuple[int, int], width: int, is_focus: bool) -> List
             return curses.A_REVERSE
         return curses.A_UNDERLINE if has_caret and place == dot[0] else curses.A_NORMAL
 
-    gaps = row.strip.gaps or (False,) * len(row.strip.texts)
-    for text, offset, is_gap in zip(row.strip.texts, row.strip.offsets, gaps):
-        add(text, attributes_at(row.base + offset) | (curses.A_DIM if is_gap else curses.A_NORMAL))
-    if row.text_end < row.end and row.strip.width < width and attributes_at(row.text_end):
+    gaps = strip.gaps or (False,) * len(strip.texts)
+    drawn = [attributes[colour] if colour else 0 for low, high, colour in painted(strip, spans) for _ in range(low, high)]
+    for text, offset, is_gap, colour in zip(strip.texts, strip.offsets, gaps, drawn):
+        add(text, (attributes_at(row.base + offset) or colour) | (curses.A_DIM if is_gap else curses.A_NORMAL))
+    if row.text_end < row.end and strip.width < width and attributes_at(row.text_end):
         add(" ", attributes_at(row.text_end))
     return runs
 

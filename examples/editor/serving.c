@@ -144,6 +144,7 @@ static void follow_step(struct session *session, const sam_did *did)
     if (!is_edit && did->step != SAM_STEP_ANSWERED)
         return;
     session->wire.is_prepared = false;
+    session->is_met |= did->kind != KIND_VERSION && did->kind != KIND_OPEN_COMMANDS; /* an edit has no kind */
     note_snarf(session, is_edit ? KIND_CUT : did->kind, did->tag);
     write_files(session);
     if (did->kind == KIND_CLOSE)

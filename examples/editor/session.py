@@ -43,6 +43,7 @@ class Session:
             editor.way.line = link
         self.told: List[str] = []  # what the host told while the screen hid standard error
         self.ended_by = 0
+        self.has_colours = False
 
     def begin(self) -> bool:
         """Waits for the host's stream, and asks for the first file while there is no screen yet. Returns whether the stream comes; why not
@@ -104,6 +105,8 @@ class Session:
 
     def _on_screen(self, window) -> None:
         screen = Screen(window)
+        if self.has_colours:
+            self.editor.colours.attributes = screen.colours()
         loop = Loop(self.terminal, self.link, screen, self.editor, self._hear)
         try:
             loop.run()
@@ -193,8 +196,8 @@ class Session:
 
 class Wish(NamedTuple):
     """What the user asks for: the words of the host's command, the files, how Enter begins a line, for how many hours a session stays
-    that is alone, whether he goes on with one that stays, whose name may be given in place of the files, whether lines have numbers, and
-    how far tab stops are apart."""
+    that is alone, whether he goes on with one that stays, whose name may be given in place of the files, whether lines have numbers,
+    how far tab stops are apart, and whether nothing has colours."""
 
     command: List[str]
     files: List[str]
@@ -203,6 +206,7 @@ class Wish(NamedTuple):
     takes_over: bool = False
     numbers: bool = False
     tab: int = layout.TAB
+    plain: bool = False
 
     @property
     def stays(self) -> bool:
@@ -245,6 +249,7 @@ def _edit(wish: Wish, stays: bool) -> Optional[int]:
             say(f"samterm: {wish.command[0]}: {error.strerror}")
             return STATUS_NO_HOST
         session = Session(terminal, link, editor)
+        session.has_colours = not wish.plain and not os.environ.get("NO_COLOR")
         if not session.begin():
             if isinstance(link, Staying) and link.refused_words and not wish.takes_over:
                 return None

@@ -19,6 +19,7 @@
 enum {
     LONGEST_END = 60000,   /* milliseconds that the last note is kept for a terminal that has left */
     SIGNAL_END = 5000,     /* milliseconds that it is where a signal ends the session, and a terminal is there */
+    LONGEST_UNMET = 60000, /* milliseconds that a session stays alone to which no terminal came: nothing can be lost with it */
     PAUSE = 100,           /* milliseconds until memory is asked for again */
     MOST_PIECES_LEFT = 64, /* pieces of input that are still taken after a signal */
 };
@@ -47,12 +48,11 @@ void say_missing(struct stay *stay)
         say("lines missing before this one, since memory was out: %u", missing);
 }
 
-void put_notes(struct session *session)
+/* Puts the notes that wait. What was put goes into the body of a record, or where that is NULL into records of its own. */
+static void put_waiting(struct session *session, struct body *body)
 {
     struct stay *stay = session->stay;
 
-    if (stay->attempt == 0 || stay->replay != NULL) /* there is no link yet, or it is not where it was */
-        return;
     while (stay->notes != NULL) {
         struct note *note = stay->notes;
         const uint8_t *bytes = (const uint8_t *)note->words;
@@ -60,10 +60,22 @@ void put_notes(struct session *session)
         if (sam_link_put_note(&stay->link, bytes, len) != SAM_OK)
             return;
         stay->notes = note->next;
-        add_record(session, STEP_NOTE, bytes, len);
+        if (body != NULL)
+            add_data(body, bytes, len);
+        else
+            add_record(session, STEP_NOTE, bytes, len);
         free(note->words);
         free(note);
     }
+}
+
+void put_notes(struct session *session)
+{
+    struct stay *stay = session->stay;
+
+    if (stay->attempt == 0 || stay->replay != NULL || stay->is_answering) /* there is no link yet, or it is not where it was */
+        return;
+    put_waiting(session, NULL);
     say_missing(stay);
 }
 
@@ -141,10 +153,12 @@ static ssize_t put_out(struct session *session, const uint8_t *bytes, size_t len
 
 static const struct carrier by_link = {take_in, put_out};
 
-/* Does what the next note asks, if there is one, and memory for it. */
+/* Does what the next note asks, if there is one, and memory for it. The answer is put in one step with the record that this is done: so
+ * another samhost either does it anew, or has answered it. */
 static bool take_note(struct session *session)
 {
     struct stay *stay = session->stay;
+    struct body answers = {0};
 
     if (!stay->has_note) {
         stay->has_note = sam_link_next_note(&stay->link, stay->note, SAM_LINK_MOST_NOTE, &stay->note_len) == SAM_OK;
@@ -152,10 +166,14 @@ static bool take_note(struct session *session)
             return false;
         stay->note[stay->note_len] = '\0';
     }
-    if (!do_note(session, (const char *)stay->note))
+    stay->is_answering = true;
+    bool is_done = do_note(session, (const char *)stay->note);
+    stay->is_answering = false;
+    if (!is_done)
         return false;
     stay->has_note = false;
-    add_record(session, STEP_NOTED, NULL, 0);
+    put_waiting(session, &answers);
+    add_body(session, STEP_NOTED, &answers);
     return true;
 }
 
@@ -248,16 +266,25 @@ void drop_line(struct stay *stay)
 
 /* ---- Waiting ---- */
 
+/* How many milliseconds are left until the session has been alone for too long; -1 where it is not alone, or may be for ever. */
+static int64_t time_left_alone(const struct session *session)
+{
+    const struct stay *stay = session->stay;
+
+    if (stay->line >= 0 || stay->longest_alone < 0)
+        return -1;
+    int64_t longest = session->is_met ? stay->longest_alone : earlier(stay->longest_alone, LONGEST_UNMET);
+    int64_t left = stay->alone_since + longest - now();
+    return left > 0 ? left : 0;
+}
+
 /* In how many milliseconds something is to be done that nothing which comes asks for; -1: never. */
 static int64_t time_to_wait(const struct session *session, int64_t longest)
 {
     struct stay *stay = session->stay;
     int64_t wait = earlier(earlier(longest, save_is_due_in(session)), earlier(drop_callers(stay), watch_is_due_in(session)));
 
-    if (stay->line < 0 && stay->longest_alone >= 0) {
-        int64_t left = stay->alone_since + stay->longest_alone - now();
-        wait = earlier(wait, left > 0 ? left : 0);
-    }
+    wait = earlier(wait, time_left_alone(session));
     bool is_short = stay->in.len > 0 || stay->has_note || session->wire.sent < session->wire.output_len || stay->notes != NULL;
     return is_short && stay->attempt > 0 ? earlier(wait, PAUSE) : wait;
 }
@@ -297,11 +324,6 @@ static void carry(struct session *session, const sigset_t *mask, int64_t longest
 
 /* ---- The session ---- */
 
-static bool is_alone_too_long(const struct stay *stay)
-{
-    return stay->line < 0 && stay->longest_alone >= 0 && now() - stay->alone_since >= stay->longest_alone;
-}
-
 /* After a signal, or a long time alone: takes what has come already. */
 static enum ending take_what_is_there(struct session *session, const sigset_t *mask)
 {
@@ -325,7 +347,7 @@ static enum ending serve_line(struct session *session, const sigset_t *mask)
     struct stay *stay = session->stay;
     enum ending ending = stay->ending;
 
-    while (ending == GOES_ON && !is_signalled() && !is_alone_too_long(stay)) {
+    while (ending == GOES_ON && !is_signalled() && time_left_alone(session) != 0) {
         carry(session, mask, -1);
         if (stay->heir != NULL)
             return GOES_ON;
@@ -383,6 +405,7 @@ int stay_and_serve(struct session *session)
     stay->alone_since = now();
     stay->begun = stay->begun == 0 ? stay->alone_since : stay->begun;
     put_notes(session);
+    write_line(session); /* the welcome of a terminal that has taken the session over: it may say nothing before */
     if (!stay->has_ended) { /* else another samhost has done all but to wait */
         stay->ending = serve_line(session, &mask);
         if (stay->heir != NULL)

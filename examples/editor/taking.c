@@ -65,6 +65,7 @@ static void hand_documents(struct session *session, struct session *heir)
     session->closed = NULL;
     heir->due = session->due;
     heir->mode_of_new_files = session->mode_of_new_files;
+    heir->is_met = true;
 }
 
 /* Hands on the folder and all connections; the old terminal is told that they are gone, as far as its line takes that at once. */

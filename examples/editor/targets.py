@@ -4,11 +4,12 @@ from typing import List, Tuple
 
 import layout
 from layout import Layout, line_end, line_start, looks, row_start
-from texts import GAP
+from texts import COMMAND, GAP
 
 PIECE = 4096  # runes that are looked at at once for the end of a word
 LONGEST_LOOK = 512  # runes of the line before that a new line takes its indentation from
 FARTHEST_END = 4096  # runes that are looked at for the end of the first line, by which a new line ends as the others do
+MOST_TO_INDENT = 131_072  # runes of a selection that are loaded for a key that indents its lines
 
 BETWEEN, WORD = re.compile(r"\W*"), re.compile(r"\w*")
 
@@ -54,6 +55,35 @@ class Targets:
         (start, end), layout = self.window.dot, self.window.layout()
         if start < end:
             self._want_all(max(start, layout.top), min(end, layout.end))
+
+    def lacking(self) -> int:
+        """How many runes of what is selected are not loaded."""
+        start, end = self.window.dot
+        gap = self.window.terminal.first_gap(self.window.tag, start) if start < end else None
+        return 0 if gap is None or gap >= end else self.read(gap, end - gap).count(GAP)
+
+    def tabbed(self) -> None:
+        """What a tab goes by: whether lines are selected, and these. Where too much of that is not loaded the tab says so."""
+        start, end = self.window.dot
+        if self.window.tag == COMMAND:
+            self.selection()
+        elif start < end and self.lacking() <= MOST_TO_INDENT:
+            self._want_all(start, end)
+            if self.has_newline():
+                self._line_start(start)
+
+    def untabbed(self) -> None:
+        """What Shift-Tab goes by: the lines that are selected, or that of the caret, with the blanks that begin the first and the last."""
+        start, end = self.window.dot
+        if self.lacking() > MOST_TO_INDENT:
+            return
+        self._want_all(start, end)
+        self._line_start(start)
+        for line in self.selected_lines()[:: max(1, len(self.selected_lines()) - 1)]:
+            text = self.read(line, layout.TAB)
+            blanks = len(text) - len(text.lstrip(" "))
+            if blanks < len(text):
+                self._want(line + blanks, 1)
 
     def new_line(self) -> None:
         """What a new line goes by."""
@@ -174,10 +204,14 @@ class Targets:
             return []
         return [first, *(first + at + 1 for at, rune in enumerate(text[:-1]) if rune == "\n")]
 
-    def are_lines_selected(self) -> bool:
-        """Whether what is selected ends a line or several, and all of them are loaded."""
+    def has_newline(self) -> bool:
+        """Whether what is selected ends a line or several."""
         start, end = self.window.dot
-        return start < end and "\n" in self.read(start, end - start) and self.selected_lines() != []
+        return start < end and "\n" in self.read(start, end - start)
+
+    def may_indent(self) -> bool:
+        """Whether a tab indents what is selected, or would if it were loaded: it replaces nothing of which that is not known."""
+        return self.lacking() > 0 or self.has_newline()
 
     def indent_of(self, line: int) -> int:
         """How many runes at the start of a line are one step of indentation: a tab, or as many blanks as it has columns."""

@@ -1,7 +1,7 @@
 """The texts of the terminal, with word of each change: by the user here, or by a frame of the host."""
 from collections import deque
 from itertools import repeat
-from operator import add
+from operator import add, itemgetter
 from typing import Callable, Dict, Iterator, List, NamedTuple, Tuple
 
 from sulgrevad import Terminal, Unfinished
@@ -29,6 +29,9 @@ class Change(NamedTuple):
             return place
         place = max(self.place, place - len(self.gone))
         return place if place == self.place else place + len(self.came)
+
+
+PLACE_OF = itemgetter(Change._fields.index("place"))
 
 
 def moved(changes: List[Change], place: int) -> int:

@@ -82,7 +82,8 @@ class Undo:
         vault.live = self.parts
         self.past: Steps = {}
         self.future: Steps = {}
-        self.goes = self.comes = ""  # what the host takes out or puts in, where it changes a text of this length that is not loaded
+        # What the host takes out, or puts into a file, where it changes a text of this length that is not loaded.
+        self.goes, self.comes = "", {}  # type: str, Dict[int, str]
         self._halves: Dict[int, Step] = {}  # of a file, the step that is taken back in part, since memory was out
         self._turned: Optional[int] = None  # the file of which a step is turned
 
@@ -93,7 +94,8 @@ class Undo:
 
     def begin(self, tag: int, kind: str = "", start: int = 0, end: int = 0) -> None:
         """A key changes a file next: a step begins, or goes on where a key of the same kind stopped."""
-        self.goes = self.comes = ""
+        self.goes = ""
+        self.comes.pop(tag, None)
         if tag in self._halves:
             self._stay(tag)
         steps, kept = self.past.setdefault(tag, []), self.vault.take(tag)
@@ -119,14 +121,14 @@ class Undo:
         steps = self.past.setdefault(tag, [])
         if not steps:
             steps.append(Step())
-        if self.goes or self.comes:
+        if self.goes or tag in self.comes:
             changes = [self._with_known(each) if GAP in each.gone or GAP in each.came else each for each in changes]
         steps[-1].add(changes)
 
     def _with_known(self, change: Change) -> Change:
         """A change whose gaps are filled as far as what the host takes out or puts in is known."""
         tag, place, gone, came = change
-        return Change(tag, place, _filled(gone, self.goes), _filled(came, self.comes))
+        return Change(tag, place, _filled(gone, self.goes), _filled(came, self.comes.get(tag, "")))
 
     def _stay(self, tag: int) -> None:
         """What was taken back stays so."""
@@ -139,7 +141,7 @@ class Undo:
 
     def drop(self, tag: int) -> None:
         """The file is gone."""
-        for steps in (self.past, self.future, self._halves):
+        for steps in (self.past, self.future, self._halves, self.comes):
             steps.pop(tag, None)
 
     def last(self, steps: Dict[int, List[Step]], tag: int) -> Optional[Step]:

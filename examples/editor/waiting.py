@@ -1,10 +1,12 @@
-"""The keys that wait. Each acts once what it acts on is settled, in the order in which they came; so the same keys do the same over any
-line."""
+"""The keys that wait. Each acts once what it acts on is settled. Keys of one file act in the order in which they came, and so do keys that
+go by several files; so the same keys do the same over any line, and a file that waits for the host holds back no key of another.
+"""
+import contextlib
 from collections import deque
 from itertools import islice
-from typing import Callable, Deque, NamedTuple, Optional
+from typing import Callable, Deque, Dict, Iterator, NamedTuple, Optional, Set
 
-from keys import ACTIONS, ANSWERS, NOTHING, PLACE, ROWS, WINDOWS, WRITTEN, Binding, Input, Key, Mouse, Paste, Text
+from keys import ACTIONS, ALL, ANSWERS, FILE, FREE, NOTHING, PATTERN, PLACE, ROWS, WINDOWS, WRITTEN, Binding, Input, Key, Mouse, Paste, Text
 from notes import REPEAT
 from sulgrevad import SamError
 from targets import Missing
@@ -31,12 +33,18 @@ class Pressed(NamedTuple):
     answers: str = ""
     has_read: bool = False
     is_again: bool = False  # it acted already, and goes on
+    # The window that it goes to, wherever later keys go: known once no key before it can change that. None for one that keeps its order
+    # among all keys, or goes to a menu.
+    window: Optional[Window] = None
 
 
+TAB = Text("\t")
+MOUSE = "mouse"  # what clicks share: whether two of them are a double click, and where the button is down
 # What text, pastes and the mouse do, and keys that do nothing. A mouse goes by what is shown; Enter by the line above.
-TYPING, ENTER = Binding((), "", "", needs="selection"), Binding((), "", "", needs="new_line")
-POINTING, SCROLLING, NO_ACTION = Binding((), "", "", needs=ROWS, leads=True), Binding((), "", "", WINDOWS), Binding((), "", "", WINDOWS)
-RUNNING = Binding((), "", "", ANSWERS, ROWS, asks=True)  # Enter in the command window
+TYPING, ENTER, TABBING = (Binding((), "", "", needs=needs) for needs in ("selection", "new_line", "tabbed"))
+POINTING, SCROLLING = Binding((), "", "", needs=ROWS, shares=MOUSE), Binding((), "", "", WINDOWS)
+NO_ACTION = Binding((), "", "", WINDOWS, order=ALL)
+RUNNING = Binding((), "", "", ANSWERS, ROWS, asks=True, order=ALL)  # Enter in the command window
 FINDING = ("look", "search")  # actions that go on in what is loaded where the line is lost
 TURNING = ("page_up", "page_down")  # those that turn pages: the caret stays
 
@@ -46,7 +54,7 @@ def bound(key: Input) -> Binding:
     if isinstance(key, Mouse):
         return SCROLLING if key.what.startswith("wheel") else POINTING
     if isinstance(key, (Text, Paste)):
-        return ENTER if "\n" in key.runes else TYPING
+        return TABBING if key == TAB else ENTER if "\n" in key.runes else TYPING
     return ACTIONS.get(key.name) or ACTIONS.get(key.name.replace("Shift-", ""), NO_ACTION)
 
 
@@ -60,13 +68,35 @@ def last_of(key: Input) -> Input:
     return Text(key.runes[-1:]) if isinstance(key, Text) else key
 
 
+class Held:
+    """What the keys that wait hold back."""
+
+    def __init__(self) -> None:
+        self.is_all = False  # every key: one that waits says where those after it go
+        self.windows: Set[Window] = set()  # keys of these
+        self.shared: Set[str] = set()  # keys that share this
+
+    def add(self, pressed: Pressed) -> None:
+        binding = bound(pressed.key)
+        self.is_all = pressed.window is None or binding.leads
+        if pressed.window is not None:
+            self.windows.add(pressed.window)
+            self.shared.add(binding.shares)
+
+    def holds(self, pressed: Pressed) -> bool:
+        """Whether a key of a window waits for one before it."""
+        shares = bound(pressed.key).shares
+        return pressed.window in self.windows or (shares != "" and shares in self.shared)
+
+
 class Waiting:
     """The part of the editor that takes keys."""
 
     def _begin_waiting(self) -> None:
         self.deferred: Deque[Pressed] = deque()
-        self._wants_text = False  # the first key that waits needs text which is not loaded
-        self._reach = FIRST_REACH  # how much of that is loaded next, where it is not shown
+        self._at = 0  # where the key that acts stood in these
+        self._wants_text = False  # a key that waits needs text which is not loaded
+        self._reach: Dict[Window, int] = {}  # how much of that is loaded next in a window, where it is not shown
         self._edited_at = 0.0  # when the last key came that edits or moves
         self._pressed_at = 0.0  # when the last key of any kind came
         self._last = Pressed(Key(""), 0.0)
@@ -89,8 +119,11 @@ class Waiting:
         return not self.has_begun or (self._awaits_file and self.is_lock_held)
 
     def take(self, key: Input, when: Optional[float] = None) -> None:
-        """Does what a key says, now or when what it acts on is settled."""
+        """Does what a key says, now or when what it acts on is settled. A tab that comes with a text is a key of its own: it may indent."""
         when = self.clock() if when is None else when
+        if isinstance(key, Text) and key.runes[:1] == "\t" and len(key.runes) > 1:
+            self.take(TAB, when)
+            key = Text(key.runes[1:])
         pressed, binding = Pressed(key, when, self._answer_of(key, when), self.notes.is_read), bound(key)
         is_leave = binding.action == "leave"
         is_sure = pressed.answers in (LEAVING, WAITING) or (pressed.answers != "" and self.way.is_silent)
@@ -109,7 +142,7 @@ class Waiting:
             self._edited_at = when
         self.deferred.append(pressed)
         self._act_in_order()
-        if binding.leads:
+        if binding.leads or binding is POINTING:
             self._foresee()
         if self.deferred and binding.waits == ANSWERS and not self.deferred[-1].answers:
             if is_leave:
@@ -136,6 +169,8 @@ class Waiting:
         at, last = self.windows.index(self.focus), self.windows.index(self.active)
         for pressed in self.deferred:
             key, action = pressed.key, action_of(pressed.key)
+            if pressed.window is not None and not bound(key).leads:
+                continue
             is_switch = action == "switch"
             has_switched = has_switched or is_switch
             if is_in_menu:
@@ -186,12 +221,14 @@ class Waiting:
 
     def _stops(self, key: Input) -> bool:
         """Whether a key stops a search that goes on."""
-        first = self.deferred[0] if action_of(key) == "switch" and self.deferred else None
-        stops = first is not None and first.is_again and action_of(first.key) == "search_back"
-        if stops:
-            self.deferred.popleft()
-            self.message = "stopped"
-        return stops
+        if action_of(key) != "switch":
+            return False
+        for at, pressed in enumerate(self.deferred):
+            if pressed.is_again and pressed.window is self.focus and action_of(pressed.key) == "search_back":
+                del self.deferred[at]
+                self.message = "stopped"
+                return True
+        return False
 
     def _answer_of(self, key: Input, when: float) -> str:
         """The question that a key answers, which has to be the one that was asked. A key that is held down answers none: it comes again
@@ -199,46 +236,125 @@ class Waiting:
         key = last_of(key)
         last, self._last = self._last, Pressed(key, when)
         if last.key == key and when - last.when < REPEAT:
-            if self.deferred:
+            if self.deferred and self.deferred[-1].when == last.when:
                 self.deferred[-1] = self.deferred[-1]._replace(answers="")
             return ""
-        return self.notes.answered if key == self._asked_by else ""
+        return self.notes.answered if key == self._asked_by and self._asked_in in (self.focus, self.active) else ""
+
+    # ---- In which order keys act
 
     def _act_in_order(self) -> None:
-        """Does what the keys say, up to the first that has to wait."""
+        """Does what the keys say, of each window up to the first that has to wait."""
         self._wants_text = False
         self._look_at_the_line()
-        while self.deferred:
-            if not self._must_wait(self.deferred[0]):
-                self._reach = FIRST_REACH
-                self._act(self.deferred.popleft())
-            elif not self._is_refused(self.deferred[0]):
-                break
+        held, self._at = Held(), 0
+        while self._at < len(self.deferred) and not held.is_all:
+            pressed = self.deferred[self._at] = self._with_window(self.deferred[self._at])
+            is_held = self._is_held(pressed, held)
+            if not is_held and not self._must_wait_in_window(pressed):
+                del self.deferred[self._at]
+                self._act_in_window(pressed)
+            elif is_held or not self._is_refused(pressed):
+                held.add(pressed)
+                self._at += 1
         if not self.deferred:
             self._foreseen = None
 
+    def _with_window(self, pressed: Pressed) -> Pressed:
+        """A key with the window that it goes to, where it has one. No key before it waits that might change that; so a click leads there
+        now, though its place may have to wait."""
+        if pressed.window is not None or pressed.answers:
+            return pressed
+        key, binding = pressed.key, self._binding(pressed)
+        if binding.order != FILE or self._is_for_menu(key) or self._are_windows_due:
+            return pressed
+        window = self.focus
+        if binding.waits == WRITTEN:
+            window = self.active
+        elif binding is SCROLLING or (isinstance(key, Mouse) and key.what == "press"):
+            at = self.window_at(key.row)
+            window = at or window
+            if at is not None and binding is POINTING:
+                self.go_to(at)
+        return pressed._replace(window=window)
+
+    def _binding(self, pressed: Pressed) -> Binding:
+        """What is known of what a key does, in the window that it goes to."""
+        binding = bound(pressed.key)
+        return RUNNING if binding is ENTER and (pressed.window or self.focus) is self.command else binding
+
+    def _is_held(self, pressed: Pressed, held: Held) -> bool:
+        """Whether a key waits for one before it. What is typed in the command window may stand behind a line that a search puts there."""
+        if pressed.window is self.command and PATTERN in held.shared:
+            return True
+        if pressed.window is not None:
+            return held.holds(pressed) or (self.command in held.windows and bound(pressed.key).shares == PATTERN)
+        if self._is_for_menu(pressed.key):
+            if not self.menu.is_box:
+                return PATTERN in held.shared or self.command in held.windows
+            return any(window not in self.windows for window in held.windows)  # else it might come up at another place of the screen
+        return bool(held.windows) and (pressed.answers != "" or self._binding(pressed).order != FREE)
+
+    @contextlib.contextmanager
+    def _in(self, window: Optional[Window]) -> Iterator[None]:
+        """Has a window be that to which keys go, meanwhile; None changes nothing."""
+        focus, active = self.focus, self.active
+        if window is not None:
+            self.go_to(window)
+        try:
+            yield
+        finally:
+            if window is not None:
+                self.focus, self.active = focus, active
+
+    def _act_in_window(self, pressed: Pressed) -> None:
+        """Does what a key says in its window, wherever later keys go."""
+        window = pressed.window
+        self._reach.pop(window or self.focus, None)
+        if window is not None and bound(pressed.key).leads:
+            self.go_to(window)
+            window = None
+        with self._in(window):
+            self._act(pressed)
+
+    def _put_back(self, pressed: Pressed) -> None:
+        """A key, or the rest of a text, comes where the key stood that acts now."""
+        self.deferred.insert(self._at, pressed)
+
+    def let_go_of(self, window: Window) -> None:
+        """A file is gone, and its window: what was typed there and waits is put in nowhere."""
+        kept = [pressed for pressed in self.deferred if pressed.window is not window]
+        if len(kept) < len(self.deferred):
+            typed = self.typed_in(window)
+            self.deferred = deque(kept)
+            self.give_back(typed, "a file is closed for which keys waited")
+
+    # ---- What a key waits for
+
+    def _must_wait_in_window(self, pressed: Pressed) -> bool:
+        with self._in(pressed.window):
+            return self._must_wait(pressed)
+
     def _must_wait(self, pressed: Pressed) -> bool:
         """Whether what a key acts on is not settled: the windows, what was changed, or the places in a window."""
-        key, binding = pressed.key, bound(pressed.key)
+        key, binding = pressed.key, self._binding(pressed)
         if pressed.answers and self.clock() < pressed.when + REPEAT:
             return True
         if self.is_lost:
             return False
-        if self.vault.is_busy or (pressed.is_again and self.is_lock_held):
+        if self.vault.is_busy or (pressed.is_again and pressed.window is None and self.is_lock_held):
             return True
-        if self._is_for_menu(key):
+        if pressed.window is None and self._is_for_menu(key):
             return self.menu.goes_by_place and not self.focus.is_settled
         if self._are_windows_due:
             return True
-        if binding is ENTER and self.focus is self.command:
-            binding = RUNNING
         if self.way.is_late and (binding.action == "write" or self._needs_line(key, binding)):
             return binding.action != "write"  # that is put off
         if binding.waits == WINDOWS:
             return False
         if binding.waits == ANSWERS:
             return self._is_answer_due or (binding.needs != "" and self._lacks_text(self.active, binding))
-        window = self._window_of(key, binding)
+        window = pressed.window or self.focus
         if binding.waits == WRITTEN and (self.keeping.is_writing(window.tag) or not self.way.is_confirmed):
             return True  # the write before it may ask
         return not self._has_shown(window, binding) or not window.is_settled or self._lacks_text(window, binding, key)
@@ -257,19 +373,21 @@ class Waiting:
         return binding.asks or (binding.action == "paste" and not self.knows_snarfed)
 
     def _is_refused(self, first: Pressed) -> bool:
-        """Whether the first key that waits goes with a word, since the line is lost and the user knows. One that typed text waits behind
-        stays: that text would go elsewhere."""
-        has_text_behind = any(isinstance(kept.key, (Text, Paste)) for kept in islice(self.deferred, 1, None))
+        """Whether a key that waits, and for no other key, goes with a word, since the line is lost and the user knows. One that typed text
+        waits behind stays: that text would go elsewhere."""
+        behind = (kept for kept in islice(self.deferred, self._at + 1, None) if isinstance(kept.key, (Text, Paste)))
+        has_text_behind = any(first.window is None or kept.window in (None, first.window) for kept in behind)
         if not self.way.is_known_late or first.answers or has_text_behind:
             return False
         key = first.key
-        if isinstance(key, (Text, Paste)):
+        indents = key == TAB and first.window is not None and first.window.is_settled and first.window.targets.may_indent()
+        if isinstance(key, (Text, Paste)) and not indents:
             return self._is_line_refused(key)
-        self.deferred.popleft()
+        del self.deferred[self._at]
         self.notes.take(first.has_read)
-        name = key.name if isinstance(key, Key) else "the mouse"
+        name = "Tab" if indents else key.name if isinstance(key, Key) else "the mouse"
         if action_of(key) == "write":
-            self.write_later(self.active.tag)
+            self.write_later((first.window or self.active).tag)
         else:
             self.message = f"{name} can't act until the line is back" + ("; ^Q again leaves" if action_of(key) == "leave" else "")
         return True
@@ -279,23 +397,17 @@ class Waiting:
         front, newline, rest = key.runes.partition("\n")
         if self.focus is not self.command or not self.command.is_settled or isinstance(key, Paste) or not newline or rest:
             return False
-        self.deferred.popleft()
+        del self.deferred[self._at]
         if front:
             self.texts.replace(COMMAND, front)
         self.message = "Enter can't act until the line is back; the command line stays"
         return True
 
-    def _window_of(self, key: Input, binding: Binding) -> Window:
-        """The window by whose places a key goes."""
-        if isinstance(key, Mouse) and key.what == "press":
-            return self.window_at(key.row) or self.focus
-        return self.active if binding.waits == WRITTEN else self.focus
-
     def _has_shown(self, window: Window, binding: Binding) -> bool:
         """Before a key goes by what a window shows, that shows what the last key did, and asks for what is missing. What is typed at the
         caret needs none of that, and so nothing holds it up. Returns whether there was memory for it."""
         start, end = window.dot if window.is_open else (0, 0)
-        if binding is TYPING and start == end:
+        if binding in (TYPING, TABBING) and start == end:
             return True
         return self._tried(lambda: window.update(self.is_busy, turns=self._turns))
 
@@ -329,9 +441,10 @@ class Waiting:
 
     def _load_towards(self, window: Window, missing: Missing) -> None:
         """Loads text that is not shown, from where it is missing on."""
-        low = missing.place if missing.step > 0 else max(0, missing.place + 1 - self._reach)
-        high = end_of_load(self.terminal, window.tag, low, min(window.length, low + self._reach))
-        self._reach = min(2 * self._reach, LONGEST_REACH)
+        reach = self._reach.get(window, FIRST_REACH)
+        low = missing.place if missing.step > 0 else max(0, missing.place + 1 - reach)
+        high = end_of_load(self.terminal, window.tag, low, min(window.length, low + reach))
+        self._reach[window] = min(2 * reach, LONGEST_REACH)
         self.terminal.load(window.tag, low, high - low)
 
     def _is_for_menu(self, key: Input) -> bool:
@@ -343,7 +456,7 @@ class Waiting:
         runes = pressed.key.runes
         if len(runes) > count:
             rest = pressed._replace(key=pressed.key._replace(runes=runes[count:]), answers="")
-            self.deferred.appendleft(rest)
+            self._put_back(rest)
         return runes[:count]
 
     @property
@@ -351,10 +464,16 @@ class Waiting:
         """What was typed and still waits."""
         return "".join(pressed.key.runes for pressed in self.deferred if isinstance(pressed.key, (Text, Paste)))
 
+    def typed_in(self, window: Optional[Window]) -> str:
+        """The same of what was typed in a window; or, where that is None, for whichever keys will go to."""
+        texts = (pressed for pressed in self.deferred if isinstance(pressed.key, (Text, Paste)))
+        return "".join(pressed.key.runes for pressed in texts if pressed.window is window)
+
     @property
     def _turns(self) -> int:
-        """How many page keys wait next: those down, less those up."""
-        actions = [action_of(pressed.key) for pressed in islice(self.deferred, MOST_TURNS)]
+        """How many page keys wait next in the window to which keys go: those down, less those up."""
+        waiting = islice(self.deferred, MOST_TURNS)
+        actions = [action_of(pressed.key) for pressed in waiting if pressed.window in (None, self.focus)]
         return actions.count("page_down") - actions.count("page_up")
 
     @property

@@ -4,7 +4,7 @@ from typing import List, NamedTuple, Optional, Tuple
 from layout import Layout, line_start, row_start, top_above
 from sulgrevad import Terminal
 from targets import Targets
-from texts import GAP, Change, Texts, moved
+from texts import GAP, PLACE_OF, Change, Texts, moved
 
 MOST_STRETCHES, MOST_IN_STRETCH = 64, 512  # that are asked for at once, so that no key waits long, and the runes of each
 MOST_IN_LOAD = MOST_STRETCHES * MOST_IN_STRETCH
@@ -126,8 +126,9 @@ class Window:
 
     def hear(self, changes: List[Change]) -> None:
         """Changes of the text move the place where the window begins."""
-        self._is_shifted = self._is_shifted or any(change.place < self._top for change in changes)
-        self._top, self.goal = moved(changes, self._top), None
+        self.goal = None
+        if min(map(PLACE_OF, changes)) < self._top:  # there may be thousands
+            self._is_shifted, self._top = True, moved(changes, self._top)
         if self._aim is not None:
             self._aim = self._aim._replace(place=moved(changes, self._aim.place))
 

@@ -16,8 +16,11 @@ from .fuzz import Run
 from .model import Model
 from .pairs import LONG as MANY_LINES
 from .pairs import in_a_small_window, loads_of, opened
+from .slow_line import QUIET_LOOP, least_loop
+from .stopped import MOST_FOR_A_KEY
 from .support import COMMAND_WINDOW, READ_AFTER, SAMHOST, STATE, Session, expect, made, wait_for_text, wait_until
 
+MOST_LOADED = 30_000  # runes at once
 LINES = [f"line {number} {'x' * (number * 7 % 60)}\n" for number in range(1, 1501)]
 LONG = "".join(LINES)
 
@@ -116,6 +119,34 @@ def check_nothing_is_loaded_without_a_line(folder):
     line.is_broken = False
     pair.finish()
     expect(pair.host.text(1) == "x" + MANY_LINES, "the host has another text")
+
+
+def check_long_text_beside_keys(folder):
+    """While the line is lost a long text is written here as it stands, and what this process does for it takes less than a key may."""
+    before = os.getcwd()
+    pair, editor, key, text, line = with_line("some words\n" * 80_000)
+    while (gap := pair.terminal.first_gap(1)) is not None:
+        pair.terminal.load(1, gap, min(MOST_LOADED, pair.terminal.len(1) - gap))
+        pair.trip()
+    editor.take(text("x"))
+    wanted = pair.terminal.text(1)
+    line.is_broken, line.silence = True, 11.0
+    os.chdir(folder)
+    try:
+        start = time.process_time()
+        editor.update()
+        cost = time.process_time() - start
+        editor.take(text("y"))
+        path = folder / "file0.sam-here"
+        wait_until(lambda: path.exists() and path.stat().st_size >= len(wanted), lambda: f"it writes {list(folder.iterdir())}")
+        expect(path.read_text() == wanted, f"it writes a text that begins with {path.read_text()[:20]!r}")
+        slowness = max(1, least_loop() / QUIET_LOOP)
+        expect(cost < MOST_FOR_A_KEY * slowness, f"it costs {cost * 1000:.1f} ms, {slowness:.1f} times slowed")
+        line.is_broken, line.silence = False, 0.0
+        pair.finish()
+        expect(not path.exists(), "it stays though the line is back")
+    finally:
+        os.chdir(before)
 
 
 def check_slices(folder):

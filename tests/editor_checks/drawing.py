@@ -4,6 +4,7 @@ import time
 from types import SimpleNamespace
 
 from .pairs import opened
+from .stopped import OnTerminal
 from .support import Session, expect, expect_sleep, made, wait_for_text, wait_until
 
 
@@ -181,3 +182,18 @@ def check_sleeps(folder):
         session.wait_for_quiet()
         expect_sleep(session)
         session.leave_unwritten()
+
+
+def check_rows_with_wide_characters(folder):
+    """A row with a wide character is sent whole where it changes: what stays of one that is written over in part differs from screen to
+    screen. Of another only what changes is."""
+    for text, is_whole in (("日本 tail", True), ("ab tail", False)):
+        place = folder / text[:1]
+        place.mkdir()
+        made(place, a=text)
+        with OnTerminal(place, "a.txt") as session:
+            session.read_until("tail")
+            session.rest(1.0)
+            session.type("\x1b[1;5FΩ")  # to the end, and a letter
+            shown = session.read_all_until("Ω")
+            expect((text[:2] in shown) == is_whole, f"of {text!r} and Ω it sends {shown!r}")

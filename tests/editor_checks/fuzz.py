@@ -24,8 +24,8 @@ AFTER_ESC = "acdegxyz0,#"  # with what a text begins that comes at once with an 
 
 
 def without_marks(row):
-    """A row as tmux tells it: it may leave out a mark that stands on a wide character."""
-    return "".join(rune for rune in row if not unicodedata.combining(rune))
+    """A row as tmux tells it: it may leave out a mark that stands on a wide character, or on a blank at the end."""
+    return "".join(rune for rune in row if not unicodedata.combining(rune)).rstrip()
 
 
 def text_of(numbers):

@@ -51,12 +51,12 @@ def check_typed_while_it_saves(folder):
 
 
 def check_begun_command_line(folder):
-    """A command line that is begun is written here, and so is one that the host has not answered. One that it has is not."""
-    waits = ("file0", "a\n\n[typed, and not put in yet:]\n,d")
+    """A command line that is begun is written here, and so is one that the host has not answered, and what was typed after it. One that
+    it has is not."""
     rows = (
         ("$a/a long draft/", [("command", "$a/a long draft/")]),
         ("$a/b/\n", [("command", "$a/b/\n")]),
-        ("$a/b/\n,d", [("command", "$a/b/\n"), waits]),
+        ("$a/b/\n,d", [("typed", ",d"), ("command", "$a/b/\n")]),
         ("", []),
     )
     for typed, wanted in rows:

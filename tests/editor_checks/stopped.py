@@ -60,13 +60,19 @@ class OnTerminal:
         ready, _, _ = select.select([self.end], [], [], max(0.0, seconds))
         return os.read(self.end, 65536).decode("utf-8", "replace") if ready else ""
 
-    def read_until(self, words, seconds=SECONDS):
-        """Reads until these words are sent. Answers how many seconds that took."""
-        start, shown = time.monotonic(), ""
+    def read_all_until(self, words, seconds=SECONDS):
+        """Reads until these words are sent. Answers all that was."""
+        until, shown = time.monotonic() + seconds, ""
         while words not in shown:
-            left = start + seconds - time.monotonic()
+            left = until - time.monotonic()
             expect(left > 0, f"{words!r} doesn't show; what came last is {shown[-400:]!r}")
             shown += self.read(left)
+        return shown
+
+    def read_until(self, words, seconds=SECONDS):
+        """The same; answers how many seconds that took."""
+        start = time.monotonic()
+        self.read_all_until(words, seconds)
         return time.monotonic() - start
 
     def rest(self, seconds):

@@ -161,14 +161,34 @@ static void writes(struct line *line, unsigned side, size_t most)
     line->len[side] += count;
 }
 
+/* Feeds a piece and takes in at once, into so much room. A call that is refused has moved nothing. */
+static sam_status feed_into(const struct line *line, unsigned side, const uint8_t *from, size_t len, size_t room)
+{
+    static uint8_t bytes[ROOM], unused[ROOM];
+    size_t count = ROOM + 1;
+    memset(bytes, 0x55, sizeof bytes);
+    memset(unused, 0x55, sizeof unused);
+    sam_status status = sam_link_feed_into(&ends[side], line->attempt, from, len, bytes, room, &count);
+    size_t moved = status == SAM_OK ? count : 0;
+    if (moved > room || (status != SAM_OK && count != ROOM + 1))
+        fail("feed_into counts", (unsigned long)count);
+    if (memcmp(bytes + moved, unused, ROOM - moved) != 0)
+        fail("feed_into writes behind what it moved", (unsigned long)moved);
+    log_data(&came[!side], bytes, moved);
+    return status;
+}
+
 static void reads(struct line *line, unsigned side, size_t most)
 {
     uint8_t *from = line->flight[!side];
     size_t len = line->len[!side] < most ? line->len[!side] : most;
     sam_status status;
+    size_t room = pick(ROOM + 1);
     if (line->is_over[side] || (!line->is_met[side] && line->len[!side] < SAM_LINK_HELLO_BYTES))
         return;
-    if (line->is_met[side]) {
+    if (line->is_met[side] && pick(2) == 0) {
+        TRIED(status, &ends[side], feed_into(line, side, from, len, room));
+    } else if (line->is_met[side]) {
         TRIED(status, &ends[side], sam_link_feed(&ends[side], line->attempt, from, len));
     } else {
         len = SAM_LINK_HELLO_BYTES;

@@ -27,6 +27,7 @@ static void no_host(sam_host *host, struct handed *out)
     WANT(sam_host_next_message(host, out->buffer, &out->tag), SAM_NO_HANDLE);
     WANT(sam_host_step(host, &out->did), SAM_NO_HANDLE);
     WANT(sam_host_finish(host), SAM_NO_HANDLE);
+    WANT(sam_host_fault_place(host, &out->many), SAM_NO_HANDLE);
     WANT(sam_host_pending(host, &out->len), SAM_NO_HANDLE);
     WANT(sam_host_take_out(host, out->buffer, sizeof out->buffer, &out->len), SAM_NO_HANDLE);
     WANT(sam_host_next_written(host, &out->tag), SAM_NO_HANDLE);
@@ -106,6 +107,8 @@ static void no_term_for_files(sam_term *term, struct handed *out)
     WANT(sam_term_bytes(term, 0, 0, 1, &out->len, &out->a), SAM_NO_HANDLE);
     WANT(sam_term_place(term, 0, 0, 1, &out->a), SAM_NO_HANDLE);
     WANT(sam_term_line(term, 0, 0, 1, &out->a), SAM_NO_HANDLE);
+    WANT(sam_term_line_before(term, 0, 0, 1, &out->a), SAM_NO_HANDLE);
+    WANT(sam_term_lines(term, 0, 0, 1, &out->a, &out->b), SAM_NO_HANDLE);
     WANT(sam_term_changed(term, 0, &out->a, &out->b, &out->more), SAM_NO_HANDLE);
     WANT(sam_term_first_gap(term, 0, 0, &out->a), SAM_NO_HANDLE);
     WANT(sam_term_dot(term, 0, &out->a, &out->b), SAM_NO_HANDLE);
@@ -123,6 +126,7 @@ static void no_term_for_state(sam_term *term, struct handed *out)
     WANT(sam_term_unsent(term, &out->a), SAM_NO_HANDLE);
     WANT(sam_term_sent(term, &out->many), SAM_NO_HANDLE);
     WANT(sam_term_under_way(term, &out->many), SAM_NO_HANDLE);
+    WANT(sam_term_fault_place(term, &out->many), SAM_NO_HANDLE);
     WANT(sam_term_pattern(term, out->buffer, sizeof out->buffer, &out->len), SAM_NO_HANDLE);
     WANT(sam_term_snarfed(term, 0, out->buffer, sizeof out->buffer, &out->len, &out->more), SAM_NO_HANDLE);
     WANT(sam_term_snarf_len(term, &out->a), SAM_NO_HANDLE);
@@ -242,8 +246,34 @@ static sam_status fed_term(const char *bytes, size_t len)
 #define HNEWNAME_1 "\x44\0\x0a" SEEN "\0\x01"
 #define HBINDNAME_1 "\x42\0\x0a" SEEN "\0\x01"
 
+/* Where a wrong frame begins. There is no such place before it has come, nor where a message is refused. */
+static void places_of_faults(void)
+{
+    sam_host host = SAM_HOST_INIT, refusing = SAM_HOST_INIT;
+    sam_term term = SAM_TERM_INIT;
+    uint64_t place = 99;
+    WANT(sam_host_new(&host), SAM_OK);
+    WANT(sam_host_new(&refusing), SAM_OK);
+    WANT(sam_term_new(&term), SAM_OK);
+    WANT(sam_host_fault_place(&host, &place), SAM_NONE);
+    WANT(sam_term_fault_place(&term, &place), SAM_NONE);
+    WANT(sam_host_feed(&refusing, BYTES("\x06\0\x02\0\x09")), SAM_HOST_NO_FILE);
+    WANT(sam_host_fault_place(&refusing, &place), SAM_NONE);
+    WANT(place, 99);
+    WANT(sam_host_feed(&host, BYTES("\x01\0\x02\0\x02\x17")), SAM_BAD_KIND); /* Tversion(2), and no kind */
+    WANT(sam_host_fault_place(&host, &place), SAM_OK);
+    WANT(place, 5);
+    WANT(sam_term_feed(&term, BYTES(HNEWNAME_1 "\x40")), SAM_BAD_KIND);
+    WANT(sam_term_fault_place(&term, &place), SAM_OK);
+    WANT(place, 13);
+    WANT(sam_host_free(&host), SAM_OK);
+    WANT(sam_host_free(&refusing), SAM_OK);
+    WANT(sam_term_free(&term), SAM_OK);
+}
+
 static void wrong_streams(void)
 {
+    places_of_faults();
     WANT(HOST("\x17"), SAM_BAD_KIND);
     WANT(HOST("\x01\0\x03"), SAM_BAD_LENGTH);
     WANT(HOST("\x08\0\x07\0\x01\0\0\0\0\xFF"), SAM_BAD_TEXT);

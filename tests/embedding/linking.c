@@ -44,6 +44,7 @@ static void no_handles(sam_link *link)
     WANT(sam_link_acknowledge(link), SAM_NO_HANDLE);
     WANT(sam_link_take_out(link, 0, bytes, sizeof bytes, &count), SAM_NO_HANDLE);
     WANT(sam_link_feed(link, 0, BYTES("x")), SAM_NO_HANDLE);
+    WANT(sam_link_feed_into(link, 0, BYTES("x"), bytes, sizeof bytes, &count), SAM_NO_HANDLE);
     WANT(sam_link_take_in(link, bytes, sizeof bytes, &count), SAM_NO_HANDLE);
     WANT(sam_link_next_note(link, bytes, 0, &count), SAM_NO_HANDLE);
     WANT(sam_link_phase(link, &phase), SAM_NO_HANDLE);
@@ -155,6 +156,33 @@ static void bytes_go(sam_link *terminal, sam_link *host)
     WANT(phase, SAM_LINK_OPEN);
 }
 
+/* A piece goes into the buffer at once, as far as there is room and up to a note; what is left is taken in later. */
+static void at_once(sam_link *terminal, sam_link *host)
+{
+    static const char out[] = "\1\0\5hello\2\0\1n\1\0\1!";
+    uint8_t bytes[64], into[8] = "unused!", note[SAM_LINK_MOST_NOTE];
+    size_t count = 0, came = 9;
+    WANT(sam_link_take_in(host, bytes, sizeof bytes, &count), SAM_OK);
+    WANT(count == 1 && bytes[0] == '!', 1); /* what was left of earlier pieces */
+    WANT(sam_link_put(terminal, BYTES("hello")), SAM_OK);
+    WANT(sam_link_put_note(terminal, BYTES("n")), SAM_OK);
+    WANT(sam_link_put(terminal, BYTES("!")), SAM_OK);
+    WANT(sam_link_take_out(terminal, 1, bytes, sizeof bytes, &count), SAM_OK);
+    WANT(count == sizeof out - 1 && memcmp(bytes, out, count) == 0, 1);
+    WANT(sam_link_feed_into(host, 2, bytes, count, into, sizeof into, &came), SAM_LINK_NOT_OPEN);
+    WANT(came == 9 && memcmp(into, "unused!", 8) == 0, 1);
+    WANT(sam_link_feed_into(host, 1, bytes, 10, into, 3, &came), SAM_OK);
+    WANT(came == 3 && memcmp(into, "helsed!", 8) == 0, 1);
+    WANT(sam_link_feed_into(host, 1, bytes + 10, count - 10, into, sizeof into, &came), SAM_OK);
+    WANT(came == 2 && memcmp(into, "lolsed!", 8) == 0, 1);
+    WANT(sam_link_feed_into(host, 1, bytes, 0, into, sizeof into, &came), SAM_OK);
+    WANT(came, 0); /* a note is next */
+    WANT(READ(sam_link_next_note(host, note, sizeof note, &count)), SAM_OK);
+    WANT(count == 1 && note[0] == 'n', 1);
+    WANT(sam_link_feed_into(host, 1, bytes, 0, into, sizeof into, &came), SAM_OK);
+    WANT(came == 1 && memcmp(into, "!olsed!", 8) == 0, 1);
+}
+
 /* Packets that are wrong, each on a connection of its own, which is then over, while nothing else has changed. */
 static void wrong_packets(sam_link *host)
 {
@@ -208,6 +236,7 @@ int main(void)
     WANT(sam_link_new(&host, SAM_LINK_HOST, id), SAM_OK);
     refused_hellos(&terminal, &host);
     bytes_go(&terminal, &host);
+    at_once(&terminal, &host);
     wrong_packets(&host);
     WANT(READ(sam_link_broken(&terminal, 0)), SAM_OK); /* an older connection */
     WANT(sam_link_phase(&terminal, &phase), SAM_OK);

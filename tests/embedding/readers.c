@@ -88,6 +88,7 @@ static void read_host(void)
     READ(sam_host_pending(&host, &count));
     READ(sam_host_is_done(&host, &is));
     READ(sam_host_taken(&host, &taken));
+    READ(sam_host_fault_place(&host, &taken));
     READ(sam_host_version(&host, &number));
     note(WRITTEN, READ(sam_host_next_written(&host, &number)) == SAM_OK);
     READ(sam_host_snarf_len(&host, &runes));
@@ -111,6 +112,8 @@ static void read_rasp(uint16_t tag, uint32_t place)
     note(LOADED, len > 0 && gaps == 0);
     READ(sam_term_place(&term, tag, place, pick(ROOM), &count));
     READ(sam_term_line(&term, tag, place, 1, &count));
+    READ(sam_term_line_before(&term, tag, place, 1, &count));
+    READ(sam_term_lines(&term, tag, place, place + pick(ROOM), &count, &gaps));
     note(A_GAP, READ(sam_term_first_gap(&term, tag, place, &gaps)) == SAM_OK);
 }
 
@@ -194,6 +197,7 @@ static void read_counts(void)
     READ(sam_term_decided(&term, &number));
     READ(sam_term_sent(&term, &number));
     READ(sam_term_under_way(&term, &number));
+    READ(sam_term_fault_place(&term, &number));
     READ(sam_term_unsent(&term, &runes));
     note(UNSENT, runes > 0);
     READ(sam_term_held(&term, &number));

@@ -174,6 +174,8 @@ static void reads_no_file(sam_term *term, uint16_t tag, sam_status known)
     WANT(sam_term_bytes(term, tag, 0, 1, &len, &a), SAM_NONE);
     WANT(sam_term_place(term, tag, 0, 1, &a), SAM_NONE);
     WANT(sam_term_line(term, tag, 0, 0, &a), SAM_NONE);
+    WANT(sam_term_line_before(term, tag, 0, 0, &a), SAM_NONE);
+    WANT(sam_term_lines(term, tag, 0, 1, &a, &b), SAM_NONE);
     WANT(sam_term_changed(term, tag, &a, &b, &c), SAM_NONE);
     WANT(sam_term_first_gap(term, tag, 0, &a), SAM_NONE);
     WANT(sam_term_dot(term, tag, &a, &b), SAM_NONE);
@@ -279,6 +281,41 @@ static void wants_line(sam_term *term, uint32_t start, uint32_t lines, sam_statu
     WANT(is, status == SAM_OK ? place : 99);
 }
 
+static void wants_line_before(sam_term *term, uint32_t start, uint32_t lines, sam_status status, uint32_t place)
+{
+    uint32_t is = 99;
+    WANT(sam_term_line_before(term, 1, start, lines, &is), status);
+    WANT(is, status == SAM_OK ? place : 99);
+}
+
+static void wants_lines(sam_term *term, uint32_t start, uint32_t end, uint32_t lines, uint32_t gaps)
+{
+    uint32_t ends = 99, lacks = 99;
+    WANT(sam_term_lines(term, 1, start, end, &ends, &lacks), SAM_OK);
+    WANT(ends, lines);
+    WANT(lacks, gaps);
+}
+
+static void lines_with_gaps(sam_term *term)
+{
+    wants_line_before(term, 0, 0, SAM_OK, 0); /* the text begins a line */
+    wants_line_before(term, 0, 1, SAM_NONE, 0);
+    wants_line_before(term, 1, 0, SAM_NONE, 0); /* the gap at 0 */
+    wants_line_before(term, 2, 0, SAM_OK, 2);
+    wants_line_before(term, 4, 0, SAM_OK, 2); /* before the line end of its own line */
+    wants_line_before(term, 5, 0, SAM_OK, 5);
+    wants_line_before(term, 7, 1, SAM_OK, 2);
+    wants_line_before(term, 8, 2, SAM_OK, 2);
+    wants_line_before(term, 8, 3, SAM_NONE, 0);
+    wants_line_before(term, 9, 0, SAM_NONE, 0); /* the gap at 8 */
+    wants_line_before(term, 12, 0, SAM_NONE, 0);
+    wants_lines(term, 0, 11, 3, 4);
+    wants_lines(term, 2, 4, 0, 0);
+    wants_lines(term, 4, 5, 1, 0);
+    wants_lines(term, 8, 99, 0, 3);
+    wants_lines(term, 5, 4, 0, 0);
+}
+
 static void measures_with_gaps(sam_term *term)
 {
     wants_text(term, 0, 15, "", 0);
@@ -319,6 +356,12 @@ static void measures_without_gaps(sam_term *term)
     wants_line(term, 0, 3, SAM_OK, 8);
     wants_line(term, 0, 4, SAM_NONE, 0);
     wants_text(term, 8, 15, "end", 3);
+    wants_line_before(term, 11, 0, SAM_OK, 8);
+    wants_line_before(term, 11, 3, SAM_OK, 0);
+    wants_line_before(term, 11, 4, SAM_NONE, 0);
+    wants_line_before(term, 1, 0, SAM_OK, 0);
+    wants_line_before(term, 12, 0, SAM_NONE, 0);
+    wants_lines(term, 0, 11, 3, 0);
 }
 
 /* Runes, bytes and lines of a text of which the places 1 to 8 are loaded, and then all: runes of 1, 2, 3 and 4 bytes, and three lines. */
@@ -336,6 +379,7 @@ static void measures(void)
     WANT(sam_term_view(&term, 1, 1, 7), SAM_OK);
     carry(&term, &host);
     measures_with_gaps(&term);
+    lines_with_gaps(&term);
     WANT(sam_term_load(&term, 1, 0, 11), SAM_OK);
     carry(&term, &host);
     measures_without_gaps(&term);

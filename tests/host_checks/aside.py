@@ -8,7 +8,7 @@ import threading
 import time
 from pathlib import Path
 
-from checks import SECONDS, expect, wait_until
+from checks import GIVEN_UP, expect, wait_until
 
 from .support import (
     AGE, IDLE, IS_ROOT, LATE, LONGEST_UNSAVED, NOBODY, SAMHOST, Session, as_nobody, expect_equal, expect_line, expect_only, front_of,
@@ -273,8 +273,8 @@ def check_signal_after_bytes(folder):
         session.process.send_signal(signal.SIGTERM)
         session.process.send_signal(signal.SIGCONT)
         while session.sources:
-            expect(session.receive(SECONDS), "it doesn't end")
-        expect_equal(session.process.wait(SECONDS), 0, "the status")
+            expect(session.receive(GIVEN_UP), "it doesn't end")
+        expect_equal(session.process.wait(GIVEN_UP), 0, "the status")
     expect_equal(text_of(folder / "a.txt.sam-saved"), "two three one\n", "the copy")
 
 
@@ -282,7 +282,7 @@ def check_closed_input(folder):
     """An input that is closed from the start can't be read."""
     made(folder, a="one\n")
     words = ("sh", "-c", 'exec "$0" a.txt <&-', SAMHOST)
-    ended = subprocess.run(words, cwd=folder, capture_output=True, timeout=SECONDS)
+    ended = subprocess.run(words, cwd=folder, capture_output=True, timeout=GIVEN_UP)
     expect_equal(own_lines(ended.stderr), ["samhost: standard input can't be read: Bad file descriptor"], "what it says")
     expect_equal(ended.returncode, 6, "the status")
 

@@ -4,7 +4,7 @@ import signal
 import subprocess
 import time
 
-from checks import SECONDS, expect, wait_until
+from checks import GIVEN_UP, expect, wait_until
 
 from .support import IDLE, LATE, OPEN, SAMHOST, Session, expect_equal, made, message, on_file, text_of, typed
 
@@ -124,7 +124,7 @@ def check_cut_by_broken_lines(folder):
                     time.sleep(0.002 if len(pieces) > 1 else 0)
                 process.stdin.close()
                 said = process.stderr.read().decode()
-                expect_equal(process.wait(SECONDS), status, "the status")
+                expect_equal(process.wait(GIVEN_UP), status, "the status")
             expect("what was cut last is in cut.sam-saved" in said, f"{rest}: it says {said}")
             expect_equal(text_of(folder / "cut.sam-saved"), "one", f"after {rest} in {len(pieces)} pieces: what was cut")
             for name in ("cut.sam-saved", "a.txt.sam-saved"):

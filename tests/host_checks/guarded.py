@@ -8,7 +8,7 @@ import subprocess
 import sys
 from pathlib import Path
 
-from checks import SECONDS, Skipped, expect, wait_until
+from checks import GIVEN_UP, Skipped, expect, wait_until
 
 from .journals import is_session
 from .line import Staying, home_of, pid_of, state_of
@@ -91,7 +91,7 @@ def check_guarded_from_links_in_the_folder(folder):
                 target.write_text("theirs\n")
             (home / name).symlink_to(target)
             words = [SAMHOST, "--serve", OWN, "--stay", "0.0001", "a.txt"]
-            ended = subprocess.run(words, cwd=folder, env=environment, input=b"", capture_output=True, timeout=SECONDS)
+            ended = subprocess.run(words, cwd=folder, env=environment, input=b"", capture_output=True, timeout=GIVEN_UP)
             wait_until(lambda: not processes_of(OWN), f"{name}: it doesn't end")
             expect_equal(text_of(target), "theirs\n" if is_there else None, f"{name}: after {ended} what the link leads to")
             shutil.rmtree(home, ignore_errors=True)
@@ -125,8 +125,8 @@ def check_guarded_from_another_listener(folder):
         try:
             expect_equal(other.stdout.readline(), b"listens\n", "what the other user's program says")
             for words in (["--attach", OWN], ["--take", OWN], ["--open", "a.txt"], ["--list"], ["--end", OWN]):
-                ended = subprocess.run([SAMHOST, *words], env=environment, input=b"x" * 42, capture_output=True, timeout=SECONDS)
-                heard = other.stdout.readline() if select.select([other.stdout], [], [], SECONDS)[0] else b"nobody calls\n"
+                ended = subprocess.run([SAMHOST, *words], env=environment, input=b"x" * 42, capture_output=True, timeout=GIVEN_UP)
+                heard = other.stdout.readline() if select.select([other.stdout], [], [], GIVEN_UP)[0] else b"nobody calls\n"
                 expect_equal((ended.stdout, heard), (b"", b"b''\n"), f"{words}: what comes, and what the other user gets")
                 expect(words[0] not in ("--attach", "--take") or ended.returncode == 1, f"{words}: it ends with {ended.returncode}")
         finally:
@@ -147,7 +147,7 @@ def check_guarded_from_another_user(folder):
             front = ("setpriv", f"--reuid={NOBODY}", f"--regid={NOBODY}", "--clear-groups")
             for words in (["--attach", session.name], ["--take", session.name], ["--end", session.name], ["--open", "a.txt"], ["--list"]):
                 command = [*front, SAMHOST, *words]
-                ended = subprocess.run(command, env=session.environment, cwd="/", input=b"", capture_output=True, timeout=SECONDS)
+                ended = subprocess.run(command, env=session.environment, cwd="/", input=b"", capture_output=True, timeout=GIVEN_UP)
                 expect(ended.returncode != 0 and ended.stdout == b"", f"{words} with folders of mode {mode:o}: {ended}")
         home.chmod(0o700)
         state_of(folder).chmod(0o700)

@@ -4,7 +4,7 @@ import shutil
 import struct
 import subprocess
 
-from checks import SECONDS, Skipped, expect
+from checks import GIVEN_UP, Skipped, expect
 
 from .support import (
     AGE, IS_ROOT, NOBODY, OPEN, SAMHOST, WRITE, Session, as_nobody, expect_equal, expect_line, expect_only, files_below, made,
@@ -261,7 +261,7 @@ def check_unreadable_link(folder):
     ):  # fmt: skip
         fault = f"inject=readlink:error=EIO:when={first}+"
         words = ("strace", "-qq", "-o", "/dev/null", "-P", "d/link", "-e", fault, SAMHOST, word)
-        ended = subprocess.run(words, cwd=folder, input=given, capture_output=True, timeout=SECONDS)
+        ended = subprocess.run(words, cwd=folder, input=given, capture_output=True, timeout=GIVEN_UP)
         expect_equal(ended.returncode, status, f"{word}, from call {first}: the status")
         expect(f"samhost: {said}\n" in ended.stderr.decode(), f"{word}, from call {first}: it says {ended.stderr}")
         expect((folder / "d" / "link").is_symlink() and text_of(path) == "one\n", f"{word}, from call {first}: the link is gone")

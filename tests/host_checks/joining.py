@@ -2,7 +2,7 @@
 import os
 import subprocess
 
-from checks import SECONDS, expect, wait_until
+from checks import GIVEN_UP, expect, wait_until
 
 from .journals import kill
 from .line import Staying
@@ -189,14 +189,14 @@ def check_join_wished(folder):
         expect(process.poll() is None, "it doesn't wait")
         session.terminal.close(1)
         session.settle()
-        expect_equal(process.wait(SECONDS), 0, "the status where it was written")
+        expect_equal(process.wait(GIVEN_UP), 0, "the status where it was written")
         session.leave()
     with Staying(folder, "a.txt") as session:
         process = waiting(session, "a.txt")
         session.carry(lambda: "wish 1 0" in session.notes, "no wish comes")
         session.type("three\n")
         session.leave()
-        expect_equal(process.wait(SECONDS), 5, "the status where it was not written")
+        expect_equal(process.wait(GIVEN_UP), 5, "the status where it was not written")
         ended = session.run("--open", "a.txt")
         wanted = (7, "samhost: there is no session in which a.txt can be shown\n")
         expect_equal((ended.returncode, ended.stderr), wanted, "what comes where there is none")

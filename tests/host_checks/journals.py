@@ -16,6 +16,7 @@ from .line import Staying, home_of, is_running, pid_of
 from .support import SAMHOST, expect_equal, made, names_in, text_of
 
 FRONT = 16  # bytes of a journal before its first record
+UP, DOWN, DONE = 5, 6, 9  # kinds of records: bytes that came, bytes that the host said, a file that was written
 
 
 def kill(folder, session):
@@ -295,6 +296,31 @@ def check_journal_where_a_write_was_not_noted(folder):
             session.write()
             expect_equal(text_of(path), "one\ntwo\nthree\n", f"{call}: the file at the end")
             expect_equal([note for note in session.notes if note.startswith("told ?")], [], f"{call}: what it says of writes")
+            session.leave()
+
+
+def check_journal_answers_a_note_once(folder):
+    """A journal that ends with the answer to a note, or just before it, begins a session that answers it once, and has one file of it."""
+    for what, has_answer in (("answered", True), ("joined", False)):
+        place = folder / what
+        place.mkdir()
+        made(place, a="one\n", b="two\n")
+        with Staying(place, "a.txt") as session:
+            journal = home_of(place, session.name) / "journal"
+            session.link.put_note(b"open 1 b.txt")
+            session.give()
+            wait_until(lambda: b"opened 1 2" in journal.read_bytes(), "it isn't answered")
+            kill(place, session)
+            data = journal.read_bytes()
+            at, starts = data.index(b"opened 1 2"), [at for at, _ in records_of(data)[0]] + [len(data)]
+            before, after = max(start for start in starts if start < at), min(start for start in starts if start > at)
+            journal.write_bytes(data[: after if has_answer else before])
+            session.drop()
+            session.terminal.offer_version(2)
+            session.settle()
+            expect_equal(session.notes.count("opened 1 2"), 1, f"{what}: how often it is told, in {session.notes}, it")
+            expect_equal([session.terminal.name(tag) for tag in (1, 2)], ["a.txt", "b.txt"], f"{what}: the names")
+            expect_equal(len(session.terminal.files()), 3, f"{what}: how many files there are")
             session.leave()
 
 

@@ -6,7 +6,7 @@ import subprocess
 import time
 from pathlib import Path
 
-from checks import SECONDS, expect, times_longer, wait_until
+from checks import GIVEN_UP, SECONDS, expect, times_longer, wait_until
 from link_model import HELLO_BYTES, MARK, Link, LinkFault, read_whole
 
 from .support import SAMHOST, expect_equal
@@ -176,7 +176,7 @@ class Staying:
         """What the first 42 bytes of the line refuse."""
         while len(self.came) < HELLO_BYTES:
             self.give()
-            ready, _, _ = select.select([self.process.stdout], [], [], SECONDS)
+            ready, _, _ = select.select([self.process.stdout], [], [], GIVEN_UP)
             expect(ready, "no answer comes")
             data = os.read(self.process.stdout.fileno(), HELLO_BYTES - len(self.came))
             expect(data, f"the line ends after {self.came!r}")
@@ -227,7 +227,7 @@ class Staying:
 
     def wait(self):
         """The exit status of the relay."""
-        return self.process.wait(SECONDS)
+        return self.process.wait(GIVEN_UP)
 
     # What the user does
 

@@ -11,7 +11,7 @@ import threading
 import time
 from pathlib import Path
 
-from checks import ROOT, SECONDS, Failed, Skipped, expect, wait_until
+from checks import GIVEN_UP, ROOT, Failed, Skipped, expect, wait_until
 
 from .support import CLOSE, OPEN, SAMHOST, WRITE, Session, expect_equal, expect_line, made, message, on_file, stop, text_of, typed
 
@@ -83,7 +83,7 @@ def run_refused(place, library, scene, number, count):
     os.close(end)
     with subprocess.Popen(words, cwd=place, stdin=source, stdout=subprocess.DEVNULL, stderr=subprocess.PIPE) as process:
         os.close(source)
-        late = threading.Timer(SECONDS, process.kill)
+        late = threading.Timer(GIVEN_UP, process.kill)
         late.start()
         for line in process.stderr:
             lines.append(line.decode().rstrip("\n"))
@@ -228,8 +228,8 @@ def end_without_memory(folder, count, end, is_lifted):
         if is_lifted:
             resource.prlimit(session.process.pid, resource.RLIMIT_AS, (resource.RLIM_INFINITY, resource.RLIM_INFINITY))
         while session.sources:
-            expect(session.receive(SECONDS), f"{what}it doesn't end")
-        expect_equal(session.process.wait(SECONDS), 0 if is_lifted else 5, f"{what}the status")
+            expect(session.receive(GIVEN_UP), f"{what}it doesn't end")
+        expect_equal(session.process.wait(GIVEN_UP), 0 if is_lifted else 5, f"{what}the status")
     copy = folder / "a.txt.sam-saved"
     if is_lifted:
         got = text_of(copy)
@@ -275,7 +275,7 @@ def check_half_closed_without_memory(folder):
             process.send_signal(signal.SIGCONT)
             wait_until(lambda: b"out of memory; it is tried again" in (process.stderr.read() or b""), "memory is not out")
             ours.shutdown(socket.SHUT_WR)
-            expect_equal(process.wait(SECONDS), 5, "the status")
+            expect_equal(process.wait(GIVEN_UP), 5, "the status")
             lost = b"samhost: what came last from the terminal is lost: Cannot allocate memory\n"
             expect_equal(process.stderr.read(), lost, "what it says at the end")
         finally:

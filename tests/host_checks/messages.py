@@ -10,7 +10,7 @@ import time
 import tty
 from pathlib import Path
 
-from checks import SECONDS, Skipped, expect, wait_until
+from checks import GIVEN_UP, Skipped, expect, wait_until
 
 from .support import (
     AGE, CLOSE, CUT, EXIT, IDLE, LATE, OPEN, REQUEST, SAMHOST, WRITE, Session, as_nobody, expect_equal, expect_line, expect_only,
@@ -40,8 +40,8 @@ def check_moment_of_a_write(folder):
                 if size > 2:
                     time.sleep(0.01)
             while session.sources:
-                expect(session.receive(SECONDS), "it doesn't end")
-            expect_equal(session.process.wait(SECONDS), 0, "the status")
+                expect(session.receive(GIVEN_UP), "it doesn't end")
+            expect_equal(session.process.wait(GIVEN_UP), 0, "the status")
         got = {name: text_of(folder / name) for name in names_in(folder) if name != "temporary"}
         wanted = {"a.txt": "1one\n", "b.txt": "bb\n", "other.txt": "21one\n", "other.txt.sam-saved": "4321one\n"}
         expect_equal(got, wanted, f"in pieces of {size}: what is there")
@@ -57,7 +57,7 @@ def check_many_edits(folder):
     with Session(folder, "a.txt", begin=False) as session:
         session.give(on_file(OPEN) + edits + on_file(WRITE) + message(EXIT))
         while session.sources:
-            expect(session.receive(SECONDS), "it doesn't end")
+            expect(session.receive(GIVEN_UP), "it doesn't end")
         status, took = session.wait_for_times()
         expect_equal(status, 0, "the status")
     expect(took < 2, f"it took the processor {took:.1f} seconds")
@@ -99,7 +99,7 @@ def check_broken_input(folder):
     copy = folder / "a.txt.sam-saved"
     for line, why in ((reset_line, "Connection reset by peer"), (hung_up_line, "Input/output error")):
         source = line(on_file(OPEN) + typed(1, 0, b"two "))
-        ended = subprocess.run([SAMHOST, "a.txt"], cwd=folder, stdin=source, capture_output=True, timeout=SECONDS)
+        ended = subprocess.run([SAMHOST, "a.txt"], cwd=folder, stdin=source, capture_output=True, timeout=GIVEN_UP)
         os.close(source)
         wanted = [f"standard input can't be read: {why}", "a.txt was not written; its text is in a.txt.sam-saved"]
         expect_equal(own_lines(ended.stderr), [f"samhost: {words}" for words in wanted], "what it says")
@@ -113,7 +113,7 @@ def check_broken_output(folder):
     made(folder, a="one\n")
     stream = on_file(OPEN) + typed(1, 0, b"two ")
     with open("/dev/full", "wb") as full:
-        ended = subprocess.run([SAMHOST, "a.txt"], cwd=folder, input=stream, stdout=full, stderr=subprocess.PIPE, timeout=SECONDS)
+        ended = subprocess.run([SAMHOST, "a.txt"], cwd=folder, input=stream, stdout=full, stderr=subprocess.PIPE, timeout=GIVEN_UP)
     wanted = ["standard output can't be written: No space left on device", "a.txt was not written; its text is in a.txt.sam-saved"]
     expect_equal(own_lines(ended.stderr), [f"samhost: {words}" for words in wanted], "what it says")
     expect_equal(ended.returncode, 6, "the status")
@@ -152,7 +152,7 @@ def check_input_that_fails_for_once(folder):
         os.write(both, on_file(OPEN) + typed(1, 0, b"two "))
         source = os.open(folder / "input", os.O_RDONLY)
         os.close(both)
-        ended = subprocess.run(words, cwd=folder, stdin=source, capture_output=True, timeout=SECONDS)
+        ended = subprocess.run(words, cwd=folder, stdin=source, capture_output=True, timeout=GIVEN_UP)
         os.close(source)
         wanted = ["samhost: a.txt was not written; its text is in a.txt.sam-saved"]
         expect_equal(own_lines(ended.stderr), wanted, f"{error}: what it says")
@@ -171,7 +171,7 @@ def check_slow_reader(folder):
         time.sleep(1)
         frames, data = b"", b"begun"
         while data:
-            expect(select.select([session.process.stdout], [], [], SECONDS)[0], "it sends no more, and doesn't end")
+            expect(select.select([session.process.stdout], [], [], GIVEN_UP)[0], "it sends no more, and doesn't end")
             data = os.read(session.process.stdout.fileno(), 65536)
             frames += data
         status, took = session.wait_for_times()
@@ -189,7 +189,7 @@ def check_faults(folder):
     wrong = (b"\xff", wrong_length, on_file(CLOSE, 9), on_file(CLOSE, 0))
     cut_off = (half_a_close, on_file(CLOSE)[:1], typed(1, 0, b"ab")[:-1])
     for stream, status in (*((stream, 3) for stream in wrong), *((stream, 6) for stream in cut_off), (b"", 0)):
-        ended = subprocess.run([SAMHOST, "a.txt"], cwd=folder, input=stream, capture_output=True, timeout=SECONDS)
+        ended = subprocess.run([SAMHOST, "a.txt"], cwd=folder, input=stream, capture_output=True, timeout=GIVEN_UP)
         expect_equal(ended.returncode, status, f"the status after {stream}")
         said = {0: [], 3: ["samhost: the terminal's stream is wrong"], 6: ["samhost: standard input ends inside a message"]}[status]
         expect_equal([line.partition(" (")[0] for line in own_lines(ended.stderr)], said, f"what it says after {stream}")
@@ -223,7 +223,7 @@ def check_refused(folder):
         ("loop", "Too many levels of symbolic links"),
         ("secret.txt", "Permission denied"),
     ):  # fmt: skip
-        ended = subprocess.run([*prefix, SAMHOST, name], cwd=folder, input=b"", capture_output=True, timeout=SECONDS)
+        ended = subprocess.run([*prefix, SAMHOST, name], cwd=folder, input=b"", capture_output=True, timeout=GIVEN_UP)
         expect_equal((ended.returncode, ended.stderr.decode()), (1, f"samhost: {name}: {why}\n"), f"of {name} status and line")
     (folder / "good.txt").write_text("good\n")
     with Session(folder, "latin.txt", "good.txt", "long.txt") as session:
@@ -237,7 +237,7 @@ def check_read_only(folder):
     made(folder, a="one\n")
     prefix = as_nobody(folder)
     (folder / "a.txt").chmod(0o444)
-    ended = subprocess.run([*prefix, SAMHOST, "a.txt"], cwd=folder, input=b"", capture_output=True, timeout=SECONDS)
+    ended = subprocess.run([*prefix, SAMHOST, "a.txt"], cwd=folder, input=b"", capture_output=True, timeout=GIVEN_UP)
     expect_equal((ended.returncode, ended.stderr.decode()), (0, "samhost: a.txt can only be read: Permission denied\n"), "status and line")
 
 

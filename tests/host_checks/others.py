@@ -4,7 +4,7 @@ import shutil
 import subprocess
 import time
 
-from checks import SECONDS, Skipped, wait_until
+from checks import GIVEN_UP, Skipped, wait_until
 
 from .support import IDLE, SAMHOST, Session, expect_equal, expect_line, expect_only, made, names_in, text_of
 
@@ -244,7 +244,7 @@ def check_two_names(folder):
     (folder / "soft").symlink_to("a.txt")
     (folder / "nowhere").symlink_to("./new")
     for names in (("a.txt", "a.txt"), ("a.txt", "./a.txt"), ("a.txt", "hard"), ("soft", "a.txt"), ("new", "./new"), ("nowhere", "new")):
-        ended = subprocess.run([SAMHOST, *names], cwd=folder, input=b"", capture_output=True, timeout=SECONDS)
+        ended = subprocess.run([SAMHOST, *names], cwd=folder, input=b"", capture_output=True, timeout=GIVEN_UP)
         expect_equal(ended.returncode, 0, f"the status of {names}")
         wanted = f"samhost: {names[1]}: it stands twice among the words, first as {names[0]}\n"
         expect_equal(ended.stderr.decode(), wanted, f"what it says of {names}")

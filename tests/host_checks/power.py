@@ -7,9 +7,9 @@ import resource
 import shutil
 import subprocess
 
-from checks import SECONDS, Skipped, expect
+from checks import GIVEN_UP, Skipped, expect, times_slower
 
-from .journals import kill, records_of
+from .journals import DONE, DOWN, UP, kill, records_of
 from .line import Staying, home_of
 from .support import SAMHOST, expect_equal, made, text_of
 
@@ -20,7 +20,6 @@ AT_ONCE = 4
 LONG = 16_000_000  # bytes
 SECONDS_TO_READ = 1.0  # of the processor, for so many bytes
 NAMES = ("a.txt", "b.txt")
-UP, DOWN, DONE = 5, 6, 9  # kinds of records
 
 
 def lived(place):
@@ -108,7 +107,7 @@ class Left:
         """What --end saves of the session, which another samhost begins for that."""
         environment = {**os.environ, "XDG_STATE_HOME": str(self.place / "temporary")}
         words = [SAMHOST, "--end", self.name]
-        ended = subprocess.run(words, cwd=self.place, env=environment, capture_output=True, text=True, timeout=SECONDS)
+        ended = subprocess.run(words, cwd=self.place, env=environment, capture_output=True, text=True, timeout=GIVEN_UP)
         expect(ended.returncode == 0 and "can't go on" not in ended.stderr, f"cut after {size} bytes: it says {ended.stderr!r}")
         expect(not self.home.exists(), f"cut after {size} bytes: its folder stays")
         copies = dict(re.findall(r"samhost: (\S+) was not written; its text is in (\S+)", ended.stderr))
@@ -184,9 +183,22 @@ def seconds_of_children():
     return used.ru_utime + used.ru_stime
 
 
+def seconds_to_read(folder, session):
+    """Seconds of the processor that another samhost takes to begin the session again, which it then ends. The text is that of the
+    terminal."""
+    wanted = session.terminal.len(1)
+    kill(folder, session)
+    before = seconds_of_children()
+    ended = session.run("--end", session.name)
+    took = seconds_of_children() - before
+    expect_equal((ended.returncode, ended.stdout), (0, ""), f"after {ended.stderr!r} what comes of it")
+    expect_equal(len(text_of(folder / "a.txt.sam-saved")), wanted, "the length of the text")
+    return took
+
+
 def check_journal_is_read_quickly(folder):
-    """Another samhost reads a journal of 16 MB, of edits all over a text of some 50,000 characters, in less than a second of the processor.
-    Of longer texts each edit takes longer, as it did before."""
+    """Another samhost reads a journal of 16 MB, of edits all over a text of some 50,000 characters, in less than a second of a quiet
+    processor. Of longer texts each edit takes longer, as it did before."""
     import sulgrevad
 
     made(folder, a="one\n")
@@ -203,11 +215,30 @@ def check_journal_is_read_quickly(folder):
                 terminal.select(1, 0, 20_000)
                 terminal.cut(1)
             session.settle()
-        wanted = terminal.len(1)
-        kill(folder, session)
-        before = seconds_of_children()
-        ended = session.run("--end", session.name)
-        took = seconds_of_children() - before
-        expect_equal((ended.returncode, ended.stdout), (0, ""), f"after {ended.stderr!r} what comes of it")
-    expect_equal(len(text_of(folder / "a.txt.sam-saved")), wanted, "the length of the text")
-    expect(took < SECONDS_TO_READ, f"{LONG:,} bytes with {count:,} edits took {took:.2f} s of the processor")
+        took = seconds_to_read(folder, session)
+    expect(took < SECONDS_TO_READ * times_slower(), f"{LONG:,} bytes with {count:,} edits took {took:.2f} s of the processor")
+
+
+def check_journal_has_edits_taken_at_once(folder):
+    """Edits that follow each other cost a long text once, though each came by itself: they take half as long at most as those that have a
+    question between them."""
+    import sulgrevad
+
+    def seconds(asks):
+        place = folder / f"asks {asks}"
+        place.mkdir()
+        made(place, a="one two\n" * 62_500)
+        with Staying(place, "a.txt", kind=sulgrevad.Link) as session:
+            terminal, link = session.terminal, session.link
+            for number in range(2000):
+                terminal.select(1, number * 100, number * 100)
+                terminal.type(1, "k")
+                if asks:
+                    terminal.check(1)
+                session.send()
+                session.carry(lambda: link.acknowledged == link.put_count, "it isn't taken")
+            session.settle()
+            return seconds_to_read(place, session)
+
+    together, apart = seconds(False), seconds(True)
+    expect(2 * together < apart, f"they took {together:.2f} s of the processor, and {apart:.2f} s one by one")

@@ -4,7 +4,7 @@ import fcntl
 import os
 import subprocess
 
-from checks import SECONDS, expect, wait_until
+from checks import GIVEN_UP, expect, wait_until
 
 from .support import IDLE, LATE, OPEN, SAMHOST, WRITE, expect_equal, expect_line, made, message, on_file, own_copy, text_of, typed
 
@@ -14,7 +14,7 @@ def check_control_characters(folder):
     made(folder)
     name = "a\x1b[31m\nsamhost: b"
     (folder / name).write_bytes(b"\xff")
-    ended = subprocess.run([SAMHOST, name], cwd=folder, input=b"", capture_output=True, timeout=SECONDS)
+    ended = subprocess.run([SAMHOST, name], cwd=folder, input=b"", capture_output=True, timeout=GIVEN_UP)
     expect_equal(ended.stderr.decode(), "samhost: a?[31m?samhost: b: it is not UTF-8\n", "what it says")
 
 
@@ -52,7 +52,7 @@ def check_nobody_reads_what_it_says(folder):
         expect_equal(os.read(source, 1 << 20).strip(), b"", "this test is wrong: what is in the full pipe")
         process.stdin.write(failing)
         process.stdin.close()
-        expect_equal(process.wait(SECONDS), 0, "the status")
+        expect_equal(process.wait(GIVEN_UP), 0, "the status")
         lines = os.read(source, 65536).decode().splitlines()
     expect_line(lines, r"lines missing before this one, since nobody read them: [1-9]\d*")
     expect_line(lines, rf"\? write no/c.txt: No such file or directory; its text is in {copy}")
@@ -71,7 +71,7 @@ def check_nobody_reads_of_many(folder):
     with unread(folder, "d") as (process, source, _):
         process.stdin.write(b"".join(on_file(OPEN, tag) + typed(tag, 0, b"two ") for tag in range(1, count + 1)))
         process.stdin.close()
-        expect_equal(process.wait(SECONDS), 0, "the status")
+        expect_equal(process.wait(GIVEN_UP), 0, "the status")
     copies = [text_of(folder / "d" / f"{at:02}.sam-saved") for at in range(count)]
     expect_equal(copies, ["two one\n"] * count, "the copies")
 
@@ -81,5 +81,5 @@ def check_control_characters_of_any_kind(folder):
     made(folder)
     name = "a\x7f\x9b31m\x80\x9f\xa0\u251b\u00e9b"  # the last byte of U+251B is 9B
     (folder / name).write_bytes(b"\xff")
-    ended = subprocess.run([SAMHOST, name], cwd=folder, input=b"", capture_output=True, timeout=SECONDS)
+    ended = subprocess.run([SAMHOST, name], cwd=folder, input=b"", capture_output=True, timeout=GIVEN_UP)
     expect_equal(ended.stderr.decode(), "samhost: a??31m??\xa0\u251b\u00e9b: it is not UTF-8\n", "what it says")

@@ -1,4 +1,5 @@
 """A session that stays when its line breaks: what its terminal meets, and what is left of it where. The journal has checks of its own."""
+import contextlib
 import os
 import random
 import signal
@@ -6,16 +7,17 @@ import socket
 import subprocess
 import sys
 import time
-from contextlib import closing
 from pathlib import Path
 
-from checks import SECONDS, Skipped, expect, wait_until
+from checks import GIVEN_UP, SECONDS, Skipped, expect, wait_until
 from link_model import HELLO_BYTES, Read, What, read_whole, spelled
 
+from .journals import UP, records_of
 from .line import Staying, home_of, is_running, pid_of, state_of
 from .support import IS_ROOT, LATE, NOBODY, SAMHOST, expect_equal, made, names_in, text_of
 
 OWN = "0123456789abcdef"
+MINUTE = 60.0  # seconds that a session stays to which no terminal came
 
 
 def expect_gone(folder, staying):
@@ -57,7 +59,7 @@ def check_stays_says_what_was_left(folder):
 def ran(folder, *words, environment=None):
     """What comes of a samhost whose standard input is empty."""
     env = {**os.environ, **(environment or {})}
-    ended = subprocess.run([SAMHOST, *words], cwd=folder, capture_output=True, timeout=SECONDS, stdin=subprocess.DEVNULL, env=env)
+    ended = subprocess.run([SAMHOST, *words], cwd=folder, capture_output=True, timeout=GIVEN_UP, stdin=subprocess.DEVNULL, env=env)
     return ended.returncode, ended.stdout, ended.stderr.decode()
 
 
@@ -122,7 +124,7 @@ def check_stays_half_open(folder):
             session.attach()
             session.settle()
             old.send_signal(signal.SIGCONT)
-            old.wait(SECONDS)
+            old.wait(GIVEN_UP)
             session.settle()
         session.write()
         expect_equal(text_of(path), "210one\n", "the file")
@@ -159,6 +161,53 @@ def check_stays_alone_a_while(folder):
         session.start("--attach", session.name)
         expect_equal((session.refusal(), session.wait()), (What.NO_SESSION, 7), "what the relay says of a session that is over")
     expect_equal(text_of(folder / "a.txt.sam-saved"), "one\ntwo\n", "the copy")
+
+
+def is_served(folder, session):
+    """Whether a samhost has the session."""
+    try:
+        return is_running(pid_of(folder, session.name))
+    except (FileNotFoundError, ValueError):
+        return False
+
+
+def has_got(folder, session):
+    """Whether the journal has bytes that came over the link."""
+    return UP in {kind for _, kind in records_of((home_of(folder, session.name) / "journal").read_bytes())[0]}
+
+
+def check_stays_unmet_a_minute(folder):
+    """A session whose relay was killed before it brought a word of the host ends by itself after a minute, whether the host got the
+    terminal's first words or no hello, and where another samhost has begun it again. It stays once a terminal has answered, or where that
+    has taken the session over."""
+    made(folder, a="one\n")
+    with contextlib.ExitStack() as stack:
+        greeted, silent, again, met, taken = (stack.enter_context(Staying(folder, "a.txt", begin=False)) for _ in range(5))
+        for session in (greeted, silent, again, met, taken):
+            wait_until(lambda: is_served(folder, session), "it doesn't begin")
+        greeted.terminal.offer_version(2)
+        greeted.terminal.open_cmd()
+        greeted.send()
+        met.begin()
+        wait_until(lambda: has_got(folder, greeted), "it gets nothing")
+        os.kill(pid_of(folder, again.name), signal.SIGKILL)
+        wait_until(lambda: not is_served(folder, again), "it still runs")
+        again.drop()
+        again.attach()
+        wait_until(lambda: is_served(folder, again), "no other one begins")
+        heir = stack.enter_context(Staying(folder, takes=taken.name, begin=False))
+        heir.give()
+        wait_until(lambda: home_of(folder, heir.name).exists(), "it isn't taken over")
+        start = time.monotonic()
+        for session in (greeted, silent, again, met, heir):
+            session.drop()
+        for session in (greeted, silent, again):
+            wait_until(lambda: not home_of(folder, session.name).exists(), "it stays", MINUTE + SECONDS)
+        took = time.monotonic() - start
+        expect(took > MINUTE - 1, f"it is gone after {took:.1f} s alone")
+        time.sleep(LATE)
+        for session in (met, heir):
+            expect(home_of(folder, session.name).exists(), "a session is gone to which a terminal came")
 
 
 def check_stays_until_a_signal(folder):
@@ -263,7 +312,7 @@ def check_stays_for_nobody_else(folder):
             f"import os, socket; os.setgid({NOBODY}); os.setuid({NOBODY}); it = socket.socket(socket.AF_UNIX); it.settimeout(8);"
             f"it.connect({str(home / 'socket')!r}); print(it.recv(1))"
         )
-        ended = subprocess.run([sys.executable, "-c", code], capture_output=True, text=True, timeout=SECONDS)
+        ended = subprocess.run([sys.executable, "-c", code], capture_output=True, text=True, timeout=GIVEN_UP)
         expect(ended.stdout == "b''\n" or "ConnectionResetError" in ended.stderr, f"another user is heard: {ended}")
         home.chmod(0o700)
         session.type("two\n")
@@ -272,7 +321,7 @@ def check_stays_for_nobody_else(folder):
 
 def connected(folder, name):
     it = socket.socket(socket.AF_UNIX)
-    it.settimeout(SECONDS)
+    it.settimeout(GIVEN_UP)
     wait_until(lambda: it.connect_ex(str(home_of(folder, name) / "socket")) == 0, "nobody listens")
     return it
 
@@ -297,7 +346,7 @@ def check_stays_refuses_hellos(folder):
             What.WRONG_COUNT: hello(session, What.RESUME, attempt=attempt + 1, received=put + 1000000),
         }
         for what, data in cases.items():
-            with closing(connected(folder, session.name)) as it:
+            with contextlib.closing(connected(folder, session.name)) as it:
                 it.sendall(data)
                 answer = b""
                 while len(answer) < HELLO_BYTES and (more := it.recv(64)):
@@ -317,7 +366,7 @@ def check_stays_begins_by_begin(folder):
             What.OTHER_SESSION: hello(session, What.BEGIN, id=bytes(16)),
         }
         for what, data in cases.items():
-            with closing(connected(folder, session.name)) as it:
+            with contextlib.closing(connected(folder, session.name)) as it:
                 it.sendall(data)
                 expect_equal(read_whole(it.recv(64)).what, what, "the answer")
         session.begin()
@@ -358,7 +407,7 @@ def check_stays_in_the_list(folder):
         pid = pid_of(folder, session.name)
         ended = session.run("--end", session.name)
         expect_equal((ended.returncode, ended.stdout, ended.stderr), (0, "", ""), "what comes of --end")
-        expect(not is_running(pid), "it still runs")
+        wait_until(lambda: not is_running(pid), "it still runs")
         expect_equal(session.run("--list").stdout, "", "the list")
         ended = session.run("--end", session.name)
         expect_equal((ended.returncode, ended.stderr), (7, f"samhost: there is no session {session.name}\n"), "what comes of another --end")

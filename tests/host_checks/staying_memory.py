@@ -3,7 +3,7 @@ another samhost makes it again of its journal."""
 import concurrent.futures
 import re
 
-from checks import SECONDS, Failed, expect, remove
+from checks import GIVEN_UP, Failed, expect, remove
 
 from .journals import kill
 from .line import Staying, home_of
@@ -30,7 +30,7 @@ def is_welcomed(session):
     session.send()
     while session.process is not None and not session.is_welcomed:
         session.give()
-        expect(session.receive(SECONDS), "no welcome comes")
+        expect(session.receive(GIVEN_UP), "no welcome comes")
     return session.process is not None
 
 
@@ -78,7 +78,7 @@ def begin_and_live(place, prefix):
     made(place, a="one\n", b="other\n")
     with Staying(place, "a.txt", options=("--undo",), prefix=prefix, begin=False) as session:
         if not is_welcomed(session):
-            status = session.others[-1].wait(SECONDS)
+            status = session.others[-1].wait(GIVEN_UP)
             expect(status in (NO_MEMORY, BROKEN), f"the status is {status}: {session.errors!r}")
             if status == NO_MEMORY:
                 expect(b"memory" in session.errors, f"it says {session.errors!r}")

@@ -10,7 +10,7 @@ import sys
 import time
 from pathlib import Path
 
-from checks import ROOT, SECONDS, Skipped, expect, wait_until
+from checks import GIVEN_UP, ROOT, Skipped, expect, wait_until
 
 sys.path.insert(0, str(ROOT / "bindings" / "python"))
 
@@ -113,7 +113,7 @@ class Session:
 
     def settle(self):
         """Waits until the host has taken all, which it is asked for by a message that it answers."""
-        until, is_asked, terminal = time.monotonic() + SECONDS, False, self.terminal
+        until, is_asked, terminal = time.monotonic() + GIVEN_UP, False, self.terminal
         self.send()
         while not self.is_quiet():
             if not (is_asked or terminal.held or terminal.command_locked):
@@ -183,8 +183,8 @@ class Session:
         else:
             self.process.send_signal(how)
         while self.sources:
-            expect(self.receive(SECONDS), "it doesn't end")
-        return self.process.wait(SECONDS)
+            expect(self.receive(GIVEN_UP), "it doesn't end")
+        return self.process.wait(GIVEN_UP)
 
     def kill(self):
         self.process.kill()

@@ -7,11 +7,26 @@ from link_model import What
 
 from .journals import kill
 from .line import Staying, home_of, pid_of
-from .support import expect_equal, made, names_in, text_of
+from .support import IDLE, expect_equal, made, names_in, text_of
 
 
 def names_of(session):
     return [session.terminal.name(tag) for tag in session.terminal.files() if tag != 0]
+
+
+def check_taken_by_one_that_only_calls(folder):
+    """A terminal that says nothing before its welcome is welcomed at once, also by a session that has nothing left to do."""
+    made(folder, a="one\n")
+    with Staying(folder, "a.txt") as old:
+        old.type("two\n")
+        old.write()
+        old.let_pass(IDLE + 1)
+        with Staying(folder, takes=old.name, begin=False) as new:
+            new.give()
+            wait_until(lambda: new.receive(0.1) and new.is_welcomed, "it isn't welcomed")
+            new.begin()
+            expect_equal(new.text(), "one\ntwo\n", "the text")
+            new.leave()
 
 
 def check_taken_with_texts_and_marks(folder):

@@ -78,6 +78,15 @@ def test_a_wrong_stream_stops_the_host():
     expect_equal((host.pending, code_of(host.feed)), (92, "BAD_KIND"))
 
 
+def test_a_fault_is_told_by_its_place():
+    host, fine = two_files(), frame("Tversion", 2) + frame("Tack")
+    host.feed(fine[:4])
+    expect_equal(host.fault_place, None)
+    expect_equal((code_of(host.feed, fine[4:] + b"\xff" + fine), host.fault_place), ("BAD_KIND", len(fine)))
+    refuses = two_files()
+    expect_equal((code_of(refuses.feed, frame("Tclose", 9)), refuses.fault_place), ("HOST_NO_FILE", None))
+
+
 def test_a_refusal_stops_the_host():
     host = two_files()
     expect_equal(code_of(host.feed, frame("Tstartfile", 9)), "HOST_NO_FILE")

@@ -101,7 +101,7 @@ def holes(cells, place, end):
 
 
 def some_runes(source, count):
-    return "".join(source.choice("abcdefghijklmnopqrstuvwxyz") for _ in range(count))
+    return "".join(source.choice("abcdefghijkl\n") for _ in range(count))
 
 
 def change(source, terminal, cells):
@@ -133,6 +133,13 @@ def change(source, terminal, cells):
     return cells[:place] + [*runes] + cells[end:]
 
 
+def line_before(cells, place, lines):
+    """Where the line begins that is so many lines before that of a place; None if there is none, or a gap hides it."""
+    starts = [0] + [at + 1 for at in range(place) if cells[at] == "\n"]
+    start = starts[-1 - lines] if lines < len(starts) else None
+    return None if start is None or None in cells[start:place] else start
+
+
 def test_a_rasp_says_what_a_plain_list_says():
     source, terminal, cells = random.Random(20261128), with_gaps(0), []
     for turn in range(TURNS):
@@ -147,6 +154,9 @@ def test_a_rasp_says_what_a_plain_list_says():
         first = next((at for at in range(place, len(cells)) if cells[at] is None), None)
         count = sum(rune is not None for rune in cells[place:end])
         expect_equal((terminal.first_gap(1, place), terminal.bytes(1, place, end)), (first, (count, end - place - count)))
+        ends = cells[place:end].count("\n")
+        expect_equal((turn, terminal.lines(1, place, end)), (turn, (ends, end - place - count)))
+        expect_equal((turn, terminal.line_before(1, end, turn % 3)), (turn, line_before(cells, end, turn % 3)))
 
 
 def blocks_loaded():

@@ -84,6 +84,13 @@ def test_edits_of_one_file_are_one_step():
     expect_equal(list(host.written()), [1])
 
 
+def test_edits_in_front_of_a_refused_one_are_one_step():
+    host = host_with("abc")
+    host.bring(frame("Ttype", 1, 0, "x") + frame("Tcut", 1, 0, 99))
+    expect_steps(host, edited(1, 1))
+    expect_equal((code_of(host.step), host.text(1)), ("HOST_BAD_POSITION", "xabc"))
+
+
 def test_a_text_is_saved_before_its_file_closes():
     host = host_with("abc")
     host.bring(frame("Ttype", 1, 3, "d") + frame("Twrite", 1) + frame("Tclose", 1))

@@ -1,4 +1,6 @@
 """A terminal: what it refuses, what locks it takes, and what the host does to its texts."""
+import random
+
 from sulgrevad import Terminal
 
 from .trying import code_of, expect_equal, expect_sent, five_gaps, refusals, refused, take, take_all
@@ -73,6 +75,47 @@ def test_a_command_event_waits_for_each_file():
     take(terminal, "Hunlockfile", 1)
     expect_sent(terminal, ("Tstartcmdfile",))
     expect_equal((terminal.held, terminal.locked(1), terminal.command_locked), (0, True, True))
+
+
+def open_gaps(terminal, tag):
+    """Opens a known file, with as many gaps as three requests ask for."""
+    take_all(terminal, ("Hbindname", tag), ("Hgrow", tag, 0, 1_200))
+
+
+def change_locks(source, terminal, locks):
+    """By chance an event that takes locks of a file, or a frame that frees some. `locks` has how many each file holds."""
+    tag, kind = source.choice(list(locks)), source.choice(("look", "load", "free", "close"))
+    if kind == "close":
+        take(terminal, "Hclose", tag)
+        open_gaps(terminal, tag)
+        locks[tag] = 0
+    elif kind == "free" and locks[tag]:
+        take(terminal, "Hunlockfile", tag)
+        locks[tag] -= 1
+    elif kind == "look" and not locks[tag]:
+        terminal.look(tag)
+        locks[tag] = 1
+    elif kind == "load" and not locks[tag]:
+        terminal.load(tag, 0, 1_200)
+        locks[tag] = 3
+
+
+def test_a_command_event_waits_for_all_locks_of_all_files():
+    source = random.Random(20261128)
+    for turn in range(300):
+        terminal, locks = Terminal(), {1: 0, 2: 0, 3: 0}
+        for tag in locks:
+            take(terminal, "Hnewname", tag)
+            open_gaps(terminal, tag)
+        for _ in range(source.randrange(12)):
+            change_locks(source, terminal, locks)
+        terminal.open_cmd()
+        while held := [tag for tag in locks if locks[tag]]:
+            expect_equal((turn, terminal.held, terminal.command_locked), (turn, 1, False))
+            tag = source.choice(held)
+            take(terminal, "Hunlockfile", tag)
+            locks[tag] -= 1
+        expect_equal((turn, terminal.held, terminal.command_locked), (turn, 0, True))
 
 
 def test_what_comes_behind_a_paste_waits():

@@ -43,3 +43,14 @@ def test_a_stream_may_be_cut_short():
 def test_a_wrong_byte_stops_the_terminal():
     terminal = Terminal()
     expect_equal((code_of(terminal.feed, b"\x08"), code_of(terminal.feed, b"\x08")), ("BAD_KIND", "BAD_KIND"))
+
+
+def test_a_fault_is_told_by_its_place():
+    terminal = Terminal()
+    terminal.bring(OPEN + b"\x08")
+    terminal.step()
+    expect_equal(terminal.fault_place, None)
+    terminal.step()
+    expect_equal((code_of(terminal.step), terminal.fault_place), ("BAD_KIND", len(OPEN)))
+    refuses = Terminal()
+    expect_equal((code_of(refuses.feed, KNOWN + KNOWN), refuses.fault_place), ("TERM_ALREADY_BOUND", None))

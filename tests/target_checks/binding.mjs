@@ -66,6 +66,9 @@ function checkTexts() {
   same([host.text(tag, 13, 1), host.text(tag, 16), host.text(tag, 99), host.text(tag, 0, 0)], ["𝄞", "\n", "", ""]);
   same(terminal.bytes(tag, 0, 14), { bytes: 18, gaps: 0 });
   same([terminal.place(tag, 0, 18), terminal.line(tag, 0, 1), terminal.line(tag, 0, 2)], [14, 17, null]);
+  same([terminal.lineBefore(tag, 17, 0), terminal.lineBefore(tag, 17, 1), terminal.lineBefore(tag, 17, 2)], [17, 0, null]);
+  same([terminal.lines(tag, 0, 17), terminal.lines(tag, 0, 16)], [{ lines: 1, gaps: 0 }, { lines: 0, gaps: 0 }]);
+  same([host.faultPlace, terminal.faultPlace], [null, null]);
   terminal.select(tag, 0, 5);
   terminal.type(tag, new TextEncoder().encode("Ἑλλάς"));
   same(terminal.dot(tag), { start: 5, end: 5 });
@@ -268,6 +271,11 @@ function checkLink() {
   host.acknowledge();
   link.feed(second, host.takeOut(second));
   same([link.acknowledged, link.received], [5016, 22]);
+  link.put(new TextEncoder().encode("at once"));
+  const piece = link.takeOut(second);
+  throws("LinkFault", "LINK_NOT_OPEN", () => host.feedInto(first, piece));
+  const front = host.feedInto(second, piece, 2);
+  same([new TextDecoder().decode(front), new TextDecoder().decode(host.takeIn())], ["at", " once"]);
   link.free();
   throws("HandleFault", "NO_HANDLE", () => link.ask());
 }

@@ -334,7 +334,8 @@ function connect() {
 /** What one end has for the connection goes to the other, and what has come is taken in. */
 function carryLink() {
   const from = chance(2);
-  make("sam_link_feed", 1 - from, attempt, takeOut(from, 1 + chance(MOST_OF_LINK)));
+  if (chance(2)) make("sam_link_feed", 1 - from, attempt, takeOut(from, 1 + chance(MOST_OF_LINK)));
+  else make("sam_link_feed_into", 1 - from, attempt, takeOut(from, 1 + chance(MOST_OF_LINK)), chance(MOST_OF_LINK));
   for (let pieces = chance(4); pieces > 0; pieces--) make("sam_link_take_in", 1 - from, chance(MOST_OF_LINK));
   if (chance(2)) make("sam_link_next_note", 1 - from, chance(30) ? 4096 : 4095);
 }

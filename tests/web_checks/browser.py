@@ -20,11 +20,26 @@ ROOT = Path(__file__).resolve().parent.parent.parent
 SAMHOST = ROOT / "out/samhost"
 SECONDS = 60  # that something may take, on a busy machine, too
 
-# Notes in the page when the first text shows, and of each key: how many milliseconds pass until the document shows it, and whether the next
-# frame does.
+# Notes in the page when the first text shows, how often an answer of the host was waited for until then, and of each key: how many
+# milliseconds pass until the document shows it, and whether the next frame does.
 RECORDER = """
 window.keyTimes = [];
 window.firstText = null;
+window.roundTrips = 0;
+let isAsked = false;
+window.WebSocket = class extends WebSocket {
+  constructor(...words) {
+    super(...words);
+    this.addEventListener("message", () => {
+      if (isAsked && window.firstText === null) window.roundTrips += 1;
+      isAsked = false;
+    });
+  }
+  send(data) {
+    isAsked = true;
+    super.send(data);
+  }
+};
 const shown = () => document.querySelector(".CodeMirror-code")?.textContent ?? "";
 addEventListener("keydown", (event) => {
   if (event.key.length !== 1 || event.ctrlKey) return;
@@ -63,7 +78,7 @@ def wait_until(holds, told, seconds=SECONDS):
 
 
 class Site:
-    """samweb behind a proxy, with files in a folder of its own, over a line of so many milliseconds each way."""
+    """samweb behind a proxy, with files in a folder of its own, over a line of so many milliseconds each way; None has none."""
 
     def __init__(self, room, files, delay):
         self.room, self.files, self.delay = room, files, delay
@@ -77,7 +92,7 @@ class Site:
 
     def start(self):
         """Begins the server, at the address that it had before."""
-        host = [str(ROOT / "tools/slow"), str(self.delay), str(SAMHOST)] if self.delay else [str(SAMHOST)]
+        host = [str(SAMHOST)] if self.delay is None else [str(ROOT / "tools/slow"), str(self.delay), str(SAMHOST)]
         kept = self.room / "address"
         port = json.loads(kept.read_text())["port"] if kept.exists() else 0
         if self.proxy is None:
@@ -134,7 +149,7 @@ def browser(room):
         options.add_argument(word)
     options.set_capability("goog:loggingPrefs", {"browser": "ALL"})
     driver = webdriver.Chrome(service=Service("/usr/bin/chromedriver"), options=options)
-    driver.set_script_timeout(SECONDS)
+    driver.set_script_timeout(4 * SECONDS)
     driver.execute_cdp_cmd("Page.addScriptToEvaluateOnNewDocument", {"source": RECORDER})
     return driver
 

@@ -77,11 +77,11 @@ class Link(Held):
         attempt = link.call()                   a connection was opened; it has this number
         sock.sendall(link.take_out(attempt))    the hello first
         link.welcomed(sock_read_42_bytes)       and then the rest
-        link.feed(attempt, data)
+        link.feed(attempt, data)                feed_into, if the next bytes are to come out at once
         while data := link.take_in(): ..        what of it is for the program; then next_note
 
     A put, a note, a piece and a hello are taken whole or not at all: after an exception nothing has changed, but that after LINK_BAD_KIND,
-    LINK_BAD_LENGTH and LINK_ACK_AHEAD of `feed` the connection is over.
+    LINK_BAD_LENGTH and LINK_ACK_AHEAD of `feed` and `feed_into` the connection is over.
     """
 
     TERMINAL, HOST = 0, 1
@@ -206,6 +206,28 @@ class Link(Held):
         go, LINK_ACK_AHEAD: the connection is then over."""
         data = bytes(memoryview(data))
         self._call("feed", attempt, data, len(data))
+
+    def feed_into(self, attempt: int, data: _Bytes, most: int = 65_536) -> bytes:
+        """Takes bytes that came as `feed` does, and returns the next bytes of the other side's program, at most so many and none behind a
+        note: `take_in` has those after them. Raises what `feed` raises, ValueError if `most` is below 0."""
+        room = least(most, MOST_PIECE)
+        data = bytes(memoryview(data))
+        if self._in and self._in[-1][2].value == _NOT_YET:
+            self._in.pop()  # of a call that an exception broke off
+        into, count = ctypes.create_string_buffer(room), c_size_t(_NOT_YET)
+        self._in.append((into, 0, count))
+        try:
+            self._call("feed_into", attempt, data, len(data), into, room, byref(count))
+        except BaseException:
+            if count.value == _NOT_YET:
+                self._in.pop()
+            raise
+        try:
+            if count.value == 0:
+                self._in.pop()
+            return (self._moved(self._in, room, "take_in") if self._in else None) or b""
+        except MemoryError:
+            return b""  # the piece was taken: if this were raised, it would be fed again
 
     def take_in(self, most: int = 65_536) -> bytes:
         """The next bytes of the other side's program, at most so many and of one packet: call it until it returns b"", where a note is

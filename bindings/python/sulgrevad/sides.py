@@ -257,6 +257,12 @@ class _Side(Held):
         self._call("finish")
 
     @property
+    def fault_place(self) -> Optional[int]:
+        """How many bytes of the other side's stream stand before the frame that is wrong, where this side has stopped by StreamFault; None
+        if it goes on, or has stopped since it refused."""
+        return self._number_if_any("fault_place", c_uint64)
+
+    @property
     def pending(self) -> int:
         """How many bytes are pending for the other side."""
         pending = self._number("pending", c_size_t)
@@ -694,6 +700,18 @@ class Terminal(_Side):
     def line(self, tag: int, start: int, lines: int) -> Optional[int]:
         """The place after so many line ends of an open file from a place on; None if a gap or the end comes before, or it isn't open."""
         return self._number_if_any("line", c_uint32, tag, start, lines)
+
+    def line_before(self, tag: int, start: int, lines: int) -> Optional[int]:
+        """Where the line of an open file begins that is so many lines before that of a place, 0 for that line itself; None if a gap comes
+        before it, there are fewer lines, the place is after the end, or it isn't open."""
+        return self._number_if_any("line_before", c_uint32, tag, start, lines)
+
+    def lines(self, tag: int, start: int, end: int) -> Tuple[int, int]:
+        """How many of the loaded runes of an open file from a place to a place are line ends, and how many of its runes there are not loaded.
+        Raises Missing."""
+        count, gaps = c_uint32(), c_uint32()
+        self._call("lines", tag, start, end, byref(count), byref(gaps))
+        return count.value, gaps.value
 
     def changed(self, tag: int) -> Change:
         """What changed in an open file since this was asked of it last: the smallest stretch that holds what each frame and each event

@@ -1,10 +1,11 @@
 -- Walks over a partial text, member by member.
 use Rattle.std.specs.Prelude.{encode_utf8, nat_le, option_to_list, ◌==◌, if◌then◌else◌}
-use Rattle.std.proofs.Common.{◌≡◌, ◌∙◌, refl, sym, ap, subst, ℕ, zero, suc, ◌+◌, ◌-◌, ◌<◌, ◌≤◌, List, [], ◌∷◌, ◌++◌, get_or, length, drop, take, ◌⊎◌, inl, inr, Option, Some, None, slice_get, arith, option_map}
-use Rattle.std.specs.Prelude.{slice_range}
+use Rattle.std.proofs.Common.{◌≡◌, ◌∙◌, refl, sym, ap, subst, ℕ, zero, suc, ◌+◌, ◌-◌, ◌<◌, ◌≤◌, List, [], ◌∷◌, ◌++◌, get_or, length, drop, take, ◌⊎◌, inl, inr, Option, Some, None, slice_get, arith, option_map, true, false, le-leb}
+use Rattle.std.specs.Prelude.{reverse, slice_range}
+use Rattle.std.proofs.lemmas.List.{reverse-append}
 use Rattle.sam_runes.specs.Texts.{newline}
 use Rattle.sam_rasp.specs.Rows.{gaps_of}
-use Rattle.sam_c.specs.Measures.{after_lines, bytes_in, fitting, front_runes}
+use Rattle.sam_c.specs.Measures.{after_lines, before_lines, bytes_in, fitting, front_runes, line_before, lines_in}
 
 -- the rest of a list from a place on, by what stands there
 pub rest-some : {X : Type 0} (xs : List X) (i : ℕ) (x : X) → slice_get xs i ≡ Some x → drop i xs ≡ x ∷ drop (i + 1) xs
@@ -92,12 +93,84 @@ line-past cells i (suc n) past some = ap (λ rest. option_map (λ k. i + k) (aft
 pub line-none-left : (cells : List (Option ℕ)) (i left : ℕ) → left ≡ 0 → option_map (λ k. i + k) (after_lines left (front_runes (drop i cells))) ≡ Some i
 line-none-left cells i left none = grind arith
 
--- ## Ranges
+-- ## Lines before a place
 
 in-reach : {X : Type 0} (xs : List X) (i : ℕ) → i < length xs → slice_get xs i ≡ None → ⊥
 in-reach [] i less none = omega (arith, less)
 in-reach (y ∷ xs) zero less none = grind arith
 in-reach (y ∷ xs) (suc i) less none = in-reach xs i (omega (arith, less)) none
+
+front-more : {X : Type 0} (xs : List X) (i : ℕ) (x : X) → slice_get xs i ≡ Some x → take (i + 1) xs ≡ take i xs ++ x ∷ []
+front-more [] i x e = grind arith
+front-more (y ∷ xs) zero x e = grind arith
+front-more (y ∷ xs) (suc i) x e =
+    let next : suc i + 1 ≡ suc (i + 1) = omega arith in
+    ap (λ n. take n (y ∷ xs)) next ∙ ap (λ rest. y ∷ rest) (front-more xs i x e)
+
+back-some : (cells : List (Option ℕ)) (p r : ℕ) (x : Option ℕ) → p ≡ r + 1 → slice_get cells r ≡ Some x → reverse (take p cells) ≡ x ∷ reverse (take r cells)
+back-some cells p r x after is =
+    ap (λ n. reverse (take n cells)) after ∙ ap reverse (front-more cells r x is) ∙ reverse-append (take r cells) (x ∷ [])
+
+back-by : (c left next : ℕ) (rest : List (Option ℕ)) → (c == newline) ≡ false ⊎ 0 < left → next ≡ (if c == newline then left - 1 else left)
+    → before_lines left (Some c ∷ rest) ≡ option_map suc (before_lines next rest)
+back-by c zero next rest (inl on) is = grind arith
+back-by c zero next rest (inr some) is = absurd (omega (arith, some))
+back-by c (suc n) next rest some is = grind arith
+
+map-back : (p r : ℕ) (o : Option ℕ) → p ≡ r + 1 → option_map (λ k. p - k) (option_map suc o) ≡ option_map (λ k. r - k) o
+map-back p r None after = refl
+map-back p r (Some k) after = ap Some (omega arith)
+
+pub back-step : (cells : List (Option ℕ)) (p r left next c : ℕ) → p ≡ r + 1 → slice_get cells r ≡ Some (Some c) → (c == newline) ≡ false ⊎ 0 < left
+    → next ≡ (if c == newline then left - 1 else left)
+    → option_map (λ k. p - k) (before_lines left (reverse (take p cells))) ≡ option_map (λ k. r - k) (before_lines next (reverse (take r cells)))
+back-step cells p r left next c after is some more =
+    ap (λ rest. option_map (λ k. p - k) (before_lines left rest)) (back-some cells p r (Some c) after is)
+    ∙ ap (option_map (λ k. p - k)) (back-by c left next (reverse (take r cells)) some more)
+    ∙ map-back p r (before_lines next (reverse (take r cells))) after
+
+begins-by : (c : ℕ) (rest : List (Option ℕ)) → (c == newline) ≡ true → before_lines 0 (Some c ∷ rest) ≡ Some 0
+begins-by c rest is = grind arith
+
+nothing-off : (p : ℕ) → p - 0 ≡ p
+nothing-off p = omega arith
+
+-- a line begins behind a line end
+pub back-begins : (cells : List (Option ℕ)) (p r left c : ℕ) → p ≡ r + 1 → slice_get cells r ≡ Some (Some c) → (c == newline) ≡ true → left ≡ 0
+    → option_map (λ k. p - k) (before_lines left (reverse (take p cells))) ≡ Some p
+back-begins cells p r left c after is ends none =
+    ap (λ rest. option_map (λ k. p - k) (before_lines left rest)) (back-some cells p r (Some c) after is)
+    ∙ ap (λ n. option_map (λ k. p - k) (before_lines n (Some c ∷ reverse (take r cells)))) none
+    ∙ ap (option_map (λ k. p - k)) (begins-by c (reverse (take r cells)) ends)
+    ∙ ap Some (nothing-off p)
+
+gap-by : (left : ℕ) (rest : List (Option ℕ)) → before_lines left (None ∷ rest) ≡ None
+gap-by zero rest = refl
+gap-by (suc n) rest = refl
+
+-- a gap comes first
+pub back-stop : (cells : List (Option ℕ)) (p r left : ℕ) (o : Option (Option ℕ)) → p ≡ r + 1 → r < length cells → o ≡ slice_get cells r
+    → ((c : ℕ) → o ≡ Some (Some c) → ⊥) → option_map (λ k. p - k) (before_lines left (reverse (take p cells))) ≡ None
+back-stop cells p r left None after within is none = absurd (in-reach cells r within (sym is))
+back-stop cells p r left (Some None) after within is none =
+    ap (λ rest. option_map (λ k. p - k) (before_lines left rest)) (back-some cells p r None after (sym is))
+    ∙ ap (option_map (λ k. p - k)) (gap-by left (reverse (take r cells)))
+back-stop cells p r left (Some (Some c)) after within is none = absurd (none c refl)
+
+-- the text begins
+pub back-all : (cells : List (Option ℕ)) (left : ℕ) → left ≡ 0 → option_map (λ k. 0 - k) (before_lines left (reverse (take 0 cells))) ≡ Some 0
+back-all cells left none = ap (λ n. option_map (λ k. 0 - k) (before_lines n (reverse (take 0 cells)))) none
+
+pub back-over : (cells : List (Option ℕ)) (left : ℕ) → 0 < left → option_map (λ k. 0 - k) (before_lines left (reverse (take 0 cells))) ≡ None
+back-over cells zero some = absurd (omega (arith, some))
+back-over cells (suc n) some = refl
+
+pub before-within : (cells : List (Option ℕ)) (p lines : ℕ) → p ≤ length cells
+    → line_before cells p lines ≡ option_map (λ k. p - k) (before_lines lines (reverse (take p cells)))
+before-within cells p lines within =
+    ap (λ b. if b then option_map (λ k. p - k) (before_lines lines (reverse (take p cells))) else None) (le-leb p (length cells) within)
+
+-- ## Ranges
 
 take-empty : (n : ℕ) → take {A = Option ℕ} n [] ≡ []
 take-empty zero = refl
@@ -126,6 +199,15 @@ gaps-append : (one rest : List (Option ℕ)) → gaps_of (one ++ rest) ≡ gaps_
 gaps-append [] rest = omega arith
 gaps-append (None ∷ one) rest = omega (arith, gaps-append one rest)
 gaps-append (Some c ∷ one) rest = gaps-append one rest
+
+lines-append : (one rest : List (Option ℕ)) → lines_in (one ++ rest) ≡ lines_in one + lines_in rest
+lines-append [] rest = omega arith
+lines-append (None ∷ one) rest = lines-append one rest
+lines-append (Some c ∷ one) rest = omega (arith, lines-append one rest)
+
+pub lines-step : (cells : List (Option ℕ)) (i to : ℕ) (o : Option (Option ℕ)) → o ≡ slice_get cells i → i < length cells → i < to
+    → lines_in (slice_range cells i to) ≡ lines_in (option_to_list o) + lines_in (slice_range cells (i + 1) to)
+lines-step cells i to o is within less = ap lines_in (in-range cells i to o is within less) ∙ lines-append (option_to_list o) (slice_range cells (i + 1) to)
 
 pub bytes-step : (cells : List (Option ℕ)) (i to : ℕ) (o : Option (Option ℕ)) → o ≡ slice_get cells i → i < length cells → i < to
     → bytes_in (slice_range cells i to) ≡ bytes_in (option_to_list o) + bytes_in (slice_range cells (i + 1) to)

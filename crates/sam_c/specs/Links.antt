@@ -3,7 +3,7 @@ use Rattle.std.specs.Prelude.{◌≡◌, ◌⊎◌, ℕ, List, ◌++◌, length,
 use Rattle.sam_mesg.specs.Bounds.{entry}
 use Rattle.sam_mesg.specs.Spelling.{eight, frame}
 use Rattle.sam_link.specs.End.{Answers, Calls, End, TakesOut, Welcomes, broken, fresh}
-use Rattle.sam_link.specs.Feeding.{Feeds, PutsNote}
+use Rattle.sam_link.specs.Feeding.{Feeds, FeedsInto, PutsNote}
 use Rattle.sam_link.specs.Hellos.{ReadsHello, spelled, what_number}
 use Rattle.sam_link.specs.Inbox.{GivesNote, ready}
 use Rattle.sam_link.specs.Keeping.{Keeps, Puts}
@@ -150,6 +150,21 @@ abbrev pub LinkFed : Option End → ℕ → List ℕ → ℕ → Option End → 
 LinkFed before attempt piece status after =
     AtHandle before status after
     (λ e status g. (result : Result (Unit {0}) FeedFault) × Feeds e attempt piece result g × (status ≡ feed_status result))
+
+-- as feeding alone reports it
+abbrev pub into_status : Result ℕ FeedFault → ℕ
+into_status (Ok count) = ok
+into_status (Err why) = feed_status (Err why)
+
+abbrev pub FedInto : End → ℕ → List ℕ → List ℕ → List ℕ → ℕ → ℕ → ℕ → End → Type 0
+FedInto e attempt piece before after old status new n =
+    (result : Result ℕ FeedFault) × FeedsInto e attempt piece before result after n × (status ≡ into_status result)
+    × (new ≡ handed_or old result)
+
+abbrev pub LinkFedInto : Option End → ℕ → List ℕ → List ℕ → List ℕ → ℕ → ℕ → ℕ → Option End → Type 0
+LinkFedInto None attempt piece before after old status new g = (status ≡ no_handle) × (after ≡ before) × (new ≡ old) × (g ≡ None)
+LinkFedInto (Some e) attempt piece before after old status new g =
+    (n : End) × (g ≡ Some n) × FedInto e attempt piece before after old status new n
 
 abbrev pub LinkTakenIn : Option End → List ℕ → List ℕ → ℕ → ℕ → ℕ → Option End → Type 0
 LinkTakenIn None before after old status new g = (status ≡ no_handle) × (after ≡ before) × (new ≡ old) × (g ≡ None)

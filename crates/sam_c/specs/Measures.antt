@@ -1,5 +1,5 @@
 -- What a partial text measures: its runes up to a gap, their bytes and their lines.
-use Rattle.std.specs.Prelude.{◌≡◌, ℕ, zero, suc, ◌+◌, ◌-◌, ◌==◌, nat_le, if◌then◌else◌, List, [], ◌∷◌, length, drop, Option, Some, None, option_map, encode_utf8}
+use Rattle.std.specs.Prelude.{◌≡◌, ℕ, zero, suc, ◌+◌, ◌-◌, ◌==◌, nat_le, if◌then◌else◌, List, [], ◌∷◌, length, take, drop, reverse, Option, Some, None, option_map, encode_utf8}
 use Rattle.sam_runes.specs.Texts.{newline, part}
 use Rattle.sam_rasp.specs.Rasp.{PartialText}
 use Rattle.sam_rasp.specs.Rows.{gaps_of}
@@ -27,9 +27,29 @@ after_lines zero cs = Some 0
 after_lines (suc n) [] = None
 after_lines (suc n) (c ∷ cs) = option_map suc (after_lines (if c == newline then n else suc n) cs)
 
+-- how many line ends the loaded runes are
+abbrev pub lines_in : PartialText → ℕ
+lines_in [] = 0
+lines_in (None ∷ cells) = lines_in cells
+lines_in (Some c ∷ cells) = (if c == newline then 1 else 0) + lines_in cells
+
+-- read backwards, how many members come before the line end behind which a line begins, so many lines on; all of them for the first line of
+-- the text, if it is that one. There is none if a gap comes first, or if there are fewer lines
+abbrev pub before_lines : ℕ → PartialText → Option ℕ
+before_lines zero [] = Some 0
+before_lines (suc n) [] = None
+before_lines zero (None ∷ cells) = None
+before_lines (suc n) (None ∷ cells) = None
+before_lines zero (Some c ∷ cells) = if c == newline then Some 0 else option_map suc (before_lines zero cells)
+before_lines (suc n) (Some c ∷ cells) = option_map suc (before_lines (if c == newline then n else suc n) cells)
+
 -- the bytes and the gaps of what stands from p to q
 abbrev pub sizes : PartialText → ℕ → ℕ → ℕ × ℕ
 sizes text p q = (bytes_in (part text p q), gaps_of (part text p q))
+
+-- the line ends and the gaps of what stands from p to q
+abbrev pub line_sizes : PartialText → ℕ → ℕ → ℕ × ℕ
+line_sizes text p q = (lines_in (part text p q), gaps_of (part text p q))
 
 -- the place that so many bytes of loaded runes lead to, and the one that so many line ends do
 abbrev pub place_after : PartialText → ℕ → ℕ → ℕ
@@ -37,3 +57,8 @@ place_after text p bytes = p + fitting (front_runes (drop p text)) bytes
 
 abbrev pub line_after : PartialText → ℕ → ℕ → Option ℕ
 line_after text p lines = option_map (λ k. p + k) (after_lines lines (front_runes (drop p text)))
+
+-- where the line begins that is so many lines before that of the place p
+abbrev pub line_before : PartialText → ℕ → ℕ → Option ℕ
+line_before text p lines =
+    if nat_le p (length text) then option_map (λ k. p - k) (before_lines lines (reverse (take p text))) else None

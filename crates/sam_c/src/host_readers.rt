@@ -6,6 +6,7 @@ ghost use Rattle.std.specs.Prelude.{◌≡◌, Some, drop, is_some, length, opti
 ghost use Rattle.sam_c.specs.Buffers.{countable};
 ghost use Rattle.sam_c.specs.Calls.{Reports, ReportsName, ReportsSome, ReportsText, written};
 ghost use Rattle.sam_c.specs.Hosts.{dot_of, file_of, saved_of};
+ghost use Rattle.sam_endpoint.specs.HostEndpoints.{fault_place};
 
 use crate::handle::{SamHost, with_end};
 use crate::status::{NO_HANDLE, NONE, OK};
@@ -28,6 +29,24 @@ pub extern "C" fn sam_host_taken(host: &mut SamHost, taken: &mut u64, alloc: Glo
     ensures kept { host.new.held.end ≡ host.old.held.end }
 {
     with_end!(host alloc end { *taken = end.host().taken(); OK })
+}
+
+/// Hands out how many bytes of the terminal's stream stand before the frame that is wrong, where the host has stopped for a fault of the
+/// stream. `SAM_NONE` if it goes on, or has stopped at a message that it refused.
+#[unsafe(no_mangle)]
+pub extern "C" fn sam_host_fault_place(host: &mut SamHost, place: &mut u64, alloc: Global) -> u32
+    ensures told { ReportsSome host.old.held.end result place.old place.new fault_place }
+    ensures kept { host.new.held.end ≡ host.old.held.end }
+{
+    with_end!(host alloc end {
+        match end.fault_place() {
+            Some(bytes) => {
+                *place = bytes;
+                OK
+            }
+            None => NONE,
+        }
+    })
 }
 
 /// Hands out the version of the protocol: 1 or 2.

@@ -7,7 +7,7 @@ ghost use Rattle.sam_link.specs.Putting.{data_stream};
 ghost use Rattle.sam_c.specs.Calls.{Reports};
 ghost use Rattle.sam_c.specs.Hosts.{Freed};
 ghost use Rattle.sam_c.specs.LinkStatus.{phase_number};
-ghost use Rattle.sam_c.specs.Links.{HelloTold, LinkAcknowledges, LinkAnswered, LinkBroken, LinkCalled, LinkFed, LinkMade};
+ghost use Rattle.sam_c.specs.Links.{FedInto, HelloTold, LinkAcknowledges, LinkAnswered, LinkBroken, LinkCalled, LinkFed, LinkFedInto, LinkMade};
 ghost use Rattle.sam_c.specs.Links.{LinkNextNote, LinkNotePut, LinkPut, LinkTakenIn, LinkTakenOut, LinkWelcomed};
 ghost use Rattle.sam_c.specs.Links.{NextNote, RefusalWritten, TakesAnswer, TakesWelcome, id_bytes, refusing, told};
 
@@ -285,6 +285,35 @@ pub extern "C" fn sam_link_feed(
     ensures { LinkFed link.old.held.end attempt bytes.now result link.new.held.end }
 {
     with_end!(link alloc mut end { feed_status(end.feed(attempt, bytes)) })
+}
+
+/// Feeds a piece, takes in what it brings, and hands out how many bytes that were.
+fn feed_into(end: &mut Link, attempt: u64, bytes: &[u8], into: &mut [u8], count: &mut usize) -> u32
+    ensures { FedInto end.old attempt bytes.now into.old into.new count.old result count.new end.new }
+{
+    match end.feed_into(attempt, bytes, into) {
+        Ok(number) => {
+            *count = number;
+            OK
+        }
+        Err(why) => feed_status(Err(why)),
+    }
+}
+
+/// Takes the next piece as [`sam_link_feed`] does, and then moves bytes into the buffer as [`sam_link_take_in`] does, again and again,
+/// until it hands out 0. Hands out how many it moved. The errors are those of [`sam_link_feed`].
+#[unsafe(no_mangle)]
+pub extern "C" fn sam_link_feed_into(
+    link: &mut SamLink,
+    attempt: u64,
+    bytes: &[u8],
+    into: &mut [u8],
+    count: &mut usize,
+    alloc: Global,
+) -> u32
+    ensures { LinkFedInto link.old.held.end attempt bytes.now into.old into.new count.old result count.new link.new.held.end }
+{
+    with_end!(link alloc mut end { feed_into(&mut end, attempt, bytes, into, count) })
 }
 
 /// Moves the next bytes of the other side's program into the buffer, as many as one packet has left and have room, and hands out how many.

@@ -7,7 +7,7 @@ ghost use Rattle.sam_c.specs.Calls.{Reports, ReportsCells, ReportsName, ReportsS
 ghost use Rattle.sam_c.specs.Terms.{dot_of, gap_from, known_of, open_of, rasp_of, shown_of};
 ghost use Rattle.sam_c.specs.Buffers.{countable};
 ghost use Rattle.sam_endpoint.specs.Drawing.{Shows};
-ghost use Rattle.sam_endpoint.specs.TermEndpoints.{decided, under_way};
+ghost use Rattle.sam_endpoint.specs.TermEndpoints.{decided, fault_place, under_way};
 ghost use Rattle.sam_crossing.specs.World.{is_locked};
 ghost use Rattle.sam_rasp.specs.Rasp.{hole_within};
 ghost use Rattle.sam_term.specs.Sound.{unsent_length};
@@ -115,6 +115,24 @@ pub extern "C" fn sam_term_under_way(term: &mut SamTerm, messages: &mut u64, all
     ensures kept { term.new.held.end ≡ term.old.held.end }
 {
     with_end!(term alloc end { *messages = end.under_way(); OK })
+}
+
+/// Hands out how many bytes of the host's stream stand before the frame that is wrong, where the terminal has stopped for a fault of the
+/// stream. `SAM_NONE` if it goes on, or has stopped since it refused.
+#[unsafe(no_mangle)]
+pub extern "C" fn sam_term_fault_place(term: &mut SamTerm, place: &mut u64, alloc: Global) -> u32
+    ensures told { ReportsSome term.old.held.end result place.old place.new fault_place }
+    ensures kept { term.new.held.end ≡ term.old.held.end }
+{
+    with_end!(term alloc end {
+        match end.fault_place() {
+            Some(bytes) => {
+                *place = bytes;
+                OK
+            }
+            None => NONE,
+        }
+    })
 }
 
 /// Hands out how many runes the host's snarf buffer has, as the host said last.

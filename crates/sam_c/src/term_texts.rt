@@ -4,11 +4,11 @@
 
 ghost use Rattle.std.specs.Prelude.{◌≡◌, drop, option_and_then, option_map};
 ghost use Rattle.sam_c.specs.Calls.{ReportsSome, ReportsText, written};
-ghost use Rattle.sam_c.specs.Measures.{front_runes, line_after, place_after, sizes};
+ghost use Rattle.sam_c.specs.Measures.{front_runes, line_after, line_before, line_sizes, place_after, sizes};
 ghost use Rattle.sam_c.specs.Terms.{rasp_of};
 
 use crate::handle::{SamTerm, with_end};
-use crate::measures::{line_after, place_after, size_of_range, tell_front};
+use crate::measures::{line_after, line_before, place_after, size_of_range, tell_front};
 use crate::status::{NO_HANDLE, NONE, OK};
 use std::alloc::Global;
 
@@ -114,6 +114,65 @@ pub extern "C" fn sam_term_line(
         match found {
             Some(behind) => {
                 *place = behind;
+                OK
+            }
+            None => NONE,
+        }
+    })
+}
+
+/// Hands out where the line of an open file begins that is so many lines before that of the place `start`: the line of `start` itself for
+/// none. `SAM_NONE` also if a gap comes before it, if there are fewer lines, or if `start` is after the end of the text.
+#[unsafe(no_mangle)]
+pub extern "C" fn sam_term_line_before(
+    term: &mut SamTerm,
+    tag: u16,
+    start: u32,
+    lines: u32,
+    place: &mut u32,
+    alloc: Global,
+) -> u32
+    ensures told { ReportsSome term.old.held.end result place.old place.new
+        (λ e. option_and_then (λ text. line_before text start lines) (rasp_of e tag)) }
+    ensures kept { term.new.held.end ≡ term.old.held.end }
+{
+    with_end!(term alloc end {
+        let found = match end.term().rasp(tag) {
+            Some(rasp) => line_before(rasp, start, lines),
+            None => None,
+        };
+        match found {
+            Some(begin) => {
+                *place = begin;
+                OK
+            }
+            None => NONE,
+        }
+    })
+}
+
+/// Hands out how many of the loaded runes of an open file from the place `start` to the place `end` end a line, and how many runes there are
+/// not loaded.
+#[unsafe(no_mangle)]
+pub extern "C" fn sam_term_lines(
+    term: &mut SamTerm,
+    tag: u16,
+    start: u32,
+    end: u32,
+    lines: &mut u32,
+    gaps: &mut u32,
+    alloc: Global,
+) -> u32
+    ensures told { ReportsSome term.old.held.end result (lines.old, gaps.old) (lines.new, gaps.new)
+        (λ e. option_map (λ text. line_sizes text start end) (rasp_of e tag)) }
+    ensures kept { term.new.held.end ≡ term.old.held.end }
+{
+    with_end!(term alloc held {
+        match held.term().rasp(tag) {
+            Some(rasp) => {
+                let all = size_of_range(rasp, start, end);
+                *lines = all.lines;
+                *gaps = all.gaps;
                 OK
             }
             None => NONE,

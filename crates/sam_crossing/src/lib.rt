@@ -33,6 +33,8 @@
 //! 8. proofs/Ordered: the host's step (`host_goes`), and what follows. specs/StreamVersions, proofs/Streaming: both sides have one version.
 //! 9. specs/World: both sides with all that is under way, what an event makes of it (`step_of`), and a run (`run_of`). specs/RunOrder,
 //!    proofs/OrderLaws, RunLaws: the laws of every step and run.
+//! 10. specs/Joining, proofs/Joining, MoreFiles: a host to which files were added answers every message as before, but for those whose
+//!    answers tell which files there are (`hears`). So all is in order however many files join (`IsInOrder`).
 #![tactic(auto)]
 
 pub mod event;

@@ -5,7 +5,7 @@ use Rattle.std.proofs.lemmas.List.{map-append}
 use Rattle.sam_endpoint.specs.HostEndpoints.{Step, Answered, Joined}
 use Rattle.sam_endpoint.specs.declared.fault.HostStop.TheVariants as stop
 use Rattle.sam_endpoint.specs.declared.fault.EndpointFault.TheVariants as fault
-use Rattle.sam_host.specs.Edits.{TakesInSilence}
+use Rattle.sam_host.specs.Edits.{EditFile, TakesInSilence}
 use Rattle.sam_host.proofs.EditLaws.{silent_write}
 use Rattle.sam_mesg.specs.declared.tmesg.Tmesg.TheVariants.{Twrite}
 use Rattle.sam_endpoint.specs.HostSteps.{Handles, TakesEdits, TakesSo, written}
@@ -138,8 +138,9 @@ edits_gone e l k gone took =
 
 -- the host took the first n messages that waited
 pub took_first : (e g : PlainHostEndpoint) (n : ℕ) (h : PlainHost) → 0 < n → n ≤ length e.waiting → TakesInSilence e.host (take n e.waiting) h
+    → ((f : ℕ) × EditFile f (take n e.waiting))
     → g ≡ record e { host = h; waiting = drop n e.waiting } → TakesSo e n g
-took_first e g n h some there taken is =
+took_first e g n h some there taken (f, one) is =
     let count : length (take n e.waiting) ≡ n = length-take-le n e.waiting there in (
       record {
         messages = take n e.waiting;
@@ -148,6 +149,8 @@ took_first e g n h some there taken is =
         some = omega (arith, some, count);
         waited = sym (take-append-drop n e.waiting);
         taken = taken;
+        file = f;
+        one_file = one;
         after = is;
       },
       count,

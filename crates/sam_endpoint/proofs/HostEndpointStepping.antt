@@ -2,6 +2,9 @@
 use Rattle.sam_endpoint.proofs.Common.{◌≡◌, refl, sym, ap, subst, ◌∙◌, ℕ, List, [], ◌∷◌, ◌++◌, Option, None, Some, Result, Ok, Err, inl, inr, append-nil, arith, Tmesg, HostStop, EndpointFault, PlainHostEndpoint, Answers, GoesOn, Answer, AnswersFirst}
 use Rattle.std.specs.Prelude.{zero, suc, drop, option_and_then, slice_get}
 use Rattle.sam_mesg.specs.TerminalKinds.{kind_t}
+use Rattle.std.proofs.Common.{◌<◌, length}
+use Rattle.std.proofs.lemmas.List.Elements.{All-head}
+use Rattle.sam_host.specs.Edits.{EditFile, edited_file}
 use Rattle.sam_endpoint.specs.Naming.{file_of_t}
 use Rattle.sam_endpoint.specs.declared.fault.HostStop.TheVariants as stop
 use Rattle.sam_endpoint.specs.declared.fault.EndpointFault.TheVariants as fault
@@ -24,11 +27,33 @@ not_brought e g piece (fault.Stopped why) ready u = absurd u
 same_message : (a b : Tmesg) (x y : List Tmesg) → a ∷ x ≡ b ∷ y → a ≡ b
 same_message a b x y is = grind arith
 
+some_same : (a b : ℕ) → Some a ≡ Some b → a ≡ b
+some_same a b is = grind arith
+
+-- a message that edits a file names it
+edits_name : (m : Tmesg) (f : ℕ) → edited_file m ≡ Some f → file_of_t m ≡ Some f
+edits_name m f e = grind arith
+
+-- the oldest of some messages that edit one file names it
+names_one : (ms rest waiting : List Tmesg) (message : Tmesg) (f tag : ℕ) → 0 < length ms → waiting ≡ ms ++ rest → waiting ≡ message ∷ drop 1 waiting
+    → EditFile f ms → file_of_t message ≡ Some tag → f ≡ tag
+names_one [] rest waiting message f tag some is first edits named = absurd (omega (arith, some))
+names_one (m ∷ ms) rest waiting message f tag some is first edits named =
+    let same : m ≡ message = same_message m message (ms ++ rest) (drop 1 waiting) (sym is ∙ first) in
+    let by : file_of_t m ≡ Some f = edits_name m f (All-head (λ x. edited_file x ≡ Some f) m ms edits) in
+    some_same f tag (sym by ∙ ap file_of_t same ∙ named)
+
 -- the host took some messages, of which this was the oldest
 pub took_told : (e g : PlainHostEndpoint) (message : Tmesg) (tag count : ℕ) → e.waiting ≡ message ∷ drop 1 e.waiting → TakesSo e count g → file_of_t message ≡ Some tag
     → TookEdits e tag count g
 took_told e g message tag count first (took, many) named =
-    record { edits = took; count_is = many; named = ap (λ (x : List Tmesg). option_and_then file_of_t (slice_get x 0)) first ∙ named }
+    let is : took.file ≡ tag = names_one took.messages took.rest e.waiting message took.file tag took.some took.waited first took.one_file named in
+    record {
+      edits = took;
+      count_is = many;
+      named = ap (λ (x : List Tmesg). option_and_then file_of_t (slice_get x 0)) first ∙ named;
+      one_file = subst (λ (f : ℕ). EditFile f took.messages) is took.one_file;
+    }
 
 -- the host answered this message, the oldest
 pub answered_told : (e g : PlainHostEndpoint) (message : Tmesg) (kind : ℕ) (tag : Option ℕ) → e.waiting ≡ message ∷ drop 1 e.waiting → AnswersFirst e g

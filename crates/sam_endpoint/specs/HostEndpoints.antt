@@ -160,6 +160,15 @@ Finishes e (Err ending.Unfinished) = (e.stop ≡ None) × (IsDone e → ⊥)
 Finishes e (Err ending.Truncated) = (e.stop ≡ None) × IsDone e × (0 < length e.framer.bytes)
 Finishes e (Ok done) = (e.stop ≡ None) × IsDone e × (e.framer.bytes ≡ [])
 
+-- how many bytes of the stream stand before the wrong frame at which an end has stopped that has read so many whole ones
+abbrev pub place_of_stop : Option HostStop → ℕ → Option ℕ
+place_of_stop None bytes = None
+place_of_stop (Some (stop.Stream why)) bytes = Some bytes
+place_of_stop (Some (stop.Refused why)) bytes = None
+
+abbrev pub fault_place : PlainHostEndpoint → Option ℕ
+fault_place e = place_of_stop e.stop e.framer.offset
+
 -- ## Files that join
 
 -- what stands against a file of this name and text, in bytes

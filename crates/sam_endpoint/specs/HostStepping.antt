@@ -3,6 +3,7 @@ use Rattle.std.specs.Prelude.{◌≡◌, ◌≢◌, ◌⊎◌, ℕ, zero, suc, �
 use Rattle.sam_mesg.specs.declared.tmesg.Tmesg.{Tmesg}
 use Rattle.sam_mesg.specs.TerminalKinds.{kind_t}
 use Rattle.sam_frame.specs.Framing.{HasRoom}
+use Rattle.sam_host.specs.Edits.{EditFile}
 use Rattle.sam_host.specs.Host.{answer}
 use Rattle.sam_endpoint.specs.declared.fault.HostStop.{HostStop}
 use Rattle.sam_endpoint.specs.declared.fault.HostStop.TheVariants as stop
@@ -28,11 +29,12 @@ BringsIn e piece (Err bring.Waiting) g = (e.stop ≡ None) × (IsDone e → ⊥)
 BringsIn e piece (Err bring.CountFull) g = IsReady e × (2 ^ 64 ≤ e.framer.offset + length e.framer.bytes + length piece) × (g ≡ e)
 BringsIn e piece (Err bring.OutOfMemory) g = IsReady e × HasRoom e.framer piece × (g ≡ e)
 
--- the host took so many messages that waited first, answered none of them with a frame, and the oldest of them named this file
+-- the host took so many messages that waited first, all of which type or cut in this file, and answered none of them with a frame
 pub record TookEdits (e : PlainHostEndpoint) (tag count : ℕ) (g : PlainHostEndpoint) : Type 0 where
   pub edits : TakesEdits e g
   pub count_is : length edits.messages ≡ count
   pub named : option_and_then file_of_t (slice_get e.waiting 0) ≡ Some tag
+  pub one_file : EditFile tag edits.messages
 
 -- the host answered the oldest message, which has this kind and names this file
 pub record AnsweredFirst (e : PlainHostEndpoint) (kind : ℕ) (tag : Option ℕ) (g : PlainHostEndpoint) : Type 0 where

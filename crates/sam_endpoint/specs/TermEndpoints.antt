@@ -87,6 +87,15 @@ last_stamp before (frame ∷ frames) = last_stamp frame.seen frames
 abbrev pub under_way : PlainTermEndpoint → ℕ
 under_way e = e.term.sent - e.seen
 
+-- how many bytes of the stream stand before the wrong frame at which an end has stopped that has read so many whole ones
+abbrev pub place_of_stop : Option TermStop → ℕ → Option ℕ
+place_of_stop None bytes = None
+place_of_stop (Some (stop.Stream why)) bytes = Some bytes
+place_of_stop (Some (stop.Refused why)) bytes = None
+
+abbrev pub fault_place : PlainTermEndpoint → Option ℕ
+fault_place e = place_of_stop e.stop e.framer.offset
+
 -- how many events were done or refused
 abbrev pub decided : PlainTermEndpoint → ℕ
 decided e = e.events - length e.term.held

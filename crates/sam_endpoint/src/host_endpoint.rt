@@ -5,7 +5,7 @@ ghost use Rattle.std.specs.Str.{chars, is_utf8};
 ghost use Rattle.std.specs.VecDeque.{deque_len, deque_capacity};
 ghost use Rattle.sam_runes.specs.Checks.{first_of_checks};
 ghost use Rattle.sam_term.specs.Fitting.{FitsLast};
-ghost use Rattle.sam_endpoint.specs.HostEndpoints.{Adds, Feeds, Finishes, GoesOn, IsIdle, new_host_endpoint, add_checks, writes_of};
+ghost use Rattle.sam_endpoint.specs.HostEndpoints.{Adds, Feeds, Finishes, GoesOn, IsIdle, new_host_endpoint, add_checks, fault_place, writes_of};
 ghost use Rattle.sam_endpoint.specs.HostRuns.{begun_with};
 ghost use Rattle.sam_endpoint.specs.HostSteps.{Brings, Ends, Handles, HandlesNext, TakesSo, Writes};
 
@@ -320,6 +320,17 @@ impl HostEndpoint {
         ensures { result ≡ self.now.stop }
     {
         self.stop
+    }
+
+    /// Returns where the fault of the terminal's stream is at which the endpoint has stopped: how many bytes of the stream stand before the
+    /// frame that is wrong. `None` if it goes on, or has stopped at a message that the host refused.
+    pub fn fault_place(&self) -> Option<u64>
+        ensures { result ≡ fault_place self.now }
+    {
+        match self.stop {
+            Some(HostStop::Stream(_)) => Some(self.framer.place()),
+            Some(HostStop::Refused(_)) | None => None,
+        }
     }
 
     /// Returns whether no message waits to be answered and no frame waits to be written. That is so whenever `feed` has returned `Ok`.

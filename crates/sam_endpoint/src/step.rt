@@ -19,7 +19,7 @@ pub enum HostStep {
     Edited {
         /// The file.
         tag: u16,
-        /// How many messages: two at least.
+        /// How many messages: one at least.
         count: usize,
     },
     /// The host answered the oldest message. Its frames are left over for the next step, if there are any.

@@ -2,7 +2,7 @@
 
 ghost use Rattle.std.specs.Prelude.{◌≡◌, ◌↔◌, IfErr, IfOk, IsOk, IsTrue, None, [], ◌<◌, ◌≤◌, true, false, drop, length, min, option_copied, take, slice_get, ◌++◌};
 ghost use Rattle.sam_endpoint.specs.Streams.{FitMessages};
-ghost use Rattle.sam_endpoint.specs.TermEndpoints.{Asks, Feeds, Finishes, Flushes, GoesOn, IsIdle, Puts, decided, new_term_endpoint, under_way};
+ghost use Rattle.sam_endpoint.specs.TermEndpoints.{Asks, Feeds, Finishes, Flushes, GoesOn, IsIdle, Puts, decided, fault_place, new_term_endpoint, under_way};
 ghost use Rattle.sam_endpoint.specs.TermSteps.{Acts, ActsAll, Composes, Decides, Gains, Holds, Receives, ReceivesAll, Resumes, Tries, Writes, end_fault, stopped_by};
 ghost use Rattle.sam_mesg.specs.HostKinds.{fits_h};
 ghost use Rattle.sam_term.specs.Fitting.{AllFit, composed_in};
@@ -411,6 +411,17 @@ impl TermEndpoint {
         ensures { result ≡ self.now.stop }
     {
         self.stop
+    }
+
+    /// Returns where the fault of the host's stream is at which the endpoint has stopped: how many bytes of the stream stand before the
+    /// frame that is wrong. `None` if it goes on, or has stopped since the terminal refused.
+    pub fn fault_place(&self) -> Option<u64>
+        ensures { result ≡ fault_place self.now }
+    {
+        match self.stop {
+            Some(TermStop::Stream(_)) => Some(self.framer.place()),
+            Some(TermStop::Refused(_)) | None => None,
+        }
     }
 
     /// Returns whether no frame waits to be received and no message waits to be written. Only a lock, out of memory or a stop can then

@@ -57,7 +57,7 @@ impl Model for Starts {
 
 impl Lines {
     /// Makes three empty lines, with the right to their ends. Each line holds up to `capacity` entries, items and end marks alike;
-    /// `capacity` is at least 1. All slots are made here, so sending and taking need no memory. Its only error is out of memory.
+    /// `capacity` is at least 1. All slots are made here: sending and taking have no error of memory. Its only error is out of memory.
     pub fn new(alloc: Global, capacity: usize) -> Result<(Lines, Starts), OutOfMemory>
         requires { 0 < capacity }
         ensures together { IfOk result (λ r. r.1 ≡ r.0) }

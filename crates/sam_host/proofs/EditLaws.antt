@@ -6,7 +6,8 @@ use Rattle.sam_text.specs.Files.{blank_file, is_changed}
 use Rattle.sam_text.specs.Changes.{AllowsAll, IsAllowed, after_change, changed_by}
 use Rattle.sam_text.specs.declared.text_change.TextChange.{TextChange}
 use Rattle.sam_text.specs.declared.text_change.TextChange.TheVariants.{Insert, Delete}
-use Rattle.sam_host.specs.Edits.{TakesInSilence, message_of}
+use Rattle.std.proofs.lemmas.List.Elements.{All-cons, All-nil}
+use Rattle.sam_host.specs.Edits.{EditFile, TakesInSilence, edited_file, message_of}
 use Rattle.sam_host.proofs.FrameLaws.{answered}
 use Rattle.sam_host.proofs.TypingLaws.{type_alone}
 
@@ -94,6 +95,18 @@ pub told_first : (f : ℕ) (cs : List TextChange) (ms : List Tmesg) (n : ℕ) �
     → take n ms ≡ map (message_of f) (take n cs)
 told_first f (c ∷ cs) (m ∷ ms) (suc n) told le = grind (arith, (told_first f cs ms n))
 told_first f cs ms n told le = grind arith
+
+edits_once : (f : ℕ) (c : TextChange) → edited_file (message_of f c) ≡ Some f
+edits_once f (Insert p s) = refl
+edits_once f (Delete p q) = refl
+
+-- messages that tell changes of a file edit it
+pub edit_file : (f : ℕ) (cs : List TextChange) → EditFile f (map (message_of f) cs)
+edit_file f [] = All-nil (λ m. edited_file m ≡ Some f)
+edit_file f (c ∷ cs) = All-cons (λ m. edited_file m ≡ Some f) (message_of f c) (map (message_of f) cs) (edits_once f c) (edit_file f cs)
+
+pub edit_none : (f : ℕ) → EditFile f []
+edit_none f = All-nil (λ m. edited_file m ≡ Some f)
 
 -- a message that is read is there
 pub is_there : (ms : List Tmesg) (n : ℕ) (m : Tmesg) → slice_get ms n ≡ Some m → n < length ms

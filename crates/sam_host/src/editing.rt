@@ -1,7 +1,7 @@
 //! Messages that type or cut in one file, many at once.
 
-ghost use Rattle.std.specs.Prelude.{◌≡◌, ◌<◌, ◌≤◌, IfOk, IfSome, Some, length, map, slice_get, take};
-ghost use Rattle.sam_host.specs.Edits.{message_of, TakesInSilence};
+ghost use Rattle.std.specs.Prelude.{◌≡◌, ℕ, ◌<◌, ◌≤◌, IfOk, IfSome, Some, length, map, slice_get, take};
+ghost use Rattle.sam_host.specs.Edits.{message_of, EditFile, TakesInSilence};
 
 use crate::host::Host;
 use sam_mesg::Tmesg;
@@ -77,6 +77,7 @@ impl Host {
     pub fn handle_edits(&mut self, messages: &VecDeque<Tmesg>) -> usize
         ensures count { result ≤ length messages.now.items }
         ensures taken { TakesInSilence self.old (take result messages.now.items) self.new }
+        ensures one_file { (f : ℕ) × EditFile f (take result messages.now.items) }
     {
         let Some(tag) = messages.front().and_then(edited) else {
             return 0;

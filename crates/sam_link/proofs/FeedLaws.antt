@@ -1,14 +1,15 @@
 -- What is left of a piece that was not taken.
-use Rattle.std.proofs.Common.{◌≡◌, ℕ, ◌+◌, ◌-◌, ◌<◌, ◌≤◌, List, ◌++◌, length, take, drop, Bool, Ok, Err, subst, ap, ◌∙◌}
-use Rattle.std.specs.Prelude.{◌||◌, if◌then◌else◌, nat_le}
+use Rattle.std.proofs.Common.{◌≡◌, ℕ, ◌+◌, ◌-◌, ◌<◌, ◌≤◌, List, ◌++◌, length, take, drop, Bool, Ok, Err, refl, sym, subst, ap, ◌∙◌}
+use Rattle.std.specs.Prelude.{None, ◌||◌, if◌then◌else◌, nat_le}
 use Rattle.std.proofs.Math.Seq.{take-append_seam}
 use Rattle.sam_link.specs.End.{End, ended}
-use Rattle.sam_link.specs.Feeding.{Feeds, MayFeed, TakesSplit, ended_for, fed_to, read_to, tells, told}
-use Rattle.sam_link.specs.Inbox.{IsRow, items_among}
+use Rattle.sam_link.specs.Feeding.{Feeds, FeedsInto, IsFault, MayFeed, TakesSplit, ended_for, fed_to, has_come, read_to, said_to, tells, told}
+use Rattle.sam_link.specs.Inbox.{Arrived, IsRow, TakesAll, Waiting, items_among, lying, nothing}
 use Rattle.sam_link.specs.Keeping.{acknowledged}
 use Rattle.sam_link.specs.Packets.{EndsIn, IsRead, IsSplit, Packet, asks, top_of}
 use Rattle.sam_link.specs.declared.fault.FeedFault.{FeedFault}
 use Rattle.sam_link.specs.declared.fault.FeedFault.TheVariants.{NotOpen, CountFull, OutOfMemory, Wrong, AckAhead}
+use Rattle.sam_link.specs.declared.inbox.Marks.{Marks}
 use Rattle.sam_link.specs.declared.reading.Said.{Said}
 use Rattle.sam_link.specs.declared.reading.Split.{Split}
 use Rattle.sam_link.proofs.Rows.{items_is}
@@ -76,3 +77,36 @@ feed_failed e n m attempt piece s count AckAhead may split taken is = (
 feed_failed e n m attempt piece s count OutOfMemory may split taken is = (may, is ∙ back e n piece taken)
 feed_failed e n m attempt piece s count NotOpen may split taken is = absurd taken
 feed_failed e n m attempt piece s count CountFull may split taken is = absurd taken
+
+-- ## Straight into a buffer
+
+abbrev starts : Arrived → ℕ → List ℕ → Waiting
+starts a count piece = record a.waiting { packets = a.waiting.packets ++ items_among count (a.held ++ piece) }
+
+whole_split : (e : End) (piece : List ℕ) (s : Split) → has_come e ≡ nothing → IsSplit piece s → IsSplit (e.held ++ piece) s
+whole_split e piece s none split = subst (λ h. IsSplit (h ++ piece) s) (sym (ap (λ a. a.held) none)) split
+
+-- a feed, and then `take_in` again and again
+pub then_taken : (e m : End) (attempt : ℕ) (piece old new : List ℕ) (count : ℕ) (held : List ℕ) (w : Waiting) → Feeds e attempt piece (Ok tt) m
+    → TakesAll m.waiting old count new w → held ≡ m.held → FeedsInto e attempt piece old (Ok count) new (record m { held = held; waiting = w })
+then_taken e m attempt piece old new count held w fed takes same = (m, fed, takes, ap (λ h. record m { held = h; waiting = w }) same)
+
+abbrev row_marks : Split → Marks
+row_marks s = record { gone = 0; next = 0; whole = s.len; count = s.count }
+
+-- a piece that goes into a buffer, where nothing was there before, leaves the same
+pub passed_on : (e m : End) (attempt : ℕ) (piece : List ℕ) (s : Split) (old new : List ℕ) (count : ℕ) (first last : Marks) (a : Arrived) → MayFeed e attempt piece
+    → has_come e ≡ nothing → IsSplit piece s → IsFault e s None → m ≡ said_to e s.said (e.received + length piece) → first ≡ row_marks s
+    → TakesAll (lying first piece).waiting old count new (lying last piece).waiting → (lying last piece).held ≡ (lying first piece).held → a ≡ lying last piece
+    → FeedsInto e attempt piece old (Ok count) new (record m { held = a.held; waiting = a.waiting })
+passed_on e m attempt piece s old new count first last a may none split well m_is first_is takes held a_is =
+    let read = read_to (holds e piece) s (e.received + length piece) in
+    let whole = whole_split e piece s none split in
+    let fed : Feeds e attempt piece (Ok tt) read = feed_done e read attempt piece s may whole (well.0, well.1, refl) in
+    let from_row = subst (λ k. TakesAll (lying k piece).waiting old count new (lying last piece).waiting) first_is takes in
+    let to_rest = subst (λ x. TakesAll (lying (row_marks s) piece).waiting old count new x.waiting) (sym a_is) from_row in
+    let all : TakesAll read.waiting old count new a.waiting = subst (λ x. TakesAll (starts x s.count piece) old count new a.waiting) (sym none) to_rest in
+    let rest : a.held ≡ read.held =
+    ap (λ x. x.held) a_is ∙ held ∙ ap (λ k. (lying k piece).held) first_is ∙ ap (λ x. drop s.len (x.held ++ piece)) (sym none) in
+    subst (λ x. FeedsInto e attempt piece old (Ok count) new (record x { held = a.held; waiting = a.waiting })) (sym m_is)
+    (then_taken e read attempt piece old new count a.held a.waiting fed all rest)

@@ -1,32 +1,49 @@
 -- Where what came lies in an inbox.
 use Rattle.std.proofs.Common.{◌≡◌, ℕ, ◌+◌, ◌-◌, ◌≤◌, List, [], ◌++◌, length, take, drop, refl, sym, ap, subst, ◌∙◌, arith, append_assoc, length-append, length-drop, length-take, drop-drop, take-append-drop}
 use Rattle.std.proofs.lemmas.List.{drop-append-le, drop-take, take-append-le}
+use Rattle.std.proofs.Math.ListN.{drop_of_length-le}
 use Rattle.std.proofs.Math.Seq.{drop-append_seam, take-add, take-append_seam}
 use Rattle.sam_frame.specs.Stream.{stream_of}
-use Rattle.sam_link.specs.Inbox.{Arrived, IsInbox, IsRow, Waiting, arrived, items_among}
+use Rattle.sam_link.specs.Inbox.{Arrived, IsInbox, IsRow, Waiting, arrived, items_among, lying, nothing}
 use Rattle.sam_link.specs.Packets.{Packet, packets}
 use Rattle.std.specs.Prelude.{OnOk, Result, Ok, Err, is_ok, if◌then◌else◌}
 use Rattle.std.specs.declared.alloc.AllocError.{AllocError}
-use Rattle.sam_link.proofs.Rows.{items_is, items_more, row_at, row_more, row_to}
+use Rattle.sam_link.specs.declared.inbox.Marks.{Marks}
+use Rattle.sam_link.proofs.Rows.{fewer, items_is, items_more, items_none, row_at, row_more, row_to}
 
 abbrev waits_as : List ℕ → List Packet → Waiting
 waits_as part ps = record { part = part; packets = ps }
 
-abbrev lying : List ℕ → List ℕ → List Packet → Arrived
-lying held part ps = record { held = held; waiting = waits_as part ps }
+abbrev lies_as : List ℕ → List ℕ → List Packet → Arrived
+lies_as held part ps = record { held = held; waiting = waits_as part ps }
 
 abbrev with_held : List ℕ → Arrived → Arrived
 with_held held a = record a { held = held }
 
-same_arrived : (h k p q : List ℕ) (ps qs : List Packet) → h ≡ k → p ≡ q → ps ≡ qs → lying h p ps ≡ lying k q qs
-same_arrived h k p q ps qs a b c = ap (λ x. lying x p ps) a ∙ ap (λ x. lying k x ps) b ∙ ap (λ x. lying k q x) c
+same_arrived : (h k p q : List ℕ) (ps qs : List Packet) → h ≡ k → p ≡ q → ps ≡ qs → lies_as h p ps ≡ lies_as k q qs
+same_arrived h k p q ps qs a b c = ap (λ x. lies_as x p ps) a ∙ ap (λ x. lies_as k x ps) b ∙ ap (λ x. lies_as k q x) c
 
-no_packets : lying [] (take 0 []) (items_among 0 []) ≡ lying [] [] []
+no_packets : lies_as [] (take 0 []) (items_among 0 []) ≡ lies_as [] [] []
 unfolding items_among
 no_packets = refl
 
-pub nothing_came : (bytes : List ℕ) → bytes ≡ [] → arrived bytes 0 0 0 0 ≡ lying [] [] []
-nothing_came bytes is = subst (λ b. arrived b 0 0 0 0 ≡ lying [] [] []) (sym is) no_packets
+pub nothing_came : (bytes : List ℕ) → bytes ≡ [] → arrived bytes 0 0 0 0 ≡ lies_as [] [] []
+nothing_came bytes is = subst (λ b. arrived b 0 0 0 0 ≡ lies_as [] [] []) (sym is) no_packets
+
+pub nothing_at : (bytes : List ℕ) (m : Marks) → bytes ≡ [] → m ≡ record { gone = 0; next = 0; whole = 0; count = 0 } → lying m bytes ≡ nothing
+nothing_at bytes m none is = ap (λ k. lying k bytes) is ∙ nothing_came bytes none
+
+-- ## All is gone
+
+pub all_gone : (bytes : List ℕ) (gone next whole count : ℕ) → IsInbox bytes gone next whole count → gone ≡ length bytes → arrived bytes gone next whole count ≡ nothing
+all_gone bytes gone next whole count i end =
+    let all : whole ≡ length bytes = omega (arith, (i.begun), (i.behind), (i.inside), end) in
+    let no_part : next - gone ≡ 0 = omega (arith, (i.begun), (i.behind), (i.inside), end) in
+    let no_packets : count ≡ 0 = omega (arith, (fewer (drop next bytes) count (whole - next) i.row), (i.begun), (i.behind), (i.inside), end) in
+    same_arrived (drop whole bytes) [] (take (next - gone) (drop gone bytes)) [] (items_among count (drop next bytes)) []
+    (grind (arith, all, (drop_of_length-le bytes {i = whole})))
+    (ap (λ n. take n (drop gone bytes)) no_part)
+    (ap (λ n. items_among n (drop next bytes)) no_packets ∙ items_none (drop next bytes))
 
 -- ## Bytes behind a row
 
@@ -74,7 +91,7 @@ inbox_of front held gone next whole count long begun behind r =
     }
 
 arrived_of : (front held : List ℕ) (gone next whole count : ℕ) → length front ≡ whole → gone ≤ next → next ≤ whole → IsRow (drop next front) count (whole - next)
-    → arrived (front ++ held) gone next whole count ≡ lying held (take (next - gone) (drop gone front)) (items_among count (drop next front))
+    → arrived (front ++ held) gone next whole count ≡ lies_as held (take (next - gone) (drop gone front)) (items_among count (drop next front))
 arrived_of front held gone next whole count long begun behind r =
     same_arrived (drop whole (front ++ held)) held (take (next - gone) (drop gone (front ++ held))) (take (next - gone) (drop gone front))
     (items_among count (drop next (front ++ held))) (items_among count (drop next front))
@@ -99,7 +116,7 @@ other_held bytes new held gone next whole count i is =
     let front = take whole bytes in
     let long = front_long bytes whole i.inside in
     let r = in_front bytes gone next whole count i in
-    let old : arrived bytes gone next whole count ≡ lying (drop whole bytes) (take (next - gone) (drop gone front)) (items_among count (drop next front)) =
+    let old : arrived bytes gone next whole count ≡ lies_as (drop whole bytes) (take (next - gone) (drop gone front)) (items_among count (drop next front)) =
     ap (λ b. arrived b gone next whole count) (sym (take-append-drop whole bytes)) ∙ arrived_of front (drop whole bytes) gone next whole count long i.begun i.behind r in (
       subst (λ b. IsInbox b gone next whole count) (sym is) (inbox_of front held gone next whole count long i.begun i.behind r),
       ap (λ b. arrived b gone next whole count) is ∙ arrived_of front held gone next whole count long i.begun i.behind r ∙ sym (ap (with_held held) old),
@@ -125,7 +142,7 @@ between bytes next whole behind = drop-drop (whole - next) next bytes ∙ ap (λ
 pub taken_whole : (bytes : List ℕ) (gone next whole count more len : ℕ) → IsInbox bytes gone next whole count → IsRow (drop whole bytes) more len
     → IsInbox bytes gone next (whole + len) (count + more)
     × (arrived bytes gone next (whole + len) (count + more)
-    ≡ lying (drop len (drop whole bytes)) (take (next - gone) (drop gone bytes)) (items_among count (drop next bytes) ++ items_among more (drop whole bytes)))
+    ≡ lies_as (drop len (drop whole bytes)) (take (next - gone) (drop gone bytes)) (items_among count (drop next bytes) ++ items_among more (drop whole bytes)))
 taken_whole bytes gone next whole count more len i q =
     let here = between bytes next whole i.behind in
     let next_row : IsRow (drop next bytes) (count + more) (whole - next + len) =
@@ -145,8 +162,8 @@ taken_whole bytes gone next whole count more len i q =
 -- ## Data is taken
 
 pub part_taken : (bytes : List ℕ) (gone next whole count n : ℕ) → n ≤ next - gone
-    → arrived bytes (gone + n) next whole count ≡ lying (drop whole bytes) (drop n (take (next - gone) (drop gone bytes))) (items_among count (drop next bytes))
+    → arrived bytes (gone + n) next whole count ≡ lies_as (drop whole bytes) (drop n (take (next - gone) (drop gone bytes))) (items_among count (drop next bytes))
 part_taken bytes gone next whole count n inside =
-    ap (λ p. lying (drop whole bytes) p (items_among count (drop next bytes)))
+    ap (λ p. lies_as (drop whole bytes) p (items_among count (drop next bytes)))
     (ap (take (next - (gone + n))) (sym (drop-drop n gone bytes)) ∙ sym (drop-take n (next - (gone + n)) (drop gone bytes))
     ∙ ap (λ k. drop n (take k (drop gone bytes))) (omega (arith, inside)))

@@ -6,11 +6,11 @@ use Rattle.std.specs.Prelude.{min, ◌==◌, if◌then◌else◌}
 use Rattle.sam_mesg.specs.Spelling.{eight, frame}
 use Rattle.sam_frame.specs.Stream.{stream_of}
 use Rattle.sam_frame.proofs.Fronts.{stream_of-one}
-use Rattle.sam_link.specs.Calls.{Acknowledges, Call, Does, Byte, Item, Note, items_in, left_of, waits}
+use Rattle.sam_link.specs.Calls.{Acknowledges, Call, Does, Byte, Item, Note, items_in, waits}
 use Rattle.sam_link.specs.Calls.Call.{Acknowledge, Answer, Ask, Break, Dial, Feed, NextNote, Put, PutNote, TakeIn, TakeOut, Welcome}
 use Rattle.sam_link.specs.End.{AnswersBy, CallsBy, End, TakesOut, WelcomesBy, ended, fault_by_word, is_asking, refusal_of, welcome_count, welcome_fault, welcome_refusal, welcomed}
 use Rattle.sam_link.specs.Feeding.{Feeds, PutsNote}
-use Rattle.sam_link.specs.Inbox.{GivesNote, Waiting, note_of, ready, ready_of}
+use Rattle.sam_link.specs.Inbox.{GivesNote, Waiting, left_of, note_of, ready, ready_of}
 use Rattle.sam_link.specs.Keeping.{HasRoom, Keeps, Puts}
 use Rattle.sam_link.specs.Keeping.{put as put_bytes}
 use Rattle.sam_link.specs.Packets.{Packet, packets}

@@ -1,8 +1,8 @@
 -- Packets that are read one after another.
-use Rattle.std.proofs.Common.{◌≡◌, ℕ, ◌+◌, List, [], ◌∷◌, ◌++◌, Bool, false, length, drop, refl, arith, length-append}
+use Rattle.std.proofs.Common.{◌≡◌, ℕ, ◌+◌, List, [], ◌∷◌, ◌++◌, false, drop, refl, arith, length-append}
 use Rattle.std.specs.Prelude.{max, ◌||◌}
 use Rattle.sam_frame.proofs.Fronts.{Front-more}
-use Rattle.sam_link.specs.Packets.{IsRead, Packet, StandsFirst, asks, packets, top_of}
+use Rattle.sam_link.specs.Packets.{IsRead, Packet, StandsFirst, asks, packets}
 use Rattle.sam_link.specs.declared.reading.Said.{Said}
 use Rattle.sam_link.proofs.Packing.{top_more}
 

@@ -120,7 +120,7 @@ items_then (p ∷ ps) rest m fit =
     ∙ ap (λ i. item_of p ++ i) (items_then ps rest m fit.1)
     ∙ sym (append_assoc (item_of p) (items_of ps) (items_among m rest))
 
-items_none : (bytes : List ℕ) → items_among 0 bytes ≡ []
+pub items_none : (bytes : List ℕ) → items_among 0 bytes ≡ []
 unfolding items_among
 items_none bytes = refl
 

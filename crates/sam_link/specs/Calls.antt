@@ -1,9 +1,9 @@
 -- A call of an end with its answer, and what it brought.
-use Rattle.std.specs.Prelude.{◌≡◌, ℕ, List, [], ◌∷◌, ◌++◌, length, take, drop, map, min, flat_map, Bool, ◌==◌, if◌then◌else◌, Option, None, Some, Result, Ok, Err}
+use Rattle.std.specs.Prelude.{◌≡◌, ℕ, List, [], ◌∷◌, ◌++◌, length, take, drop, map, min, All, flat_map, Bool, ◌==◌, if◌then◌else◌, Option, None, Some, Result, Ok, Err}
 use Rattle.sam_mesg.specs.Spelling.{eight, frame}
 use Rattle.sam_link.specs.End.{Answers, Calls, End, TakesOut, Welcomes, broken}
 use Rattle.sam_link.specs.Feeding.{Feeds, PutsNote}
-use Rattle.sam_link.specs.Inbox.{GivesNote, Waiting, ready}
+use Rattle.sam_link.specs.Inbox.{GivesNote, Waiting, left_of, ready}
 use Rattle.sam_link.specs.Keeping.{Puts}
 use Rattle.sam_link.specs.Putting.{data_stream}
 use Rattle.sam_link.specs.declared.fault.AnswerFault.{AnswerFault}
@@ -37,10 +37,6 @@ abbrev pub Acknowledges : End → Result (Unit {0}) PutFault → End → Type 0
 Acknowledges e (Ok done) n = n ≡ record e { keeps = n.keeps; told = e.received }
 Acknowledges e (Err why) n = n ≡ e
 
--- taking in leaves this behind: of the data that was first, what did not come along, and the packets after it
-abbrev pub left_of : Waiting → ℕ → Waiting
-left_of w count = record { part = drop count (ready w).part; packets = (ready w).packets }
-
 -- the call leads from one end to the other: these are the clauses of the calls
 abbrev pub Does : End → Call → End → Type 0
 Does e (Dial take_over answer) n = Calls e take_over answer n
@@ -57,6 +53,11 @@ Does e (TakeIn old count new) n =
     (count ≡ min (length (ready e.waiting).part) (length old)) × (new ≡ take count (ready e.waiting).part ++ drop count old)
     × (n ≡ record e { waiting = left_of e.waiting count })
 Does e (NextNote answer) n = GivesNote e.waiting answer n.waiting × (n ≡ record e { waiting = n.waiting })
+
+-- these calls, one after another
+abbrev pub DoesAll : End → List Call → End → Type 0
+DoesAll e [] n = n ≡ e
+DoesAll e (call ∷ calls) n = (m : End) × Does e call m × DoesAll m calls n
 
 -- ## What crosses a link
 
@@ -113,6 +114,32 @@ put calls = flat_map put_by calls
 
 abbrev pub handed : List Call → List Item
 handed calls = flat_map handed_by calls
+
+abbrev pub IsTakeIn : Call → Type 0
+IsTakeIn (Dial take_over answer) = ⊥
+IsTakeIn (Answer hello answer) = ⊥
+IsTakeIn (Welcome hello answer) = ⊥
+IsTakeIn (Break attempt) = ⊥
+IsTakeIn (Put bytes answer) = ⊥
+IsTakeIn (PutNote bytes answer) = ⊥
+IsTakeIn (Ask answer) = ⊥
+IsTakeIn (Acknowledge answer) = ⊥
+IsTakeIn (TakeOut n old answer new) = ⊥
+IsTakeIn (Feed n piece answer) = ⊥
+IsTakeIn (TakeIn old count new) = Unit {0}
+IsTakeIn (NextNote answer) = ⊥
+
+-- calls of `take_in` alone, which move these bytes, lead from one end to the other
+pub record Moves (e : End) (bytes : List ℕ) (n : End) : Type 0 where
+  pub takes : List Call
+  pub are : All IsTakeIn takes
+  pub does : DoesAll e takes n
+  pub moved : handed takes ≡ map Byte bytes
+
+-- `feed_into` is a feed, and then such calls
+abbrev pub DoesInto : End → ℕ → List ℕ → Result ℕ FeedFault → List ℕ → End → Type 0
+DoesInto e attempt piece (Ok count) new n = (m : End) × Does e (Feed attempt piece (Ok tt)) m × Moves m (take count new) n
+DoesInto e attempt piece (Err fault) new n = Does e (Feed attempt piece (Err fault)) n
 
 -- the bytes among these items
 abbrev pub byte_of : Item → List ℕ

@@ -1,10 +1,10 @@
 -- What feeding a piece of the other side's stream does.
-use Rattle.std.specs.Prelude.{◌≡◌, ℕ, ◌+◌, ◌-◌, ◌^◌, ◌<◌, ◌≤◌, List, ◌++◌, length, drop, Bool, true, false, ◌&&◌, ◌||◌, ◌==◌, nat_le, nat_lt, if◌then◌else◌, None, Some, Result, Ok, Err}
+use Rattle.std.specs.Prelude.{◌≡◌, ℕ, ◌+◌, ◌-◌, ◌^◌, ◌<◌, ◌≤◌, List, ◌++◌, length, drop, Bool, true, false, ◌&&◌, ◌||◌, ◌==◌, nat_le, nat_lt, if◌then◌else◌, Option, None, Some, Result, Ok, Err}
 use Rattle.sam_mesg.specs.Spelling.{eight, frame}
 use Rattle.sam_frame.specs.Splitting.{Front}
 use Rattle.sam_frame.specs.Stream.{IsOpen, Shows}
 use Rattle.sam_link.specs.End.{End, ended}
-use Rattle.sam_link.specs.Inbox.{items_among, items_of}
+use Rattle.sam_link.specs.Inbox.{Arrived, TakesAll, items_among, items_of}
 use Rattle.sam_link.specs.Keeping.{Keeps, Puts, acknowledged, put}
 use Rattle.sam_link.specs.Packets.{Packet, asks, mesg_fault, packets, top_of}
 use Rattle.sam_link.specs.declared.fault.FeedFault.{FeedFault}
@@ -12,6 +12,7 @@ use Rattle.sam_link.specs.declared.fault.FeedFault.TheVariants.{NotOpen, CountFu
 use Rattle.sam_link.specs.declared.fault.NoteFault.{NoteFault}
 use Rattle.sam_link.specs.declared.fault.NoteFault.TheVariants as notes
 use Rattle.sam_link.specs.declared.keeping.PutFault.TheVariants as puts
+use Rattle.sam_link.specs.declared.reading.Said.{Said}
 use Rattle.sam_link.specs.declared.reading.Split.{Split}
 use Rattle.sam_link.specs.declared.phase.Phase.{Phase}
 use Rattle.sam_link.specs.declared.phase.Phase.TheVariants.{Down, Asking, Open}
@@ -51,6 +52,15 @@ fed e piece ps len = fed_to e ps (drop len (e.held ++ piece)) (e.received + leng
 abbrev pub MayFeed : End → ℕ → List ℕ → Type 0
 MayFeed e attempt piece = ((is_open e.phase && (attempt == e.attempt)) ≡ true) × (e.received + length piece < 2 ^ 64)
 
+-- what packets say is taken, which come up to this count of all bytes
+abbrev pub said_to : End → Said → ℕ → End
+said_to e said count =
+    record e {
+      received = count;
+      told = if tells e.keeps (said.asked || nat_le 16384 (count - e.told)) then count else e.told;
+      keeps = acknowledged (told e.keeps (said.asked || nat_le 16384 (count - e.told)) count) said.top;
+    }
+
 -- the packets that were read of what is held are taken, up to this count of all bytes
 abbrev pub read_to : End → Split → ℕ → End
 read_to e s count =
@@ -61,6 +71,15 @@ read_to e s count =
       held = drop s.len e.held;
       waiting = record e.waiting { packets = e.waiting.packets ++ items_among s.count e.held };
     }
+
+-- what is wrong with what was read
+abbrev pub IsFault : End → Split → Option FeedFault → Type 0
+IsFault e s None = (s.fault ≡ None) × (s.said.top ≤ e.keeps.base + e.keeps.sent)
+IsFault e s (Some (Wrong fault)) = s.fault ≡ Some fault
+IsFault e s (Some AckAhead) = (s.fault ≡ None) × (e.keeps.base + e.keeps.sent < s.said.top)
+IsFault e s (Some NotOpen) = ⊥
+IsFault e s (Some CountFull) = ⊥
+IsFault e s (Some OutOfMemory) = ⊥
 
 -- what taking the packets of a piece that is held may answer, and leave as n
 abbrev pub TakesSplit : End → Split → ℕ → Result (Unit {0}) FeedFault → End → Type 0
@@ -101,3 +120,23 @@ Feeds e attempt piece (Err (Wrong fault)) n =
 Feeds e attempt piece (Err AckAhead) n =
     (ps : List Packet) × (len : ℕ) × MayFeed e attempt piece × Front packets 1 (e.held ++ piece) ps 1 len
     × (e.keeps.base + e.keeps.sent < top_of ps) × (n ≡ ended e)
+
+-- why no piece of this length is taken
+abbrev pub IsRefused : End → ℕ → List ℕ → Option FeedFault → Type 0
+IsRefused e attempt piece None = MayFeed e attempt piece
+IsRefused e attempt piece (Some NotOpen) = (is_open e.phase && (attempt == e.attempt)) ≡ false
+IsRefused e attempt piece (Some CountFull) =
+    ((is_open e.phase && (attempt == e.attempt)) ≡ true) × (2 ^ 64 ≤ e.received + length piece)
+IsRefused e attempt piece (Some OutOfMemory) = ⊥
+IsRefused e attempt piece (Some (Wrong fault)) = ⊥
+IsRefused e attempt piece (Some AckAhead) = ⊥
+
+-- what came and was not taken
+abbrev pub has_come : End → Arrived
+has_come e = record { held = e.held; waiting = e.waiting }
+
+-- what feed_into may answer: it is a feed, and if that is well, `take_in` again and again
+abbrev pub FeedsInto : End → ℕ → List ℕ → List ℕ → Result ℕ FeedFault → List ℕ → End → Type 0
+FeedsInto e attempt piece old (Ok count) new n =
+    (m : End) × Feeds e attempt piece (Ok tt) m × TakesAll m.waiting old count new n.waiting × (n ≡ record m { waiting = n.waiting })
+FeedsInto e attempt piece old (Err fault) new n = Feeds e attempt piece (Err fault) n × (new ≡ old)

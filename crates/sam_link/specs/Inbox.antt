@@ -1,5 +1,5 @@
 -- What came and was not taken yet.
-use Rattle.std.specs.Prelude.{◌≡◌, ℕ, zero, suc, ◌+◌, ◌*◌, ◌-◌, ◌≤◌, List, [], ◌∷◌, ◌++◌, length, take, drop, slice_index, Option, None, Some, Bool, true, false, ◌==◌, if◌then◌else◌, option_map}
+use Rattle.std.specs.Prelude.{◌≡◌, ℕ, zero, suc, ◌+◌, ◌*◌, ◌-◌, ◌≤◌, List, [], ◌∷◌, ◌++◌, length, take, drop, slice_index, Option, None, Some, Bool, true, false, ◌==◌, if◌then◌else◌, min, option_map}
 use Rattle.std.specs.List.{flat_map}
 use Rattle.sam_frame.specs.Splitting.{Front}
 use Rattle.sam_link.specs.Packets.{Packet, packets}
@@ -8,6 +8,7 @@ use Rattle.sam_link.specs.declared.inbox.Body.{Body}
 use Rattle.sam_link.specs.declared.inbox.Found.{Found}
 use Rattle.sam_link.specs.declared.inbox.Found.TheVariants.{Nothing}
 use Rattle.sam_link.specs.declared.inbox.Found.TheVariants as found
+use Rattle.sam_link.specs.declared.inbox.Marks.{Marks}
 
 -- the rest of the data whose first bytes were taken, and the packets after it
 pub record Waiting : Type 0 where
@@ -38,6 +39,27 @@ ready_of [] (Ask ∷ ps) = record { part = []; packets = Ask ∷ ps }
 
 abbrev pub ready : Waiting → Waiting
 ready w = ready_of w.part w.packets
+
+-- taking in leaves this behind: of the data that was first, what did not come along, and the packets after it
+abbrev pub left_of : Waiting → ℕ → Waiting
+left_of w count = record { part = drop count (ready w).part; packets = (ready w).packets }
+
+-- one `take_in`: so many bytes come into the buffer, and this waits then
+abbrev pub TakesIn : Waiting → List ℕ → ℕ → List ℕ → Waiting → Type 0
+TakesIn w old count new n =
+    (count ≡ min (length (ready w).part) (length old)) × (new ≡ take count (ready w).part ++ drop count old) × (n ≡ left_of w count)
+
+-- so many of them, each into what those before it left of the buffer: so many bytes come in all
+abbrev pub TakesOften : ℕ → Waiting → List ℕ → ℕ → List ℕ → Waiting → Type 0
+TakesOften zero w old count new n = (count ≡ 0) × (new ≡ old) × (n ≡ w)
+TakesOften (suc often) w old count new n =
+    (mid : Waiting) × (before : ℕ) × (more : ℕ) × (into : List ℕ) × TakesOften often w old before into mid × (count ≡ before + more)
+    × (take before new ≡ take before into) × TakesIn mid (drop before into) more (drop before new) n
+
+-- as many as bring something, and one that brings nothing: no room is left, or a note is first, or nothing
+abbrev pub TakesAll : Waiting → List ℕ → ℕ → List ℕ → Waiting → Type 0
+TakesAll w old count new n =
+    (often : ℕ) × (mid : Waiting) × TakesOften often w old count new mid × TakesIn mid (drop count new) 0 (drop count new) n
 
 -- the note that is first, once all bytes before it are taken
 abbrev pub note_of : List ℕ → List Packet → Option (List ℕ × List Packet)
@@ -110,3 +132,19 @@ pub record IsInbox (bytes : List ℕ) (gone next whole count : ℕ) : Type 0 whe
 abbrev pub arrived : List ℕ → ℕ → ℕ → ℕ → ℕ → Arrived
 arrived bytes gone next whole count =
     record { held = drop whole bytes; waiting = record { part = take (next - gone) (drop gone bytes); packets = items_among count (drop next bytes) } }
+
+abbrev pub nothing : Arrived
+nothing = record { held = []; waiting = record { part = []; packets = [] } }
+
+abbrev pub LiesIn : Marks → List ℕ → Type 0
+LiesIn m bytes = IsInbox bytes m.gone m.next m.whole m.count
+
+abbrev pub lying : Marks → List ℕ → Arrived
+lying m bytes = arrived bytes m.gone m.next m.whole m.count
+
+abbrev pub made_ready : Arrived → Arrived
+made_ready a = record a { waiting = ready a.waiting }
+
+-- so many bytes of what was begun are taken
+abbrev pub parted : Arrived → ℕ → Arrived
+parted a count = record a { waiting = record a.waiting { part = drop count a.waiting.part } }

@@ -1,20 +1,18 @@
 //! What came and was not taken yet.
 
 ghost use Rattle.std.specs.Prelude.{◌≡◌, ◌≤◌, ◌<◌, ◌+◌, ◌-◌, ◌++◌, [], OnOk, OnErr, drop, length, min, slice_index, take};
-ghost use Rattle.sam_link.specs.Inbox.{GivesNote, Finds, IsRow, RestStays, items_among, note_in, ready};
+ghost use Rattle.std.specs.Prelude.{true, vec_capacity};
+ghost use Rattle.sam_link.specs.Inbox.{GivesNote, Finds, IsRow, LiesIn, RestStays, TakesAll, TakesIn, items_among, lying, made_ready};
+ghost use Rattle.sam_link.specs.Inbox.{note_in, nothing, parted};
 
 use crate::reading::head_of;
 use std::alloc::{AllocError, Global};
 use std::marker::Model;
+use std::mem;
 
-/// The bytes that came, up to those that were taken. Contracts see those that are no whole packet yet (`held`) and what waits for the
-/// program: the rest of the data whose first bytes were taken (`part`), and the data and notes after it (`packets`).
-///
-/// The bytes stay where they came until they are taken: packets are found by their heads. What was taken leaves memory once it is half of
-/// all: that moves at most one byte for each that was taken.
-#[derive(Drop)]
-pub struct Inbox {
-    bytes: Vec<u8>,
+/// Where what came and was not taken yet lies in some bytes.
+#[derive(Clone, Copy, Drop)]
+pub struct Marks {
     /// Where the rest of the data begins that was begun.
     gone: usize,
     /// Where it ends, and the packets begin.
@@ -25,14 +23,25 @@ pub struct Inbox {
     count: usize,
 }
 
+/// The bytes that came, up to those that were taken. Contracts see those that are no whole packet yet (`held`) and what waits for the
+/// program: the rest of the data whose first bytes were taken (`part`), and the data and notes after it (`packets`).
+///
+/// The bytes stay where they came until they are taken: packets are found by their heads. What was taken leaves memory once it is half of
+/// all: that moves at most one byte for each that was taken.
+#[derive(Drop)]
+pub struct Inbox {
+    bytes: Vec<u8>,
+    marks: Marks,
+}
+
 impl Model for Inbox {
     ghost use Rattle.sam_link.specs.Inbox.{Arrived, IsInbox, arrived};
 
     ghost Value = { Arrived };
 
-    ghost view = { λ a. arrived a.bytes.items a.gone a.next a.whole a.count };
+    ghost view = { λ a. arrived a.bytes.items a.marks.gone a.marks.next a.marks.whole a.marks.count };
 
-    ghost invariant = { λ a. IsInbox a.bytes.items a.gone a.next a.whole a.count };
+    ghost invariant = { λ a. IsInbox a.bytes.items a.marks.gone a.marks.next a.marks.whole a.marks.count };
 }
 
 /// Of so many packets that take so many bytes at the front of the bytes, finds the first that is for the program. Returns where it stands,
@@ -110,26 +119,27 @@ fn copy_part(bytes: &[u8], start: usize, len: usize, into: &mut [u8])
     into[..len].copy_from_slice(&bytes[start..end]);
 }
 
-impl Inbox {
-    /// Nothing came. It takes no memory.
-    pub fn new(alloc: Global) -> Inbox
-        ensures { result ≡ record { held = []; waiting = record { part = []; packets = [] } } }
+impl Marks {
+    /// So many packets, which take so many bytes, stand at the front of some bytes.
+    pub fn of_row(count: usize, len: usize) -> Marks
+        ensures { result ≡ record { gone = 0; next = 0; whole = len; count = count } }
     {
-        Inbox {
-            bytes: Vec::new(alloc),
+        Marks {
             gone: 0,
             next: 0,
-            whole: 0,
-            count: 0,
+            whole: len,
+            count,
         }
     }
 
     /// Passes packets that are first and not for the program.
-    fn pass(&mut self)
-        ensures { self.new ≡ self.old }
+    fn pass(&mut self, bytes: &[u8])
+        requires { LiesIn self.old bytes.now }
+        ensures lies { LiesIn self.new bytes.now }
+        ensures same { lying self.new bytes.now ≡ lying self.old bytes.now }
     {
         if self.gone == self.next {
-            let (_, row) = self.bytes.split_at(self.next);
+            let (_, row) = bytes.split_at(self.next);
             let (at, left) = pass_others(row, self.count, self.whole - self.next);
             self.next += at;
             self.gone = self.next;
@@ -137,17 +147,115 @@ impl Inbox {
         }
     }
 
+    /// Begins the next packet, if it is data and all of the one before was taken.
+    fn make_ready(&mut self, bytes: &[u8])
+        requires { LiesIn self.old bytes.now }
+        ensures lies { LiesIn self.new bytes.now }
+        ensures ready { lying self.new bytes.now ≡ made_ready (lying self.old bytes.now) }
+    {
+        if self.gone < self.next {
+            return;
+        }
+        let (_, row) = bytes.split_at(self.next);
+        match first_item(row, self.count, self.whole - self.next) {
+            Found::Data(body) => {
+                self.gone = self.next + body.start;
+                self.next = self.gone + body.len;
+                self.count = body.left;
+            }
+            Found::Note(_) => {}
+            Found::Nothing => {}
+        }
+    }
+
+    /// Moves the next bytes of what was begun into the buffer.
+    fn take_part(&mut self, bytes: &[u8], into: &mut [u8]) -> usize
+        requires { LiesIn self.old bytes.now }
+        ensures lies { LiesIn self.new bytes.now }
+        ensures count { result ≡ min (length (lying self.old bytes.now).waiting.part) (length into.old) }
+        ensures bytes { into.new ≡ take result (lying self.old bytes.now).waiting.part ++ drop result into.old }
+        ensures rest { lying self.new bytes.now ≡ parted (lying self.old bytes.now) result }
+    {
+        let count = (self.next - self.gone).min(into.len());
+        copy_part(bytes, self.gone, count, into);
+        self.gone += count;
+        count
+    }
+
+    /// Moves the next bytes into the buffer, as many as one packet has left and have room there, and returns how many. The rest of the
+    /// buffer stays as it was. It is 0 where a note is next, or nothing.
+    fn take_next(&mut self, bytes: &[u8], into: &mut [u8]) -> usize
+        requires { LiesIn self.old bytes.now }
+        ensures lies { LiesIn self.new bytes.now }
+        ensures taken { TakesIn (lying self.old bytes.now).waiting into.old result into.new (lying self.new bytes.now).waiting }
+        ensures held { (lying self.new bytes.now).held ≡ (lying self.old bytes.now).held }
+    {
+        self.pass(bytes);
+        self.make_ready(bytes);
+        self.take_part(bytes, into)
+    }
+
+    /// Moves the next bytes into the buffer from there on, as `take_next` does.
+    fn take_behind(&mut self, bytes: &[u8], into: &mut [u8], at: usize) -> usize
+        requires lies { LiesIn self.old bytes.now }
+        requires inside { at ≤ length into.old }
+        ensures lies { LiesIn self.new bytes.now }
+        ensures taken { TakesIn (lying self.old bytes.now).waiting (drop at into.old) result (drop at into.new) (lying self.new bytes.now).waiting }
+        ensures held { (lying self.new bytes.now).held ≡ (lying self.old bytes.now).held }
+        ensures front { take at into.new ≡ take at into.old }
+    {
+        let (_, room) = into.split_at_mut(at);
+        self.take_next(bytes, room)
+    }
+
+    /// Moves the next bytes into the buffer until there is no room, or a note is next, or nothing. Returns how many.
+    pub fn take_all(&mut self, bytes: &[u8], into: &mut [u8]) -> usize
+        requires { LiesIn self.old bytes.now }
+        ensures lies { LiesIn self.new bytes.now }
+        ensures taken { TakesAll (lying self.old bytes.now).waiting into.old result into.new (lying self.new bytes.now).waiting }
+        ensures held { (lying self.new bytes.now).held ≡ (lying self.old bytes.now).held }
+    {
+        let mut count = 0;
+        'packets: loop {
+            let more = self.take_behind(bytes, into, count);
+            if more == 0 {
+                return count;
+            }
+            count += more;
+        }
+    }
+}
+
+impl Inbox {
+    /// Nothing came. It takes no memory.
+    pub fn new(alloc: Global) -> Inbox
+        ensures { result ≡ record { held = []; waiting = record { part = []; packets = [] } } }
+    {
+        Inbox {
+            bytes: Vec::new(alloc),
+            marks: Marks::of_row(0, 0),
+        }
+    }
+
+    /// Passes packets that are first and not for the program.
+    fn pass(&mut self)
+        ensures { self.new ≡ self.old }
+    {
+        self.marks.pass(self.bytes.as_slice());
+    }
+
     /// Forgets in memory what was taken, once it is half of all.
     fn compact(&mut self)
         ensures { self.new ≡ self.old }
     {
-        let rest = self.bytes.len() - self.gone;
-        if self.gone >= rest && self.gone > 0 {
-            self.bytes.copy_within(self.gone.., 0);
+        let gone = self.marks.gone;
+        let rest = self.bytes.len() - gone;
+        if gone >= rest && gone > 0 {
+            self.bytes.copy_within(gone.., 0);
             self.bytes.truncate(rest);
-            self.next -= self.gone;
-            self.whole -= self.gone;
-            self.gone = 0;
+            self.marks.next -= gone;
+            self.marks.whole -= gone;
+            self.marks.gone = 0;
         }
     }
 
@@ -165,7 +273,7 @@ impl Inbox {
     pub fn held(&self) -> &[u8]
         ensures { result.now ≡ self.now.held }
     {
-        &self.bytes[self.whole..]
+        &self.bytes[self.marks.whole..]
     }
 
     /// Holds the first bytes alone of those that are held, so many.
@@ -173,7 +281,7 @@ impl Inbox {
         requires { len ≤ length self.old.held }
         ensures { self.new ≡ record self.old { held = take len self.old.held } }
     {
-        self.bytes.truncate(self.whole + len);
+        self.bytes.truncate(self.marks.whole + len);
     }
 
     /// The first bytes that are held are so many whole packets, which now wait.
@@ -184,56 +292,67 @@ impl Inbox {
           waiting = record self.old.waiting { packets = self.old.waiting.packets ++ items_among count self.old.held };
         } }
     {
-        self.whole += len;
-        self.count += count;
-    }
-
-    /// Begins the next packet, if it is data and all of the one before was taken.
-    fn make_ready(&mut self)
-        ensures { self.new ≡ record self.old { waiting = ready self.old.waiting } }
-    {
-        if self.gone < self.next {
-            return;
-        }
-        let (_, row) = self.bytes.split_at(self.next);
-        match first_item(row, self.count, self.whole - self.next) {
-            Found::Data(body) => {
-                self.gone = self.next + body.start;
-                self.next = self.gone + body.len;
-                self.count = body.left;
-            }
-            Found::Note(_) => {}
-            Found::Nothing => {}
-        }
+        self.marks.whole += len;
+        self.marks.count += count;
     }
 
     /// Moves the next bytes into the buffer, as many as one packet has left and have room there, and returns how many. The rest of the
     /// buffer stays as it was. It is 0 where a note is next, or nothing.
     pub fn take_into(&mut self, into: &mut [u8]) -> usize
-        ensures count { result ≡ min (length (ready self.old.waiting).part) (length into.old) }
-        ensures bytes { into.new ≡ take result (ready self.old.waiting).part ++ drop result into.old }
-        ensures rest { self.new ≡ record self.old {
-          waiting = record {
-            part = drop result (ready self.old.waiting).part;
-            packets = (ready self.old.waiting).packets;
-          };
-        } }
+        ensures taken { TakesIn self.old.waiting into.old result into.new self.new.waiting }
+        ensures held { self.new.held ≡ self.old.held }
     {
-        self.pass();
-        self.make_ready();
-        self.take_part(into)
+        self.marks.take_next(self.bytes.as_slice(), into)
     }
 
-    /// Moves the next bytes of what was begun into the buffer.
-    fn take_part(&mut self, into: &mut [u8]) -> usize
-        ensures count { result ≡ min (length self.old.waiting.part) (length into.old) }
-        ensures bytes { into.new ≡ take result self.old.waiting.part ++ drop result into.old }
-        ensures rest { self.new ≡ record self.old { waiting = record self.old.waiting { part = drop result self.old.waiting.part } } }
+    /// Moves the next bytes into the buffer until there is no room, or a note is next, or nothing. Returns how many.
+    pub fn take_all(&mut self, into: &mut [u8]) -> usize
+        ensures taken { TakesAll self.old.waiting into.old result into.new self.new.waiting }
+        ensures held { self.new.held ≡ self.old.held }
     {
-        let count = (self.next - self.gone).min(into.len());
-        copy_part(self.bytes.as_slice(), self.gone, count, into);
-        self.gone += count;
-        count
+        self.marks.take_all(self.bytes.as_slice(), into)
+    }
+
+    /// Returns whether all is gone that came. Then nothing waits, and nothing is held.
+    pub fn is_empty(&mut self) -> bool
+        ensures same { self.new ≡ self.old }
+        ensures empty { result ≡ true → self.old ≡ nothing }
+    {
+        self.pass();
+        self.marks.gone == self.bytes.len()
+    }
+
+    /// Hands out the memory, and keeps nothing of what came. It takes no memory.
+    pub fn take_room(&mut self) -> Vec<u8>
+        ensures room { result.items ≡ [] }
+        ensures empty { self.new ≡ nothing }
+    {
+        let none = Vec::new(*self.bytes.allocator());
+        let mut room = mem::replace(&mut self.bytes, none);
+        room.clear();
+        self.marks = Marks::of_row(0, 0);
+        room
+    }
+
+    /// Puts what was not taken of these bytes into the memory, which has room for them.
+    pub fn of_rest(room: Vec<u8>, bytes: &[u8], marks: Marks) -> Inbox
+        requires empty { room.items ≡ [] }
+        requires room { length bytes.now ≤ vec_capacity room }
+        requires lies { LiesIn marks bytes.now }
+        ensures { result ≡ lying marks bytes.now }
+    {
+        let mut kept = room;
+        let gone = marks.gone;
+        let _ = kept.extend_from_slice(&bytes[gone..]);
+        Inbox {
+            bytes: kept,
+            marks: Marks {
+                gone: 0,
+                next: marks.next - gone,
+                whole: marks.whole - gone,
+                count: marks.count,
+            },
+        }
     }
 
     /// Moves the note that is next into the buffer, which has room for any, and returns its length. The rest of the buffer stays as it was.
@@ -245,17 +364,18 @@ impl Inbox {
         ensures held { self.new.held ≡ self.old.held }
     {
         self.pass();
-        if self.gone < self.next {
+        let marks = self.marks;
+        if marks.gone < marks.next {
             return None;
         }
-        let (_, row) = self.bytes.split_at(self.next);
-        match first_item(row, self.count, self.whole - self.next) {
+        let (_, row) = self.bytes.split_at(marks.next);
+        match first_item(row, marks.count, marks.whole - marks.next) {
             Found::Note(body) => {
-                let start = self.next + body.start;
+                let start = marks.next + body.start;
                 copy_part(self.bytes.as_slice(), start, body.len, into);
-                self.gone = start + body.len;
-                self.next = self.gone;
-                self.count = body.left;
+                self.marks.gone = start + body.len;
+                self.marks.next = start + body.len;
+                self.marks.count = body.left;
                 Some(body.len)
             }
             Found::Data(_) => None,

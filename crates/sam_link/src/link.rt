@@ -1,12 +1,13 @@
 //! One end of a link.
 
-ghost use Rattle.std.specs.Prelude.{◌≡◌, ◌≤◌, ◌+◌, ◌-◌, ◌++◌, [], OnOk, OnErr, drop, length, min, take};
-ghost use Rattle.std.specs.Prelude.{◌&&◌, ◌==◌, true, if◌then◌else◌};
+ghost use Rattle.std.specs.Prelude.{◌≡◌, ◌≤◌, ◌<◌, ◌^◌, ◌+◌, ◌-◌, ◌++◌, [], OnOk, OnErr, drop, length, min, take};
+ghost use Rattle.std.specs.Prelude.{◌&&◌, ◌==◌, true, if◌then◌else◌, IfOk, vec_capacity};
 ghost use Rattle.sam_link.specs.End.{Calls, TakesOut, broken, ended, fresh, is_up, may_send, same_id, says};
 ghost use Rattle.sam_link.specs.declared.hello.What.TheVariants as What;
 ghost use Rattle.sam_link.specs.declared.phase.Phase.TheVariants as Phase;
-ghost use Rattle.sam_link.specs.Feeding.{Feeds, PutsNote, TakesSplit, ended_for, is_open, read_to};
-ghost use Rattle.sam_link.specs.Inbox.{GivesNote, IsRow, RestStays, note_in, ready};
+ghost use Rattle.sam_link.specs.Feeding.{Feeds, FeedsInto, IsFault, IsRefused, MayFeed, PutsNote, TakesSplit, ended_for, has_come};
+ghost use Rattle.sam_link.specs.Feeding.{is_open, read_to, said_to};
+ghost use Rattle.sam_link.specs.Inbox.{GivesNote, IsRow, RestStays, note_in, nothing, ready};
 ghost use Rattle.sam_link.specs.Keeping.{MayHave, Puts, begun, may_have};
 ghost use Rattle.sam_mesg.specs.Spelling.{eight, frame};
 ghost use Rattle.sam_link.specs.Packets.{IsSplit};
@@ -15,11 +16,11 @@ ghost use Rattle.sam_link.specs.Putting.{data_stream};
 use crate::fault::{CallFault, FeedFault, NotOpen, NoteFault};
 use crate::feeding::tell;
 use crate::hello::{HELLO_BYTES, Hello, Id, What};
-use crate::inbox::Inbox;
+use crate::inbox::{Inbox, Marks};
 use crate::keeping::{Kept, PutFault};
 use crate::packet::MOST_BODY;
 use crate::phase::{Phase, Role};
-use crate::reading::{Split, split_packets};
+use crate::reading::{Said, Split, split_packets};
 use std::alloc::{AllocError, Global};
 use std::marker::Model;
 
@@ -247,6 +248,23 @@ impl Link {
         }
     }
 
+    /// Takes what the packets say that come up to this count of all bytes. The only error is out of memory, after which all is as before.
+    fn take_said(&mut self, said: Said, count: u64) -> Result<(), AllocError>
+        requires told { self.old.told ≤ count }
+        requires sent { said.top ≤ self.old.keeps.base + self.old.keeps.sent }
+        ensures taken { OnOk result (self.new ≡ said_to self.old said count) }
+        ensures unchanged { OnErr result (self.new ≡ self.old) }
+    {
+        let owes = said.asked || count - self.told >= TELL_AFTER;
+        let did = tell(&mut self.kept, owes, count)?;
+        self.kept.acknowledge(said.top);
+        self.received = count;
+        if did {
+            self.told = count;
+        }
+        Ok(())
+    }
+
     /// Takes the packets of what is held, up to this count of all bytes. The only error is out of memory, after which all is as before.
     fn take_packets(&mut self, split: &Split, count: u64) -> Result<(), AllocError>
         requires told { self.old.told ≤ count }
@@ -255,15 +273,22 @@ impl Link {
         ensures taken { OnOk result (self.new ≡ read_to self.old split.now count) }
         ensures unchanged { OnErr result (self.new ≡ self.old) }
     {
-        let owes = split.said.asked || count - self.told >= TELL_AFTER;
-        let did = tell(&mut self.kept, owes, count)?;
-        self.kept.acknowledge(split.said.top);
+        self.take_said(split.said, count)?;
         self.inbox.take_whole(split.count, split.len);
-        self.received = count;
-        if did {
-            self.told = count;
-        }
         Ok(())
+    }
+
+    /// Returns what is wrong with what was read of a piece, if anything is.
+    fn fault_of(&self, split: &Split) -> Option<FeedFault>
+        ensures { IsFault self.now split.now result }
+    {
+        if let Some(fault) = split.fault {
+            return Some(FeedFault::Wrong(fault));
+        }
+        if self.kept.is_ahead(split.said.top) {
+            return Some(FeedFault::AckAhead);
+        }
+        None
     }
 
     /// Takes what was read of a piece, which is held, up to this count of all bytes.
@@ -272,16 +297,26 @@ impl Link {
         requires split { IsSplit self.old.held split.now }
         ensures { TakesSplit self.old split.now count result self.new }
     {
-        if let Some(fault) = split.fault {
-            return Err(FeedFault::Wrong(fault));
-        }
-        if self.kept.is_ahead(split.said.top) {
-            return Err(FeedFault::AckAhead);
+        if let Some(fault) = self.fault_of(split) {
+            return Err(fault);
         }
         match self.take_packets(split, count) {
             Ok(()) => Ok(()),
             Err(_) => Err(FeedFault::OutOfMemory),
         }
+    }
+
+    /// Returns why no piece of this length is taken on connection `attempt`, if none is.
+    fn refusal_of_piece(&self, attempt: u64, piece: &[u8]) -> Option<FeedFault>
+        ensures { IsRefused self.now attempt piece.now result }
+    {
+        if !self.is_open(attempt) {
+            return Some(FeedFault::NotOpen);
+        }
+        if piece.len() as u64 > u64::MAX - self.received {
+            return Some(FeedFault::CountFull);
+        }
+        None
     }
 
     /// Takes the next piece of the other side's stream on connection `attempt`: all of it, or nothing. It may begin and end anywhere in a
@@ -292,11 +327,8 @@ impl Link {
     pub fn feed(&mut self, attempt: u64, piece: &[u8]) -> Result<(), FeedFault>
         ensures { Feeds self.old attempt piece.now result self.new }
     {
-        if !self.is_open(attempt) {
-            return Err(FeedFault::NotOpen);
-        }
-        if piece.len() as u64 > u64::MAX - self.received {
-            return Err(FeedFault::CountFull);
+        if let Some(fault) = self.refusal_of_piece(attempt, piece) {
+            return Err(fault);
         }
         let before = self.inbox.held().len();
         if self.inbox.hold(piece).is_err() {
@@ -325,6 +357,80 @@ impl Link {
             FeedFault::CountFull => {}
             FeedFault::OutOfMemory => {}
         }
+    }
+
+    /// Takes the next piece as `feed` does, and then moves bytes into the buffer as `take_in` does, again and again, until there is no room,
+    /// or a note is next, or nothing. Returns how many bytes it moved. The rest of the buffer stays as it was. In the laws of two ends it is
+    /// those calls. Where nothing is left of the pieces before, the bytes go straight from the piece into the buffer.
+    ///
+    /// The errors are those of `feed`, and leave what it leaves, and the buffer as it was.
+    pub fn feed_into(
+        &mut self,
+        attempt: u64,
+        piece: &[u8],
+        into: &mut [u8],
+    ) -> Result<usize, FeedFault>
+        ensures { FeedsInto self.old attempt piece.now into.old result into.new self.new }
+    {
+        if !self.inbox.is_empty() {
+            return self.feed_then_take(attempt, piece, into);
+        }
+        if let Some(fault) = self.refusal_of_piece(attempt, piece) {
+            return Err(fault);
+        }
+        self.pass_on(attempt, piece, into)
+    }
+
+    /// `feed`, and then `take_in` again and again.
+    fn feed_then_take(
+        &mut self,
+        attempt: u64,
+        piece: &[u8],
+        into: &mut [u8],
+    ) -> Result<usize, FeedFault>
+        ensures { FeedsInto self.old attempt piece.now into.old result into.new self.new }
+    {
+        match self.feed(attempt, piece) {
+            Ok(()) => Ok(self.inbox.take_all(into)),
+            Err(fault) => Err(fault),
+        }
+    }
+
+    /// Takes a piece, where nothing waits and nothing is held, straight into the buffer.
+    fn pass_on(&mut self, attempt: u64, piece: &[u8], into: &mut [u8]) -> Result<usize, FeedFault>
+        requires may { MayFeed self.old attempt piece.now }
+        requires empty { has_come self.old ≡ nothing }
+        ensures { FeedsInto self.old attempt piece.now into.old result into.new self.new }
+    {
+        let split = split_packets(piece);
+        if let Some(fault) = self.fault_of(&split) {
+            self.end_for(fault);
+            return Err(fault);
+        }
+        let Ok(room) = self.make_room(piece, split.said) else {
+            return Err(FeedFault::OutOfMemory);
+        };
+        let mut marks = Marks::of_row(split.count, split.len);
+        let count = marks.take_all(piece, into);
+        self.inbox = Inbox::of_rest(room, piece, marks);
+        Ok(count)
+    }
+
+    /// Takes what the packets of a piece say, and hands out memory that has room for all of it. The only error is out of memory, after
+    /// which all is as before.
+    fn make_room(&mut self, piece: &[u8], said: Said) -> Result<Vec<u8>, AllocError>
+        requires count { self.old.received + length piece.now < 2 ^ 64 }
+        requires sent { said.top ≤ self.old.keeps.base + self.old.keeps.sent }
+        requires empty { has_come self.old ≡ nothing }
+        ensures room { IfOk result (λ room. (room.items ≡ []) × (length piece.now ≤ vec_capacity room)) }
+        ensures taken { OnOk result (self.new ≡ said_to self.old said (self.old.received + length piece.now)) }
+        ensures unchanged { OnErr result (self.new ≡ self.old) }
+    {
+        let mut room = self.inbox.take_room();
+        room.reserve(piece.len())?;
+        let count = self.received + piece.len() as u64;
+        self.take_said(said, count)?;
+        Ok(room)
     }
 
     /// Moves the next bytes of the other side's program into the buffer, and returns how many: as many as have room there, of one packet

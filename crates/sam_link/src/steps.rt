@@ -1,7 +1,7 @@
 //! Each call of an end is a step of a session: what the laws of two ends suppose of a call is what its own clauses say.
 
 ghost use Rattle.std.specs.Prelude.{◌≤◌, length};
-ghost use Rattle.sam_link.specs.Calls.{Does};
+ghost use Rattle.sam_link.specs.Calls.{Does, DoesInto};
 ghost use Rattle.sam_link.specs.Calls.Call.{Acknowledge, Answer, Ask, Break, Dial, Feed, NextNote, Put, PutNote, TakeIn, TakeOut, Welcome};
 ghost use Rattle.sam_link.specs.Inbox.{note_in};
 
@@ -78,6 +78,19 @@ pub fn feed(link: &mut Link, attempt: u64, piece: &[u8]) -> Result<(), FeedFault
     ensures { Does link.old (Feed attempt piece.now result) link.new }
 {
     link.feed(attempt, piece)
+}
+
+/// `Link::feed_into`: it is a feed, and if that is well, calls of `take_in`.
+#[tactic(auto, using(crate::proofs::TakingCalls::as_calls))]
+pub fn feed_into(
+    link: &mut Link,
+    attempt: u64,
+    piece: &[u8],
+    into: &mut [u8],
+) -> Result<usize, FeedFault>
+    ensures { DoesInto link.old attempt piece.now result into.new link.new }
+{
+    link.feed_into(attempt, piece, into)
 }
 
 /// `Link::take_in`.

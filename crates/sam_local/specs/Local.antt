@@ -34,7 +34,9 @@ abbrev pub whole_slots : PlainFiles → ℕ → Slots KnownFile → Slots KnownF
 whole_slots fs f [] = []
 whole_slots fs f (s ∷ ss) = option_map (whole_file (file_at fs f).text) s ∷ whole_slots fs (suc f) ss
 
--- each window shows its whole text, nothing is unsent, held or locked, and messages are not counted
+-- Both sides as one editor. It forgets, of the terminal, the runes and gaps of each window, where the host's whole text stands instead;
+-- all locks, the requests that await data, the unsent runes and the held events; and of both sides the count of messages. That a window's
+-- own runes are those of the text, and that no lock is held, is said elsewhere (`SidesAgree`, `ShowsFile`)
 abbrev pub at_rest : PlainHost → PlainTerminal → PlainEditor
 at_rest h t =
     record {

@@ -84,9 +84,9 @@ doings_of given es = in_order (order_on (new_world given) es (record { settled =
 
 -- These events led from these files to w. What w comes to is just where its doings, in their order, lead the editor without a network.
 -- They are all files that joined, and all that the user did but what is still held; an event that is refused does nothing there, too.
--- Where nothing is unsent or under way, both sides are that, but for runes that are not loaded and for counts, and the terminal has the
--- host's names and marks. An open file that is not locked is shown as there. And whatever the user does next waits, or is refused where
--- and for what it is refused there
+-- Where nothing is unsent or under way, both sides are that, but for what `at_rest` forgets, and the terminal has the host's names and
+-- marks. An open file that is not locked is shown as there. And whatever the user does next waits, or is refused where and for what it is
+-- refused there
 pub record ComesInOrder (given : List (List ℕ × List ℕ)) (es : List Event) (w : PlainWorld) : Type 0 where
   pub events : user_events es ≡ events_in (doings_of given es) ++ w.term.held
   pub files : joined_files es ≡ files_in (doings_of given es)
@@ -114,8 +114,7 @@ pub record HasLed (given : List (List ℕ × List ℕ)) (es : List Event) (w : P
   pub limits : AreGiven given
   pub run : run_of (new_world given) es ≡ Some w
 
--- whichever run led to w, both sides are where what was done in it leads the editor without a network, but for runes that are not loaded
--- and for counts
+-- whichever run led to w, both sides are where what was done in it leads the editor without a network, but for what `at_rest` forgets
 abbrev pub EndsAsIfLocal : PlainWorld → Type 0
 EndsAsIfLocal w =
     (given : List (List ℕ × List ℕ)) (es : List Event) → HasLed given es w
@@ -148,8 +147,8 @@ RunsAreAsIfLocal =
     → joined_files es ≡ []
     → IsAsIfLocal given (user_events es) w
 
--- at rest both sides are where the same doings without a network end, but for runes that are not loaded and for counts, and these have
--- all events of the user
+-- at rest both sides are where the same doings without a network end, but for what `at_rest` forgets, and these have all events of the
+-- user
 abbrev pub RestIsAsIfLocal : Type 0
 RestIsAsIfLocal =
     (given : List (List ℕ × List ℕ)) (es : List Event) (w : PlainWorld) → AreGiven given → run_of (new_world given) es ≡ Some w

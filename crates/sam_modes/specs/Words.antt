@@ -4,6 +4,7 @@ use Rattle.std.specs.Str.{bytes_eq, encode_utf8_all}
 use Rattle.std.specs.Str.Parse.{IsNumeral, digits_value}
 use Rattle.sam_runes.specs.Texts.{max_runes}
 use Rattle.clap.specs.Words.{App, Row, Rule, Text, first_of, new_app, new_rule, subcommand_of, with_rule, with_subcommand}
+use Rattle.clap.specs.Simple.{on_top}
 use Rattle.sam_modes.specs.declared.words.Mode.{Mode}
 use Rattle.sam_modes.specs.declared.words.Mode.TheVariants.{Bytes, Replay, Threads}
 use Rattle.sam_modes.specs.Limits.{most_piece, most_capacity}
@@ -12,7 +13,11 @@ use Rattle.sam_modes.specs.Limits.{most_piece, most_capacity}
 abbrev pub option_of : Text → Text → Rule
 option_of name default = record (new_rule name) { long = Some name; defaults = default ∷ [] }
 
--- the program: `bytes [--text TEXT]`, `replay`, or `threads [--piece N] [--cap N]`
+-- the program's own words: `--version`, or a mode
+abbrev pub bare_program : App
+bare_program = on_top (λ shape. record shape { has_version = true }) (new_app (codes "sam_play"))
+
+-- the modes: `bytes [--text TEXT]`, `replay`, and `threads [--piece N] [--cap N]`
 abbrev pub bytes_app : App
 bytes_app = with_rule (new_app (codes "bytes")) (option_of (codes "text") [])
 
@@ -24,7 +29,7 @@ threads_app =
     with_rule (with_rule (new_app (codes "threads")) (option_of (codes "piece") (codes "64"))) (option_of (codes "cap") (codes "16"))
 
 abbrev pub program : App
-program = with_subcommand (with_subcommand (with_subcommand (new_app (codes "sam_play")) bytes_app.top) replay_app.top) threads_app.top
+program = with_subcommand (with_subcommand (with_subcommand bare_program bytes_app.top) replay_app.top) threads_app.top
 
 -- `--text TEXT` as the one word `--text=TEXT`, so that TEXT is taken as it stands; `waits` says that
 -- the word before was `--text`

@@ -16,4 +16,4 @@ pub use input::{read_all, write_or_tell};
 pub use law::one_outcome;
 pub use reading::{MOST_INPUT, PIECE};
 pub use stops::fault_of;
-pub use words::{ArgFault, Mode, mode_of, usage};
+pub use words::{ArgFault, Mode, VERSION, mode_of, usage};

@@ -4,7 +4,8 @@ ghost use Rattle.std.specs.Str.{encode_utf8_all};
 ghost use Rattle.clap.specs.Words.{app_of, new_app, rule_of, found_of, rows_of, subcommand_rows_of, first_of};
 ghost use Rattle.clap.specs.declared.builder.command.Command.TheViews.{out-Command};
 ghost use Rattle.sam_runes.specs.Texts.{max_runes};
-ghost use Rattle.sam_modes.specs.Words.{IsModeOf, HoldsMode, HoldsNumber, attached, option_of, bytes_app, threads_app, program};
+ghost use Rattle.sam_modes.specs.Words.{IsModeOf, HoldsMode, HoldsNumber, attached, option_of};
+ghost use Rattle.sam_modes.specs.Words.{bytes_app, threads_app, bare_program, program};
 
 use clap::error::ErrorKind;
 use clap::{Arg, ArgMatches, Command};
@@ -31,6 +32,9 @@ pub const MOST_PIECE: usize = 65_536;
 /// The greatest capacity of a line between threads, in entries: the greatest number for `--cap`.
 pub const MOST_CAPACITY: usize = 1_024;
 
+/// The version of the program, as the file VERSION has it.
+pub const VERSION: &str = "0.1.0";
+
 // What help says of the program, its modes and their options, and what is wrong with a value. The ranges in it are those of `MAX_RUNES`,
 // `MOST_PIECE` and `MOST_CAPACITY`.
 const PROGRAM_HELP: &str = "A host and a terminal after Pike's sam, over standard input and output";
@@ -55,10 +59,14 @@ const WRONG_PIECE: &str = "the value of --piece is no number from 1 to 65536";
 
 const WRONG_CAP: &str = "the value of --cap is no number from 1 to 1024";
 
-/// Why the words name no mode. The program then runs none: it writes the line of the fault, and for `Wrong` the usage on standard error.
-/// Its exit status is 2, or 4 when out of memory, or 5 if the line can't be written.
+/// Why the words name no mode. The program then runs none, and reads nothing. For `Version` it writes its name and `VERSION`, and its exit
+/// status is 0. Else it writes the line of the fault, and for `Wrong` the usage on standard error; the status is 2, or 4 when out of
+/// memory. If the line can't be written the status is 5.
 #[derive(Clone, Copy, Debug, PartialEq, Eq, Error)]
 pub enum ArgFault {
+    /// The words ask for the program's version.
+    #[error("no mode, but the version")]
+    Version,
     /// The words are none of the program's, or a value is out of its range. A wish for help is wrong, too.
     #[error("wrong arguments")]
     Wrong,
@@ -81,16 +89,16 @@ impl<T: Drop> From<AllocFailed<T>> for ArgFault {
 
 impl From<clap::Error> for ArgFault {
     fn from(error: clap::Error) -> ArgFault {
-        if error.kind() == ErrorKind::OutOfMemory {
-            ArgFault::OutOfMemory
-        } else {
-            ArgFault::Wrong
+        match error.kind() {
+            ErrorKind::OutOfMemory => ArgFault::OutOfMemory,
+            ErrorKind::DisplayVersion => ArgFault::Version,
+            _ => ArgFault::Wrong,
         }
     }
 }
 
-/// Returns the mode that the words name. The first word is the program's name, and is not looked at. The errors are `Wrong` if the words
-/// name no mode, and `OutOfMemory`, which may come before it.
+/// Returns the mode that the words name. The first word is the program's name, and is not looked at. The errors are `Version` if the
+/// words ask for it, `Wrong` if they name no mode, and `OutOfMemory`, which may come before these.
 pub fn mode_of(alloc: Global, words: Vec<String>) -> Result<Mode, ArgFault>
     ensures { IfOk result (IsModeOf (map string_bytes words.items)) }
 {
@@ -192,6 +200,14 @@ fn threads_command<'a>(alloc: Global) -> Result<Command<'a>, AllocError>
     cut.arg(cap)
 }
 
+/// Makes the program's command, without its modes.
+fn bare_command<'a>(alloc: Global) -> Command<'a>
+    ensures app { app_of result ≡ bare_program }
+    ensures local { (out-Command result).has_globals ≡ false }
+{
+    command_named(alloc, "sam_play", PROGRAM_HELP).version(VERSION)
+}
+
 /// Makes the program's command line.
 fn command<'a>(alloc: Global) -> Result<Command<'a>, AllocError>
     ensures { IfOk result (λ c. app_of c ≡ program) }
@@ -199,7 +215,7 @@ fn command<'a>(alloc: Global) -> Result<Command<'a>, AllocError>
     let bytes = bytes_command(alloc)?;
     let replay = command_named(alloc, "replay", REPLAY_HELP);
     let threads = threads_command(alloc)?;
-    command_named(alloc, "sam_play", PROGRAM_HELP)
+    bare_command(alloc)
         .subcommand(bytes)?
         .subcommand(replay)?
         .subcommand(threads)

@@ -1,7 +1,7 @@
 //! The program: its words name a mode, and the mode reads standard input and writes standard output.
 #![tactic(auto)]
 
-use sam_session::{ArgFault, PlayFault, mode_of, play, status_of, usage};
+use sam_session::{ArgFault, PlayFault, VERSION, mode_of, play, status_of, usage};
 use std::alloc::AllocError;
 use std::env::Env;
 use std::io::{BufWriter, ErrorKind, Write};
@@ -13,9 +13,11 @@ use std::{env, io};
 /// The exit status for wrong words. `status_of` has those of the modes.
 const WRONG_WORDS: u8 = 2;
 
-/// Why the program did not come to its end.
+/// Why the program ran no mode to its end.
 #[derive(Clone, Copy, Debug, PartialEq, Eq)]
 enum Fault {
+    /// The words ask for the version.
+    Version,
     /// The words are wrong.
     Arguments,
     /// Memory was refused before the mode was known.
@@ -27,6 +29,7 @@ enum Fault {
 impl From<ArgFault> for Fault {
     fn from(fault: ArgFault) -> Fault {
         match fault {
+            ArgFault::Version => Fault::Version,
             ArgFault::Wrong => Fault::Arguments,
             ArgFault::OutOfMemory => Fault::Memory,
         }
@@ -90,10 +93,19 @@ fn say_usage<R: Eprint + Env + AllocGlobal>(rt: &R) {
     }
 }
 
-/// Returns the exit status of a fault. It prints the line of a fault that came before the mode ran; if that fails, the status is that of a
-/// failed write.
+/// Prints the program's name and its version. Returns the exit status: 0, or that of a failed write.
+fn say_version<R: Print>(rt: &R) -> u8 {
+    match println!(rt; "sam_play {VERSION}") {
+        Ok(()) => 0,
+        Err(_) => status_of(&Err(PlayFault::Write)),
+    }
+}
+
+/// Returns the exit status of a fault. It prints the version, or the line of a fault that came before the mode ran; if that fails, the
+/// status is that of a failed write.
 fn say<R: Print + Eprint + Env + AllocGlobal>(rt: &R, fault: Fault) -> u8 {
     let (status, line) = match fault {
+        Fault::Version => return say_version(rt),
         Fault::Arguments => {
             say_usage(rt);
             (WRONG_WORDS, "= fault arguments")

@@ -82,7 +82,7 @@ pub fn audit<'q, T: Drop, R: Wait>(
     }
 }
 
-/// Does the same as [`audit`], in room that was made for a line of these sizes. So it takes no memory and is never refused.
+/// Does the same as [`audit`], in room that was made for a line of these sizes. So it is never refused.
 pub fn audit_within<'q, T: Drop, R: Wait>(
     rt: &R,
     room: AuditRoom<T>,

@@ -1,14 +1,16 @@
-//! How an end of a line waits: it gives way to other threads a few times, and then sleeps until the other side of the line acts.
+//! How an end of a line waits: it tries again after short pauses, and then sleeps until the other side of the line acts.
 //! No contract speaks of it: what an end has put or taken is said of its tries alone.
 
 use std::sync::Wait;
 use std::sync::atomic::{AtomicU64, Ordering};
-use std::thread;
 use std::time::Duration;
 
-/// How often a wait gives way before it sleeps. That takes about as long as to wake a thread, so that ends of a busy line
-/// seldom sleep.
-const YIELDS: u32 = 200;
+/// How often a wait pauses before it sleeps. All these pauses take about as long as to wake a thread, so that ends of a busy line
+/// seldom sleep. None gives way to other threads: on a busy machine these keep the processor for milliseconds each time.
+const PAUSES: u32 = 200;
+
+/// How often a pause looks at its bell: some 200 nanoseconds in all.
+const LOOKS: u32 = 300;
 
 /// The first sleep of a wait, in microseconds. Each further one may take twice as long.
 const FIRST_SLEEP: u64 = 100;
@@ -35,10 +37,10 @@ impl Backoff {
         Backoff { tries: 0 }
     }
 
-    /// Returns whether the wait has given way to other threads often enough: after one more call, which sets the bell, it sleeps.
-    /// What is worth doing only while nothing else comes is done then.
+    /// Returns whether the wait has paused often enough: after one more call, which sets the bell, it sleeps. What is worth doing only
+    /// while nothing else comes is done then.
     pub fn sleeps_next(&self) -> bool {
-        self.tries >= YIELDS
+        self.tries >= PAUSES
     }
 }
 
@@ -66,17 +68,24 @@ impl Bell {
         self.state.wake_all();
     }
 
+    /// Lets a moment pass, and keeps the processor. What it sees says nothing: `hint::spin_loop` would do, but takes no time in this kit.
+    fn pause(&self) {
+        for _ in 0..LOOKS {
+            self.state.load(Ordering::SeqCst);
+        }
+    }
+
     /// Waits after a try in vain. It may return though nothing has changed, so the caller tries again each time. Between the
     /// call that sets `AWAITED` and the one that sleeps lies such a try, so no ring is lost; if one were, a sleep is short.
     pub(crate) fn wait<R: Wait>(&self, rt: &R, backoff: &mut Backoff) {
         let tries = backoff.tries;
         backoff.tries = tries.saturating_add(1);
-        if tries < YIELDS {
-            thread::yield_now();
+        if tries < PAUSES {
+            self.pause();
             return;
         }
-        if tries > YIELDS {
-            let longest = FIRST_SLEEP << (tries - YIELDS - 1).min(DOUBLINGS);
+        if tries > PAUSES {
+            let longest = FIRST_SLEEP << (tries - PAUSES - 1).min(DOUBLINGS);
             self.state
                 .park_timeout(rt, AWAITED, Duration::from_micros(longest));
         }

@@ -43,7 +43,7 @@ Shows (SetSnarf s) f = ⊥
 Shows (Version v) f = ⊥
 Shows Flush f = ⊥
 
--- the event changes no text, and no view but one that it shows itself
+-- the event is a View, a Load, a Select or a Flush: it composes no edit that was not typed before, and sets no view but its own
 abbrev pub only_looks : UserEvent → Bool
 only_looks (View f p n) = true
 only_looks (Load f p n) = true

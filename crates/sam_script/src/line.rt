@@ -48,8 +48,7 @@ pub struct Numbered {
 }
 
 impl Line {
-    /// Returns the event of a `k` line, and `None` for any other. With it the lines of a script say what the user does at the keyboard,
-    /// and no memory is taken.
+    /// Returns the event of a `k` line, and `None` for any other. With it the lines of a script say what the user does at the keyboard.
     pub fn key(&self) -> Option<&UserEvent>
         ensures { option_copied result ≡ key_in self.now }
     {
@@ -59,7 +58,7 @@ impl Line {
         }
     }
 
-    /// Returns the event of an `m` line, and `None` for any other. It takes no memory.
+    /// Returns the event of an `m` line, and `None` for any other.
     pub fn click(&self) -> Option<&UserEvent>
         ensures { option_copied result ≡ click_in self.now }
     {

@@ -115,7 +115,7 @@ impl Script {
         self.lines
     }
 
-    /// Takes its other lines out, and hands them out with their numbers, in order. Its files stay. It takes no memory.
+    /// Takes its other lines out, and hands them out with their numbers, in order. Its files stay.
     pub fn take_lines(&mut self) -> Vec<Numbered>
         ensures lines { result.items ≡ self.old.lines }
         ensures left { self.new ≡ without_lines self.old }
@@ -124,14 +124,14 @@ impl Script {
         mem::replace(&mut self.lines, none)
     }
 
-    /// Returns the events of its `k` lines, in order. It lends them, and takes no memory.
+    /// Returns the events of its `k` lines, in order. It lends them.
     pub fn keys(&self) -> Keys<'_>
         ensures { result ≡ keys_of self.now.lines }
     {
         Keys::of(self.lines())
     }
 
-    /// Returns the events of its `m` lines, in order. It lends them, and takes no memory.
+    /// Returns the events of its `m` lines, in order. It lends them.
     pub fn mouse(&self) -> Clicks<'_>
         ensures { result ≡ mouse_of self.now.lines }
     {

@@ -7,7 +7,7 @@ use crate::line::Numbered;
 use sam_term::event::UserEvent;
 use std::marker::Model;
 
-/// The events of the `k` lines of a script that were not given yet, in order. It lends them, and takes no memory.
+/// The events of the `k` lines of a script that were not given yet, in order. It lends them.
 /// [`Script::keys`](crate::Script::keys) makes it.
 #[derive(Drop)]
 pub struct Keys<'a> {
@@ -54,7 +54,7 @@ impl<'a> Iterator for Keys<'a> {
     }
 }
 
-/// The events of the `m` lines of a script that were not given yet, in order. It lends them, and takes no memory.
+/// The events of the `m` lines of a script that were not given yet, in order. It lends them.
 /// [`Script::mouse`](crate::Script::mouse) makes it.
 #[derive(Drop)]
 pub struct Clicks<'a> {

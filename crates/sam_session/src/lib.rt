@@ -21,8 +21,8 @@ pub use sam_ends::{
 pub use sam_host::host::Host;
 pub use sam_mesg::{HFrame, Tmesg};
 pub use sam_modes::{
-    ArgFault, MOST_INPUT, Mode, PIECE, PlayFault, mode_of, one_outcome, play_bytes, status_of,
-    usage,
+    ArgFault, MOST_INPUT, Mode, PIECE, PlayFault, VERSION, mode_of, one_outcome, play_bytes,
+    status_of, usage,
 };
 pub use sam_queue::{OutOfMemory, Post, Take};
 pub use sam_runes::Runes;

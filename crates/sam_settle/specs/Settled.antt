@@ -134,7 +134,7 @@ pub record HasUsers (ends : Ends) (s : Settled) : Type 0 where
 -- ## A session that nothing stopped
 
 -- All that keyboard and mouse have put is in the schedule, and both sides came to their end. They are where the events of the schedule lead
--- an editor without a network, but for runes that are not loaded and for counts
+-- an editor without a network, but for what `at_rest` forgets
 pub record IsWhole (ends : Ends) (s : Settled) : Type 0 where
   pub events : (own : List UserEvent) × (user_events s.schedule.items ≡ users_in ends.term.take.taken ++ own)
       × IsOwnExit own ends.term.take.taken

@@ -4,7 +4,7 @@ use Rattle.sam_runes.specs.Checks.{first_of_checks}
 use Rattle.sam_term.specs.Term.{PlainTerminal, Made, event_outcome, event_checks}
 use Rattle.sam_term.specs.Events.{message_of}
 use Rattle.sam_term.specs.declared.event.UserEvent.{UserEvent}
-use Rattle.sam_term.specs.declared.event.UserEvent.TheVariants.{Typed, Select, Cut, Paste, Snarf, View, Load, Edit, SetSnarf, Flush}
+use Rattle.sam_term.specs.declared.event.UserEvent.TheVariants.{Typed, Select, Cut, Paste, Snarf, Look, Search, Send, Dclick, Scroll, View, Load, Edit, Open, Close, Write, Work, OpenCmd, New, Exit, Check, GetSnarf, SetSnarf, Version, Flush}
 use Rattle.sam_term.specs.declared.event.Verdict.{Verdict}
 use Rattle.sam_term.specs.declared.event.Deed.{Deed}
 use Rattle.sam_term.specs.declared.event.Deed.TheVariants.{Sends, Types, Selects, Cuts, Pastes, Snarfs, Views, Loads, Edits, SetsSnarf, Flushes}
@@ -47,7 +47,23 @@ deed_by None (View f p n) = Views f p n
 deed_by None (Load f p n) = Loads f p n
 deed_by None (Edit f p q s) = Edits
 deed_by None (SetSnarf s) = SetsSnarf
-deed_by None _ = Flushes
+deed_by None Flush = Flushes
+-- the others have a message
+deed_by None (Look f) = Flushes
+deed_by None (Search f) = Flushes
+deed_by None (Send f) = Flushes
+deed_by None (Dclick f p) = Flushes
+deed_by None (Scroll f n) = Flushes
+deed_by None (Open f) = Flushes
+deed_by None (Close f) = Flushes
+deed_by None (Write f) = Flushes
+deed_by None (Work f) = Flushes
+deed_by None OpenCmd = Flushes
+deed_by None New = Flushes
+deed_by None Exit = Flushes
+deed_by None (Check f) = Flushes
+deed_by None GetSnarf = Flushes
+deed_by None (Version v) = Flushes
 
 abbrev pub deed_of : PlainTerminal → UserEvent → Deed
 deed_of t e = deed_by (message_of t.files e) e

@@ -1,10 +1,10 @@
 -- What is true of every terminal: what its counts and places can be.
-use Rattle.std.specs.Prelude.{ℕ, ◌≤◌, length, Option, Some, None, ⊤}
+use Rattle.std.specs.Prelude.{ℕ, ◌≡◌, ◌≤◌, ◌+◌, [], ◌∷◌, length, Option, Some, None, unwrap_or, ⊤}
 use Rattle.sam_runes.specs.Texts.{max_runes, most_count, most_in_message}
 use Rattle.sam_runes.specs.Slots.{Slots}
 use Rattle.sam_rasp.specs.Rasp.{place_after_ins}
 use Rattle.sam_term.specs.Term.{PlainTerminal, window_at}
-use Rattle.sam_term.specs.Windows.{window_in}
+use Rattle.sam_term.specs.Windows.{blank_window, window_in}
 use Rattle.sam_term.specs.declared.records.Window.{Window}
 use Rattle.sam_term.specs.declared.records.KnownFile.{KnownFile}
 use Rattle.sam_term.specs.declared.records.Unsent.{Unsent}
@@ -52,6 +52,22 @@ seen a =
       snarf = a.snarf;
       snarf_length = a.snarf_length;
     }
+
+-- how many locks of a file are held
+abbrev pub locks_of : KnownFile → ℕ
+locks_of known = (unwrap_or known.window blank_window).locks
+
+-- how many locks of all files are held
+abbrev pub all_locks : Slots KnownFile → ℕ
+all_locks [] = 0
+all_locks (None ∷ ss) = all_locks ss
+all_locks (Some known ∷ ss) = locks_of known + all_locks ss
+
+-- a terminal as it is kept: sound, with the locks of all files counted beside them, of which each came with a message
+pub record IsKept (a : Inside) : Type 0 where
+  pub sound : IsSound (seen a)
+  pub counted : a.file_locks ≡ all_locks a.files
+  pub countable : a.file_locks ≤ a.sent
 
 -- the places of a window are at most n
 pub record AreWithin (n : ℕ) (w : Window) : Type 0 where

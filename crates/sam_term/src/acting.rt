@@ -37,7 +37,8 @@ impl Terminal {
     }
 
     /// Returns what stands against an event: the first test that holds, in the order that `Refusal` says, or `None`.
-    fn verdict(&self, event: &UserEvent) -> Option<Verdict>
+    #[tactic(auto, using(crate::proofs::FileSteps::waits_facts))]
+    pub(crate) fn verdict(&self, event: &UserEvent) -> Option<Verdict>
         ensures { result ≡ first_of_checks (event_checks self.now event.now) }
     {
         if self.exited {
@@ -58,9 +59,7 @@ impl Terminal {
         if needs_open(event) && self.is_closed(file_of(event)) {
             return Some(Verdict::Refuses(Refusal::NotOpen));
         }
-        if self.is_file_locked(file_of(event))
-            || (waits_for_all(event) && self.files.is_any_locked())
-        {
+        if self.is_file_locked(file_of(event)) || (waits_for_all(event) && 0 < self.file_locks) {
             return Some(Verdict::Waits);
         }
         if self.has_bad_place(event) {
@@ -142,7 +141,7 @@ impl Terminal {
     }
 
     /// Returns what the terminal has to do for an event that nothing stands against.
-    fn deed_of(&self, event: &UserEvent) -> Deed
+    pub(crate) fn deed_of(&self, event: &UserEvent) -> Deed
         ensures { result ≡ deed_of self.now event.now }
     {
         match event {

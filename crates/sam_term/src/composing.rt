@@ -57,6 +57,7 @@ impl Terminal {
         if asks {
             window.awaited += 1;
         }
+        self.file_locks += 1;
         self.sent += 1;
     }
 

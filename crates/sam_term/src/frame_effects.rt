@@ -190,6 +190,7 @@ impl Terminal {
     {
         let window = self.files.window_mut(tag);
         window.locks -= 1;
+        self.file_locks -= 1;
     }
 
     /// Takes `Hbindname`: opens a file that is known, with an empty rasp.
@@ -312,11 +313,12 @@ impl Terminal {
     }
 
     /// Takes `Hclose`: drops the window of a file with its locks, and what was typed into it and is unsent.
-    #[tactic(auto, using(crate::proofs::FileSteps::file_puts), unfolding(crate::proofs::FileSteps::unsent_opened))]
+    #[tactic(auto, using(crate::proofs::FileSteps::lock_freed), unfolding(crate::proofs::FileSteps::unsent_opened))]
     fn close_file(&mut self, tag: u16)
         requires { IsTrue (is_known self.old tag) }
         ensures { self.new ≡ took_close self.old tag }
     {
+        self.file_locks -= self.locks(tag);
         self.files.file_mut(tag).window = None;
         drop_unsent(&mut self.unsent, tag);
     }
@@ -328,6 +330,7 @@ impl Terminal {
     {
         self.exited = true;
         self.command_lock = false;
+        self.file_locks = 0;
         self.files.free_all();
     }
 }

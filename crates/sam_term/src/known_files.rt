@@ -6,7 +6,7 @@ ghost use Rattle.std.specs.Prelude.{◌≡◌, ◌++◌, ◌∷◌, ◌+◌, ◌
 ghost use Rattle.sam_runes.specs.Slots.{slot, put_slot, free_slot, map_slots};
 ghost use Rattle.std.specs.Borrow.{sem};
 ghost use Rattle.sam_term.specs.Lending.{LendsFile, LendsKnown, LendsOpen, LendsWindow};
-ghost use Rattle.sam_term.specs.Term.{freed_known, is_any_locked};
+ghost use Rattle.sam_term.specs.Term.{freed_known};
 ghost use Rattle.sam_term.specs.Windows.{blank_known, known_in, window_in};
 
 use crate::records::{KnownFile, Window};
@@ -61,13 +61,6 @@ impl KnownFiles {
         ensures { option_copied result ≡ (known_in self.now tag).window }
     {
         window(&self.slots, tag as usize)
-    }
-
-    /// Returns whether some file has a lock. The command lock does not count. The cost goes by the number of slots.
-    pub fn is_any_locked(&self) -> bool
-        ensures { result ≡ is_any_locked self.now }
-    {
-        is_any_locked(&self.slots)
     }
 
     /// Lends a file that is known, to be changed.
@@ -230,30 +223,5 @@ fn free_one(file: &mut Option<KnownFile>)
             window.locks = 0;
             window.awaited = 0;
         }
-    }
-}
-
-/// Returns whether some file has a lock.
-fn is_any_locked(files: &[Option<KnownFile>]) -> bool
-    ensures { result ≡ is_any_locked files.now }
-{
-    for file in files {
-        if is_locked(file) {
-            return true;
-        }
-    }
-    false
-}
-
-/// Returns whether a file has a lock; false if it is not open.
-fn is_locked(file: &Option<KnownFile>) -> bool
-    ensures { result ≡ is_any_locked (file.now ∷ []) }
-{
-    match file {
-        Some(known) => match &known.window {
-            Some(window) => 0 < window.locks,
-            None => false,
-        },
-        None => false,
     }
 }

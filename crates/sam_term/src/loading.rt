@@ -46,6 +46,21 @@ impl Terminal {
         Ok(self.done_with(out))
     }
 
+    /// Returns how many messages a `Load` composes, the oldest held event.
+    #[tactic(auto, using(crate::proofs::FullCounts::loaded_facts, crate::proofs::Loads::loads_within, crate::proofs::Acts::opened_by))]
+    pub(crate) fn loaded_count(&self, tag: u16, p: u32, n: u32) -> usize
+        requires free { free_first self.now ≡ None }
+        requires first { first_event self.now.held ≡ UserEvent.Load tag p n }
+        ensures { result ≡ length (made_first self.now).1 }
+    {
+        let requests = self.count_requests(tag, p, n);
+        if requests == 0 {
+            0
+        } else {
+            requests + self.unsent_count()
+        }
+    }
+
     /// Returns how many requests an open file will want once it is shown from `p` on, `n` runes and gaps at most. Its view is still the
     /// old one.
     #[tactic(auto, using(crate::proofs::Loads::count_facts), unfolding(crate::specs::Term::all_wanted))]
@@ -105,6 +120,7 @@ impl Terminal {
         let window = self.files.window_mut(tag);
         window.locks += count as u64;
         window.awaited += count as u64;
+        self.file_locks += count as u64;
         self.sent += count as u64;
     }
 }

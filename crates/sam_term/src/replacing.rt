@@ -132,6 +132,24 @@ impl Terminal {
         self.replace_by(tag, range, count)
     }
 
+    /// Returns how many messages an `Edit` composes, the oldest held event.
+    #[tactic(auto, using(crate::proofs::Replaces::make_edit_facts, crate::proofs::FullCounts::edited_facts))]
+    pub(crate) fn edited_count(&self) -> usize
+        requires free { free_first self.now ≡ None }
+        requires first { IsTrue (is_editing (first_event self.now.held)) }
+        ensures { result ≡ length (made_first self.now).1 }
+    {
+        let Some(event) = self.held.first() else {
+            unreachable!()
+        };
+        let range = edit_range(event);
+        let runes = edit_runes(event);
+        if range.0 == range.1 && runes.is_empty() {
+            return 0;
+        }
+        self.unsent_count() + cut_count(range) + count_pieces(range.0, runes)
+    }
+
     /// Does an `Edit` that changes something, with a text of `count` pieces.
     #[tactic(auto, using(crate::proofs::Replaces::replace_facts), unfolding(crate::specs::Taking::done, crate::specs::Acting::made_first))]
     fn replace_by(&mut self, tag: u16, range: (u32, u32), count: usize) -> Result<Acted, TermFault>

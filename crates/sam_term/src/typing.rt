@@ -210,6 +210,73 @@ impl Terminal {
         }
     }
 
+    /// Returns how many messages a `Typed` composes, the oldest held event.
+    #[tactic(auto, using(crate::proofs::Acts::first_is, crate::proofs::Acts::opened_by, crate::proofs::TypedMade::make_typed_facts))]
+    pub(crate) fn typed_count(&self) -> usize
+        requires free { free_first self.now ≡ None }
+        requires first { IsTrue (is_typing (first_event self.now.held)) }
+        ensures { result ≡ length (made_first self.now).1 }
+    {
+        let Some(event) = self.held.first() else {
+            unreachable!()
+        };
+        let tag = typed_file(event);
+        let text = typed_runes(event);
+        let dot = self.dot_of(tag);
+        let line = types_line(event);
+        if text.is_empty() {
+            return self.empty_typed_count(tag, dot);
+        }
+        if dot.0 == dot.1 && self.joins_unsent(tag, dot.0, text) {
+            return self.joining_count(tag, dot, line);
+        }
+        self.apart_typed_count(tag, dot, line)
+    }
+
+    /// Returns how many messages a `Typed` with no runes composes.
+    #[tactic(auto, using(crate::proofs::FullCounts::nothing_none_count, crate::proofs::FullCounts::nothing_some_count))]
+    fn empty_typed_count(&self, tag: u16, dot: (u32, u32)) -> usize
+        requires first { first_event self.now.held ≡ UserEvent.Typed tag [] }
+        requires dot { dot ≡ (window_at self.now tag).dot }
+        ensures { result ≡ length (made_first self.now).1 }
+    {
+        if dot.0 == dot.1 {
+            0
+        } else {
+            1 + self.unsent_count()
+        }
+    }
+
+    /// Returns how many messages a `Typed` composes whose runes join the unsent ones. The dot is empty.
+    #[tactic(auto, using(crate::proofs::TypedMade::behind_count))]
+    fn joining_count(&self, tag: u16, dot: (u32, u32), line: bool) -> usize
+        requires first { first_event self.now.held ≡ UserEvent.Typed tag (typed_runes (first_event self.now.held)) }
+        requires some { is_empty (typed_runes (first_event self.now.held)) ≡ false }
+        requires dot { dot ≡ (window_at self.now tag).dot }
+        requires line { line ≡ is_command_line tag (typed_runes (first_event self.now.held)) }
+        requires nothing { dot.0 ≡ dot.1 }
+        requires joins { IsTrue (joins self.now.unsent tag dot.0 (typed_runes (first_event self.now.held))) }
+        ensures { result ≡ length (made_first self.now).1 }
+    {
+        let _ = &self.alloc;
+        line_count(line)
+    }
+
+    /// Returns how many messages a `Typed` composes whose runes join no unsent ones.
+    #[tactic(auto, using(crate::proofs::TypedMade::apart_count))]
+    fn apart_typed_count(&self, tag: u16, dot: (u32, u32), line: bool) -> usize
+        requires opened { IsTrue (is_open self.now tag) }
+        requires first { first_event self.now.held ≡ UserEvent.Typed tag (typed_runes (first_event self.now.held)) }
+        requires some { is_empty (typed_runes (first_event self.now.held)) ≡ false }
+        requires dot { dot ≡ (window_at self.now tag).dot }
+        requires line { line ≡ is_command_line tag (typed_runes (first_event self.now.held)) }
+        requires apart { (dot.0 == dot.1 && joins self.now.unsent tag dot.0 (typed_runes (first_event self.now.held))) ≡ false }
+        ensures { result ≡ length (made_first self.now).1 }
+    {
+        self.window_facts(tag);
+        self.unsent_count() + cut_count(dot) + line_count(line)
+    }
+
     /// Does a `Typed` with no runes, which only cuts the dot.
     #[tactic(auto, using(crate::proofs::Edits::make_facts), unfolding(crate::proofs::Edits::makes_opened))]
     fn type_nothing(&mut self, tag: u16, dot: (u32, u32)) -> Result<Acted, TermFault>

@@ -226,7 +226,7 @@ fn what_is_taken_wakes_the_taker_of_another_line(rt: HostRuntime) {
     assert!(rt; are_many(&soon), "{soon:?}");
 }
 
-/// Milliseconds. Longer than an end gives way, and than its first sleeps take.
+/// Milliseconds. Longer than an end pauses, and than its first sleeps take.
 const WHILE: u64 = 60;
 
 // Sends one item after another, and counts them. The first finds room.
@@ -282,13 +282,13 @@ fn woken_by_room(rt: &(impl Wait + Threads + Clock + Sync), alloc: Global) -> Ro
 
 #[test]
 fn what_is_taken_wakes_the_sender(rt: HostRuntime) {
-    // One round: on a busy machine the sender may still give way when room is made, and a round can then pass without a wake. That
-    // somebody wakes it `tests/bells` sees.
+    // One round: on a busy machine the sender may still pause when room is made, and a round can then pass without a wake. That somebody
+    // wakes it `tests/bells` sees.
     let soon = woken_by_room(&rt, rt.alloc());
     assert!(rt; are_many(&soon), "{soon:?}");
 }
 
-/// Waits of an end in a row, of which some give way and the others sleep.
+/// Waits of an end in a row, of which some pause and the others sleep.
 const WAITS: u32 = 400;
 
 // How often an end of an empty line waits before it says that it sleeps next.
@@ -304,7 +304,7 @@ fn waits_before_sleep(rt: &impl Wait, take: &Take<'_, u32>) -> Option<u32> {
 }
 
 #[test]
-fn an_end_gives_way_before_it_says_that_it_sleeps(rt: HostRuntime) {
+fn an_end_pauses_before_it_says_that_it_sleeps(rt: HostRuntime) {
     let waits = tried(rt.alloc(), 1, 1, |_, take| waits_before_sleep(&rt, take));
     assert!(rt; matches!(waits, Ok(Some(100..))), "{waits:?}");
 }

@@ -355,7 +355,8 @@ impl Files {
 
     /// Searches a file for what stands in it from place `p` to place `q`: that becomes the pattern, and its first occurrence from `q` on,
     /// or else the first of the text, becomes dot. Returns the new dot. There is always one, since the range itself is an occurrence; but
-    /// if the range is empty or longer than `MOST_IN_PATTERN` runes, the call returns `None`, changes nothing, and asks for no memory.
+    /// if the range is empty or longer than `MOST_IN_PATTERN` runes, the call returns `None`, changes nothing, and is never refused for
+    /// memory.
     ///
     /// Errors, in this order: `NoFile` if the tag has no file; `BadPosition` if `q` is less than `p` or past the end of the text;
     /// `OutOfMemory`. After an error files and pattern are unchanged.
@@ -363,7 +364,7 @@ impl Files {
         ensures checked { IsChecked (range_checks self.old.plain tag p q) result }
         ensures found { IfOk result (λ found. found ≡ look_of self.old.plain tag (part_at self.old.plain tag p q) q) }
         ensures done { OnOk result (self.new.plain ≡ with_look self.old.plain tag (part_at self.old.plain tag p q) q) }
-        // A range that may not be a pattern asks for no memory.
+        // A range that may not be a pattern is never refused for memory.
         ensures memory { may_look (part_at self.old.plain tag p q) ≡ false →
             result ≡ unless (first_of_checks (range_checks self.old.plain tag p q)) None }
         ensures rooms { KeepRooms self.old self.new }

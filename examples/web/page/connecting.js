@@ -70,6 +70,11 @@ export class Connection {
   }
 }
 
+// Why the page doesn't come, as in a browser whose WebAssembly is too old, stands where its status would.
+addEventListener("error", ({ error, message }) => {
+  if (!globalThis.sulgrevad) document.getElementById("status").textContent = `this page can't be shown: ${error?.message ?? message}`;
+});
+
 const names = sessionNames();
 const id = newId();
 

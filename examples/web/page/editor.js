@@ -1,5 +1,5 @@
 /* The editor: the terminal, what CodeMirror shows of its files, and what the user does. */
-import { SamError, Status, Terminal, Unfinished, NoMemory } from "./sulgrevad/sulgrevad.js";
+import { SamError, Status, Unfinished, NoMemory } from "./sulgrevad/sulgrevad.js";
 import { Input } from "./input.js";
 import { Loading } from "./loading.js";
 import { runesOf } from "./shown.js";
@@ -8,7 +8,6 @@ import { Unwritten } from "./unwritten.js";
 import { View } from "./view.js";
 import { AGAIN, Waiting } from "./waiting.js";
 
-const VERSION = 2; // of the protocol
 const COMMAND = 0; // the tag of the command file
 const CLEAN = 79; // the kind of the frame that says that a file is written
 const MOST_TYPED = 512; // runes of one event
@@ -30,7 +29,6 @@ function kindOf(origin) {
 }
 
 export class Editor {
-  terminal = new Terminal();
   views = new Map(); // of each open file, by its tag
   active = null; // the view that CodeMirror shows
   line = null;
@@ -45,11 +43,12 @@ export class Editor {
   #timer = 0;
   #wakesAt = Infinity;
 
-  /** `page` is told what to draw: its `draw` after each change, its `say` of a word for the user. */
-  constructor(CodeMirror, cm, page) {
+  /** The terminal has offered its version. `page` is told what to draw: its `draw` after each change, its `say` of a word for the user. */
+  constructor(CodeMirror, cm, page, terminal) {
     this.CodeMirror = CodeMirror;
     this.cm = cm;
     this.page = page;
+    this.terminal = terminal;
     this.waiting = new Waiting(this);
     this.loading = new Loading(this);
     this.unwritten = new Unwritten(this);
@@ -58,7 +57,6 @@ export class Editor {
     this.input = new Input(CodeMirror, cm, this);
     cm.on("scroll", () => this.#wake(0));
     cm.on("cursorActivity", () => page.draw());
-    this.terminal.offerVersion(VERSION);
   }
 
   /** The line over which the terminal's bytes go. */
@@ -158,7 +156,18 @@ export class Editor {
       if (step === "received" && kind === CLEAN) this.#meetClean(tag);
       if (change.gone > 0 || change.came > 0) changes.set(tag, [...(changes.get(tag) ?? []), change]);
     }
-    for (const [tag, each] of changes) this.#show(tag, each);
+    for (const [tag, each] of changes) {
+      if (this.views.has(tag)) this.#askFirst(this.views.get(tag));
+      this.#show(tag, each);
+    }
+  }
+
+  /** Asks for the first text of a file that was opened: before CodeMirror shows the shade, which takes a while. */
+  #askFirst(view) {
+    if (view.isAsked || this.line.isLate || !this.terminal.isOpen(view.tag)) return;
+    view.isAsked = true;
+    this.loading.begin(view);
+    this.line.send(this.terminal.takeOut());
   }
 
   #show(tag, changes) {
@@ -300,11 +309,11 @@ export class Editor {
 
   #putUp(view) {
     if (this.active === view) return;
+    this.#askFirst(view);
     this.active = view;
     this.cm.swapDoc(view.doc);
     view.measure();
-    this.page.shows(view.tag);
-    if (view.isFresh && !this.line.isLate) this.loading.begin(view);
+    this.page.draw();
   }
 
   /** The user leaves: the session ends. */

@@ -21,14 +21,17 @@ export class Find {
     field.addEventListener("keydown", (event) => this.#key(event));
   }
 
+  /** Shows the field at once; where the search begins is where the keys before it lead. */
   begin() {
-    const { active, cm } = this.editor;
-    if (active === null) return;
-    this.#origin = active.selection;
-    if (cm.somethingSelected() && !cm.getSelection().includes("\n")) this.field.value = cm.getSelection();
+    const { editor } = this;
+    const { cm } = editor;
+    if (editor.waiting.count === 0 && cm.somethingSelected() && !cm.getSelection().includes("\n")) this.field.value = cm.getSelection();
     this.bar.hidden = false;
     this.field.focus();
     this.field.select();
+    editor.press("finding", () => {
+      this.#origin = editor.active.selection;
+    });
   }
 
   end() {

@@ -27,6 +27,21 @@ function allKeys(CodeMirror, name, found = {}) {
   return found;
 }
 
+/** Whether a key's event is that of a sign. */
+function isText(event) {
+  const isAlone = !event.ctrlKey && !event.altKey && !event.metaKey;
+  return [...event.key].length === 1 && (isAlone || event.getModifierState("AltGraph"));
+}
+
+/** Does what a key means in a field that was pressed before the field had the keyboard. */
+export function replayIn(field, event) {
+  if (!field.dispatchEvent(new KeyboardEvent("keydown", event))) return; // what hears it has done it
+  const { selectionStart: start, selectionEnd: end } = field;
+  if (event.key === "Backspace") field.setRangeText("", start === end ? Math.max(0, start - 1) : start, end, "end");
+  else if (isText(event)) field.setRangeText(event.key, start, end, "end");
+  field.dispatchEvent(new Event("input"));
+}
+
 /** Begins a line with the blanks of the one above, as far as they stand before the caret. */
 function newlineAsAbove(cm) {
   const { line, ch } = cm.getCursor("from");
@@ -73,6 +88,16 @@ export class Input {
     editor.noteKey();
     const isReady = () => this.#hasText(command);
     editor.waiting.press({ name: nameOf(command), isReady, act: () => this.#run(command, isExtending) });
+  }
+
+  /** Does what a key means that was pressed before the text had the keyboard. */
+  replay(event) {
+    const { CodeMirror, cm } = this;
+    const run = (act) => {
+      act(cm);
+      return true;
+    };
+    if (CodeMirror.lookupKey(CodeMirror.keyName(event), "sulgrevad", run) !== "handled" && isText(event)) this.type(event.key, "+input");
   }
 
   /** Runs a command as if Shift were held down as it was when its key was pressed, whatever is held down by now. */

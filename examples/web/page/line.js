@@ -46,9 +46,10 @@ function findMark(bytes) {
   return -1;
 }
 
-/** The terminal's end of a line. It calls `heard.bytes`, `heard.told` for each line that the host tells, `heard.note` with a verb and what
- * stands after it, and `heard.changed` where the line stands otherwise. */
+/** The terminal's end of a line, whose events are kept until somebody hears them. */
 export class Line {
+  #heard = null;
+  #untold = []; // events that nobody has heard: each with the name of its call
   #end;
   #ways; // how a session is sought, the likeliest first, until a connection is welcomed
   #takesOver;
@@ -77,10 +78,21 @@ export class Line {
   endedWith = null; // the status with which the session has ended
 
   /** Goes on with the first connection: it begins a session, or takes the one of this address over. */
-  constructor(heard) {
-    this.heard = heard;
+  constructor() {
     this.#makeEnd(first.id, first.names);
     this.#call(first.connection);
+  }
+
+  /** From now on has `heard.bytes` called, `heard.told` for each line that the host tells, `heard.note` with a verb and what stands after
+   * it, and `heard.changed` where the line stands otherwise; also with what has come before. */
+  hear(heard) {
+    this.#heard = heard;
+    for (const [event, ...words] of this.#untold.splice(0)) heard[event](...words);
+  }
+
+  #tell(event, ...words) {
+    if (this.#heard === null) this.#untold.push([event, ...words]);
+    else this.#heard[event](...words);
   }
 
   #makeEnd(id, taken) {
@@ -138,7 +150,7 @@ export class Line {
       for (const put of this.#early) put(this.#end);
       this.#due = this.#end.putCount;
       this.#asked = 0;
-      this.heard.told("samweb: the session is not there any more; another one begins");
+      this.#tell("told", "samweb: the session is not there any more; another one begins");
     }
     this.#call();
   }
@@ -151,7 +163,7 @@ export class Line {
     this.#drop();
     this.#againAt = now + PAUSES[Math.min(this.#failures++, PAUSES.length - 1)];
     this.#wait();
-    this.heard.changed();
+    this.#tell("changed");
   }
 
   #lose(why) {
@@ -159,7 +171,7 @@ export class Line {
     this.isLost = true;
     this.why = why;
     this.#drop();
-    this.heard.changed();
+    this.#tell("changed");
   }
 
   /** The page is left: nothing is tried any more. */
@@ -249,7 +261,7 @@ export class Line {
 
   #take(data) {
     if (typeof data === "string") {
-      this.heard.told(data);
+      this.#tell("told", data);
       return;
     }
     const bytes = new Uint8Array(data);
@@ -260,7 +272,7 @@ export class Line {
     this.#handOn();
     this.#ask();
     this.#push();
-    this.heard.changed();
+    this.#tell("changed");
   }
 
   /** Bytes of a connection that is not welcomed yet. Other programs may have written something before the hello, as a `.bashrc` does. */
@@ -310,7 +322,7 @@ export class Line {
     for (;;) {
       const bytes = this.#end.takeIn(PIECE);
       if (bytes.length > 0) {
-        this.heard.bytes(bytes);
+        this.#tell("bytes", bytes);
         continue;
       }
       const note = this.#end.nextNote();
@@ -323,10 +335,10 @@ export class Line {
     const [verb] = note.split(" ", 1);
     const rest = note.slice(verb.length + 1);
     if (verb === "told") {
-      this.heard.told(`samhost: ${rest}`);
+      this.#tell("told", `samhost: ${rest}`);
     } else if (verb === "session") {
       [this.name] = rest.split(" ", 1);
-      this.heard.note(verb, rest);
+      this.#tell("note", verb, rest);
     } else if (verb === "ended") {
       this.endedWith = Number(rest);
       this.#end.acknowledge();
@@ -335,7 +347,7 @@ export class Line {
     } else if (verb === "gone") {
       this.#lose(`another page or terminal has taken the session over: ${rest}`);
     } else {
-      this.heard.note(verb, rest);
+      this.#tell("note", verb, rest);
     }
   }
 

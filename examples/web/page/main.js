@@ -1,21 +1,25 @@
 /* The page: its parts, its keys, and the session that its address has. */
+import { line, terminal } from "./beginning.js";
 import { PLACE, keepNames } from "./connecting.js";
 import { Copies } from "./copies.js";
 import { Editor } from "./editor.js";
 import { Find } from "./find.js";
-import { Line } from "./line.js";
 import { Opening } from "./opening.js";
 import { statusOf } from "./status.js";
 
 const { CodeMirror } = globalThis;
 const MOST_TOLD = 20; // lines of the host that stand in the page
+const MOST_UNOPENED = 8; // files of which all have a button
 const COPY_AFTER = 2000; // milliseconds between two looks whether copies are due
+const ASKING = ["open", "find"]; // actions that go on with a field of their own
+const IN_FIELDS = /-[ZY]$|^Esc$/; // keys that a field has a meaning of its own for
 
 const part = (id) => document.getElementById(id);
 
 /** The page, as the editor sees it. */
 class Page {
   #isDrawing = false;
+  #height = 0; // of the text's window
 
   constructor() {
     const options = {
@@ -33,14 +37,27 @@ class Page {
     };
     this.cm = CodeMirror(part("text"), options);
     this.keys = this.#keys();
-    this.editor = new Editor(CodeMirror, this.cm, this);
+    this.editor = new Editor(CodeMirror, this.cm, this, terminal);
     this.find = new Find(this.editor, part("finding"), part("pattern"));
     this.opening = new Opening(this.editor, part("opening"), part("path"), part("paths"));
     this.copies = new Copies(this.editor, PLACE);
-    document.addEventListener("click", ({ target }) => this.#do(target.dataset?.action));
+    document.addEventListener("click", ({ target }) => this.#meetClick(target));
+    document.addEventListener("keydown", (event) => this.#meetKey(event));
     addEventListener("beforeunload", (event) => this.#meetLeaving(event));
+    new ResizeObserver(() => this.#meetSize()).observe(part("text"));
     for (const name of ["online", "focus"]) addEventListener(name, () => this.line?.connect());
     setInterval(() => this.copies.keep(), COPY_AFTER);
+  }
+
+  /** The text has more room now, or less: the caret is to be seen where it was. */
+  #meetSize() {
+    const { top, clientHeight } = this.cm.getScrollInfo();
+    const before = this.#height;
+    this.#height = clientHeight;
+    if (before === 0 || before === clientHeight) return;
+    const caret = this.cm.cursorCoords(true, "local");
+    this.cm.refresh();
+    if (caret.bottom > top && caret.top < top + before) this.cm.scrollIntoView(null);
   }
 
   /** The number of a line, where it is known: after a gap it isn't. */
@@ -52,15 +69,16 @@ class Page {
 
   // ---- The session
 
-  /** Goes on with the session of this address, or begins one. */
+  /** Shows the session of this address. */
   begin() {
-    this.line = new Line({
+    this.line = line;
+    this.editor.begin(line);
+    line.hear({
       bytes: (bytes) => this.editor.feed(bytes),
-      told: (line) => this.#hear(line),
+      told: (words) => this.#hear(words),
       note: (verb, rest) => this.#note(verb, rest),
       changed: () => this.#meetLine(),
     });
-    this.editor.begin(this.line);
     for (const copy of this.copies.left) this.#offer(copy);
     this.cm.focus();
   }
@@ -96,6 +114,22 @@ class Page {
 
   // ---- What the user does
 
+  /** A button does its part, and gives the keyboard back to the text. */
+  #meetClick(target) {
+    if (target.tagName !== "BUTTON") return;
+    const { action } = target.dataset;
+    this.#do(action);
+    if (!ASKING.includes(action)) this.cm.focus();
+  }
+
+  /** A key that the text doesn't have means the same as there; but a field undoes by itself. */
+  #meetKey(event) {
+    const key = CodeMirror.keyName(event);
+    if (event.defaultPrevented || !(key in this.keys) || (event.target.tagName === "INPUT" && IN_FIELDS.test(key))) return;
+    event.preventDefault();
+    this.keys[key]();
+  }
+
   #keys() {
     const keys = { "Shift-Ctrl-G": "previous", F3: "next", "Shift-F3": "previous", Esc: "escape" };
     for (const front of ["Ctrl", "Cmd"]) {
@@ -116,14 +150,17 @@ class Page {
       previous: () => this.find.previous(),
       undo: () => editor.undo(),
       redo: () => editor.redo(),
-      escape: () => editor.say(""),
+      escape: () => this.#clear(),
       leave: () => this.#leave(),
       begin: () => location.reload(),
       read: () => (part("over").hidden = true),
     };
-    if (!(action in actions)) return;
-    actions[action]();
-    if (["save", "undo", "redo"].includes(action)) this.cm.focus();
+    actions[action]?.();
+  }
+
+  #clear() {
+    this.editor.say("");
+    this.find.end();
   }
 
   #leave() {
@@ -134,12 +171,6 @@ class Page {
   }
 
   // ---- What is drawn
-
-  /** A file is shown now. */
-  shows(tag) {
-    document.title = `${this.editor.nameOf(tag)} - Sulgrevad`;
-    this.draw();
-  }
 
   /** What goes on by itself here. */
   goOn() {
@@ -158,25 +189,34 @@ class Page {
     });
   }
 
+  /** Files that have a button: all of a few, else those that are open. */
+  get #shownFiles() {
+    const { editor } = this;
+    const { tags } = editor;
+    return tags.length <= MOST_UNOPENED ? tags : tags.filter((tag) => editor.views.has(tag));
+  }
+
   #drawFiles() {
     const { editor } = this;
-    const files = [...editor.views.keys()].filter((tag) => editor.terminal.isOpen(tag));
+    const files = this.#shownFiles;
     const words = files.map((tag) => `${tag} ${editor.active?.tag === tag} ${editor.isChanged(tag)} ${editor.nameOf(tag)}`).join("\n");
     if (words === this.filesDrawn) return;
     this.filesDrawn = words;
     part("files").replaceChildren(...files.map((tag) => this.#fileButton(tag)));
+    if (editor.active !== null) document.title = `${this.#marked(editor.active.tag)} - Sulgrevad`;
+  }
+
+  #marked(tag) {
+    return `${this.editor.nameOf(tag)}${this.editor.isChanged(tag) ? " *" : ""}`;
   }
 
   #fileButton(tag) {
     const { editor } = this;
     const button = document.createElement("button");
     button.type = "button";
-    button.textContent = `${editor.nameOf(tag)}${editor.isChanged(tag) ? " *" : ""}`;
+    button.textContent = this.#marked(tag);
     button.setAttribute("aria-current", editor.active?.tag === tag);
-    button.addEventListener("click", () => {
-      editor.show(tag);
-      this.cm.focus();
-    });
+    button.addEventListener("click", () => editor.show(tag));
     return button;
   }
 

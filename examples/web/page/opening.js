@@ -1,7 +1,7 @@
 /* The menu of files: those of the session, and what the host has whose path begins as it is typed. */
+import { VERSION } from "./beginning.js";
+import { replayIn } from "./input.js";
 import { AGAIN } from "./waiting.js";
-
-const VERSION = 2; // of the protocol; with its offer come the names of files that have joined
 
 /** The names of a note, which stand between slashes; those of folders end in a slash. */
 function namesOf(names) {
@@ -13,9 +13,16 @@ function namesOf(names) {
   return found;
 }
 
+const BY_NAMES = ["Enter", "Tab", "ArrowDown", "ArrowUp"]; // keys that go by the names
+const LOOK_AGAIN = 200; // milliseconds until it is seen whether the line is late, so that keys wait no longer
+
 export class Opening {
   #number = 0; // of the last question
   #namesOf = 0; // of the last one for names
+  #answered = 0; // the last one for names that is answered
+  #held = []; // keys that wait for names, with all after them: so the same keys open the same file over any line
+  #isReplaying = false;
+  #timer = 0;
   #opening = null; // the path that is being opened: its number and, once the host has answered, `tag`, or `why` it isn't opened
   #names = [];
   #hasMore = false;
@@ -25,7 +32,7 @@ export class Opening {
   constructor(editor, box, field, list) {
     Object.assign(this, { editor, box, field, list });
     field.addEventListener("input", () => this.#narrow());
-    field.addEventListener("keydown", (event) => this.#key(event));
+    field.addEventListener("keydown", (event) => this.#meetKey(event));
     list.addEventListener("mousedown", (event) => event.preventDefault()); // the field keeps the keyboard
     list.addEventListener("click", ({ target }) => this.#choose([...list.children].indexOf(target), true));
   }
@@ -42,7 +49,45 @@ export class Opening {
     this.editor.cm.focus();
   }
 
-  #key(event) {
+  // ---- Keys
+
+  #meetKey(event) {
+    if (event.isComposing) return;
+    if (this.#isReplaying || (this.#held.length === 0 && !this.#waits(event))) {
+      if (this.#press(event)) event.preventDefault();
+      return;
+    }
+    event.preventDefault();
+    this.#held.push(event);
+    clearInterval(this.#timer);
+    this.#timer = setInterval(() => this.#replay(), LOOK_AGAIN);
+  }
+
+  /** Whether a key goes by names that are still to come. */
+  #waits({ key }) {
+    const { box, editor } = this;
+    return !box.hidden && BY_NAMES.includes(key) && this.#answered !== this.#namesOf && !editor.isOver && !editor.line.isLate;
+  }
+
+  /** Does the keys that wait, as far as names are there: each where the one before leaves the keyboard. */
+  #replay() {
+    this.#isReplaying = true;
+    try {
+      while (this.#held.length > 0 && !this.#waits(this.#held[0])) this.#do(this.#held.shift());
+    } finally {
+      this.#isReplaying = false;
+    }
+    if (this.#held.length === 0) clearInterval(this.#timer);
+  }
+
+  #do(event) {
+    const { activeElement } = document;
+    if (activeElement.tagName === "INPUT") replayIn(activeElement, event);
+    else this.editor.input.replay(event);
+  }
+
+  /** Does what a key means here, if it means something. */
+  #press({ key }) {
     const keys = {
       Enter: () => this.#choose(this.#chosen, true),
       Tab: () => this.#choose(this.#chosen, false),
@@ -50,9 +95,8 @@ export class Opening {
       ArrowDown: () => this.#move(1),
       ArrowUp: () => this.#move(-1),
     };
-    if (!(event.key in keys) || event.isComposing) return;
-    event.preventDefault();
-    keys[event.key]();
+    keys[key]?.();
+    return key in keys;
   }
 
   #move(by) {
@@ -81,11 +125,10 @@ export class Opening {
     this.#names = [];
     this.#hasMore = false;
     this.#chosen = 0;
-    if (this.field.value && !this.editor.isOver) {
-      this.#number += 1;
-      this.#namesOf = this.#number;
-      this.editor.line.putNote("names", this.#number, this.field.value);
-    }
+    this.#number += 1;
+    this.#namesOf = this.#number;
+    if (this.field.value && !this.editor.isOver) this.editor.line.putNote("names", this.#number, this.field.value);
+    else this.#answered = this.#number;
     this.#draw();
   }
 
@@ -146,8 +189,9 @@ export class Opening {
     this.#opening = null;
     if (why !== undefined) editor.refuse(`${path} is not opened: ${why}`);
     if (isFolder) {
+      const typed = editor.waiting.takeTyped();
       this.begin();
-      this.field.value = `${path.replace(/\/+$/, "")}/`;
+      this.field.value = `${path.replace(/\/+$/, "")}/${typed}`;
       this.#narrow();
     }
     return undefined;
@@ -172,7 +216,9 @@ export class Opening {
     this.#hasMore = rest.startsWith("1");
     const typed = this.#entries.findIndex(({ path }) => path === this.field.value);
     if (typed >= 0 && this.#names.includes(this.field.value.slice(this.#folder.length))) this.#chosen = typed;
+    this.#answered = this.#namesOf;
     this.#draw();
+    this.#replay();
   }
 
   /** Shows files that the host wishes shown, where the user rests. */

@@ -42,6 +42,8 @@ function moved(place, { start, gone, came }) {
 }
 
 export class View {
+  isAsked = false; // the first text was asked for
+
   constructor(terminal, tag, cm, doc) {
     this.terminal = terminal;
     this.tag = tag;
@@ -79,7 +81,14 @@ export class View {
     this.shown.replace(start, gone, pieces);
     this.doc.replaceRange(pieces.map((piece) => piece.text).join(""), from, to, OURS);
     this.doc.setSelection(...ends.map((place) => this.shown.positionOf(place)), { origin: OURS, scroll: false });
+    this.#spareField();
     this.#shadeAll();
+  }
+
+  /** A selection that isn't all loaded can't be copied. So CodeMirror need not write it into its field, which takes seconds for a long one. */
+  #spareField() {
+    const isShown = this.doc.getEditor() && this.cm.curOp;
+    if (isShown && this.hasGap(this.doc.getCursor("from"), this.doc.getCursor("to"))) this.cm.curOp.updateInput = 0;
   }
 
   /** Whether nothing of it is loaded. */

@@ -240,6 +240,9 @@ extern "C" {
     /// why the host has stopped before (SAM_STREAM.., SAM_HOST_REFUSED..), SAM_UNFINISHED if some of what came still waits for memory, or
     /// SAM_TRUNCATED if the stream ends inside a message.
     pub fn sam_host_finish(host: *mut sam_host) -> sam_status;
+    /// How many bytes of the terminal's stream stand before the frame that is wrong, where the host has stopped for a fault of the stream
+    /// (SAM_STREAM..). SAM_NONE if it goes on, or has stopped at a message that it refused.
+    pub fn sam_host_fault_place(host: *mut sam_host, place: *mut u64) -> sam_status;
     /// How many bytes are pending.
     pub fn sam_host_pending(host: *mut sam_host, len: *mut usize) -> sam_status;
     /// Moves the first pending bytes into the buffer, as many as it has room for, and hands out how many.
@@ -387,6 +390,9 @@ extern "C" {
     /// why the terminal has stopped before (SAM_STREAM.., SAM_TERM_REFUSED..), SAM_UNFINISHED if some of what came or was composed still
     /// waits for memory, or SAM_TRUNCATED if the stream ends inside a frame. sam_term_held has the events that wait.
     pub fn sam_term_finish(term: *mut sam_term) -> sam_status;
+    /// How many bytes of the host's stream stand before the frame that is wrong, where the terminal has stopped for a fault of the stream
+    /// (SAM_STREAM..). SAM_NONE if it goes on, or has stopped since it refused.
+    pub fn sam_term_fault_place(term: *mut sam_term, place: *mut u64) -> sam_status;
     /// Composes the typed runes that are not sent yet; to be called when the user pauses, before the program sleeps. It returns what an
     /// event returns, but never SAM_COUNT_FULL.
     pub fn sam_term_flush_now(term: *mut sam_term) -> sam_status;
@@ -444,6 +450,14 @@ extern "C" {
     /// `start`, wherever that is. SAM_NONE also if a gap or the end of the text comes before. These four cost by the runes from `start` on
     /// that they look at, and not by those before it.
     pub fn sam_term_line(term: *mut sam_term, tag: u16, start: u32, lines: u32, place: *mut u32) -> sam_status;
+    /// The place where the line of an open file begins that is that many lines before the line of the place `start`; for 0 of them that
+    /// line itself. SAM_NONE also if a gap comes before that place, read backwards, if there are fewer lines, or if `start` is after the
+    /// end of the text. It costs by the runes back to that place.
+    pub fn sam_term_line_before(term: *mut sam_term, tag: u16, start: u32, lines: u32, place: *mut u32) -> sam_status;
+    /// How many of the loaded runes of an open file from the place `start` to the place `end` are line ends (U+000A), and how many of its
+    /// runes there are not loaded. What is after the end of the text counts as nothing, and so does all if `end` is not after `start`. So a
+    /// place before which all is loaded stands in line 1 plus the line ends from 0 to it.
+    pub fn sam_term_lines(term: *mut sam_term, tag: u16, start: u32, end: u32, lines: *mut u32, gaps: *mut u32) -> sam_status;
     /// What changed in an open file since this was asked of it last: in the old text `gone` runes or gaps from the place `start` on gave
     /// way to `came` of the new one, and all else is as it was. It is the smallest such stretch that holds what each frame and each event
     /// of the user touched by itself; gone and came are both 0 if none did. Loading touches what is loaded: gone and came are the same
@@ -538,6 +552,19 @@ extern "C" {
     /// and if it has none, but acknowledges what this connection wasn't given, SAM_LINK_ACK_AHEAD: then this connection is over, and
     /// nothing else has changed.
     pub fn sam_link_feed(link: *mut sam_link, attempt: u64, bytes: *const u8, len: usize) -> sam_status;
+    /// Takes bytes that came as sam_link_feed does, and then moves bytes into the buffer as sam_link_take_in does, again and again, until
+    /// that hands out 0. Hands out how many it moved: if they fill the buffer, more may wait for sam_link_take_in. The buffer may not
+    /// overlap the bytes that came. Where nothing is left of earlier pieces, no note and no part of a packet, they are copied once instead
+    /// of twice. Refused as sam_link_feed is.
+    pub fn sam_link_feed_into(
+        link: *mut sam_link,
+        attempt: u64,
+        bytes: *const u8,
+        len: usize,
+        into: *mut u8,
+        room: usize,
+        count: *mut usize,
+    ) -> sam_status;
     /// Moves the next bytes of the other side's program into the buffer, as many as one packet has left and have room, and hands out how
     /// many: call it until it hands out 0, where a note is next, or nothing.
     pub fn sam_link_take_in(link: *mut sam_link, into: *mut u8, room: usize, count: *mut usize) -> sam_status;

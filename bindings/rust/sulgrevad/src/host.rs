@@ -80,6 +80,12 @@ impl Host {
         done(unsafe { sys::sam_host_finish(self.at()) })
     }
 
+    /// How many bytes of the terminal's stream stand before the frame that is wrong, where the host has stopped by `Stream`; `None` if it
+    /// goes on, or has stopped at a message that it refused.
+    pub fn fault_place(&self) -> Option<u64> {
+        told(|place| unsafe { sys::sam_host_fault_place(self.at(), place) })
+    }
+
     /// How many bytes are pending.
     pub fn pending(&self) -> usize {
         tells(|len| unsafe { sys::sam_host_pending(self.at(), len) })

@@ -202,6 +202,16 @@ impl Link {
         done(unsafe { sys::sam_link_feed(self.at(), attempt, bytes.as_ptr(), bytes.len()) })
     }
 
+    /// Takes bytes that came as `feed` does, and then moves bytes into the buffer as `take_in` does, again and again, until there is no
+    /// room, or a note is next, or nothing. Returns how many it moved. The errors are those of `feed`.
+    pub fn feed_into(&mut self, attempt: u64, bytes: &[u8], into: &mut [u8]) -> Result<usize, Error> {
+        let mut count = 0;
+        done(unsafe {
+            sys::sam_link_feed_into(self.at(), attempt, bytes.as_ptr(), bytes.len(), into.as_mut_ptr(), into.len(), &mut count)
+        })?;
+        Ok(count)
+    }
+
     /// Moves the next bytes of the other side's program into the buffer, those of one packet at most, and returns how many: 0 where a note is
     /// next, or nothing.
     pub fn take_in(&mut self, into: &mut [u8]) -> usize {

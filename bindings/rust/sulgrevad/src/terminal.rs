@@ -252,6 +252,12 @@ impl Terminal {
         done(unsafe { sys::sam_term_finish(self.at()) })
     }
 
+    /// How many bytes of the host's stream stand before the frame that is wrong, where the terminal has stopped by `Stream`; `None` if it
+    /// goes on, or has stopped since it refused.
+    pub fn fault_place(&self) -> Option<u64> {
+        told(|place| unsafe { sys::sam_term_fault_place(self.at(), place) })
+    }
+
     /// Composes the typed runes that are not sent yet: to be called when the user pauses, before the program sleeps. Errors: `NoMemory`,
     /// `Unfinished`, or why the terminal has stopped, now or before: `Stream`, `TermRefused`.
     pub fn flush_now(&mut self) -> Result<(), Error> {
@@ -472,6 +478,19 @@ impl Terminal {
     /// The place after so many line ends of an open file from a place on; `None` also if a gap or the end of the text comes before.
     pub fn line(&self, tag: u16, start: u32, lines: u32) -> Option<u32> {
         told(|place| unsafe { sys::sam_term_line(self.at(), tag, start, lines, place) })
+    }
+
+    /// Where the line of an open file begins that is so many lines before that of a place, 0 for that line itself; `None` also if a gap
+    /// comes before it, if there are fewer lines, or if the place is after the end.
+    pub fn line_before(&self, tag: u16, start: u32, lines: u32) -> Option<u32> {
+        told(|place| unsafe { sys::sam_term_line_before(self.at(), tag, start, lines, place) })
+    }
+
+    /// How many of the loaded runes of an open file from a place to a place are line ends, and how many of its runes there are not loaded;
+    /// `None` if it is not open.
+    pub fn lines(&self, tag: u16, start: u32, end: u32) -> Option<(u32, u32)> {
+        let mut gaps = 0;
+        told(|lines| unsafe { sys::sam_term_lines(self.at(), tag, start, end, lines, &mut gaps) }).map(|lines| (lines, gaps))
     }
 
     /// The dot of an open file.

@@ -57,6 +57,20 @@ fn a_stream_down_has_its_faults() {
 }
 
 #[test]
+fn a_fault_is_told_by_its_place() -> Result<(), Error> {
+    let (mut host, mut term) = (Host::new()?, Terminal::new()?);
+    let (up, down) = (message(1, b"\0\x02"), frame(68, 0, b"\0\x01")); // Tversion(2), Hnewname(1)
+    assert_eq!((host.fault_place(), term.fault_place()), (None, None));
+    assert!(host.feed(&[&up[..], &[23]].concat()).is_err());
+    assert!(term.feed(&[&down[..], &[64]].concat()).is_err());
+    assert_eq!(
+        (host.fault_place(), term.fault_place()),
+        (Some(up.len() as u64), Some(down.len() as u64))
+    );
+    Ok(())
+}
+
+#[test]
 fn a_host_refuses_messages() {
     let refused = |why| Err(Error::HostRefused(why));
     let open = message(6, b"\0\x01"); // Tstartfile(1)

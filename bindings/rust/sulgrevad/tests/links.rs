@@ -68,6 +68,13 @@ fn bytes_and_notes_survive_a_break() {
     link.feed(second, &bytes[..count]).unwrap();
     assert_eq!((link.acknowledged(), link.unsent()), (link.put_count(), 0));
     assert_eq!((link.received(), link.take_in(&mut [0; 9]), link.next_note()), (22, 0, None));
+
+    host.put(b"at once").unwrap();
+    let count = host.take_out(second, &mut bytes).unwrap();
+    let mut into = [0; 2];
+    assert_eq!(link.feed_into(first, &bytes[..count], &mut into), Err(Error::Link(LinkFault::NotOpen)));
+    assert_eq!(link.feed_into(second, &bytes[..count], &mut into), Ok(2));
+    assert_eq!((&into, taken(&mut link)), (b"at", b" once".to_vec()));
 }
 
 #[test]

@@ -75,6 +75,10 @@ fn runes_bytes_and_lines() -> Result<(), Error> {
     assert_eq!(term.place(file, 1, 3), Some(2));
     assert_eq!(term.line(file, 1, 1), Some(2));
     assert_eq!(term.line(file, 0, 1), None); // a gap comes before
+    assert_eq!(term.line_before(file, 4, 0), Some(2));
+    assert_eq!(term.line_before(file, 2, 1), None); // a gap comes before
+    assert_eq!(term.lines(file, 0, 4), Some((1, 1)));
+    assert_eq!((term.line_before(9, 0, 0), term.lines(9, 0, 1)), (None, None));
     assert_eq!(
         (term.text(9, 0), term.bytes(9, 0, 1), term.place(9, 0, 1), term.line(9, 0, 0)),
         (None, None, None, None)

@@ -1,4 +1,4 @@
-use Rattle.std.proofs.Common.{arith, ◌-◌, ◌<◌, drop, slice_index, take}
+use Rattle.std.proofs.Common.{arith, ◌-◌, ◌<◌, drop, slice_index}
 use Rattle.sam_link.specs.Packets.Packet.{Data, Note}
 use Rattle.sam_link.proofs.Rows.{none_left, row_first, shows_data, shows_note, stands}
 use Rattle.sam_link.proofs.inbox.first_item.Goals as goal

@@ -1,5 +1,4 @@
-use Rattle.std.proofs.Common.{refl}
-use Rattle.sam_link.proofs.Readings.{none_read, read_more}
+use Rattle.sam_link.proofs.Readings.{read_more}
 use Rattle.sam_link.proofs.reading.split_packets.Goals as goal
 
 pub packets-preserved : goal.packets-preserved

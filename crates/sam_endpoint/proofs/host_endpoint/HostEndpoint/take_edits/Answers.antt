@@ -4,4 +4,4 @@ use Rattle.sam_endpoint.proofs.host_endpoint.HostEndpoint.take_edits.Goals as go
 
 pub returns-clause-took : goal.returns-clause-took
 returns-clause-took c =
-    λ some. took_first c.args.self.now _ c.handle_edits-count.result c.handle_edits-count.new.self (grind arith) (grind arith) (grind arith) (grind arith)
+    λ some. took_first c.args.self.now _ c.handle_edits-count.result c.handle_edits-count.new.self (grind arith) (grind arith) (grind arith) (grind arith) (grind arith)

@@ -7,26 +7,26 @@ use Rattle.sam_link.proofs.inbox.Inbox.take_whole.Goals as goal
 
 pub overflow_add-self-2 : goal.overflow_add-self-2
 overflow_add-self-2 c =
-    let q : IsRow (drop c.self.inside.whole c.self.inside.bytes.items) c.args.count c.args.len = subst (λ a. IsRow a.held c.args.count c.args.len) (sym c.self.view_is) c.requires in
+    let q : IsRow (drop c.self.inside.marks.whole c.self.inside.bytes.items) c.args.count c.args.len = subst (λ a. IsRow a.held c.args.count c.args.len) (sym c.self.view_is) c.requires in
     grind (
       arith,
       common_steps,
-      (fewer (drop c.self.inside.next c.self.inside.bytes.items) c.self.inside.count (c.self.inside.whole - c.self.inside.next) c.self.invariant.row),
-      (fewer (drop c.self.inside.whole c.self.inside.bytes.items) c.args.count c.args.len q),
+      (fewer (drop c.self.inside.marks.next c.self.inside.bytes.items) c.self.inside.marks.count (c.self.inside.marks.whole - c.self.inside.marks.next) c.self.invariant.row),
+      (fewer (drop c.self.inside.marks.whole c.self.inside.bytes.items) c.args.count c.args.len q),
       (q.front.inside),
-      (length-drop c.self.inside.whole c.self.inside.bytes.items),
+      (length-drop c.self.inside.marks.whole c.self.inside.bytes.items),
     )
 
 pub invariant_of-self : goal.invariant_of-self
 invariant_of-self c =
-    (taken_whole c.self.inside.bytes.items c.self.inside.gone c.self.inside.next c.self.inside.whole c.self.inside.count c.args.count c.args.len c.self.invariant
+    (taken_whole c.self.inside.bytes.items c.self.inside.marks.gone c.self.inside.marks.next c.self.inside.marks.whole c.self.inside.marks.count c.args.count c.args.len c.self.invariant
     (subst (λ a. IsRow a.held c.args.count c.args.len) (sym c.self.view_is) c.requires)).0
 
 pub returns : goal.returns
 returns c =
     subst
-    (λ v. arrived c.self.inside.bytes.items c.self.inside.gone c.self.inside.next (c.self.inside.whole + c.args.len) (c.self.inside.count + c.args.count)
+    (λ v. arrived c.self.inside.bytes.items c.self.inside.marks.gone c.self.inside.marks.next (c.self.inside.marks.whole + c.args.len) (c.self.inside.marks.count + c.args.count)
     ≡ record { held = drop c.args.len v.held; waiting = record { part = v.waiting.part; packets = v.waiting.packets ++ items_among c.args.count v.held } })
     c.self.view_is
-    (taken_whole c.self.inside.bytes.items c.self.inside.gone c.self.inside.next c.self.inside.whole c.self.inside.count c.args.count c.args.len c.self.invariant
+    (taken_whole c.self.inside.bytes.items c.self.inside.marks.gone c.self.inside.marks.next c.self.inside.marks.whole c.self.inside.marks.count c.args.count c.args.len c.self.invariant
     (subst (λ a. IsRow a.held c.args.count c.args.len) (sym c.self.view_is) c.requires)).1

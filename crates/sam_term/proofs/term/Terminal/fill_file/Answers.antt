@@ -1,0 +1,13 @@
+use Rattle.sam_term.proofs.Common.{arith, slot-put_same, slot-put_other, FitsUnsent, IsShort}
+use Rattle.sam_term.proofs.Grows.{grown_facts}
+use Rattle.sam_term.proofs.LockTotals.{locks-put}
+use Rattle.sam_term.proofs.term.Terminal.fill_file.Goals as goal
+
+pub invariant_of-self-2 : goal.invariant_of-self-2
+unfolding FitsUnsent IsShort
+invariant_of-self-2 c =
+    record {
+      sound = grind (arith, slot-put_same, slot-put_other, grown_facts);
+      counted = grind (arith, locks-put);
+      countable = grind arith;
+    }

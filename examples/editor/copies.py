@@ -1,0 +1,85 @@
+"""Texts that are written here while the line is lost: by a process of its own, which has them as they stand when it begins. So no key waits
+for the disk, or until a long text is read."""
+import contextlib
+import json
+import os
+import select
+import signal
+from typing import Callable, Dict, List, Optional, Tuple
+
+import rescue
+
+Which = Tuple[Optional[int], str]  # a file's tag, None for what is no file, and a name
+MOST_READ = 65_536  # bytes of what it tells that are read at once
+
+
+class Copies:
+    """The paths of what was written, by tag and name."""
+
+    def __init__(self) -> None:
+        self.paths: Dict[Which, str] = {}
+        self._process = 0  # that writes; 0 for none
+        self._told = -1  # what it tells of the paths
+
+    def write(self, texts: List[Tuple[Which, Callable[[], str]]]) -> None:
+        """Begins to write texts, each of which a call reads; unless the last ones are still written."""
+        if self._process and not select.select([self._told], [], [], 0)[0]:
+            return
+        self.finish()
+        told, tells = os.pipe()
+        try:
+            process = os.fork()
+        except OSError:  # there can be no more processes
+            os.close(told)
+            os.close(tells)
+            self._write(texts)
+            return
+        if process == 0:
+            self._write_and_end(texts, tells)
+        os.close(tells)
+        self._process, self._told = process, told
+
+    def _write_and_end(self, texts: List[Tuple[Which, Callable[[], str]]], tells: int) -> None:
+        """What the process does."""
+        try:
+            signal.set_wakeup_fd(-1)
+            self._write(texts)
+            os.write(tells, json.dumps([[*which, path] for which, path in self.paths.items()]).encode("utf-8", "surrogateescape"))
+        finally:
+            os._exit(0)
+
+    def _write(self, texts: List[Tuple[Which, Callable[[], str]]]) -> None:
+        for which, text_of in texts:
+            with contextlib.suppress(Exception):  # it is tried again, and at the end it is told
+                text, path = text_of(), self.paths.get(which)
+                if path is not None:
+                    rescue.write_again(path, text)
+                elif text and (path := rescue.keep(which[1], text)) is not None:
+                    self.paths[which] = path
+
+    def finish(self) -> None:
+        """Waits until all of it is written."""
+        if not self._process:
+            return
+        data = b""
+        while piece := os.read(self._told, MOST_READ):
+            data += piece
+        os.close(self._told)
+        with contextlib.suppress(ChildProcessError):
+            os.waitpid(self._process, 0)
+        self._process = 0
+        with contextlib.suppress(ValueError):  # it was killed before it could tell
+            self.paths.update({(tag, name): path for tag, name, path in json.loads(data)})
+
+    def drop(self) -> None:
+        """What was written goes."""
+        self.finish()
+        while self.paths:
+            _, path = self.paths.popitem()
+            with contextlib.suppress(OSError):
+                os.unlink(path)
+
+    def take(self, which: Which) -> Optional[str]:
+        """The path of a text, which is not one of these any more; None where there is none."""
+        self.finish()
+        return self.paths.pop(which, None)

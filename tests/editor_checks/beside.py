@@ -1,0 +1,168 @@
+"""Keys of one file, while those of another wait for the host."""
+import random
+
+from .pairs import in_a_small_window, opened
+from .questions import kept_texts
+from .support import expect
+
+
+def go_to(pair, tag):
+    """Has keys go to the window of a file."""
+    for _ in range(4):
+        if pair.editor.focus.tag != tag:
+            pair.press(pair.keys.Key("^P"))
+    expect(pair.editor.focus.tag == tag, f"this test is wrong: keys go to {pair.editor.focus.tag}")
+
+
+def locked(*texts, name="^W"):
+    """An editor whose first file waits for the host, and has the keys."""
+    pair, editor, key, text = opened(*texts)
+    go_to(pair, 1)
+    pair.terminal.set_snarf("pasted ")
+    pair.press(text("."))
+    editor.take(key(name))
+    expect(pair.terminal.locked(1), "this test is wrong: the file is not locked")
+    return pair, editor, key, text
+
+
+def shown(pair, tag):
+    return pair.terminal.text(tag, 0, pair.terminal.len(tag))
+
+
+def check_keys_of_another_file(folder):
+    """While keys wait for a locked file those of others act at once, and so do keys and clicks that lead there; none goes elsewhere."""
+    for name, before in (("^W", ""), ("^V", "pasted ")):
+        pair, editor, key, text = locked("one\n", "two\n", "three\n", name=name)
+        second, third = (editor.window_of(tag) for tag in (2, 3))
+        for each in (text("x"), key("^P"), text("y"), key("^End"), key("Backspace"), key("^Z"), text("!")):
+            editor.take(each)
+        expect(shown(pair, 2) == "ytwo\n!", f"{name}: the second file has {shown(pair, 2)!r}")
+        expect(editor.focus is second and len(editor.deferred) == 1, f"{name}: {len(editor.deferred)} keys wait, of {editor.focus.tag}")
+        for what in ("press", "release"):
+            editor.take(pair.keys.Mouse(what, third.y + 1, 3, 0.0))
+        editor.take(text("z"))
+        expect(shown(pair, 3) == "thrzee\n", f"{name}: the third file has {shown(pair, 3)!r}")
+        for each in (key("Esc"), text("1,$p"), key("^O"), text("file0"), text("\n"), text("w")):
+            editor.take(each)
+        expect(shown(pair, 0) == "1,$p" and editor.focus.tag == 1, f"{name}: the command window has {shown(pair, 0)!r}")
+        expect(shown(pair, 1) in (".one\n", before), f"{name}: the first file has {shown(pair, 1)!r} already")
+        pair.finish()
+        got = [pair.host.text(tag) for tag in range(4)]
+        expect(got == ["1,$p", f".{before}xwone\n", "ytwo\n!", "thrzee\n"], f"{name}: the texts are {got}")
+        pair.check()
+
+
+def check_enter_after_keys_of_all_files(folder):
+    """A command line runs once the keys before it have acted, and those after it wait for it."""
+    pair, editor, key, text = locked("one\n", "two\n")
+    for each in (text("x"), key("Esc"), text(",d\n"), key("Esc"), text("y"), key("^P"), key("^P"), text("z")):
+        editor.take(each)
+    expect(shown(pair, 0) == "" and shown(pair, 2) == "two\n", "a key comes before a command line that waits")
+    pair.finish()
+    got = [pair.host.text(tag) for tag in range(3)]
+    expect(got == [",d\nz", "y", "two\n"], f"keys go elsewhere: the texts are {got}")
+
+
+def check_what_files_share(folder):
+    """What was cut in a file that waits is pasted into another; what was looked for there is found."""
+    pair, editor, key, text = locked("one\n", "two\n")
+    for each in (key("Shift-Home"), key("^X"), key("^P"), text("y"), key("^V"), text("z")):
+        editor.take(each)
+    expect(shown(pair, 2) == "ytwo\n", f"the second file has {shown(pair, 2)!r} before the cut")
+    pair.finish()
+    got = [pair.host.text(tag) for tag in (1, 2)]
+    expect(got == ["one\n", "y.ztwo\n"], f"the texts are {got}")
+    pair, editor, key, text = locked("two one\n", "one\ntwo\n")
+    for each in (key("^D"), key("^L"), key("^P"), key("^F"), text("!")):
+        editor.take(each)
+    pair.finish()
+    expect(pair.host.text(2) == "one\n!\n", f"the second file has {pair.host.text(2)!r}")
+
+
+def check_typed_text_of_each_file_is_kept(folder):
+    """What was typed into files that wait when the host is lost is kept with each."""
+    pair, editor, key, text = locked("one\n", "two\n")
+    for each in (text("first"), key("^P"), text("!"), key("^W"), text("second")):
+        editor.take(each)
+    with kept_texts() as kept:
+        editor.lose("the host is gone")
+    kept = dict(kept)
+    expect(set(kept) == {"file0", "file1"}, f"it keeps {kept}")
+    expect(kept["file0"].endswith("first") and "second" not in kept["file0"], f"it keeps {kept}")
+    expect(kept["file1"].endswith("second") and "first" not in kept["file1"], f"it keeps {kept}")
+
+
+def check_question_beside_a_late_key(folder):
+    """A key that waited for another file takes back no question that was asked after it was pressed."""
+    pair, editor, key, text = locked("one\n", "two\n")
+    for each in (text("x"), key("^P")):
+        editor.take(each)
+    pair.now += 0.1
+    editor.take(text("y"))
+    editor._acts_since = pair.now
+    editor._ask("sure?", key("^X"))
+    pair.finish()
+    expect(pair.host.text(1) == ".xone\n", f"the first file has {pair.host.text(1)!r}")
+    expect(editor.notes.question == "sure?", f"the line has {editor.message!r}")
+
+
+KEYS = ("^P", "^P", "^P", "Esc", "^W", "^W", "^V", "^V", "^X", "^C", "^Z", "^R", "^D", "^A", "^L", "^F", "^T", "^Y", "F8", "F10", "Left",
+        "Right", "Up", "Down", "Home", "End", "^Home", "^End", "Shift-Right", "Shift-Down", "Backspace", "Delete", "^Right")  # fmt: skip
+
+
+def random_keys(numbers, keys):
+    """A key, or some that belong together."""
+    mouse = [keys.Mouse(what, numbers.randrange(40), numbers.randrange(9), numbers.random() * 1e6) for what in ("press", "release")]
+    line = [keys.Key("Esc"), keys.Text(numbers.choice((",x/o/c/00/\n", "1d\n", "2\n", "/e/\n"))), keys.Key("Esc")]
+    menu = [keys.Key("F2"), *[keys.Key("Down")] * numbers.randrange(3), keys.Text("\n")]
+    typed = [keys.Text(numbers.choice(("a", "bc", "d\n", "\t")))]
+    one = [[keys.Key(numbers.choice(KEYS))] for _ in range(6)]
+    return numbers.choice((mouse, mouse, line, menu, typed, typed, typed, *one))
+
+
+def check_several_files_as_quick(folder):
+    """However the answers for several files come, each key does what it does over a quick line."""
+    for seed in range(12):
+        numbers = random.Random(seed)
+        texts = ("one two\nlong " + "x" * 90 + "\nend\n", "two one\n\nthree\n", "three\n")
+        (quick, *_), (slow, *_) = (opened(*texts, size=(38, 40)) for _ in range(2))
+        told = []
+        for _ in range(30):
+            for each in random_keys(numbers, quick.keys):
+                told.append(each)
+                quick.editor.take(each)
+                quick.finish()
+                slow.editor.take(each)
+            slow.random.choice((slow.carry, slow.carry, slow.editor.pause, slow.settle))()
+            slow.settle()
+        slow.finish()
+        ends = [
+            (
+                {tag: pair.host.text(tag) for tag in pair.terminal.files()}, pair.host.snarf(),
+                [(window.tag, window.is_open and window.dot) for window in (pair.editor.focus, pair.editor.active, *pair.editor.windows)],
+            )
+            for pair in (quick, slow)
+        ]  # fmt: skip
+        expect(ends[0] == ends[1], f"seed {seed}: {ends[1]}, wanted {ends[0]}; {told}")
+        slow.check()
+
+
+def check_tab_over_what_is_not_loaded(folder):
+    """Tab and Shift-Tab over lines that are not loaded indent them once they are, and replace nothing; where that is too much they say
+    so."""
+    from targets import MOST_TO_INDENT
+
+    pair, editor, key, text = in_a_small_window(False)
+    lines = pair.host.text(1)
+    pair.press(key("^A"), text("\t"))
+    wanted = "".join("\t" + line for line in lines.splitlines(True))
+    expect(pair.host.text(1) == wanted, f"after Tab the text begins with {pair.host.text(1)[:40]!r}, of {pair.terminal.len(1)} characters")
+    pair.press(key("Shift-Tab"))
+    expect(pair.host.text(1) == lines, f"after Shift-Tab the text begins with {pair.host.text(1)[:40]!r}")
+    long = "some words\n" * (MOST_TO_INDENT // 8)
+    for each in (text("\t"), key("Shift-Tab")):
+        pair, editor, key, text = opened(long, size=(20, 80))
+        pair.press(key("^A"), each)
+        expect("not loaded" in editor.message, f"{each}: it says {editor.message!r}")
+        pair.press(each, key("Left"), text("x"))
+        expect(pair.host.text(1) == "x" + long, f"{each}: the text has changed, and begins with {pair.host.text(1)[:40]!r}")
