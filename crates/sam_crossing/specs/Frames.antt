@@ -40,8 +40,30 @@ abbrev pub at_file : ℕ → List Hmesg → List Action
 at_file g frames = map (action g) frames
 
 abbrev pub is_unlock : Hmesg → Bool
+is_unlock (Hversion v) = false
+is_unlock (Hbindname f) = false
+is_unlock (Hcurrent f) = false
+is_unlock (Hnewname f) = false
+is_unlock (Hmovname f s) = false
+is_unlock (Hgrow f p n) = false
+is_unlock (Hcheck f) = false
 is_unlock Hunlock = true
-is_unlock _ = false
+is_unlock (Hdata f p s) = false
+is_unlock (Horigin f p) = false
+is_unlock (Hunlockfile f) = false
+is_unlock (Hsetdot f p q) = false
+is_unlock (Hgrowdata f p s) = false
+is_unlock (Hmoveto f p) = false
+is_unlock (Hclean f) = false
+is_unlock (Hdirty f) = false
+is_unlock (Hcut f p n) = false
+is_unlock (Hsetpat s) = false
+is_unlock (Hdelname f) = false
+is_unlock (Hclose f) = false
+is_unlock (Hsetsnarf s) = false
+is_unlock (Hsnarflen n) = false
+is_unlock Hack = false
+is_unlock Hexit = false
 
 abbrev pub unlocks_command : List Hmesg → Bool
 unlocks_command [] = false
@@ -49,7 +71,29 @@ unlocks_command (m ∷ ms) = is_unlock m || unlocks_command ms
 
 abbrev pub is_version : Hmesg → Bool
 is_version (Hversion v) = true
-is_version _ = false
+is_version (Hbindname f) = false
+is_version (Hcurrent f) = false
+is_version (Hnewname f) = false
+is_version (Hmovname f s) = false
+is_version (Hgrow f p n) = false
+is_version (Hcheck f) = false
+is_version Hunlock = false
+is_version (Hdata f p s) = false
+is_version (Horigin f p) = false
+is_version (Hunlockfile f) = false
+is_version (Hsetdot f p q) = false
+is_version (Hgrowdata f p s) = false
+is_version (Hmoveto f p) = false
+is_version (Hclean f) = false
+is_version (Hdirty f) = false
+is_version (Hcut f p n) = false
+is_version (Hsetpat s) = false
+is_version (Hdelname f) = false
+is_version (Hclose f) = false
+is_version (Hsetsnarf s) = false
+is_version (Hsnarflen n) = false
+is_version Hack = false
+is_version Hexit = false
 
 -- after each Hversion stands an Hunlock
 abbrev pub VersionsGuarded : List Hmesg → Type 0

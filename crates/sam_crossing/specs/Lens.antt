@@ -100,16 +100,37 @@ abbrev pub is_crossing : Action → Bool
 is_crossing Skip = false
 is_crossing Needs_known = false
 is_crossing Needs_open = false
+is_crossing Join = true
+is_crossing Bind = true
+is_crossing Close = true
+is_crossing Leave = true
+is_crossing (Grow p m) = true
+is_crossing (Fill p s) = true
+is_crossing (Insert p s) = true
+is_crossing (Cut p m) = true
+is_crossing (Place p q) = true
+is_crossing (Change m) = true
 is_crossing Free_file = false
 is_crossing Free_command = false
 is_crossing Exit = false
-is_crossing _ = true
 
 abbrev pub is_freeing : Action → Bool
+is_freeing Skip = false
+is_freeing Needs_known = false
+is_freeing Needs_open = false
+is_freeing Join = false
+is_freeing Bind = false
+is_freeing Close = false
+is_freeing Leave = false
+is_freeing (Grow p m) = false
+is_freeing (Fill p s) = false
+is_freeing (Insert p s) = false
+is_freeing (Cut p m) = false
+is_freeing (Place p q) = false
+is_freeing (Change m) = false
 is_freeing Free_file = true
 is_freeing Free_command = true
 is_freeing Exit = true
-is_freeing _ = false
 
 abbrev pub frees : List Action → Bool
 frees [] = false
@@ -121,8 +142,22 @@ IsGuarded [] = Unit
 IsGuarded (a ∷ rest) = (is_crossing a ≡ true → frees rest ≡ true) × IsGuarded rest
 
 abbrev pub is_close : Action → Bool
+is_close Skip = false
+is_close Needs_known = false
+is_close Needs_open = false
+is_close Join = false
+is_close Bind = false
 is_close Close = true
-is_close _ = false
+is_close Leave = false
+is_close (Grow p m) = false
+is_close (Fill p s) = false
+is_close (Insert p s) = false
+is_close (Cut p m) = false
+is_close (Place p q) = false
+is_close (Change m) = false
+is_close Free_file = false
+is_close Free_command = false
+is_close Exit = false
 
 abbrev pub closes : List Action → Bool
 closes [] = false

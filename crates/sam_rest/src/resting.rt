@@ -14,9 +14,9 @@ pub trait Rest {
     /// every world, however much is under way. The user does nothing in them, and no file joins. At `Ok` all is done: nothing is unsent,
     /// under way, held or locked, and no request awaits its data. Where all is done already, it returns `Ok` and changes nothing.
     ///
-    /// Errors: `CountFull` comes only if the next event would take a count of messages past 2^64-1. `OutOfMemory` may come at any event,
-    /// before `CountFull` too, and also once none applies any more. `NothingThere` and `NotAdded` never come. After an error the events
-    /// before it have happened, and the next one has not.
+    /// Errors: `CountFull` if and only if it comes to an event that would take a count of messages past 2^64-1. `OutOfMemory` may come at
+    /// any other event. `NothingThere` and `NotAdded` never come. After an error the events before it have happened, and the next one has
+    /// not.
     fn rest(&mut self) -> Result<(), StepFault>;
 }
 

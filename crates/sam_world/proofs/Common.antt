@@ -43,7 +43,7 @@ pub use Rattle.sam_world.specs.Reached.{IsSoundWorld}
 pub use Rattle.sam_world.specs.Sides.{Counts, Each, HostRuns, Steps, TermRuns, run, world}
 pub use Rattle.sam_world.specs.Telling.{AddedFilesKeepWorkOpen, RepliesFree, RepliesFreeLast, AnswersKeepWorkOpen, RepliesTell, IsWorkOpen, has_reply, text_in}
 pub use Rattle.sam_world.specs.UnderWay.{AreFilled, head, joined}
-pub use Rattle.sam_world.specs.Drain.{drain_limit, drained, next_event}
+pub use Rattle.sam_world.specs.Drain.{acts, drain_limit, drained, next_event}
 pub use Rattle.sam_world.specs.Merging.{is_bad_log, merged, merged_from}
 pub use Rattle.sam_crossing.specs.declared.event.Event.{Event}
 pub use Rattle.sam_crossing.specs.declared.event.Event.TheVariants.{Act, Add, Flush, HostTake, TermTake, User}

@@ -1,5 +1,5 @@
 -- Runs, step by step, and what a drain has done.
-use Rattle.sam_world.proofs.Common.{◌≡◌, ◌⊎◌, inl, inr, refl, ap, ◌∙◌, ◌<◌, ◌+◌, ◌-◌, ℕ, zero, suc, true, List, [], ◌∷◌, ◌++◌, take, length, Option, Some, None, arith, option_and_then, slice_index_or, is_empty, PlainWorld, step_of, run_of, next_event, drained, Advances, HasMade, IsDrainedUpTo, IsFaultOf, IsNextFault, Event, Act, NothingThere, NotAdded, OutOfMemory, CountFull}
+use Rattle.sam_world.proofs.Common.{◌≡◌, ◌⊎◌, inl, inr, refl, sym, same_Some, ap, ◌∙◌, ◌<◌, ◌+◌, ◌-◌, ℕ, zero, suc, true, List, [], ◌∷◌, ◌++◌, take, length, Option, Some, None, arith, option_and_then, slice_index_or, is_empty, PlainWorld, step_of, run_of, next_event, drained, acts, act_of, Advances, HasMade, IsDrainedUpTo, IsFaultOf, IsNextFault, Event, Act, NothingThere, NotAdded, OutOfMemory, CountFull}
 use Rattle.sam_crossing.specs.World.{user_events, joined_files}
 use Rattle.sam_world.specs.declared.event.StepFault.{StepFault}
 use Rattle.sam_world.proofs.Stopping.{passing_stops}
@@ -37,20 +37,22 @@ drained_rest i n w v fewer d none = grind (arith, (drained_then i (n - i) w v d)
 
 -- at its end nothing applies any more, or all n events were made
 pub drained_stops : (n : ℕ) (w v : PlainWorld) → drained n w ≡ Some v → (next_event v ≡ None) ⊎ HasMade n w v
-drained_stops zero w v d = inr (record { events = []; many = refl; leads = d })
+drained_stops zero w v d = inr (record { events = []; many = refl; leads = sym (same_Some w v d) })
 drained_stops (suc n) w v d = go (next_event w) (λ u r. drained_stops n u v r) refl d
   where
-    first : (x : Event) (u : PlainWorld) → step_of w x ≡ Some u → (next_event v ≡ None) ⊎ HasMade n u v → (next_event v ≡ None) ⊎ HasMade (suc n) w v
-    first x u stepped (inl none) = inl none
-    first x u stepped (inr made) = inr (record { events = x ∷ made.events; many = ap suc made.many; leads = rw stepped made.leads })
+    first : (x : Event) (u : PlainWorld) → next_event w ≡ Some x → step_of w x ≡ Some u → (next_event v ≡ None) ⊎ HasMade n u v → (next_event v ≡ None) ⊎ HasMade (suc n) w v
+    first x u next stepped (inl none) = inl none
+    first x u next stepped (inr made) = inr (record { events = x ∷ made.events; many = ap suc made.many; leads = (u, next, stepped, made.leads) })
 
-    past : (x : Event) (o : Option PlainWorld) → step_of w x ≡ o → ((u : PlainWorld) → drained n u ≡ Some v → (next_event v ≡ None) ⊎ HasMade n u v)
+    past : (x : Event) (o : Option PlainWorld) → next_event w ≡ Some x → step_of w x ≡ o → ((u : PlainWorld) → drained n u ≡ Some v → (next_event v ≡ None) ⊎ HasMade n u v)
         → option_and_then (drained n) o ≡ Some v → (next_event v ≡ None) ⊎ HasMade (suc n) w v
-    past x o e q y = grind (arith, first)
+    past x None next e q y = absurd (grind arith)
+    past x (Some u) next e q y = first x u next e (q u y)
 
     go : (o : Option Event) → ((u : PlainWorld) → drained n u ≡ Some v → (next_event v ≡ None) ⊎ HasMade n u v)
         → next_event w ≡ o → elim o [ None ↦ Some w | Some x ↦ option_and_then (drained n) (step_of w x) ] ≡ Some v → (next_event v ≡ None) ⊎ HasMade (suc n) w v
-    go o more next q = grind (arith, (λ (x : Event). past x (step_of w x) refl))
+    go None more next q = inl (ap next_event (sym (same_Some w v q)) ∙ next)
+    go (Some x) more next q = past x (step_of w x) next refl more q
 
 -- ## A drain is a run
 
@@ -120,6 +122,6 @@ never_barred n w v d = grind arith
 pub full_is_none : (n : ℕ) (w v : PlainWorld) → IsDrainedUpTo n w v CountFull → drained n w ≡ None
 full_is_none n w v d = grind (arith, full_differs, (drained_then d.done (suc (n - d.done - 1)) w v d.leads), (passing_stops v))
 
--- why an act that was tried was not made says why nothing more was
-pub tried_in_vain : (w : PlainWorld) (why : StepFault) → is_empty w.up ≡ true → is_empty w.down ≡ true → IsFaultOf w Act why → IsNextFault w why
-tried_in_vain w why up down f = grind arith
+-- an act that was tried, where nothing is under way, is what comes next
+pub tried_next : (w : PlainWorld) (why : StepFault) → is_empty w.up ≡ true → is_empty w.down ≡ true → acts (act_of w.term) ≡ true → IsFaultOf w Act why → IsNextFault w why
+tried_next w why up down tried f = grind arith

@@ -1,26 +1,27 @@
 -- Steps that would take a count past the greatest that there is.
-use Rattle.std.specs.Prelude.{◌≡◌, Bool, true, false, List, [], ◌∷◌, None, Result, Err}
+use Rattle.std.specs.Prelude.{◌≡◌, Bool, true, false, List, [], ◌∷◌, None, Result, Ok, Err}
 use Rattle.sam_mesg.specs.declared.tmesg.Tmesg.{Tmesg}
 use Rattle.sam_mesg.specs.declared.hmesg.HFrame.{HFrame}
 use Rattle.sam_host.specs.Host.{PlainHost, answer}
 use Rattle.sam_host.specs.declared.fault.HostFault.{HostFault}
 use Rattle.sam_host.specs.declared.fault.HostFault.TheVariants as host
 use Rattle.sam_term.specs.Term.{PlainTerminal, act_of, flush_of, take_of}
-use Rattle.sam_term.specs.declared.fault.TermFault.{TermFault}
-use Rattle.sam_term.specs.declared.fault.TermFault.TheVariants as term
+pub use Rattle.sam_term.specs.Taking.{is_term_full}
 use Rattle.sam_crossing.specs.World.{PlainWorld, step_of}
 use Rattle.sam_crossing.specs.declared.event.Event.{Event}
 use Rattle.sam_crossing.specs.declared.event.Event.TheVariants.{User, Add, Act, Flush, HostTake, TermTake}
 
--- the terminal would compose more messages than can be counted
-abbrev pub is_term_full : {A : Type 0} → Result A TermFault → Bool
-is_term_full (Err term.CountFull) = true
-is_term_full _ = false
-
 -- the host would take more messages than can be counted
 abbrev pub is_host_full : {A : Type 0} → Result A HostFault → Bool
+is_host_full (Ok x) = false
+is_host_full (Err host.NoFile) = false
+is_host_full (Err host.NotOpen) = false
+is_host_full (Err host.BadPosition) = false
+is_host_full (Err host.TooLong) = false
+is_host_full (Err host.BadVersion) = false
 is_host_full (Err host.CountFull) = true
-is_host_full _ = false
+is_host_full (Err host.OutOfMemory) = false
+is_host_full (Err host.CommandFile) = false
 
 -- the host would pass its count by the first of these messages
 abbrev pub passes_at : PlainHost → List Tmesg → Bool

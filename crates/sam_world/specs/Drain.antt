@@ -1,19 +1,11 @@
 -- What a drain makes happen.
-use Rattle.std.specs.Prelude.{ℕ, zero, suc, Bool, true, false, not, if◌then◌else◌, Option, Some, None, is_some, option_and_then, Result, Ok}
+use Rattle.std.specs.Prelude.{ℕ, zero, suc, not, if◌then◌else◌, Option, Some, None, is_some, option_and_then}
 use Rattle.sam_runes.specs.Texts.{is_empty}
-use Rattle.sam_term.specs.Term.{PlainTerminal, act_of}
-use Rattle.sam_term.specs.declared.event.Acted.{Acted}
-use Rattle.sam_term.specs.declared.event.Acted.TheVariants.{Idle, Locked}
-use Rattle.sam_term.specs.declared.fault.TermFault.{TermFault}
+use Rattle.sam_term.specs.Term.{act_of}
+pub use Rattle.sam_term.specs.Taking.{acts}
 use Rattle.sam_crossing.specs.declared.event.Event.{Event}
 use Rattle.sam_crossing.specs.declared.event.Event.TheVariants.{Act, Flush, HostTake, TermTake}
 use Rattle.sam_crossing.specs.World.{PlainWorld, step_of}
-
--- an act that does or refuses something, or fails for its count
-abbrev pub acts : Result (PlainTerminal × Acted) TermFault → Bool
-acts (Ok (t, Idle)) = false
-acts (Ok (t, Locked)) = false
-acts _ = true
 
 -- what comes first of: the host's take, the terminal's take, an act, a flush
 abbrev pub next_event : PlainWorld → Option Event

@@ -1,5 +1,5 @@
 -- Why a step of the world is not made.
-use Rattle.std.specs.Prelude.{◌≡◌, ◌⊎◌, ◌<◌, ℕ, Bool, true, false, not, ◌||◌, List, length, take, slice_get, Some, IfSome, MatchOption}
+use Rattle.std.specs.Prelude.{◌≡◌, ◌⊎◌, ◌<◌, ℕ, Bool, true, false, not, ◌||◌, List, [], ◌∷◌, length, take, slice_get, Some, IfSome, MatchOption}
 use Rattle.sam_runes.specs.Texts.{is_empty}
 use Rattle.sam_host.specs.declared.fault.HostFault.{HostFault}
 use Rattle.sam_host.specs.declared.fault.HostFault.TheVariants as host
@@ -42,12 +42,12 @@ abbrev pub IsHostStop : HostFault → StepFault → Type 0
 IsHostStop why s = ((why ≡ host.OutOfMemory) × (s ≡ OutOfMemory)) ⊎ ((why ≡ host.CountFull) × (s ≡ CountFull))
 
 -- nothing is there exactly where the event is a take from an empty list, and a file is not added exactly where it may not join; CountFull
--- is answered only where the step would take a count past 2^64-1; out of memory may come at any other time
+-- is answered only where the step would take a count past 2^64-1; out of memory may come wherever none of these does
 abbrev pub IsFaultOf : PlainWorld → Event → StepFault → Type 0
 IsFaultOf w e NothingThere = is_empty_take w e ≡ true
 IsFaultOf w e CountFull = passes_count w e ≡ true
 IsFaultOf w e NotAdded = is_barred w e ≡ true
-IsFaultOf w e OutOfMemory = (is_barred w e || is_empty_take w e) ≡ false
+IsFaultOf w e OutOfMemory = (is_barred w e || is_empty_take w e || passes_count w e) ≡ false
 
 -- the events before the place of the stop lead from w to v, and the event there met the fault
 pub record IsStoppedAt (w : PlainWorld) (es : List Event) (stop : RunStop) (v : PlainWorld) : Type 0 where
@@ -61,9 +61,9 @@ pub record Advances (w v : PlainWorld) : Type 0 where
   pub next : next_event w ≡ Some event
   pub stepped : step_of w event ≡ Some v
 
--- the event that applies in w met the fault; where none applies, only memory can be wanted
+-- an event applies in w, and it met the fault
 abbrev pub IsNextFault : PlainWorld → StepFault → Type 0
-IsNextFault w why = MatchOption (next_event w) (why ≡ OutOfMemory) (λ e. IsFaultOf w e why)
+IsNextFault w why = MatchOption (next_event w) ⊥ (λ e. IsFaultOf w e why)
 
 -- the first events of the rule, fewer than n, lead from w to v, and the next one met the fault
 pub record IsDrainedUpTo (n : ℕ) (w v : PlainWorld) (why : StepFault) : Type 0 where
@@ -72,8 +72,13 @@ pub record IsDrainedUpTo (n : ℕ) (w v : PlainWorld) (why : StepFault) : Type 0
   pub leads : drained done w ≡ Some v
   pub fault : IsNextFault v why
 
--- n events, each a step, lead from w to v
+-- these events lead from w to v, and each is the one that the rule of a drain picks where it comes
+abbrev pub LeadsByRule : PlainWorld → List Event → PlainWorld → Type 0
+LeadsByRule w [] v = v ≡ w
+LeadsByRule w (e ∷ es) v = (next : PlainWorld) × (next_event w ≡ Some e) × (step_of w e ≡ Some next) × LeadsByRule next es v
+
+-- n events of the rule, none fewer, lead from w to v
 pub record HasMade (n : ℕ) (w v : PlainWorld) : Type 0 where
   pub events : List Event
   pub many : length events ≡ n
-  pub leads : run_of w events ≡ Some v
+  pub leads : LeadsByRule w events v

@@ -23,8 +23,10 @@ done_after done (log.Take k) = max done k
 
 -- the entry takes a frame that saw more than n messages
 abbrev pub is_bad_entry : TermLog → ℕ → Bool
+is_bad_entry (log.User e) n = false
+is_bad_entry log.Act n = false
+is_bad_entry log.Flush n = false
 is_bad_entry (log.Take k) n = nat_lt n k
-is_bad_entry _ n = false
 
 -- ## The whole log
 

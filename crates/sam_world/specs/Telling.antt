@@ -11,12 +11,32 @@ use Rattle.sam_term.specs.Effect.{FramesRewrite}
 use Rattle.sam_mesg.specs.declared.hmesg.Hmesg.{Hmesg}
 use Rattle.sam_mesg.specs.declared.hmesg.HFrame.{HFrame}
 use Rattle.sam_mesg.specs.declared.tmesg.Tmesg.{Tmesg}
-use Rattle.sam_mesg.specs.declared.tmesg.Tmesg.TheVariants.{Trequest, Ttype, Tcut}
+use Rattle.sam_mesg.specs.declared.tmesg.Tmesg.TheVariants.{Tversion, Tstartcmdfile, Tcheck, Trequest, Torigin, Tstartfile, Tworkfile, Ttype, Tcut, Tpaste, Tsnarf, Tstartnewfile, Twrite, Tclose, Tlook, Tsearch, Tsend, Tdclick, Tstartsnarf, Tsetsnarf, Tack, Texit}
 
 -- a request for a file that is gone gets no reply
 abbrev pub has_reply : PlainHost → Tmesg → Bool
-has_reply h (Trequest f p n) = has_file h.files f
-has_reply h _ = true
+has_reply h (Tversion v) = true
+has_reply h Tstartcmdfile = true
+has_reply h (Tcheck g) = true
+has_reply h (Trequest g p n) = has_file h.files g
+has_reply h (Torigin g p n) = true
+has_reply h (Tstartfile g) = true
+has_reply h (Tworkfile g p q) = true
+has_reply h (Ttype g p s) = true
+has_reply h (Tcut g p q) = true
+has_reply h (Tpaste g p) = true
+has_reply h (Tsnarf g p q) = true
+has_reply h Tstartnewfile = true
+has_reply h (Twrite g) = true
+has_reply h (Tclose g) = true
+has_reply h (Tlook g p q) = true
+has_reply h (Tsearch g p q) = true
+has_reply h (Tsend g p q) = true
+has_reply h (Tdclick g p) = true
+has_reply h Tstartsnarf = true
+has_reply h (Tsetsnarf s) = true
+has_reply h Tack = true
+has_reply h Texit = true
 
 -- the text of f after a reply
 abbrev pub text_in : Reply → ℕ → List ℕ
@@ -24,9 +44,28 @@ text_in reply f = (file_at reply.0.files f).text
 
 -- what the terminal has changed itself before it sent the message
 abbrev pub own_edit : Tmesg → ℕ → List ℕ → List ℕ
+own_edit (Tversion v) f t = t
+own_edit Tstartcmdfile f t = t
+own_edit (Tcheck g) f t = t
+own_edit (Trequest g p n) f t = t
+own_edit (Torigin g p n) f t = t
+own_edit (Tstartfile g) f t = t
+own_edit (Tworkfile g p q) f t = t
 own_edit (Ttype g p s) f t = if g == f then ins t p s else t
 own_edit (Tcut g p q) f t = if g == f then del t p q else t
-own_edit _ f t = t
+own_edit (Tpaste g p) f t = t
+own_edit (Tsnarf g p q) f t = t
+own_edit Tstartnewfile f t = t
+own_edit (Twrite g) f t = t
+own_edit (Tclose g) f t = t
+own_edit (Tlook g p q) f t = t
+own_edit (Tsearch g p q) f t = t
+own_edit (Tsend g p q) f t = t
+own_edit (Tdclick g p) f t = t
+own_edit Tstartsnarf f t = t
+own_edit (Tsetsnarf s) f t = t
+own_edit Tack f t = t
+own_edit Texit f t = t
 
 -- the work file, where there is one, is open
 abbrev pub IsWorkOpen : PlainFiles → Type 0
