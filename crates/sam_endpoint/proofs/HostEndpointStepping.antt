@@ -1,5 +1,5 @@
 -- Single steps of a host end: what each answers, and where they lead.
-use Rattle.sam_endpoint.proofs.Common.{◌≡◌, refl, sym, ap, subst, ◌∙◌, ℕ, List, [], ◌∷◌, ◌++◌, Option, None, Some, Result, Ok, Err, inl, inr, append-nil, arith, Tmesg, HostStop, EndpointFault, PlainHostEndpoint, Answers, GoesOn, Answer, AnswersFirst}
+use Rattle.sam_endpoint.proofs.Common.{◌≡◌, refl, sym, ap, subst, ◌∙◌, ℕ, List, [], ◌∷◌, ◌++◌, Option, None, Some, Result, Ok, Err, inl, inr, append-nil, arith, length-append, Tmesg, HostStop, EndpointFault, PlainHostEndpoint, Answers, GoesOn, Answer, AnswersFirst}
 use Rattle.std.specs.Prelude.{zero, suc, drop, option_and_then, slice_get}
 use Rattle.sam_mesg.specs.TerminalKinds.{kind_t}
 use Rattle.std.proofs.Common.{◌<◌, length}
@@ -73,6 +73,10 @@ waiting_stepped e g (Err (fault.Stopped (stop.Refused why))) is refused = inr (i
 waiting_stepped e g (Err (fault.Stopped (stop.Stream why))) is u = absurd u
 waiting_stepped e g (Err fault.OutOfMemory) is u = absurd u
 waiting_stepped e g (Err fault.CountFull) is u = absurd u
+
+-- edits are taken at once only where no frame is left over and a message waits
+pub edits_wait : (e g : PlainHostEndpoint) (tag count : ℕ) → Steps e (Ok (Edited tag count)) g → IsWritten e × (0 < length e.waiting)
+edits_wait e g tag count (is, took) = (is, grind (arith, length-append))
 
 -- ## One step of many
 

@@ -315,6 +315,13 @@ impl HostEndpoint {
         &self.host
     }
 
+    /// Takes the endpoint apart, and returns its host. What waits and what is pending is dropped.
+    pub fn into_host(self) -> Host
+        ensures { result ≡ self.host }
+    {
+        self.host
+    }
+
     /// Returns why the endpoint has stopped for good; `None` while it goes on.
     pub fn stopped(&self) -> Option<HostStop>
         ensures { result ≡ self.now.stop }

@@ -1,7 +1,8 @@
 //! A host that goes on by single steps, each of which says what it did.
 
-ghost use Rattle.std.specs.Prelude.{◌≡◌, ◌↔◌, ◌<◌, IsTrue, length, option_copied, slice_get};
+ghost use Rattle.std.specs.Prelude.{◌≡◌, ◌↔◌, ◌<◌, ℕ, IsTrue, Ok, length, option_copied, slice_get};
 ghost use Rattle.sam_endpoint.specs.HostStepping.{BringsIn, Steps, StepsWaiting};
+ghost use Rattle.sam_endpoint.specs.declared.step.HostStep.TheVariants.{Edited};
 
 use crate::fault::{EndpointFault, HostStop};
 use crate::host_endpoint::{HostEndpoint, oldest};
@@ -67,8 +68,22 @@ impl HostEndpoint {
         Ok(HostStep::Idle)
     }
 
-    /// Returns whether frames of the last answer are not written yet.
-    fn has_unwritten(&self) -> bool
+    /// Goes on by one step, as `step` does, but has the host take one message where `step` would take several edits at once: for a caller
+    /// who asks before each message whether to go on. Its errors are those of `step`.
+    #[tactic(auto, using(crate::proofs::HostEndpointStepping::waiting_stepped, crate::proofs::HostEndpointStepping::edits_wait))]
+    pub fn step_message(&mut self) -> Result<HostStep, EndpointFault<HostStop>>
+        ensures steps { Steps self.old result self.new }
+        ensures one { (tag count : ℕ) → result ≡ Ok (Edited tag count) → ⊥ }
+    {
+        if self.stopped().is_none() && !self.has_unwritten() && self.is_waiting() {
+            return self.answer_message();
+        }
+        self.step()
+    }
+
+    /// Returns whether frames of the last answer are left over to be written, which the next step does. If none are, the next step has the
+    /// host take what waits first.
+    pub fn has_unwritten(&self) -> bool
         ensures { IsTrue result ↔ (0 < length self.now.unwritten) }
     {
         !self.unwritten.is_empty()
@@ -86,6 +101,17 @@ impl HostEndpoint {
                 return Ok(HostStep::Edited { tag, count });
             }
         }
+        self.answer_first()?;
+        Ok(HostStep::Answered { kind, tag })
+    }
+
+    /// Has the host answer the oldest message, and says which that was.
+    fn answer_message(&mut self) -> Result<HostStep, EndpointFault<HostStop>>
+        requires { 0 < length self.old.waiting }
+        ensures steps { StepsWaiting self.old result self.new }
+        ensures one { (tag count : ℕ) → result ≡ Ok (Edited tag count) → ⊥ }
+    {
+        let (kind, tag) = name_message(oldest(&self.waiting));
         self.answer_first()?;
         Ok(HostStep::Answered { kind, tag })
     }
