@@ -1,150 +1,139 @@
 //! The worker of the host.
 
-ghost use Rattle.std.specs.Prelude.{◌≡◌, ◌<◌, ◌≤◌, ◌+◌, ◌++◌, ◌∷◌, [], List, ℕ, All, Some, None, true, false, length};
+ghost use Rattle.std.specs.Prelude.{◌≡◌, ◌<◌, ◌≤◌, ◌++◌, [], List, ℕ, All, IsTrue, IsFalse, OnErr, OnOk, Some, None, true, false, length};
 ghost use Rattle.std.specs.Global.{Vec};
 ghost use Rattle.sam_runes.specs.Texts.{most_files};
-ghost use Rattle.sam_mesg.specs.HostKinds.{IsHFrame, FitsH};
-ghost use Rattle.sam_mesg.specs.TerminalKinds.{FitsT};
-ghost use Rattle.sam_frame.specs.Direction.{host};
-ghost use Rattle.sam_frame.specs.Stream.{stream_of};
-ghost use Rattle.sam_frame.specs.Framing.{fresh};
 ghost use Rattle.sam_host.specs.Host.{new_host};
+ghost use Rattle.sam_endpoint.specs.HostStepping.{IsReady};
 ghost use Rattle.sam_queue.specs.declared.rule.Entry.{Entry};
 ghost use Rattle.sam_queue.specs.History.{IsEnded};
 ghost use Rattle.sam_queue.specs.Views.{new_take, new_post};
 ghost use Rattle.sam_sides.specs.Given.{IsFile};
-ghost use Rattle.sam_sides.specs.Sides.{Each};
 ghost use Rattle.sam_ends.specs.Cutting.{Puts};
 ghost use Rattle.sam_ends.specs.Gates.{LetOn, HostKeptOut};
-ghost use Rattle.sam_workers.specs.Handling.{HandlesAll, TakesPiece, Serves};
+ghost use Rattle.sam_workers.specs.Handling.{Brings, IsGoing, IsQuiet, Serves, StepsDown, TakesPiece, stop_of};
 ghost use Rattle.sam_ends.specs.WorkerEnds.{HostTold};
 ghost use Rattle.sam_ends.specs.declared.stop.Stop.TheVariants.{Gate as GateStop};
 
 use crate::drain::drop_rest;
 use crate::pieces::send_pieces;
+use sam_endpoint::{BringFault, EndpointFault, HostEndpoint, HostStep, HostStop};
 use sam_ends::{Gate, HOST, HostEnd, HostTask, Stop};
-use sam_frame::{FramerT, encode_all};
-use sam_host::host::Host;
-use sam_mesg::{HFrame, Tmesg};
+use sam_frame::FeedRefusal;
 use sam_queue::{Got, Post, Take};
 use std::alloc::{AllocError, Global};
 use std::sync::Wait;
 
-/// Reads off each frame what is known of it: that it is a value of its type. It does nothing else.
-fn frames_are_known(frames: &[HFrame])
-    ensures { Each IsHFrame frames.now }
+/// Returns why the worker stops where the endpoint could not make a step.
+fn stop_of(fault: EndpointFault<HostStop>) -> Stop
+    ensures { result ≡ stop_of fault }
 {
-    for frame in frames {
-        frame.facts();
+    match fault {
+        EndpointFault::OutOfMemory | EndpointFault::Unfinished => Stop::Memory,
+        EndpointFault::CountFull => Stop::from(FeedRefusal::CountFull),
+        EndpointFault::Stopped(HostStop::Stream(why)) => Stop::Frame(why.number()),
+        EndpointFault::Stopped(HostStop::Refused(why)) => Stop::from(why),
     }
 }
 
-/// The host, and what stands between it and its lines. Bytes go from the line up into the framer, messages from there to the host, and
-/// the bytes of its frames into the post.
+/// The host's endpoint between its two lines. Bytes go from the line up into the endpoint, and its bytes into the post.
 #[derive(Drop)]
 struct HostSide<'q> {
-    /// Where the bytes of the answers take their memory from.
+    /// Where pieces take their memory from.
     alloc: Global,
     /// The most bytes of a piece: at least 1.
     piece: usize,
-    /// The host, as the messages handled so far left it.
-    host: Host,
-    /// Cuts the terminal's stream into messages, and holds what is no whole message yet.
-    framer: FramerT,
+    /// The endpoint, as its steps so far left it.
+    end: HostEndpoint,
     /// The worker's post to the line down, open until the worker has come to its end.
     post: Post<'q, Vec<u8>>,
 }
 
 impl HostSide<'_> {
-    /// Puts the bytes of the frames into the line down, and waits while it is full. Its only error is out of memory; the first of the
-    /// bytes may then have been put.
-    #[tactic(auto, using(crate::proofs::HostSide::can_encode, sam_ends::proofs::Cutting::put_none))]
-    fn send<R: Wait>(&mut self, rt: &R, frames: &[HFrame]) -> Result<(), AllocError>
+    /// Puts the bytes that are pending into the line down, and waits while it is full. Its only error is out of memory; the first of the
+    /// bytes may then have been put, and all are still pending.
+    fn send<R: Wait>(&mut self, rt: &R) -> Result<(), AllocError>
         requires piece { 0 < self.old.piece }
         requires open { self.old.post.closed ≡ false }
-        requires fit { Each (FitsH 2) frames.now }
         ensures piece { self.new.piece ≡ self.old.piece }
-        ensures framer { self.new.framer ≡ self.old.framer }
-        ensures host { self.new.host ≡ self.old.host }
-        ensures puts { Puts self.old.piece self.old.post self.new.post (stream_of host frames.now) result }
+        ensures puts { Puts self.old.piece self.old.post self.new.post self.old.end.pending_bytes result }
+        ensures sent { OnOk result (self.new.end ≡ record self.old.end { pending_bytes = [] }) }
+        ensures pending { OnErr result (self.new.end ≡ self.old.end) }
     {
-        let mut bytes = Vec::new(self.alloc);
-        let Ok(()) = encode_all(frames, &mut bytes) else {
-            return Err(AllocError);
-        };
-        send_pieces(rt, self.alloc, &mut self.post, bytes.as_slice(), self.piece)
+        let bytes = self.end.pending_bytes();
+        let count = bytes.len();
+        send_pieces(rt, self.alloc, &mut self.post, bytes, self.piece)?;
+        self.end.consume(count);
+        Ok(())
     }
 
-    /// Lets the host handle one message, and sends its answer. The errors are the host's refusal, and `Memory`; after `Memory` the host
-    /// may have handled the message, and a part of the answer may be missing.
-    #[tactic(auto, using(crate::proofs::HostSide::one_stops, crate::proofs::HostSide::known_fit))]
-    fn answer<R: Wait>(&mut self, rt: &R, message: Tmesg) -> Result<(), Stop>
+    /// Returns whether the gate lets the worker make the endpoint's next step. It is asked only where the host would take a message.
+    fn may_step<G: Gate>(&self, gate: &G) -> bool
+        ensures refused { IsFalse result → G.may_refuse gate.now 2 }
+        ensures let_on { IsTrue result → self.now.end.unwritten ≡ [] → 0 < length self.now.end.waiting
+            → G.must_refuse gate.now 2 (Some self.now.end.host.taken) → ⊥ }
+    {
+        if self.end.has_unwritten() || self.end.next_message().is_none() {
+            return true;
+        }
+        gate.go_on(HOST, self.end.host().taken())
+    }
+
+    /// Makes the endpoint's next step, if the gate lets it, and puts the bytes that are then pending. Returns whether the step did
+    /// something; if not, nothing waits. The error is why it stopped.
+    #[tactic(auto, using(sam_ends::proofs::GateLaws::let_on_none))]
+    fn step<R: Wait, G: Gate>(&mut self, rt: &R, gate: &G) -> Result<bool, Stop>
         requires piece { 0 < self.old.piece }
         requires open { self.old.post.closed ≡ false }
-        requires fit { FitsT 2 message }
+        requires going { IsGoing self.old.end }
         ensures piece { self.new.piece ≡ self.old.piece }
-        ensures framer { self.new.framer ≡ self.old.framer }
-        ensures handles { HandlesAll ⊥ self.old.host self.new.host self.old.post self.new.post (message ∷ []) result }
-        ensures counted { self.new.host.taken ≤ self.old.host.taken + 1 }
+        ensures steps { StepsDown (G.may_refuse gate.now 2) self.old.end self.new.end self.old.post self.new.post result }
+        ensures let_on { LetOn (G.must_refuse gate.now 2) self.old.end.host.taken self.new.end.host.taken }
     {
-        let frames = match self.host.handle(message) {
-            Ok(frames) => frames,
-            Err(why) => return Err(Stop::from(why)),
+        if !self.may_step(gate) {
+            return Err(Stop::Gate);
+        }
+        let step = match self.end.step_message() {
+            Ok(step) => step,
+            Err(fault) => return Err(stop_of(fault)),
         };
-        let slice = frames.as_slice();
-        frames_are_known(slice);
-        match self.send(rt, slice) {
-            Ok(()) => Ok(()),
+        if let HostStep::Idle = step {
+            return Ok(false);
+        }
+        match self.send(rt) {
+            Ok(()) => Ok(true),
             Err(_) => Err(Stop::Memory),
         }
     }
 
-    /// Handles the messages in order, up to the first at which something stops it, which is the error.
-    #[tactic(auto, using(sam_ends::proofs::GateLaws::let_on_none))]
-    fn answer_all<R: Wait, G: Gate>(
-        &mut self,
-        rt: &R,
-        gate: &G,
-        messages: Vec<Tmesg>,
-    ) -> Result<(), Stop>
-        requires piece { 0 < self.old.piece }
-        requires open { self.old.post.closed ≡ false }
-        requires fit { Each (FitsT 2) messages.items }
+    /// Brings the piece to the endpoint, which waits for nothing. The error is why it did not take it.
+    fn bring(&mut self, piece: &[u8]) -> Result<(), Stop>
+        requires { IsReady self.old.end }
         ensures piece { self.new.piece ≡ self.old.piece }
-        ensures framer { self.new.framer ≡ self.old.framer }
-        ensures handles { HandlesAll (G.may_refuse gate.now 2) self.old.host self.new.host self.old.post self.new.post
-            messages.items result }
-        ensures let_on { LetOn (G.must_refuse gate.now 2) self.old.host.taken self.new.host.taken }
+        ensures post { self.new.post ≡ self.old.post }
+        ensures brings { Brings self.old.end self.new.end piece.now result }
     {
-        for message in messages {
-            if !gate.go_on(HOST, self.host.taken()) {
-                return Err(Stop::Gate);
-            }
-            match self.answer(rt, message) {
-                Ok(()) => {}
-                Err(stop) => return Err(stop),
-            }
+        match self.end.bring(piece) {
+            Ok(()) => Ok(()),
+            Err(BringFault::CountFull) => Err(Stop::from(FeedRefusal::CountFull)),
+            Err(BringFault::OutOfMemory) => Err(Stop::Memory),
+            Err(BringFault::Stopped(_) | BringFault::Waiting) => unreachable!(),
         }
-        Ok(())
     }
 
-    /// Handles the messages that are whole with this piece, also those before a fault of the stream.
+    /// Has the host answer the messages that are whole with this piece, also those before a fault of the stream.
     #[tactic(auto, using(sam_ends::proofs::GateLaws::let_on_none))]
     fn take_piece<R: Wait, G: Gate>(&mut self, rt: &R, gate: &G, piece: &[u8]) -> Result<(), Stop>
         requires piece { 0 < self.old.piece }
         requires open { self.old.post.closed ≡ false }
-        requires sound { self.old.framer.failed ≡ false }
+        requires quiet { IsQuiet self.old.end }
         ensures piece { self.new.piece ≡ self.old.piece }
-        ensures takes { TakesPiece (G.may_refuse gate.now 2) self.old.host self.new.host self.old.post self.new.post
-            self.old.framer self.new.framer piece.now result }
-        ensures let_on { LetOn (G.must_refuse gate.now 2) self.old.host.taken self.new.host.taken }
+        ensures takes { TakesPiece (G.may_refuse gate.now 2) self.old.end self.new.end self.old.post self.new.post piece.now result }
+        ensures let_on { LetOn (G.must_refuse gate.now 2) self.old.end.host.taken self.new.end.host.taken }
     {
-        let given = self.framer.give(piece)?;
-        self.answer_all(rt, gate, given.messages)?;
-        match given.fault {
-            None => Ok(()),
-            Some(why) => Err(Stop::from(why)),
-        }
+        self.bring(piece)?;
+        while self.step(rt, gate)? {}
+        Ok(())
     }
 
     /// Handles what comes until the end mark. Returns what stopped it before that.
@@ -157,12 +146,12 @@ impl HostSide<'_> {
     ) -> Option<Stop>
         requires piece { 0 < self.old.piece }
         requires open { self.old.post.closed ≡ false }
-        requires new { self.old.framer ≡ fresh }
+        requires quiet { IsQuiet self.old.end }
         requires take { take.old ≡ new_take take.old.line }
         requires one { take.old.line.senders ≡ 1 }
         ensures line { take.new.line ≡ take.old.line }
-        ensures serves { Serves (G.may_refuse gate.now 2) self.old.host self.new.host self.old.post self.new.post take.new.taken result }
-        ensures let_on { LetOn (G.must_refuse gate.now 2) self.old.host.taken self.new.host.taken }
+        ensures serves { Serves (G.may_refuse gate.now 2) self.old.end self.new.end self.old.post self.new.post take.new.taken result }
+        ensures let_on { LetOn (G.must_refuse gate.now 2) self.old.end.host.taken self.new.end.host.taken }
     {
         for _ in rt.forever() {
             match take.recv(rt) {
@@ -188,16 +177,16 @@ impl HostSide<'_> {
     ) -> (bool, Option<Stop>)
         requires piece { 0 < self.old.piece }
         requires open { self.old.post.closed ≡ false }
-        requires new { self.old.framer ≡ fresh }
+        requires quiet { IsQuiet self.old.end }
         requires take { take.old ≡ new_take take.old.line }
         requires one { take.old.line.senders ≡ 1 }
         ensures line { take.new.line ≡ take.old.line }
         ensures begins { result.0 ≡ false → G.may_refuse gate.now 2 }
         ensures kept_out { result.0 ≡ false →
-            (result.1 ≡ Some GateStop) × (self.new.post ≡ self.old.post) × (self.new.host ≡ self.old.host) }
-        ensures serves { Serves (G.may_refuse gate.now 2) self.old.host self.new.host self.old.post self.new.post take.new.taken result.1 }
+            (result.1 ≡ Some GateStop) × (self.new.post ≡ self.old.post) × (self.new.end ≡ self.old.end) }
+        ensures serves { Serves (G.may_refuse gate.now 2) self.old.end self.new.end self.old.post self.new.post take.new.taken result.1 }
         ensures let_in { result.0 ≡ true → G.must_refuse gate.now 2 None → ⊥ }
-        ensures let_on { LetOn (G.must_refuse gate.now 2) self.old.host.taken self.new.host.taken }
+        ensures let_on { LetOn (G.must_refuse gate.now 2) self.old.end.host.taken self.new.end.host.taken }
     {
         if !gate.pass(HOST) {
             return (false, Some(Stop::Gate));
@@ -257,8 +246,7 @@ pub fn serve_host<'q, R: Wait, G: Gate>(
     let mut side = HostSide {
         alloc,
         piece,
-        host,
-        framer: FramerT::new(alloc),
+        end: HostEndpoint::with_host(alloc, host),
         post,
     };
     let (passed, stop) = side.run(rt, gate, &mut take);
@@ -268,7 +256,7 @@ pub fn serve_host<'q, R: Wait, G: Gate>(
         take,
         post: side.post,
         files,
-        host: side.host,
+        host: side.end.into_host(),
         passed,
         stop,
     }
