@@ -1,5 +1,5 @@
 -- Messages that fit at their place of a stream: so does a front of them, and each fits in version 2.
-use Rattle.sam_workers.proofs.Common.{◌≡◌, ℕ, List, [], ◌∷◌, ◌++◌, FitsT, after_t, Tmesg, Direction, terminal, FitInTurn, Each}
+use Rattle.sam_workers.proofs.Common.{ℕ, List, [], ◌∷◌, ◌++◌, FitsT, after_t, Tmesg, Direction, terminal, FitInTurn, Each}
 use Rattle.sam_mesg.proofs.Versions.{grows_t}
 
 pub front_fits : {M : Type 0} (d : Direction M) (v : ℕ) (ms ns : List M) → FitInTurn d v (ms ++ ns) → FitInTurn d v ms

@@ -1,21 +1,18 @@
 -- The host's worker from one call of its endpoint to the next.
-use Rattle.sam_workers.proofs.Common.{flat_map-append, ◌≡◌, ◌∙◌, ◌⊎◌, ap, subst, inl, inr, ℕ, ◌+◌, ◌≤◌, List, [], ◌∷◌, ◌++◌, Option, None, Some, Result, Ok, Err, refl, sym, append_assoc, append-nil, arith, length, length-append, Vec, PostView, bytes_of, PutSome, Calls, Causes, Halts, IsGoing, IsQuiet, StepsDown, TakesPiece, stop_of, to_do, Stop}
+use Rattle.sam_workers.proofs.Common.{flat_map-append, ◌≡◌, ◌∙◌, ap, subst, inl, inr, ℕ, List, [], ◌∷◌, ◌++◌, Option, None, Some, Result, Ok, Err, refl, sym, append_assoc, append-nil, arith, length, Vec, PostView, bytes_of, PutSome, Calls, Causes, Halts, IsGoing, IsQuiet, StepsDown, TakesPiece, stop_of, to_do, Stop}
 use Rattle.std.proofs.Common.{◌<◌, Bool, false, true}
 use Rattle.std.specs.Prelude.{flat_map}
 use Rattle.std.specs.Result.{IsErrAnd}
 use Rattle.sam_host.proofs.SoundLaws.{answers_are_counted}
-use Rattle.sam_host.specs.declared.fault.HostFault.{HostFault}
 use Rattle.sam_host.specs.declared.fault.HostFault.TheVariants as refusal
 use Rattle.sam_endpoint.specs.declared.fault.EndpointFault.{EndpointFault}
 use Rattle.sam_endpoint.specs.declared.fault.EndpointFault.TheVariants as fault
 use Rattle.sam_endpoint.specs.declared.fault.HostStop.{HostStop}
 use Rattle.sam_endpoint.specs.declared.fault.HostStop.TheVariants as halt
-use Rattle.sam_endpoint.specs.declared.step.BringFault.{BringFault}
 use Rattle.sam_endpoint.specs.declared.step.HostStep.{HostStep}
 use Rattle.sam_endpoint.specs.declared.step.HostStep.TheVariants as step
 use Rattle.sam_endpoint.specs.HostEndpoints.{PlainHostEndpoint, TakesIn}
-use Rattle.sam_endpoint.specs.HostSteps.{written}
-use Rattle.sam_endpoint.specs.HostStepping.{BringsIn, IsReady, Steps}
+use Rattle.sam_endpoint.specs.HostStepping.{Steps}
 use Rattle.sam_endpoint.specs.HostRuns.{AddFile, Bring, Call, Feed, MakeStep, NextWritten, Runs, TakeOut, came_in, joined_by, went_out}
 use Rattle.sam_ends.specs.Gates.{LetOn}
 use Rattle.sam_ends.proofs.GateLaws.{let_on_at, let_on_none, let_on_to}

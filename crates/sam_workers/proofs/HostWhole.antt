@@ -6,8 +6,8 @@ use Rattle.sam_runes.specs.Texts.{most_files}
 use Rattle.sam_frame.specs.Reading.{IsStream}
 use Rattle.sam_endpoint.specs.Streams.{mesg_fault}
 use Rattle.sam_endpoint.specs.HostEndpoints.{PlainHostEndpoint, Step, Answered, Joined, Serves as HostServes}
-use Rattle.sam_endpoint.specs.HostRuns.{begun_with, came_in, joined_after, messages_in, went_out}
-use Rattle.sam_endpoint.proofs.HostEndpointRuns.{Kept, kept_begun, kept_run}
+use Rattle.sam_endpoint.specs.HostRuns.{begun_with, joined_after, messages_in, went_out}
+use Rattle.sam_endpoint.proofs.HostEndpointRuns.{kept_begun, kept_run}
 use Rattle.sam_sides.specs.Given.{IsFile}
 use Rattle.sam_sides.specs.RealSides.{unless_refused}
 use Rattle.sam_sides.specs.Sides.{HostRuns}
