@@ -41,10 +41,12 @@ RefusesFirst h left n =
 
 -- why the host's worker leaves messages
 abbrev pub Leaves : Type 0 → PlainHost → List Tmesg → Stop → Type 0
+Leaves refuses h left (stop.Frame n) = ⊥
 Leaves refuses h left (stop.Host n) = RefusesFirst h left n
+Leaves refuses h left (stop.Term n) = ⊥
+Leaves refuses h left stop.PeerGone = ⊥
 Leaves refuses h left stop.Gate = refuses
 Leaves refuses h left stop.Memory = Unit {0}
-Leaves refuses h left other = ⊥
 
 -- the messages were handled up to one of them
 pub record HandledSome (refuses : Type 0) (h k : PlainHost) (before after : PostView (Vec ℕ))
@@ -67,9 +69,10 @@ HandlesAll refuses h k before after messages (Err why) = HandledSome refuses h k
 abbrev pub StopsAtRest : Type 0 → PlainHost → ℕ → ℕ → List ℕ → Stop → Type 0
 StopsAtRest refuses h version came rest (stop.Frame n) = StopsWith terminal version came rest n
 StopsAtRest refuses h version came rest (stop.Host n) = RefusesNext h rest n
+StopsAtRest refuses h version came rest (stop.Term n) = ⊥
+StopsAtRest refuses h version came rest stop.PeerGone = ⊥
 StopsAtRest refuses h version came rest stop.Gate = refuses
 StopsAtRest refuses h version came rest stop.Memory = Unit {0}
-StopsAtRest refuses h version came rest other = ⊥
 
 -- the messages at the front of the bytes, with which so many of the stream came, were handled, and the rest stops the worker
 pub record HandledFront (refuses : Type 0) (h k : PlainHost) (before after : PostView (Vec ℕ))
