@@ -7,9 +7,12 @@ use Rattle.sam_modes.specs.declared.fault.PlayFault.TheVariants.{Side, Threads, 
 
 -- what a stop is for the program
 abbrev pub of_stop : Stop → PlayFault
-of_stop stop.Memory = OutOfMemory
+of_stop (stop.Frame n) = Side (stop.Frame n)
+of_stop (stop.Host n) = Side (stop.Host n)
+of_stop (stop.Term n) = Side (stop.Term n)
+of_stop stop.PeerGone = Side stop.PeerGone
 of_stop stop.Gate = Threads
-of_stop other = Side other
+of_stop stop.Memory = OutOfMemory
 
 -- the first stop that has a cause of its own
 abbrev pub first_cause : List Stop → Option Stop

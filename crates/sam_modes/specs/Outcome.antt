@@ -17,7 +17,7 @@ use Rattle.sam_ends.specs.declared.stop.Stop.{Stop}
 use Rattle.sam_ends.specs.declared.stop.Stop.TheVariants.{Frame}
 use Rattle.sam_ends.specs.declared.stop.Stop.TheVariants.{Host}
 use Rattle.sam_modes.specs.declared.fault.PlayFault.{PlayFault}
-use Rattle.sam_modes.specs.declared.fault.PlayFault.TheVariants.{Script, Side, Threads}
+use Rattle.sam_modes.specs.declared.fault.PlayFault.TheVariants.{Script, Read, Write, Side, Threads, OutOfMemory}
 
 -- what stops the program after the last message: the fault that the rest shows, or half a frame at the end of the input
 abbrev pub stop_at : Option MesgFault → List ℕ → Option Stop
@@ -46,10 +46,17 @@ Written input before after P = IfSome input (λ bytes. (written : List ℕ) × A
 -- a stop of the side
 abbrev pub OnSide : PlayFault → (Stop → Type 0) → Type 0
 OnSide (Side stop) P = P stop
-OnSide fault P = Unit {0}
+OnSide (Script line) P = Unit {0}
+OnSide Read P = Unit {0}
+OnSide Write P = Unit {0}
+OnSide Threads P = Unit {0}
+OnSide OutOfMemory P = Unit {0}
 
 -- a fault that bytes can come to: neither a script's nor the threads'
 abbrev pub IsOfBytes : PlayFault → Type 0
 IsOfBytes (Script line) = ⊥
 IsOfBytes Threads = ⊥
-IsOfBytes fault = Unit {0}
+IsOfBytes Read = Unit {0}
+IsOfBytes Write = Unit {0}
+IsOfBytes (Side stop) = Unit {0}
+IsOfBytes OutOfMemory = Unit {0}

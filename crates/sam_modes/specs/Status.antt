@@ -25,5 +25,9 @@ fault_line Write = codes "= fault device\n"
 
 -- What is written at a fault is its line and nothing else. Of a failed write nothing is known
 abbrev pub IsTold : Option (List ℕ) → Option (List ℕ) → PlayFault → Type 0
+IsTold before after (Script line) = Appends before after (fault_line (Script line))
+IsTold before after Read = Appends before after (fault_line Read)
 IsTold before after Write = Unit {0}
-IsTold before after fault = Appends before after (fault_line fault)
+IsTold before after (Side stop) = Appends before after (fault_line (Side stop))
+IsTold before after Threads = Appends before after (fault_line Threads)
+IsTold before after OutOfMemory = Appends before after (fault_line OutOfMemory)

@@ -39,8 +39,15 @@ after_line number w Show = Ok w
 
 -- what a line prints
 abbrev pub printed_by : PlainWorld → Line → List ℕ
+printed_by w (Key event) = []
+printed_by w (Mouse event) = []
+printed_by w (Add name text) = []
+printed_by w Act = []
+printed_by w Flush = []
+printed_by w Host = []
+printed_by w Term = []
+printed_by w Drain = []
 printed_by w Show = show_lines w
-printed_by w _ = []
 
 -- after what was printed before
 abbrev pub after_output : List ℕ → Result (List ℕ) ScriptFault → Result (List ℕ) ScriptFault

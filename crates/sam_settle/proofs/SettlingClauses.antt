@@ -314,6 +314,7 @@ module _ (e : Ends) (ends : AreEnds e) (given : LinesGive e) where
     misses_host gone = grind (
       arith,
       (all_before_mark e.term.take senders given.events 2 e.reader.post refl told.term.handled told.term.dropped),
+      told.term.runs,
       states,
       world_is,
       frames_handled,

@@ -15,7 +15,7 @@ use Rattle.sam_local.specs.Local.{at_rest, carried_all}
 use Rattle.sam_world.specs.Sides.{Each, HostRuns, TermRuns}
 use Rattle.sam_world.specs.Prefixes.{Begins}
 use Rattle.sam_sides.specs.RealSides.{at_work, sides}
-use Rattle.sam_ends.specs.Inputs.{bytes_of, users_in}
+use Rattle.sam_ends.specs.Inputs.{bytes_of, frames_in, users_in}
 use Rattle.sam_ends.specs.WorkerEnds.{IsOwnExit}
 use Rattle.sam_ends.specs.declared.input.Input.{Input}
 use Rattle.sam_ends.specs.declared.stop.Stop.{Stop}
@@ -105,12 +105,15 @@ pub record HasStreams (ends : Ends) (s : Settled) : Type 0 where
   pub put_down : Begins (bytes_of ends.host.post.put) (stream_of host answered)
   pub passed : Begins (map Host taken) ends.reader.post.put
 
--- Where the terminal misses the host, the host reader had left: the terminal has handled every frame that the reader sent on, and none of
+-- Where the terminal misses the host, the host reader had left. The terminal handled a first part of what it took, and dropped the rest:
+-- with the frames of that part its log leads a new terminal to where it stands. These are all frames that the reader sent on, and none of
 -- them ended the session. Where neither host nor host reader was stopped, no frame of the host is under way
 pub record MissesHost (ends : Ends) (s : Settled) : Type 0 where
   pub handled : List (Entry Input)
   pub dropped : List (Entry Input)
+  pub composed : List Tmesg
   pub took : ends.term.take.taken ≡ handled ++ dropped
+  pub ran : TermRuns at_work new_terminal ends.term.log.items (frames_in handled) composed s.world.term
   pub left : has_left 2 handled ≡ true
   pub all_handled : items_of 2 handled ≡ ends.reader.post.put
   pub early : s.world.term.has_exited ≡ false

@@ -82,10 +82,21 @@ IsNew (task.Term t) = IsTermTask t.take.line t.post.line t
 -- it is an end of the worker that began with this
 abbrev pub Keeps : (ℕ → Type 0) → (ℕ → Option ℕ → Type 0) → Task → End → Type 0
 Keeps refuses must (task.User t) (end.User e) = UserKept refuses must t.worker t.events.items t.post.line e
+Keeps refuses must (task.User t) (end.Host e) = ⊥
+Keeps refuses must (task.User t) (end.Reader e) = ⊥
+Keeps refuses must (task.User t) (end.Term e) = ⊥
+Keeps refuses must (task.Host t) (end.User e) = ⊥
 Keeps refuses must (task.Host t) (end.Host e) = HostKept refuses must t.files.items t.take.line t.post.line e
+Keeps refuses must (task.Host t) (end.Reader e) = ⊥
+Keeps refuses must (task.Host t) (end.Term e) = ⊥
+Keeps refuses must (task.Reader t) (end.User e) = ⊥
+Keeps refuses must (task.Reader t) (end.Host e) = ⊥
 Keeps refuses must (task.Reader t) (end.Reader e) = ReaderKept refuses must t.take.line t.post.line e
+Keeps refuses must (task.Reader t) (end.Term e) = ⊥
+Keeps refuses must (task.Term t) (end.User e) = ⊥
+Keeps refuses must (task.Term t) (end.Host e) = ⊥
+Keeps refuses must (task.Term t) (end.Reader e) = ⊥
 Keeps refuses must (task.Term t) (end.Term e) = TermKept refuses must t.take.line t.post.line e
-Keeps refuses must t e = ⊥
 
 -- the end of a thread is as it promised. `may gate` and `must gate` are what the gate may and must refuse
 abbrev pub KeepsPromise : {G : Type 0} → (G → ℕ → Type 0) → (G → ℕ → Option ℕ → Type 0) → TaskPromise G → End → Type 0
