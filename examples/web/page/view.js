@@ -52,12 +52,13 @@ export class View {
     this.shown = new Shown();
   }
 
-  /** Shows changes of the terminal's text, each in the places of the text after the one before. */
+  /** Shows changes of the terminal's text, each in the places of the text after the one before. One that is known to be a gap is not read,
+   * which would take long for a long one. */
   apply(changes) {
-    const { start, gone, came } = changes.reduce(hull);
+    const { start, gone, came, isGap } = changes.reduce(hull);
     if (gone === 0 && came === 0) return;
     const [from, to] = this.shown.widened(start, start + gone);
-    const pieces = read(this.terminal, this.tag, start, start + came);
+    const pieces = isGap ? [new Gap(came)] : read(this.terminal, this.tag, start, start + came);
     if (from < start) pieces.unshift(new Gap(start - from));
     if (to > start + gone) pieces.push(new Gap(to - start - gone));
     this.#put(from, to - from, pieces, (place) => changes.reduce(moved, place));
