@@ -17,7 +17,7 @@ function read(terminal, tag, start, end) {
 }
 
 /** Where a gap ends, or the stretch does in which it is sought. */
-function endOfGap(terminal, tag, start, end) {
+export function endOfGap(terminal, tag, start, end) {
   if (terminal.bytes(tag, start, end).gaps === end - start) return end;
   let [low, high] = [start, end]; // all up to `low` is known to be a gap, and what is sought stands no later than `high`
   while (low < high) {
