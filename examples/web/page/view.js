@@ -86,7 +86,7 @@ export class View {
     this.#shadeAll();
   }
 
-  /** A selection that isn't all loaded can't be copied. So CodeMirror need not write it into its field, which takes seconds for a long one. */
+  /** A selection that isn't all loaded can't be copied: CodeMirror need not write it into its field, which takes seconds for a long one. */
   #spareField() {
     const isShown = this.doc.getEditor() && this.cm.curOp;
     if (isShown && this.hasGap(this.doc.getCursor("from"), this.doc.getCursor("to"))) this.cm.curOp.updateInput = 0;
