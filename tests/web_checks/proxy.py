@@ -38,6 +38,8 @@ class Proxy:
             if is_line and self.refuses_lines:
                 return
             with socket.create_connection(("127.0.0.1", self.target)) as far:
+                for end in (near, far):
+                    end.setsockopt(socket.IPPROTO_TCP, socket.TCP_NODELAY, 1)  # else a second small message waits 40 ms
                 far.sendall(first)
                 carried = Carried(near, far)
                 if is_line:

@@ -9,7 +9,8 @@ import { View } from "./view.js";
 import { AGAIN, Waiting } from "./waiting.js";
 
 const COMMAND = 0; // the tag of the command file
-const CLEAN = 79; // the kind of the frame that says that a file is written
+const GROW = 70; // the kind of the frame by which text comes in that isn't loaded
+const CLEAN = 79; // of that which says that a file is written
 const MOST_TYPED = 512; // runes of one event
 const HIDDEN = /^(~~undo~~$|~~left~~)/; // names of files that a host has for other terminals
 const AT_REST = 1000; // milliseconds after the last key
@@ -154,7 +155,8 @@ export class Editor {
       const { step, kind, tag, change } = this.terminal.step();
       if (step === "idle" || step === "locked") break;
       if (step === "received" && kind === CLEAN) this.#meetClean(tag);
-      if (change.gone > 0 || change.came > 0) changes.set(tag, [...(changes.get(tag) ?? []), change]);
+      const isGap = step === "received" && kind === GROW;
+      if (change.gone > 0 || change.came > 0) changes.set(tag, [...(changes.get(tag) ?? []), { ...change, isGap }]);
     }
     for (const [tag, each] of changes) {
       if (this.views.has(tag)) this.#askFirst(this.views.get(tag));

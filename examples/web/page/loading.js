@@ -1,4 +1,5 @@
 /* What is loaded of the files: what the window shows, and while the user rests all of it, slice by slice. */
+import { endOfGap } from "./view.js";
 
 const MOST_STRETCHES = 64; // of gaps that one Load asks for
 const MOST_IN_STRETCH = 512; // runes
@@ -19,9 +20,7 @@ function endOfLoad(terminal, tag, start, end) {
   for (let stretch = 0; stretch < MOST_STRETCHES; stretch++) {
     const gap = terminal.firstGap(tag, place);
     if (gap === null || gap >= end) return end;
-    const runes = terminal.read(tag, gap, Math.min(MOST_IN_STRETCH, end - gap));
-    const loaded = runes.findIndex((rune) => rune !== null);
-    place = gap + (loaded < 0 ? runes.length : loaded);
+    place = endOfGap(terminal, tag, gap, Math.min(gap + MOST_IN_STRETCH, end));
   }
   return Math.min(place, end);
 }

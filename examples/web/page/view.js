@@ -17,7 +17,7 @@ function read(terminal, tag, start, end) {
 }
 
 /** Where a gap ends, or the stretch does in which it is sought. */
-function endOfGap(terminal, tag, start, end) {
+export function endOfGap(terminal, tag, start, end) {
   if (terminal.bytes(tag, start, end).gaps === end - start) return end;
   let [low, high] = [start, end]; // all up to `low` is known to be a gap, and what is sought stands no later than `high`
   while (low < high) {
@@ -52,12 +52,13 @@ export class View {
     this.shown = new Shown();
   }
 
-  /** Shows changes of the terminal's text, each in the places of the text after the one before. */
+  /** Shows changes of the terminal's text, each in the places of the text after the one before. One that is known to be a gap is not read,
+   * which would take long for a long one. */
   apply(changes) {
-    const { start, gone, came } = changes.reduce(hull);
+    const { start, gone, came, isGap } = changes.reduce(hull);
     if (gone === 0 && came === 0) return;
     const [from, to] = this.shown.widened(start, start + gone);
-    const pieces = read(this.terminal, this.tag, start, start + came);
+    const pieces = isGap ? [new Gap(came)] : read(this.terminal, this.tag, start, start + came);
     if (from < start) pieces.unshift(new Gap(start - from));
     if (to > start + gone) pieces.push(new Gap(to - start - gone));
     this.#put(from, to - from, pieces, (place) => changes.reduce(moved, place));
@@ -85,7 +86,7 @@ export class View {
     this.#shadeAll();
   }
 
-  /** A selection that isn't all loaded can't be copied. So CodeMirror need not write it into its field, which takes seconds for a long one. */
+  /** A selection that isn't all loaded can't be copied: CodeMirror need not write it into its field, which takes seconds for a long one. */
   #spareField() {
     const isShown = this.doc.getEditor() && this.cm.curOp;
     if (isShown && this.hasGap(this.doc.getCursor("from"), this.doc.getCursor("to"))) this.cm.curOp.updateInput = 0;
