@@ -1,4 +1,4 @@
-/* The calls of the library that concern no handle: its version, and words for a status. They are C, and not proved. */
+/* The calls of the library that are C, and not proved: its version, words for a status, and a loop of proved calls. */
 #include "sulgrevad.h"
 
 uint32_t sam_library_version(void)
@@ -80,4 +80,35 @@ const char *sam_status_text(sam_status status)
         TEXT(SAM_LINK_NO_ROOM, "the buffer has less room than the longest note, 4,096 bytes");
     }
     return "unknown status";
+}
+
+/* Whether a frame that is next edits the text of the file in which `last` was an edit, or of any where that is NULL. Hgrowdata and Hcut
+ * edit, and each has to begin at the place `first` or below, and to end where the last one began, or above. */
+static bool is_next_edit(const sam_did *next, const sam_did *last, uint32_t first)
+{
+    if (next->kind != 77 && next->kind != 81)
+        return false;
+    if (last != NULL && (next->tag != last->tag || next->start > last->start || next->gone > last->start - next->start))
+        return false;
+    return next->start >= first;
+}
+
+sam_status sam_term_step_edits(sam_term *term, uint32_t first, sam_did *did, size_t most, size_t *got)
+{
+    sam_status status = sam_term_pending(term, got); /* it tells whether the handle is made */
+
+    if (status != SAM_OK)
+        return status;
+    *got = 0;
+    while (*got < most) {
+        const sam_did *last = *got > 0 ? &did[*got - 1] : NULL;
+        if (sam_term_next_frame(term, &did[*got]) != SAM_OK || !is_next_edit(&did[*got], last, first))
+            return SAM_OK;
+        status = sam_term_step(term, &did[*got]);
+        if (status != SAM_OK)
+            return status;
+        if (did[*got].step == SAM_STEP_RECEIVED) /* else it wrote what was left over */
+            ++*got;
+    }
+    return SAM_OK;
 }

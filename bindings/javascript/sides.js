@@ -11,6 +11,8 @@ const GAP = 2 ** 32 - 1; // what stands for a rune that is not loaded
 
 const STEPS = ["idle", "locked", "wrote", "edited", "answered", "received", "acted", "refused"]; // enum sam_step of sulgrevad.h
 
+const DID = 10; // words of 32 bits of a sam_did
+
 // A sam_did stands at result(0): its event, its count, its step and why, its start and gone, its came, its tag and its kind.
 const didTag = () => u16(4, 4);
 const didKind = () => u8(4, 6);
@@ -239,6 +241,19 @@ export class Terminal extends Side {
     make(this, "step", result(0));
     const [start, gone, came] = [u32(3), u32(3, 4), u32(4)];
     return { step: STEPS[u32(2)], kind: didKind(), tag: didTag(), change: { start, gone, came }, event: u64(0), why: u32(2, 4) };
+  }
+
+  stepEdits(first, most) {
+    try {
+      make(this, "step_edits", long(first), space(), BigInt(least(most, Math.floor(PIECE / (4 * DID)))), result(0));
+    } catch (error) {
+      if (isFreed(this) || u64(0) === 0) throw error; // else the next step has it
+    }
+    const words = module.numbersOut(DID * u64(0));
+    return Array.from({ length: u64(0) }, (_, at) => {
+      const [start, gone, came, last] = words.slice(DID * at + 6);
+      return { kind: (last >>> 16) & 0xff, tag: last & 0xffff, change: { start, gone, came } };
+    });
   }
 
   nextRefusal() {

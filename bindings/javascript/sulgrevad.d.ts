@@ -293,6 +293,10 @@ export declare class Terminal extends Side {
   /** The oldest frame that waits, as the step that receives it will say it: its kind, its file or 0, and the place in its text where `gone`
    * runes or gaps will give way. So they can be read before. Null if no frame waits. */
   nextFrame(): { kind: number; tag: number; start: number; gone: number } | null;
+  /** Makes steps as long as the next frame edits a text, at most `most` and some hundred, and says what they did. All edit the text of one
+   * file, none begins before the place `first`, and each is at the place of the one before it or above. So what goes can be read before the
+   * call, and what came after it. Throws, where no edit was received, as `step` does; else the next step does. */
+  stepEdits(first: number, most: number): { kind: number; tag: number; change: Change }[];
   /** Does one thing of what waits, and says what: it writes what was composed last, if that is left over; or the terminal receives the
    * oldest frame; or, where none waits, the oldest event acts or is refused. `feed` makes such steps until one is idle or locked. What a
    * step doesn't say is 0. Throws Unfinished, where nothing has changed, or why the terminal has stopped. */

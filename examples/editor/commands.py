@@ -60,7 +60,9 @@ class Commands:
             end = self._ends.get(tag, -1)
             for _, place, gone, came in changes:  # a change moves no place past another
                 last = place + len(came)
-                end = last if end <= place else max(last, last + end - place - len(gone))
+                end = end + len(came) - len(gone) if end > place else last
+                if end < last:
+                    end = last
             self._ends[tag] = end
 
     def end_run(self) -> None:

@@ -325,12 +325,12 @@ class Staying:
             self._is_measured, self.round_trip = True, self.clock() - self._asked_at
 
     def _come(self) -> List[Item]:
-        """What of the host's stream is here: bytes, and notes between them."""
+        """What of the host's stream is here: bytes, joined as they came, and notes between them."""
         items: List[Item] = []
         while True:
-            if data := self._end.take_in(PIECE):
+            data = b"".join(iter(lambda: self._end.take_in(PIECE), b""))
+            if data:
                 items.append(data)
-                continue
             note = self._end.next_note()
             if note is None:
                 return items

@@ -11,8 +11,7 @@ COMMAND_NAME = "~~sam~~"  # which the host tells, too
 GAP = "\ud800"  # stands for a rune that is not loaded: no rune is a surrogate
 MOST_RUNES = 1_000_000  # of a text
 MOST_IN_EVENT = 512  # runes that are typed in one event
-LONG = 256  # runes from which on it pays to ask first whether all of them are loaded, or none
-DENSE = 64  # runes that are read in the time that one call takes
+DENSE = 512  # runes that are read in the time that one call takes
 
 
 class Change(NamedTuple):
@@ -95,13 +94,7 @@ class Texts:
 
     def read(self, tag: int, place: int, count: int) -> str:
         """The runes of an open file from a place on, GAP for one that is not loaded."""
-        if count > LONG:
-            loaded, gaps = self.terminal.bytes(tag, place, min(place + count, self.terminal.len(tag)))
-            if loaded == 0:
-                return GAP * gaps
-            if gaps == 0:
-                return self.terminal.text(tag, place, count)
-        return "".join([rune or GAP for rune in self.terminal.read(tag, place, count)]) if count > 0 else ""
+        return self.terminal.runes(tag, place, count, GAP) if count > 0 else ""
 
     def dot(self, tag: int) -> Tuple[int, int]:
         return self._dots[tag] if tag in self._dots else self.terminal.dot(tag)

@@ -122,13 +122,20 @@ class Undo:
         if not steps:
             steps.append(Step())
         if self.goes or tag in self.comes:
-            changes = [self._with_known(each) if GAP in each.gone or GAP in each.came else each for each in changes]
+            changes = self._with_known(tag, changes)
         steps[-1].add(changes)
 
-    def _with_known(self, change: Change) -> Change:
-        """A change whose gaps are filled as far as what the host takes out or puts in is known."""
-        tag, place, gone, came = change
-        return Change(tag, place, _filled(gone, self.goes), _filled(came, self.comes.get(tag, "")))
+    def _with_known(self, tag: int, changes: List[Change]) -> List[Change]:
+        """Changes whose gaps are filled as far as what the host takes out or puts in is known."""
+        goes, comes, filled = self.goes, self.comes.get(tag, ""), []
+        gaps = GAP * len(goes)  # there may be thousands of changes, so the usual one comes first
+        for change in changes:
+            _, place, gone, came = change
+            if GAP in gone or GAP in came:
+                came = _filled(came, comes) if GAP in came else came
+                change = Change(tag, place, goes if gone == gaps else _filled(gone, goes), came)
+            filled.append(change)
+        return filled
 
     def _stay(self, tag: int) -> None:
         """What was taken back stays so."""

@@ -83,6 +83,7 @@ static void no_term_for_bytes(sam_term *term, struct handed *out)
     WANT(sam_term_bring(term, BYTES("x")), SAM_NO_HANDLE);
     WANT(sam_term_next_frame(term, &out->did), SAM_NO_HANDLE);
     WANT(sam_term_step(term, &out->did), SAM_NO_HANDLE);
+    WANT(sam_term_step_edits(term, 0, &out->did, 1, &out->len), SAM_NO_HANDLE);
     WANT(sam_term_finish(term), SAM_NO_HANDLE);
     WANT(sam_term_flush_now(term), SAM_NO_HANDLE);
     WANT(sam_term_pending(term, &out->len), SAM_NO_HANDLE);
@@ -368,6 +369,40 @@ static void at_once(sam_term *term)
     WANT(sam_term_file(term, 7, &none), SAM_OK);
     WANT(none.is_known || none.is_open || none.is_dirty || none.is_changed || none.is_locked, false);
     WANT(none.len + none.dot_start + none.dot_end + none.view_start + none.view_end, 0);
+}
+
+/* Edits of file 1, from "abc": each Hcut or Hgrowdata is received at once with those before it, as long as it is above them and in bounds. */
+static void term_edits(void)
+{
+    sam_term term = SAM_TERM_INIT;
+    sam_did did[4];
+    size_t got = 9;
+    WANT(sam_term_new(&term), SAM_OK);
+    WANT(sam_term_step_edits(&term, 0, did, 4, &got), SAM_OK);
+    WANT(got, 0);
+    WANT(sam_term_offer_version(&term, 2), SAM_OK);
+    WANT(sam_term_feed(&term, BYTES(HNEWNAME_1 HBINDNAME_1 "\x4d\0\x11" SEEN "\0\x01\0\0\0\0abc")), SAM_OK);
+#define CUT(place) "\x51\0\x12" SEEN "\0\x01\0\0\0" place "\0\0\0\x01"
+#define GROWDATA(place, rune) "\x4d\0\x0f" SEEN "\0\x01\0\0\0" place rune
+    WANT(sam_term_bring(&term, BYTES(CUT("\2") GROWDATA("\2", "x") CUT("\1") GROWDATA("\1", "y") CUT("\1") CUT("\0") GROWDATA("\0", "z"))), SAM_OK);
+    WANT(sam_term_step_edits(&term, 0, did, 3, &got), SAM_OK); /* as many as there is room for */
+    WANT(got, 3);
+    WANT(did[0].step == SAM_STEP_RECEIVED && did[0].kind == 0x51 && did[0].tag == 1 && did[0].start == 2 && did[0].gone == 1, true);
+    WANT(did[1].kind == 0x4d && did[1].start == 2 && did[1].gone == 0 && did[1].came == 1, true);
+    WANT(did[2].kind == 0x51 && did[2].start == 1 && did[2].gone == 1 && did[2].came == 0, true);
+    WANT(sam_term_step_edits(&term, 0, did, 4, &got), SAM_OK); /* what came is not cut again */
+    WANT(got == 1 && did[0].kind == 0x4d && did[0].start == 1, true);
+    WANT(sam_term_step_edits(&term, 1, did, 4, &got), SAM_OK); /* none begins before the first place */
+    WANT(got == 1 && did[0].kind == 0x51 && did[0].start == 1, true);
+    WANT(sam_term_step_edits(&term, 0, did, 4, &got), SAM_OK);
+    WANT(got == 2 && did[0].start == 0 && did[0].gone == 1 && did[1].came == 1, true);
+    WANT(sam_term_step_edits(&term, 0, did, 4, &got), SAM_OK);
+    WANT(got, 0);
+    uint32_t runes[3];
+    uint32_t count;
+    WANT(sam_term_read(&term, 1, 0, runes, 3, &count), SAM_OK);
+    WANT(count == 2 && runes[0] == 'z' && runes[1] == 'x', true);
+    WANT(sam_term_free(&term), SAM_OK);
 }
 
 /* Frames to a terminal: Hnewname, Hbindname, Hgrowdata and Hcut of file 1, and Hunlock, which the events wait for. */
@@ -844,6 +879,7 @@ int main(void)
     ending_streams();
     puts("wrong streams, and where a stream may end");
     host_steps();
+    term_edits();
     term_steps();
     puts("single steps");
     not_open();

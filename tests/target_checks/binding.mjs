@@ -194,6 +194,13 @@ function checkSteps() {
   same(terminal.nextFrame(), { kind: 71, tag, start: 0, gone: 0 });
   same(terminal.step(), { step: "received", kind: 71, tag, change: none, event: 0, why: 0 });
   same([terminal.step().step, terminal.nextFrame()], ["idle", null]);
+  terminal.work(tag);
+  terminal.type(0, ",x/x/c/w/\n");
+  host.feed(terminal.takeOut());
+  terminal.bring(host.takeOut());
+  same([terminal.stepEdits(0, 9), terminal.step().kind], [[], 67]);
+  const edits = [{ kind: 81, tag, change: { start: 1, gone: 1, came: 0 } }, { kind: 77, tag, change: { start: 1, gone: 0, came: 1 } }];
+  same([terminal.stepEdits(0, 1), terminal.stepEdits(0, 9), terminal.stepEdits(0, 9)], [edits.slice(0, 1), edits.slice(1), []]);
 }
 
 function checkStates() {

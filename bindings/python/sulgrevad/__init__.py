@@ -45,9 +45,10 @@ piece or an event was taken, and what `step`, `edits`, `next_written`, `next_ref
 that goes on after a signal has a handler that only notes it. A `MemoryError` of Python's own may lose what these and `add_file` hand out,
 too; but nothing that a link hands out.
 """
+from sulgrevad.edits import Edit
 from sulgrevad.link import HELLO_BYTES, MOST_NOTE, Hello, Link, What, read_hello, write_refusal
 from sulgrevad.scripts import replay
-from sulgrevad.sides import Change, Edit, FileState, Host, HostDid, NextFrame, Refusal, Terminal, TerminalDid, TerminalState
+from sulgrevad.sides import Change, FileState, Host, HostDid, NextFrame, Refusal, Terminal, TerminalDid, TerminalState
 from sulgrevad.status import (
     AddRefused,
     CountFull,

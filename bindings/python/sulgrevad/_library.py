@@ -74,6 +74,7 @@ SIGNATURES: Dict[str, Tuple[Any, ...]] = {
     "term_write": (c_uint16,), "term_close": (c_uint16,), "term_work": (c_uint16,), "term_check": (c_uint16,), "term_get_snarf": (),
     "term_set_snarf": _BYTES, "term_offer_version": (c_uint16,), "term_flush": (), "term_exit": (), "term_feed": _BYTES,
     "term_bring": _BYTES, "term_next_frame": (_DID,), "term_step": (_DID,),
+    "term_step_edits": (c_uint32, _DID, c_size_t, _SIZE),
     "term_state": (POINTER(State),), "term_file": (c_uint16, POINTER(File)),
     "term_finish": (), "term_fault_place": (_U64,), "term_flush_now": (), "term_pending": (_SIZE,), "term_take_out": (*_BUFFER, _SIZE),
     "term_next_refusal": (_U64, _U32), "term_events": (_U64,), "term_decided": (_U64,),

@@ -7,6 +7,7 @@ from types import TracebackType
 from typing import Any, Deque, Iterator, List, NamedTuple, NoReturn, Optional, SupportsIndex, Tuple, Type, TypeVar, Union
 
 from sulgrevad._library import LIBRARY, PIECE, Did, File, Handle, State, Text, bytes_of
+from sulgrevad.edits import Edit, read_runes, received
 from sulgrevad.status import Missing, Status, Step, error_of
 
 MOST_IN_NAME = 256  # bytes of the longest name
@@ -17,8 +18,7 @@ GAP = 2**32 - 1  # what stands for a rune that is not loaded
 
 # SAM_OK as a plain number: once a call is done nothing may want memory, and up to Python 3.11 to look up a Status does.
 OK, NONE = int(Status.OK), int(Status.NONE)
-STEPS, RECEIVED = tuple(Step), int(Step.RECEIVED)  # by their numbers
-EDITING = (77, 81)  # the kinds Hgrowdata and Hcut
+STEPS = tuple(Step)  # by their numbers
 
 _FEW_RUNES = c_uint32 * FEW
 
@@ -73,15 +73,6 @@ class NextFrame(NamedTuple):
     tag: int
     start: int
     gone: int
-
-
-class Edit(NamedTuple):
-    """An edit that a frame made: in a file, at a place, the text `gone` gave way to `came`."""
-
-    tag: int
-    start: int
-    gone: str
-    came: str
 
 
 class TerminalState(NamedTuple):
@@ -545,32 +536,9 @@ class Terminal(_Side):
 
     def edits(self, gap: str = "\N{REPLACEMENT CHARACTER}") -> Iterator[Edit]:
         """Makes the steps that receive the next frames, as long as each edits a text and all of them that of one file, and says of each what
-        went and what came; `gap` stands for a rune that is not loaded. Between two of them no event may be made. Raises what `step` does."""
-        at, did, got, first = byref(self._handle), Did(), c_uint32(), None
-        into, did_at, got_at = _FEW_RUNES(), byref(did), byref(got)
-        look, take, read = LIBRARY.sam_term_next_frame, LIBRARY.sam_term_step, LIBRARY.sam_term_read
-
-        def cells(tag: int, place: int, count: int) -> str:
-            if count == 1 and read(at, tag, place, into, 1, got_at) == OK:
-                rune = into[0]
-                return gap if rune == GAP else chr(rune)
-            if count > FEW or read(at, tag, place, into, count, got_at) != OK:
-                return "".join([rune or gap for rune in self.read(tag, place, count)])
-            return "".join([gap if rune == GAP else chr(rune) for rune in into[: got.value]])
-
-        # A command line may edit thousands of places, so here each call counts.
-        made, edit = tuple.__new__, Edit
-        while (code := look(at, did_at)) == OK and did.kind in EDITING and (first is None or first == did.tag):
-            first = tag = did.tag
-            start, count = did.start, did.gone
-            gone = cells(tag, start, count) if count else ""
-            if (code := take(at, did_at)) != OK:
-                raise error_of(code)
-            if did.step == RECEIVED:
-                start, count = did.start, did.came
-                yield made(edit, (tag, start, gone, cells(tag, start, count) if count else ""))
-        if code not in (OK, NONE):
-            raise error_of(code)
+        went and what came; `gap` stands for a rune that is not loaded. Many may be received before the first of them is told: take all, and
+        make no event between two. Raises what `step` does, once those received before are told."""
+        return received(self._handle, gap)
 
     def step(self) -> TerminalDid:
         """Does one thing of what waits, and says what: it writes what was composed last, if that is left over; or the terminal receives
@@ -680,6 +648,12 @@ class Terminal(_Side):
             into, got = (c_uint32 * room)(), c_uint32()
             self._call("read", tag, place, into, room, byref(got))
         return [None if rune == GAP else chr(rune) for rune in into[: got.value]]
+
+    def runes(self, tag: int, place: int, count: int, gap: str = "\N{REPLACEMENT CHARACTER}") -> str:
+        """The same as a text, in which `gap` stands for a rune that is not loaded. Raises what `read` does."""
+        if place < 0 or count < 0:
+            raise ValueError(f"{min(place, count)} is below 0")
+        return read_runes(self._handle, tag, place, least(count, max(0, self.len(tag) - place)), gap)
 
     def text(self, tag: int, place: int = 0, runes: Optional[int] = None) -> str:
         """The text of an open file from a place on, up to the first rune that is not loaded: so many runes, or all. Raises Missing."""

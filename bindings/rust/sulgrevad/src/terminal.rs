@@ -245,6 +245,18 @@ impl Terminal {
         Ok(term_step(&did))
     }
 
+    /// Makes steps as long as the next frame edits a text, at most `most`, and says what they did: `Received`. All edit the text of one file,
+    /// none begins before the place `first`, and each is at the place of the one before it or above. So what goes can be read before the
+    /// call, and what came after it. Errors, where no edit was received, as of `step`; else the next step has them.
+    pub fn step_edits(&mut self, first: u32, most: usize) -> Result<Vec<TermStep>, Error> {
+        let (mut did, mut got) = (vec![sam_did::default(); most], 0);
+        let made = done(unsafe { sys::sam_term_step_edits(self.at(), first, did.as_mut_ptr(), most, &mut got) });
+        if got == 0 {
+            made?;
+        }
+        Ok(did[..got].iter().map(term_step).collect())
+    }
+
     /// Asks whether the host's stream may end here, once the input has ended. It changes nothing. Errors in order: why the terminal has
     /// stopped before; `Unfinished` if some of what came or was composed still waits for memory; `Stream(Truncated)` if the stream ends
     /// inside a frame.

@@ -287,6 +287,7 @@ fn single_steps_say_what_they_did() -> Result<(), Error> {
             change
         }
     ); // Hdata
+    assert_eq!(term.step_edits(0, 9)?, []);
     assert!(matches!(term.step()?, TermStep::Received { kind: 75, .. })); // Hunlockfile
     assert!(matches!(term.step()?, TermStep::Acted { tag, .. } if tag == file));
     let event = term.events();
