@@ -6,7 +6,10 @@ use Rattle.sam_endpoint.specs.declared.fault.EndpointFault.TheVariants as fault
 use Rattle.sam_endpoint.specs.declared.step.TermStep.{TermStep}
 use Rattle.sam_endpoint.specs.declared.step.TermStep.TheVariants as step
 use Rattle.sam_endpoint.specs.TermEndpoints.{GoesOn, InOrder, decided}
-use Rattle.sam_endpoint.specs.TermSteps.{Answer, Decides, Ends, Receives}
+use Rattle.sam_endpoint.specs.TermSteps.{Answer, Composes, Decides, Ends, Holds, Receives}
+use Rattle.sam_endpoint.specs.declared.step.BringFault.{BringFault}
+use Rattle.sam_endpoint.specs.declared.step.BringFault.TheVariants as bring
+use Rattle.sam_term.specs.declared.event.UserEvent.{UserEvent}
 use Rattle.sam_endpoint.specs.Changes.{change_between, change_by, frame_touch, oldest_touch, touched_len}
 use Rattle.sam_endpoint.specs.Naming.{file_of_h}
 use Rattle.sam_mesg.specs.HostKinds.{kind_h}
@@ -15,7 +18,7 @@ use Rattle.sam_endpoint.specs.declared.changes.Touch.{Touch}
 use Rattle.sam_endpoint.specs.declared.step.Decision.TheVariants as decision
 use Rattle.sam_term.specs.Events.{file_of}
 use Rattle.sam_term.specs.declared.fault.Refusal.{Refusal}
-use Rattle.sam_endpoint.specs.TermStepping.{ActedFirst, BringsIn, DecidesStep, GoesBySteps, IsAtRest, IsReady, IsWritten, ReceivedFirst, ReceivesStep, RefusedFirst, Steps, TermStepsFeed}
+use Rattle.sam_endpoint.specs.TermStepping.{ActedFirst, BringsEvent, BringsFrame, BringsIn, ComposesIn, DecidesStep, GoesBySteps, IsAtRest, IsNotReady, IsReady, IsWritten, ReceivedFirst, ReceivesStep, RefusedFirst, Steps, TermStepsFeed}
 use Rattle.sam_endpoint.specs.Streams.{bring_fault}
 use Rattle.sam_endpoint.proofs.TermEndpointHeld.{take_held}
 use Rattle.sam_endpoint.proofs.TermEndpointSteps.{first_read}
@@ -29,6 +32,39 @@ not_brought e g piece fault.OutOfMemory ready (room, same) = (ready, room, same)
 not_brought e g piece fault.CountFull ready (full, same) = (ready, full, same)
 not_brought e g piece fault.Unfinished ready u = absurd u
 not_brought e g piece (fault.Stopped why) ready u = absurd u
+
+-- it had stopped, or something waited
+pub not_ready_in : (e : PlainTermEndpoint) (piece : List ℕ) (why : BringFault TermStop) → IsNotReady e why → BringsIn e piece (Err why) e
+not_ready_in e piece (bring.Stopped why) is = (is, refl)
+not_ready_in e piece bring.Waiting is = (is.0, is.1, refl)
+not_ready_in e piece bring.CountFull u = absurd u
+not_ready_in e piece bring.OutOfMemory u = absurd u
+
+pub not_ready_frame : (e : PlainTermEndpoint) (frame : HFrame) (why : BringFault TermStop) → IsNotReady e why → BringsFrame e frame (Err why) e
+not_ready_frame e frame (bring.Stopped why) is = (is, refl)
+not_ready_frame e frame bring.Waiting is = (is.0, is.1, refl)
+not_ready_frame e frame bring.CountFull u = absurd u
+not_ready_frame e frame bring.OutOfMemory u = absurd u
+
+pub not_ready_unsent : (e : PlainTermEndpoint) (why : BringFault TermStop) → IsNotReady e why → ComposesIn e (Err why) e
+not_ready_unsent e (bring.Stopped why) is = inl (is, refl)
+not_ready_unsent e bring.Waiting is = (is.0, is.1, refl)
+not_ready_unsent e bring.CountFull u = absurd u
+not_ready_unsent e bring.OutOfMemory u = absurd u
+
+-- the event was not held
+pub not_held : (e g : PlainTermEndpoint) (event : UserEvent) (why : EndpointFault TermStop) → e.stop ≡ None → Holds e event (Err why) g → BringsEvent e event (Err (bring_fault why)) g
+not_held e g event fault.OutOfMemory goes (room, same) = (goes, room, same)
+not_held e g event fault.CountFull goes (full, same) = (goes, full, same)
+not_held e g event fault.Unfinished goes u = absurd u
+not_held e g event (fault.Stopped why) goes u = absurd u
+
+-- the runes were not composed
+pub not_composed : (e g : PlainTermEndpoint) (why : EndpointFault TermStop) → IsReady e → Composes e (Err why) g → ComposesIn e (Err (bring_fault why)) g
+not_composed e g fault.OutOfMemory ready is = (ready, is)
+not_composed e g fault.CountFull ready u = absurd u
+not_composed e g fault.Unfinished ready u = absurd u
+not_composed e g (fault.Stopped why) ready is = inr (ready, is)
 
 -- the number of the oldest event, once that became something
 number_after : (e g : PlainTermEndpoint) → ActsFirst e g → decided g ≡ oldest e

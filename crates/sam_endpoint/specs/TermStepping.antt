@@ -1,5 +1,5 @@
 -- A terminal end that takes in bytes and goes on by single steps.
-use Rattle.std.specs.Prelude.{◌≡◌, ◌⊎◌, ℕ, zero, suc, ◌+◌, ◌^◌, ◌<◌, ◌≤◌, List, [], ◌∷◌, length, slice_get, Option, option_and_then, Some, None, Result, Ok, Err}
+use Rattle.std.specs.Prelude.{◌≡◌, ◌⊎◌, ℕ, zero, suc, ◌+◌, ◌-◌, ◌^◌, ◌<◌, ◌≤◌, List, [], ◌∷◌, length, slice_get, Option, option_and_then, Some, None, Result, Ok, Err}
 use Rattle.sam_mesg.specs.declared.tmesg.Tmesg.{Tmesg}
 use Rattle.sam_mesg.specs.declared.hmesg.HFrame.{HFrame}
 use Rattle.sam_mesg.specs.HostKinds.{kind_h}
@@ -7,6 +7,7 @@ use Rattle.sam_frame.specs.Framing.{HasRoom}
 use Rattle.sam_term.specs.Events.{file_of}
 use Rattle.sam_term.specs.Term.{PlainTerminal, act_of, take_of}
 use Rattle.sam_term.specs.declared.event.Acted.TheVariants as become
+use Rattle.sam_term.specs.declared.event.UserEvent.{UserEvent}
 use Rattle.sam_term.specs.declared.fault.Refusal.{Refusal}
 use Rattle.sam_endpoint.specs.declared.fault.TermStop.{TermStop}
 use Rattle.sam_endpoint.specs.declared.fault.TermStop.TheVariants as stop
@@ -20,8 +21,8 @@ use Rattle.sam_endpoint.specs.declared.step.TermStep.{TermStep}
 use Rattle.sam_endpoint.specs.declared.step.TermStep.TheVariants.{Idle, Locked, Wrote, Received, Acted, Refused}
 use Rattle.sam_endpoint.specs.Naming.{file_of_h}
 use Rattle.sam_endpoint.specs.Changes.{change_between, change_by, frame_touch, oldest_touch, touched_len}
-use Rattle.sam_endpoint.specs.TermEndpoints.{PlainTermEndpoint, Feeds, IsDone, IsQuiet, TakesIn, oldest, undone}
-use Rattle.sam_endpoint.specs.TermSteps.{Acts, ActsFirst, Answer, Receives, ReceivesFirst, stopped, written}
+use Rattle.sam_endpoint.specs.TermEndpoints.{PlainTermEndpoint, Feeds, IsDone, IsQuiet, TakesIn, oldest, undone, with_event}
+use Rattle.sam_endpoint.specs.TermSteps.{Acts, ActsFirst, Answer, Composes, Receives, ReceivesFirst, stopped, written}
 
 -- it goes on, and nothing of before waits but events: no frame, no message, no fault of the stream
 abbrev pub IsReady : PlainTermEndpoint → Type 0
@@ -34,6 +35,38 @@ BringsIn e piece (Err (bring.Stopped why)) g = (e.stop ≡ Some why) × (g ≡ e
 BringsIn e piece (Err bring.Waiting) g = (e.stop ≡ None) × (IsDone e → ⊥) × (g ≡ e)
 BringsIn e piece (Err bring.CountFull) g = IsReady e × (2 ^ 64 ≤ e.framer.offset + length e.framer.bytes + length piece) × (g ≡ e)
 BringsIn e piece (Err bring.OutOfMemory) g = IsReady e × HasRoom e.framer piece × (g ≡ e)
+
+-- nothing is brought, since it has stopped, or something of before waits
+abbrev pub IsNotReady : PlainTermEndpoint → BringFault TermStop → Type 0
+IsNotReady e (bring.Stopped why) = e.stop ≡ Some why
+IsNotReady e bring.Waiting = (e.stop ≡ None) × (IsDone e → ⊥)
+IsNotReady e bring.CountFull = ⊥
+IsNotReady e bring.OutOfMemory = ⊥
+
+-- the frame waits; or why it is not taken, and all is as before
+abbrev pub BringsFrame : PlainTermEndpoint → HFrame → Result (Unit {0}) (BringFault TermStop) → PlainTermEndpoint → Type 0
+BringsFrame e frame (Ok done) g = IsReady e × (g ≡ record e { waiting = frame ∷ [] })
+BringsFrame e frame (Err (bring.Stopped why)) g = (e.stop ≡ Some why) × (g ≡ e)
+BringsFrame e frame (Err bring.Waiting) g = (e.stop ≡ None) × (IsDone e → ⊥) × (g ≡ e)
+BringsFrame e frame (Err bring.CountFull) g = ⊥
+BringsFrame e frame (Err bring.OutOfMemory) g = IsReady e × (g ≡ e)
+
+-- the event is held after the others; or why it is not taken, and all is as before
+abbrev pub BringsEvent : PlainTermEndpoint → UserEvent → Result (Unit {0}) (BringFault TermStop) → PlainTermEndpoint → Type 0
+BringsEvent e event (Ok done) g = (e.stop ≡ None) × (g ≡ with_event e event)
+BringsEvent e event (Err (bring.Stopped why)) g = (e.stop ≡ Some why) × (g ≡ e)
+BringsEvent e event (Err bring.Waiting) g = ⊥
+BringsEvent e event (Err bring.CountFull) g = (e.stop ≡ None) × (e.events ≡ 2 ^ 64 - 1) × (g ≡ e)
+BringsEvent e event (Err bring.OutOfMemory) g = (e.stop ≡ None) × (e.events < 2 ^ 64 - 1) × (g ≡ e)
+
+-- the unsent runes are composed, and their message is left over to be written; or why they are not: it had stopped, something waits, their
+-- message can't be counted, or memory is refused
+abbrev pub ComposesIn : PlainTermEndpoint → Result (Unit {0}) (BringFault TermStop) → PlainTermEndpoint → Type 0
+ComposesIn e (Ok done) g = IsReady e × Composes e (Ok done) g
+ComposesIn e (Err (bring.Stopped why)) g = ((e.stop ≡ Some why) × (g ≡ e)) ⊎ (IsReady e × Composes e (Err (fault.Stopped why)) g)
+ComposesIn e (Err bring.Waiting) g = (e.stop ≡ None) × (IsDone e → ⊥) × (g ≡ e)
+ComposesIn e (Err bring.CountFull) g = ⊥
+ComposesIn e (Err bring.OutOfMemory) g = IsReady e × Composes e (Err fault.OutOfMemory) g
 
 -- what is told of a frame before the terminal receives it: its kind, its file, and the part of the text that will give way
 abbrev pub next_frame : PlainTerminal → HFrame → NextFrame

@@ -251,7 +251,7 @@ impl TermEndpoint {
     }
 
     /// Holds an event after the others, and counts it. The errors are `CountFull` and then `OutOfMemory`.
-    fn hold(&mut self, event: UserEvent) -> Result<(), EndpointFault<TermStop>>
+    pub(crate) fn hold(&mut self, event: UserEvent) -> Result<(), EndpointFault<TermStop>>
         ensures { Holds self.old event result self.new }
     {
         if self.events == u64::MAX {
@@ -265,7 +265,7 @@ impl TermEndpoint {
     }
 
     /// Composes the runes that were typed and are in no message yet. The errors are `Stopped` for a full count and then `OutOfMemory`.
-    fn compose_unsent(&mut self) -> Result<(), EndpointFault<TermStop>>
+    pub(crate) fn compose_unsent(&mut self) -> Result<(), EndpointFault<TermStop>>
         requires { self.old.unwritten ≡ [] }
         ensures { Composes self.old result self.new }
     {
@@ -372,6 +372,21 @@ impl TermEndpoint {
         self.pending_bytes.take_into(into)
     }
 
+    /// Lends the bytes for the host that wait to be taken out, in order.
+    pub fn pending_bytes(&self) -> &[u8]
+        ensures { result.now ≡ self.now.pending_bytes }
+    {
+        self.pending_bytes.as_slice()
+    }
+
+    /// Takes out the first `count` bytes for the host without moving them, or all if there are fewer. Everything else of the endpoint stays
+    /// as it was.
+    pub fn consume(&mut self, count: usize)
+        ensures { self.new ≡ record self.old { pending_bytes = drop count self.old.pending_bytes } }
+    {
+        self.pending_bytes.consume(count);
+    }
+
     /// Hands out the oldest event that was refused and was not handed out before: its number, counted from 1 over all events that were
     /// taken, and why. Returns `None` if there is none.
     pub fn next_refusal(&mut self) -> Option<(u64, Refusal)>
@@ -466,6 +481,26 @@ impl TermEndpoint {
         ensures { result ≡ decided self.now }
     {
         self.events - self.term.held() as u64
+    }
+
+    /// Takes the endpoint apart, and returns its terminal. What waits and what is pending is dropped.
+    pub fn into_terminal(self) -> Terminal
+        ensures { result ≡ self.term }
+    {
+        let TermEndpoint {
+            framer: _,
+            term,
+            waiting: _,
+            broken_by: _,
+            unwritten: _,
+            pending_bytes: _,
+            seen: _,
+            events: _,
+            refusals: _,
+            changes: _,
+            stop: _,
+        } = self;
+        term
     }
 }
 

@@ -1,15 +1,18 @@
 //! A terminal that goes on by single steps, each of which says what it did.
 
-ghost use Rattle.std.specs.Prelude.{◌≡◌, ◌↔◌, ◌<◌, [], IsTrue, length, option_map, slice_get};
+ghost use Rattle.std.specs.Prelude.{◌≡◌, ◌↔◌, ◌<◌, [], IfErr, IsTrue, OnOk, length, option_map, slice_get};
 ghost use Rattle.sam_endpoint.specs.TermEndpoints.{IsDone};
 ghost use Rattle.sam_endpoint.specs.TermSteps.{Ends};
-ghost use Rattle.sam_endpoint.specs.TermStepping.{BringsIn, DecidesStep, ReceivesStep, Steps, next_frame};
+ghost use Rattle.sam_endpoint.specs.TermStepping.{BringsEvent, BringsFrame, BringsIn, ComposesIn, DecidesStep, IsNotReady, IsReady, ReceivesStep, Steps, next_frame};
+ghost use Rattle.sam_mesg.specs.HostKinds.{fits_h};
 
 use crate::changes::{change_by, frame_touch, oldest_touch, touched_len};
 use crate::fault::{EndpointFault, TermStop};
 use crate::naming::{name_frame, oldest_file};
 use crate::step::{BringFault, Decision, NextFrame, TermStep};
 use crate::term_endpoint::{TermEndpoint, first_frame};
+use sam_mesg::HFrame;
+use sam_term::UserEvent;
 
 impl TermEndpoint {
     /// Takes a piece of the host's stream, of any length, by framing alone: the frames that are whole with it wait, in order, for `step` to
@@ -18,9 +21,72 @@ impl TermEndpoint {
     /// Errors, in this order: `Stopped` if the endpoint has stopped before; `Waiting` if something of before waits, which is so until
     /// `step` has returned `Idle` or `Locked`; `CountFull` if the stream would be longer than 2^64-1 bytes; `OutOfMemory`. After an error
     /// the piece is not taken, and the endpoint is as it was.
-    #[tactic(auto, using(crate::proofs::TermEndpointStepping::not_brought))]
+    #[tactic(auto, using(crate::proofs::TermEndpointStepping::not_ready_in, crate::proofs::TermEndpointStepping::not_brought))]
     pub fn bring(&mut self, piece: &[u8]) -> Result<(), BringFault<TermStop>>
         ensures { BringsIn self.old piece.now result self.new }
+    {
+        self.check_ready()?;
+        match self.take_in(piece) {
+            Ok(()) => Ok(()),
+            Err(why) => Err(BringFault::of(why)),
+        }
+    }
+
+    /// Takes a frame of the host's that is decoded already, instead of its bytes: it waits for `step` to have the terminal receive it. The
+    /// law of two endpoints (sam_joined) speaks of endpoints that get bytes.
+    ///
+    /// Errors, in this order: `Stopped` and `Waiting`, as of `bring`; `OutOfMemory`. After an error the frame is not taken, and the endpoint
+    /// is as it was.
+    #[tactic(auto, using(crate::proofs::TermEndpointStepping::not_ready_frame))]
+    pub fn bring_frame(&mut self, frame: HFrame) -> Result<(), BringFault<TermStop>>
+        requires fits { IsTrue (fits_h 2 frame.msg) }
+        ensures { BringsFrame self.old frame result self.new }
+    {
+        self.check_ready()?;
+        if self.waiting.reserve(1).is_err() {
+            return Err(BringFault::OutOfMemory);
+        }
+        self.waiting.push_back_reserved(frame);
+        Ok(())
+    }
+
+    /// Takes an event of the user and goes no further: it is held after the others, for `step` to have it act.
+    ///
+    /// Errors, in this order: `Stopped` if the endpoint has stopped before; `CountFull` if 2^64-1 events were taken before; `OutOfMemory`.
+    /// After an error the event is dropped, and the endpoint is as it was.
+    #[tactic(auto, using(crate::proofs::TermEndpointStepping::not_held))]
+    pub fn bring_event(&mut self, event: UserEvent) -> Result<(), BringFault<TermStop>>
+        ensures { BringsEvent self.old event result self.new }
+    {
+        if let Some(why) = self.stopped() {
+            return Err(BringFault::Stopped(why));
+        }
+        match self.hold(event) {
+            Ok(()) => Ok(()),
+            Err(why) => Err(BringFault::of(why)),
+        }
+    }
+
+    /// Composes the runes that were typed and are in no message yet, and goes no further: the next `step` writes their message.
+    ///
+    /// Errors, in this order: `Stopped` and `Waiting`, as of `bring`; `Stopped` if more than 2^64-1 messages would be composed, and then
+    /// for good; `OutOfMemory`. After an error the runes are as they were.
+    #[tactic(auto, using(crate::proofs::TermEndpointStepping::not_ready_unsent, crate::proofs::TermEndpointStepping::not_composed))]
+    pub fn compose(&mut self) -> Result<(), BringFault<TermStop>>
+        ensures { ComposesIn self.old result self.new }
+    {
+        self.check_ready()?;
+        match self.compose_unsent() {
+            Ok(()) => Ok(()),
+            Err(why) => Err(BringFault::of(why)),
+        }
+    }
+
+    /// Finds whether a piece or a frame can be brought. Errors, in this order: `Stopped` if the endpoint has stopped before; `Waiting` if
+    /// something of before waits.
+    fn check_ready(&self) -> Result<(), BringFault<TermStop>>
+        ensures ready { OnOk result (IsReady self.now) }
+        ensures not { IfErr result (IsNotReady self.now) }
     {
         if let Some(why) = self.stopped() {
             return Err(BringFault::Stopped(why));
@@ -28,10 +94,7 @@ impl TermEndpoint {
         if self.broken_by.is_some() || !self.is_idle() {
             return Err(BringFault::Waiting);
         }
-        match self.take_in(piece) {
-            Ok(()) => Ok(()),
-            Err(why) => Err(BringFault::of(why)),
-        }
+        Ok(())
     }
 
     /// Returns what the next step that receives a frame begins with: the oldest frame that waits, and the part of its file's text that will

@@ -1,2 +1,1 @@
-pub mod PiecesUp
 pub mod TermMoments

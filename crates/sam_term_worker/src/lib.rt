@@ -3,6 +3,5 @@
 
 mod logged_terminal;
 mod term_side;
-mod unsent_bytes;
 
 pub use term_side::run_terminal;

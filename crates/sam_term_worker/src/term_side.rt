@@ -1,19 +1,16 @@
 //! The worker of the terminal.
 
 ghost use Rattle.std.specs.Prelude.{◌≡◌, ◌⊎◌, ◌<◌, [], IsTrue, Some, None, is_some, true, false};
-ghost use Rattle.sam_term.specs.Term.{new_terminal};
 ghost use Rattle.sam_queue.specs.Views.{new_take, new_post, closed_post};
 ghost use Rattle.sam_queue.specs.History.{IsEnded};
 ghost use Rattle.sam_ends.specs.Gates.{LetOn, TermHandled, TermKeptOut, TermLetOn};
 ghost use Rattle.sam_ends.specs.WorkerEnds.{TermTold};
-ghost use Rattle.sam_term_worker.specs.TermMoments.{Goes, HasActed, IsDone, IsFound, IsTried, IsQuiet, MayExit, Rests, new_side};
+ghost use Rattle.sam_term_worker.specs.TermMoments.{CanGoOn, Goes, HasActed, IsDone, IsFound, IsQuiet, MayExit, Rests, new_side};
 
 use crate::logged_terminal::LoggedTerminal;
-use crate::unsent_bytes::UnsentBytes;
 use sam_ends::{Gate, Input, Stop, TERMINAL, TermEnd};
 use sam_queue::{Backoff, Got, Post, Take};
-use sam_term::event::{Acted, UserEvent};
-use sam_term::term::Terminal;
+use sam_term::event::UserEvent;
 use std::alloc::Global;
 use std::marker::Model;
 use std::sync::Wait;
@@ -29,19 +26,6 @@ enum Found {
     Ended,
 }
 
-/// What became of the oldest held event.
-#[derive(Clone, Copy, PartialEq, Eq)]
-enum Tried {
-    /// It was done or refused, and is held no longer.
-    Went,
-    /// No event is held.
-    Idle,
-    /// A lock holds it back.
-    Locked,
-    /// The worker has stopped, at this try or before.
-    Stopped,
-}
-
 /// The terminal with its ends of the lines. Once `stop` says why, it handles nothing more: it only takes and drops what comes, and
 /// closes its post.
 #[derive(Drop)]
@@ -50,10 +34,8 @@ struct Side<'q> {
     take: Take<'q, Input>,
     /// The worker's post to the line up.
     post: Post<'q, Vec<u8>>,
-    /// The terminal, and its log from a new terminal on.
+    /// The terminal, its log from a new terminal on, and the bytes that are not put yet.
     logged: LoggedTerminal,
-    /// The bytes of composed messages that are not put yet.
-    to_send: UnsentBytes,
     /// How many items were handled; once at 2^64-1 it stays there.
     handled: u64,
     /// Whether the end mark of the keyboard was taken.
@@ -75,7 +57,6 @@ impl<'q> Model for Side<'q> {
       take = s.take;
       post = s.post;
       logged = s.logged;
-      to_send = s.to_send.bytes;
       keyboard_left = s.keyboard_left;
       mouse_left = s.mouse_left;
       exit_put = s.exit_put;
@@ -87,7 +68,6 @@ impl<'q> Model for Side<'q> {
       take = s.take;
       post = s.post;
       logged = s.logged;
-      to_send = s.to_send.bytes;
       keyboard_left = s.keyboard_left;
       mouse_left = s.mouse_left;
       exit_put = s.exit_put;
@@ -104,22 +84,19 @@ impl<'q> Side<'q> {
         piece: usize,
         take: Take<'q, Input>,
         post: Post<'q, Vec<u8>>,
-        term: Terminal,
         stop: Option<Stop>,
     ) -> Side<'q>
         requires piece { 0 < piece }
         requires take { take ≡ new_take take.line }
         requires three { take.line.senders ≡ 3 }
         requires post { post ≡ new_post post.line 0 }
-        requires term { term ≡ new_terminal }
         requires stop { (stop ≡ None) ⊎ (stop ≡ Some Stop.Gate) }
-        ensures { result ≡ new_side take.entry post.entry term stop }
+        ensures { result ≡ new_side take.entry post.entry piece stop }
     {
         Side {
             take,
             post,
-            logged: LoggedTerminal::new(alloc, term),
-            to_send: UnsentBytes::new(alloc, piece),
+            logged: LoggedTerminal::new(alloc, piece),
             handled: 0,
             keyboard_left: false,
             mouse_left: false,
@@ -128,30 +105,20 @@ impl<'q> Side<'q> {
         }
     }
 
-    /// Tries the oldest held event, and puts what it composes after the bytes that are to be sent.
-    fn act_once(&mut self) -> Tried
+    /// Makes the terminal's next step, if there is one. Returns whether it did something; else no event can act, or it has stopped.
+    #[tactic(auto, using(crate::proofs::TermKeeping::steps_kept))]
+    fn act_once(&mut self) -> bool
         ensures goes { Goes self.old self.new }
-        ensures tried { IsTried self.new result }
+        ensures acted { result ≡ false → HasActed self.new }
     {
         if self.stop.is_some() {
-            return Tried::Stopped;
+            return false;
         }
         match self.logged.act() {
-            Ok(Acted::Done(batch)) => {
-                match self.to_send.push_all(batch.as_slice()) {
-                    Ok(()) => Tried::Went,
-                    Err(_) => {
-                        self.stop = Some(Stop::Memory);
-                        Tried::Stopped
-                    }
-                }
-            }
-            Ok(Acted::Refused(_)) => Tried::Went,
-            Ok(Acted::Idle) => Tried::Idle,
-            Ok(Acted::Locked) => Tried::Locked,
+            Ok(went) => went,
             Err(stop) => {
                 self.stop = Some(stop);
-                Tried::Stopped
+                false
             }
         }
     }
@@ -163,30 +130,34 @@ impl<'q> Side<'q> {
         ensures acted { HasActed self.new }
     {
         for _turn in rt.forever() {
-            match self.act_once() {
-                Tried::Went => {}
-                Tried::Idle => return,
-                Tried::Locked => return,
-                Tried::Stopped => return,
+            if !self.act_once() {
+                return;
             }
         }
         unreachable!()
     }
 
     /// Composes the unsent runes, if there are any.
-    fn flush(&mut self)
+    #[tactic(auto, using(crate::proofs::TermKeeping::steps_kept))]
+    fn compose(&mut self)
         ensures { Goes self.old self.new }
     {
         if self.stop.is_some() || !self.logged.has_unsent() {
             return;
         }
         match self.logged.flush() {
-            Ok(batch) => match self.to_send.push_all(batch.as_slice()) {
-                Ok(()) => {}
-                Err(_) => self.stop = Some(Stop::Memory),
-            },
+            Ok(()) => {}
             Err(stop) => self.stop = Some(stop),
         }
+    }
+
+    /// Composes the unsent runes, if there are any, and writes their message.
+    #[tactic(auto, using(crate::proofs::TermKeeping::goes_on))]
+    fn flush(&mut self)
+        ensures { Goes self.old self.new }
+    {
+        self.compose();
+        let _wrote = self.act_once();
     }
 
     /// Returns whether an Exit of its own is to be put: once keyboard and mouse have left, if the session is not over and none was put
@@ -202,6 +173,7 @@ impl<'q> Side<'q> {
     }
 
     /// Puts an Exit of its own after the held events, if one is to be put.
+    #[tactic(auto, using(crate::proofs::TermKeeping::can_go_on))]
     fn put_exit(&mut self)
         ensures { Goes self.old self.new }
     {
@@ -222,7 +194,7 @@ impl<'q> Side<'q> {
         if self.stop.is_some() {
             return false;
         }
-        let Ok(put) = self.to_send.put(rt, &mut self.post) else {
+        let Ok(put) = self.logged.put(rt, &mut self.post) else {
             self.stop = Some(Stop::Memory);
             return false;
         };
@@ -256,7 +228,7 @@ impl<'q> Side<'q> {
 
     /// Takes the next entry, if there is one. It lets the terminal handle an item, and notes who has left. If the host reader has left
     /// before the session is over, it stops.
-    #[tactic(auto, using(crate::proofs::TermTaking::takes_kept, sam_ends::proofs::GateLaws::let_on_none, sam_ends::proofs::GateLaws::let_on_at))]
+    #[tactic(auto, using(crate::proofs::TermTaking::takes_kept, crate::proofs::TermKeeping::can_go_on, sam_ends::proofs::GateLaws::let_on_none, sam_ends::proofs::GateLaws::let_on_at))]
     fn take_next<R: Wait, G: Gate>(&mut self, rt: &R, gate: &G) -> Found
         requires running { is_some self.old.stop ≡ false }
         ensures take { self.new.take.line ≡ self.old.take.line }
@@ -286,13 +258,7 @@ impl<'q> Side<'q> {
                     return Found::Entry;
                 }
                 match self.logged.handle(sender, input) {
-                    Ok(batch) => {
-                        self.handled = self.handled.saturating_add(1);
-                        match self.to_send.push_all(batch.as_slice()) {
-                            Ok(()) => {}
-                            Err(_) => self.stop = Some(Stop::Memory),
-                        }
-                    }
+                    Ok(()) => self.handled = self.handled.saturating_add(1),
                     Err(stop) => self.stop = Some(stop),
                 }
                 Found::Entry
@@ -326,11 +292,6 @@ impl<'q> Side<'q> {
         self.stop.is_some()
     }
 
-    /// Returns whether all that was composed is put.
-    fn has_no_unsent_bytes(&self) -> bool {
-        self.to_send.is_empty()
-    }
-
     /// Stops the worker if the session is not over: everybody has left, and without the host nothing ends it any more.
     #[tactic(auto, using(crate::proofs::TermKeeping::kept_lost))]
     fn lose_host(&mut self)
@@ -343,20 +304,14 @@ impl<'q> Side<'q> {
         self.stop = Some(Stop::PeerGone);
     }
 
-    /// Tries the oldest held event once the session is over. Returns true only if it is over, and nothing is held, unsent or not put.
-    fn is_quiet(&mut self) -> bool
-        ensures goes { Goes self.old self.new }
-        ensures quiet { IsTrue result → IsQuiet self.new }
+    /// Returns true only if the session is over, and nothing is held, unsent or not put.
+    fn is_quiet(&self) -> bool
+        ensures { IsTrue result → IsQuiet self.now }
     {
-        if !self.logged.exited() {
-            return false;
-        }
-        match self.act_once() {
-            Tried::Idle => self.logged.exited()
-                && !self.logged.has_unsent()
-                && self.to_send.is_empty(),
-            _ => false,
-        }
+        self.logged.exited()
+            && self.logged.holds_none()
+            && !self.logged.has_unsent()
+            && self.logged.is_all_put()
     }
 
     /// Closes the post if the session is over and all is put. Returns whether nothing more comes either, and so all is done.
@@ -395,7 +350,7 @@ impl<'q> Side<'q> {
         let waits = found != Found::Entry;
         self.put_exit();
         self.act_all(rt);
-        if waits && backoff.sleeps_next() && self.has_no_unsent_bytes() {
+        if waits && backoff.sleeps_next() && self.logged.is_all_put() {
             self.flush();
         }
         let put = self.put_pieces(rt);
@@ -458,14 +413,14 @@ impl<'q> Side<'q> {
         ensures passed { result.passed ≡ passed }
         ensures stop { result.stop ≡ self.entry.stop }
         ensures post { result.post ≡ self.entry.post }
-        ensures logged { record { term = result.term; log = result.log.items } ≡ self.entry.logged }
+        ensures term { result.term ≡ self.entry.logged.end.term }
+        ensures log { result.log.items ≡ self.entry.logged.log }
         ensures handled { TermHandled self.entry.steps result }
     {
         let Side {
             take,
             post,
             logged,
-            to_send: _,
             handled: _,
             keyboard_left: _,
             mouse_left: _,
@@ -474,9 +429,11 @@ impl<'q> Side<'q> {
         } = self;
         let LoggedTerminal {
             alloc: _,
-            term,
+            most: _,
+            end,
             log,
         } = logged;
+        let term = end.into_terminal();
         TermEnd {
             take,
             post,
@@ -522,8 +479,7 @@ pub fn run_terminal<'q, R: Wait, G: Gate>(
 {
     let passed = gate.pass(TERMINAL);
     let stop = if passed { None } else { Some(Stop::Gate) };
-    let term = Terminal::new(alloc);
-    let mut side = Side::new(alloc, piece, take, post, term, stop);
+    let mut side = Side::new(alloc, piece, take, post, stop);
     side.run(rt, gate);
     side.into_end(passed)
 }

@@ -6,4 +6,4 @@ pub invariant_of-self : goal.invariant_of-self
 invariant_of-self c =
     let known : MayExit c.args.self.now = search rules in
     let may = rw (← c.self.view_is) at known in
-    kept_exit _ _ c.self.invariant may.running c.in-Ok.ensures.held may.none_put may.keyboard may.mouse
+    kept_exit _ _ c.self.invariant may.running c.in-Ok.ensures.held c.in-Ok.ensures.goes_on may.none_put may.keyboard may.mouse

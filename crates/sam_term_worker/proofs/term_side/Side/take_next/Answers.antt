@@ -1,4 +1,4 @@
-use Rattle.sam_term_worker.proofs.Common.{rules, refl, inl, inr, arith}
+use Rattle.sam_term_worker.proofs.Common.{rules, arith}
 use Rattle.sam_term_worker.proofs.TermTaking.{kept_item, kept_keyboard, kept_mouse, kept_reader, kept_gone}
 use Rattle.sam_term_worker.proofs.term_side.Side.take_next.Goals as goal
 
@@ -11,17 +11,9 @@ invariant_of-self-in-1 g c = kept_mouse _ _ c.self.invariant (rw (← c.self.vie
 pub invariant_of-self-else-not-exited : goal.invariant_of-self-else-not-exited
 invariant_of-self-else-not-exited g c = kept_reader _ _ _ c.self.invariant (rw (← c.self.view_is) at c.requires.running) c.in-Left.ensures.answer
 
-pub invariant_of-self-in-Ok-push_all : goal.invariant_of-self-in-Ok-push_all
-invariant_of-self-in-Ok-push_all g c =
-    let did = rw (← c.as_slice.ensures) at c.in-Ok.ensures.handled in
-    kept_item _ _ _ _ _ _ _ _ _ c.self.invariant (rw (← c.self.view_is) at c.requires.running) c.in-Item.ensures.answer (grind arith) did
-    c.in-Ok.ensures.sender c.push_all.ensures.fit (inl (refl, c.in-Ok-push_all.ensures.encoded))
-
-pub invariant_of-self-in-Err-push_all : goal.invariant_of-self-in-Err-push_all
-invariant_of-self-in-Err-push_all g c =
-    let did = rw (← c.as_slice.ensures) at c.in-Ok.ensures.handled in
-    kept_item _ _ _ _ _ _ _ _ _ c.self.invariant (rw (← c.self.view_is) at c.requires.running) c.in-Item.ensures.answer (grind arith) did
-    c.in-Ok.ensures.sender c.push_all.ensures.fit (inr (refl, c.in-Err-push_all.ensures.unchanged))
+pub invariant_of-self-in-Ok : goal.invariant_of-self-in-Ok
+invariant_of-self-in-Ok g c =
+    kept_item _ _ _ _ _ _ c.self.invariant (rw (← c.self.view_is) at c.requires.running) c.in-Item.ensures.answer (grind arith) c.in-Ok.ensures
 
 pub invariant_of-self-then-not-exited : goal.invariant_of-self-then-not-exited
 invariant_of-self-then-not-exited g c =
