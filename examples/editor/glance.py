@@ -26,6 +26,7 @@ class Glance(Terminal):
     def forget(self) -> None:
         self._now: Optional[TerminalState] = None
         self._known: Dict[int, FileState] = {}
+        self._names: Dict[int, str] = {}
 
     def take_out(self, most: Optional[int] = None) -> bytes:
         try:
@@ -49,6 +50,12 @@ class Glance(Terminal):
         if file is None:
             file = self._known[tag] = super().file(tag)
         return file
+
+    def name(self, tag: int) -> str:
+        name = self._names.get(tag)
+        if name is None:
+            name = self._names[tag] = super().name(tag)
+        return name
 
     @property
     def pending(self) -> int:
@@ -85,8 +92,7 @@ def _forgetting(deed: Callable[..., Any]) -> Callable[..., Any]:
         try:
             return deed(self, *words, **more)
         finally:  # what was refused memory may be done in part
-            self._now = None
-            self._known.clear()
+            self.forget()
 
     return done
 
@@ -95,6 +101,7 @@ def _step(self: Glance) -> TerminalDid:
     """The same, without what costs time: there may be thousands of steps."""
     self._now = None
     self._known.clear()
+    self._names.clear()
     return Terminal.step(self)
 
 

@@ -70,6 +70,7 @@ class Staying:
         self._begun = bytearray()  # what has come of a connection before it was welcomed
         self._unput, self._unfed = bytearray(), bytearray()  # for which there was no memory
         self._due = self._asked = 0  # up to which byte of ours an answer is wanted, and where the last question stands
+        self._acknowledged = 0  # how many of them the host has acknowledged: it is asked for several times at each key
         self._asked_at = self._heard_at = self._called_at = self._again_at = 0.0
         self._lost_at: Optional[float] = None  # since when there is no line
         self._failures, self._connecting = 0, SECONDS_TO_CONNECT
@@ -217,8 +218,7 @@ class Staying:
 
     def _ask(self) -> None:
         """Asks whether all has come, unless such a question is under way."""
-        acknowledged = self._end.acknowledged
-        if acknowledged < self._due and self._asked <= acknowledged:
+        if self._acknowledged < self._due and self._asked <= self._acknowledged:
             self._question()
 
     def _question(self) -> None:
@@ -301,6 +301,7 @@ class Staying:
         try:
             what = sulgrevad.read_hello(hello).what
             self._end.welcomed(hello)
+            self._acknowledged = self._end.acknowledged
         except SamError:
             if what in REFUSED:
                 self._lose(REFUSED[what])
@@ -321,7 +322,8 @@ class Staying:
             self._break()
             return
         self._unfed.clear()
-        if not self._is_measured and self._end.acknowledged >= self._asked:
+        self._acknowledged = self._end.acknowledged
+        if not self._is_measured and self._acknowledged >= self._asked:
             self._is_measured, self.round_trip = True, self.clock() - self._asked_at
 
     def _come(self) -> List[Item]:
@@ -359,17 +361,17 @@ class Staying:
 
     @property
     def _is_answer_due(self) -> bool:
-        return self._end.acknowledged < self._asked
+        return self._acknowledged < self._asked
 
     @property
     def has_all(self) -> bool:
         """Whether the host is known to have all that was sent."""
-        return not self._unput and self._end.acknowledged >= self._due
+        return not self._unput and self._acknowledged >= self._due
 
     @property
     def lacking(self) -> int:
         """How many bytes of ours the host may not have."""
-        return len(self._unput) + max(0, self._due - self._end.acknowledged)
+        return len(self._unput) + max(0, self._due - self._acknowledged)
 
     @property
     def silence(self) -> float:
