@@ -152,7 +152,6 @@ class Session:
         for line in self.told:
             say(line)
         self.told.clear()
-        self._tell_of_leaving()
         status = None
         try:
             status = self._end_link()
@@ -177,6 +176,7 @@ class Session:
         with contextlib.suppress(KeyboardInterrupt):  # the user doesn't wait for the host any longer
             try:
                 signal.signal(signal.SIGINT, signal.default_int_handler)
+                self._tell_of_leaving()  # from here on `^C` counts
                 if isinstance(self.link, Staying):
                     self.link.ends = self.terminal.exited or self.editor.is_leaving
                 return self.link.close(self._hear, self._take_last, self._seconds_to_end)

@@ -75,6 +75,15 @@ def check_suspend(folder):
             session.leave_unwritten()
 
 
+def texts_beside(path):
+    """What copies of a file hold. One may go, or get its name, while this looks."""
+    texts = []
+    for copy in path.parent.glob(f"{path.name}.sam-*"):
+        with contextlib.suppress(OSError):
+            texts.append(copy.read_text())
+    return texts
+
+
 def check_hangup_while_suspended(folder):
     """The user's screen is gone while the program is stopped: it ends as by a hangup, and what came of a paste is saved, by the host if that
     is still there."""
@@ -89,7 +98,7 @@ def check_hangup_while_suspended(folder):
         session.wait_for("back in the shell")
         session.tmux("kill-session")
         wait_until(lambda: (stat_of(terminal) or "Z")[0] == "Z", "it doesn't end")
-        wait_until(lambda: "pasted one\n" in [path.read_text() for path in folder.glob("a.txt.sam-*")], "what came is saved nowhere")
+        wait_until(lambda: "pasted one\n" in texts_beside(folder / "a.txt"), "what came is saved nowhere")
     told = (folder / "stderr").read_text()
     expect("a.txt.sam-" in told and "Traceback" not in told, f"it tells {told!r}")
 

@@ -124,13 +124,23 @@ class OnTerminal:
         return float(self.log.read_text()) if self.log.exists() else self.back_at
 
 
+def cost_of(process):
+    """The seconds of the processor that a process has taken."""
+    return int(Path(f"/proc/{process}/schedstat").read_text().split()[0]) / 1e9
+
+
+def share_of(numbers, hundredths):
+    """What so many of a hundred are at most."""
+    return sorted(numbers)[len(numbers) * hundredths // 100]
+
+
 class Measured:
-    """Keys typed on loaded text while the line stands still: the seconds until each shows, and from the moment on that the line is back
-    until the host has all. The delay is that of the line each way, in milliseconds."""
+    """Keys typed on loaded text while the line stands still: the seconds until each shows, and those of the processor that samterm takes for
+    it; and from the moment on that the line is back until the host has all. The delay is that of the line each way, in milliseconds."""
 
     def __init__(self, folder, seconds, delay):
         (folder / "a.txt").write_text("".join(f"line {number}\n" for number in range(1, 400)))
-        self.keys = []
+        self.keys, self.costs = [], []
         with OnTerminal(folder, "a.txt", delay=delay) as session:
             session.read_until("line 1")
             session.rest(1.0 + 0.004 * delay)
@@ -138,8 +148,10 @@ class Measured:
                 until, number = time.monotonic() + seconds, 0
                 while time.monotonic() < until:
                     rune = RUNES[number % len(RUNES)]
+                    before = cost_of(session.process.pid)
                     session.type(rune)
                     self.keys.append(session.read_until(rune))
+                    self.costs.append(cost_of(session.process.pid) - before)
                     session.rest(0.02)
                     number += 1
                     if number % len(RUNES) == 0:
@@ -156,12 +168,12 @@ class Measured:
     @property
     def most(self):
         """That all but one in a hundred need at most."""
-        return sorted(self.keys)[len(self.keys) * 99 // 100]
+        return share_of(self.keys, 99)
 
     @property
     def usual(self):
         """That half of the keys need at most."""
-        return sorted(self.keys)[len(self.keys) // 2]
+        return share_of(self.keys, 50)
 
 
 def check_keys_while_the_line_stands_still(folder):
@@ -169,6 +181,8 @@ def check_keys_while_the_line_stands_still(folder):
     --stopped measures a minute of it."""
     late = times_longer()
     found = Measured(folder, 4, 50)
+    late = max(late, times_longer())
     expect(len(found.keys) > 20, f"this test is wrong: it types {len(found.keys)} keys")
-    expect(found.usual < late * MOST_FOR_A_KEY, f"a key takes {found.usual * 1000:.1f} ms")
+    cost = share_of(found.costs, 50)
+    expect(cost < MOST_FOR_A_KEY, f"a key takes {cost * 1000:.1f} ms of the processor, {found.usual * 1000:.1f} by the clock")
     expect(found.all_after < 4 * 0.05 + late * MOST_WORK, f"the host has all after {found.all_after * 1000:.0f} ms")
