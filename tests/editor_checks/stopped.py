@@ -135,8 +135,9 @@ def share_of(numbers, hundredths):
 
 
 class Measured:
-    """Keys typed on loaded text while the line stands still: the seconds until each shows, and those of the processor that samterm takes for
-    it; and from the moment on that the line is back until the host has all. The delay is that of the line each way, in milliseconds."""
+    """Keys typed on loaded text while the line stands still: the seconds until each shows, and those of the processor that samterm takes
+    for it; and from the moment on that the line is back until the host has all. The delay is that of the line each way, in
+    milliseconds."""
 
     def __init__(self, folder, seconds, delay):
         (folder / "a.txt").write_text("".join(f"line {number}\n" for number in range(1, 400)))
