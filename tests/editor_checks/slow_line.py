@@ -363,8 +363,8 @@ PIECE = 65_536  # bytes of the host that the loop reads at once; keys are taken 
 
 
 def check_cost_of_many_edits(folder):
-    """A command line that changes 54,000 places of a text of which little is loaded costs less than two seconds of processor time, or as
-    many times more as the machine is slow."""
+    """A command line that changes 54,000 places of a text of which little is loaded costs less than a second of processor time, or as many
+    times more as the machine is slow."""
     pair, editor, key, text = opened("abcdefghijklmno\n" * 54_000, size=(40, 80))
     for typed in (key("Esc"), text(",x/a/c/b/\n")):
         editor.take(typed)
@@ -387,7 +387,7 @@ def check_cost_of_many_edits(folder):
     step = editor.log.last(editor.log.past, 1)
     expect(len(step.changes) == 108_000 and step.lacks == 0, f"{len(step.changes)} changes can be taken back, but for {step.lacks} runes")
     slowness = max(1, least_loop() / QUIET_LOOP)
-    expect(cost < 2 * slowness, f"54,000 edits cost {cost:.1f} s of processor time, {slowness:.1f} times slowed")
+    expect(cost < slowness, f"54,000 edits cost {cost:.1f} s of processor time, {slowness:.1f} times slowed")
 
 
 def check_cost_of_undo(folder):
