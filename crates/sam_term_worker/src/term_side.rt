@@ -78,7 +78,6 @@ impl<'q> Model for Side<'q> {
 
 impl<'q> Side<'q> {
     /// Makes the worker's state at its beginning. `stop` is `Gate` if the gate refused it.
-    #[tactic(auto, using(crate::proofs::TermKeeping::kept_new))]
     fn new(
         alloc: Global,
         piece: usize,
