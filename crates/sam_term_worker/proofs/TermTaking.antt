@@ -182,11 +182,11 @@ pub kept_gated : (v : SideView) (line : TakeView Input) (sender : ℕ) (input : 
 kept_gated v line sender input r running next =
     kept_dropped v line (record { sender = sender; load = Some input }) v.logged stop.Gate r running next (record { term = refl; log = refl; bytes = refl }) tt (grind arith)
 
-none_stopped : is_some (None {A = Stop}) ≡ true → ⊥
-none_stopped is = grind arith
+none_stopped : (why : Option Stop) → why ≡ None → is_some why ≡ true → ⊥
+none_stopped why none is = grind arith
 
 so_far_more : (x : PlainTermEndpoint) (dropped : List (Entry Input)) (e : Entry Input) (why : Option Stop) → is_some why ≡ true → SoFar x dropped why → SoFar x (dropped ++ e ∷ []) why
-so_far_more x dropped e None stopped is = absurd (none_stopped stopped)
+so_far_more x dropped e None stopped is = absurd (none_stopped None refl stopped)
 so_far_more x dropped e (Some (stop.Frame n)) stopped (inl (sender, frame, more, first, long, number)) =
     inl (sender, frame, more ++ e ∷ [], ap (λ (h : List (Entry Input)). h ++ e ∷ []) first, long, number)
 so_far_more x dropped e (Some (stop.Frame n)) stopped (inr (event, more, first, number)) = inr (event, more ++ e ∷ [], ap (λ (h : List (Entry Input)). h ++ e ∷ []) first, number)
