@@ -182,10 +182,45 @@ pub kept_gated : (v : SideView) (line : TakeView Input) (sender : ℕ) (input : 
 kept_gated v line sender input r running next =
     kept_dropped v line (record { sender = sender; load = Some input }) v.logged stop.Gate r running next (record { term = refl; log = refl; bytes = refl }) tt (grind arith)
 
+none_stopped : (why : Option Stop) → why ≡ None → is_some why ≡ true → ⊥
+none_stopped why none is = grind arith
+
+so_far_more : (x : PlainTermEndpoint) (dropped : List (Entry Input)) (e : Entry Input) (why : Option Stop) → is_some why ≡ true → SoFar x dropped why → SoFar x (dropped ++ e ∷ []) why
+so_far_more x dropped e None stopped is = absurd (none_stopped None refl stopped)
+so_far_more x dropped e (Some (stop.Frame n)) stopped (inl (sender, frame, more, first, long, number)) =
+    inl (sender, frame, more ++ e ∷ [], ap (λ (h : List (Entry Input)). h ++ e ∷ []) first, long, number)
+so_far_more x dropped e (Some (stop.Frame n)) stopped (inr (event, more, first, number)) = inr (event, more ++ e ∷ [], ap (λ (h : List (Entry Input)). h ++ e ∷ []) first, number)
+so_far_more x dropped e (Some (stop.Host n)) stopped u = absurd u
+so_far_more x dropped e (Some (stop.Term n)) stopped (inl full) = inl full
+so_far_more x dropped e (Some (stop.Term n)) stopped (inr (sender, frame, more, why, first, refused, number)) =
+    inr (sender, frame, more ++ e ∷ [], why, ap (λ (h : List (Entry Input)). h ++ e ∷ []) first, refused, number)
+so_far_more x dropped e (Some stop.PeerGone) stopped is = is
+so_far_more x dropped e (Some stop.Gate) stopped is = tt
+so_far_more x dropped e (Some stop.Memory) stopped is = tt
+
 -- what comes after a stop is dropped
 pub kept_dropping : (v : SideView) (line : TakeView Input) (e : Entry Input) → Ran v → is_some v.stop ≡ true → TakesNext v.take e line
     → Ran (record { take = line; post = v.post; logged = v.logged; keyboard_left = v.keyboard_left; mouse_left = v.mouse_left; exit_put = v.exit_put; steps = v.steps; stop = v.stop })
-kept_dropping v line e r stopped next = grind (arith, append_assoc)
+kept_dropping v line e r stopped next = record {
+  handled = r.handled;
+  dropped = r.dropped ++ e ∷ [];
+  composed = r.composed;
+  own = r.own;
+  number = r.number;
+  senders = ap (λ (l : LineView). l.senders) next.line ∙ r.senders;
+  took = next.taken ∙ (ap (λ (h : List (Entry Input)). h ++ e ∷ []) r.took ∙ append_assoc r.handled r.dropped (e ∷ []));
+  runs = r.runs;
+  users = r.users;
+  own_is = r.own_is;
+  all_left = r.all_left;
+  keyboard = r.keyboard;
+  mouse = r.mouse;
+  fit = r.fit;
+  sent = r.sent;
+  so_far = so_far_more v.logged.end r.dropped e v.stop stopped r.so_far;
+  gone = r.gone;
+  counted = r.counted;
+}
 
 -- whatever the line answers after a stop
 pub kept_answer : (v : SideView) (line : TakeView Input) (g : Got Input) → Ran v → is_some v.stop ≡ true → Answers v.take g line

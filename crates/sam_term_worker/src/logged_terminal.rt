@@ -257,8 +257,8 @@ impl LoggedTerminal {
         }
     }
 
-    /// Copies the first of the written bytes, at most `most` of them, as the next piece. Returns `None` if there are none. The only error is
-    /// out of memory.
+    /// Copies the first of the written bytes, at most `most` of them, as the next piece. Returns `None` if there are none. The only error
+    /// is out of memory.
     fn next_piece(&self) -> Result<Option<Vec<u8>>, AllocError>
         ensures { IfOk result (IsNextPiece self.now) }
     {

@@ -78,7 +78,6 @@ impl<'q> Model for Side<'q> {
 
 impl<'q> Side<'q> {
     /// Makes the worker's state at its beginning. `stop` is `Gate` if the gate refused it.
-    #[tactic(auto, using(crate::proofs::TermKeeping::kept_new))]
     fn new(
         alloc: Global,
         piece: usize,
@@ -455,8 +454,8 @@ impl<'q> Side<'q> {
 ///
 /// The end's `stop` is `None` if the host ended the session, everybody left, and nothing is held, unsent or not put. Else it is `Gate` if
 /// the gate refused the worker; `Frame(1)` or `Frame(2)` for an item that no worker of a session sends; `Term` if the terminal refused a
-/// frame or could not count a message; `PeerGone` if the host reader left before the session was over; `Memory` when out of memory. Once
-/// stopped it closes its post, and takes and drops until everybody has left, so that nobody waits for it.
+/// frame or could not count a message; `PeerGone` if the host reader left before the session was over; `Memory` when out of memory, or where
+/// 2^64-1 events came before. Once stopped it closes its post, and takes and drops until everybody has left, so that nobody waits for it.
 #[tactic(auto, using(crate::proofs::TermKeeping::term_let_on))]
 pub fn run_terminal<'q, R: Wait, G: Gate>(
     rt: &R,
