@@ -270,8 +270,7 @@ def check_numbers(folder):
         session.type("?")
         session.wait_for("      1 one?")
         session.keys("F10")
-        session.wait_for("one?")
-        expect(session.rows("a.txt")[0] == "one?", session.screen())
+        wait_until(lambda: session.rows("a.txt")[:1] == ["one?"], lambda: "\n".join(session.screen()))
         session.keys("C-w")
         session.leave()
     with Session(folder, "--tab", "3", "a.txt") as session:
