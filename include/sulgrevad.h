@@ -421,11 +421,11 @@ SAM_MUST_USE sam_status sam_term_next_frame(sam_term *term, sam_did *next);
  * SAM_TERM_REFUSED... Unless it is SAM_OK, nothing is handed out. */
 SAM_MUST_USE sam_status sam_term_step(sam_term *term, sam_did *did);
 
-/* Makes steps as long as the next frame edits a text, Hgrowdata or Hcut, and says of each what sam_term_step does: the first goes into
- * did[0], and *got counts them, at most `most`; the rest of `did` is not kept. All edit the text of one file, none begins before the place
- * `first`, and each ends where the one before it began, or above. So what goes can be read before the call, and what came after it.
- * SAM_OK, where there is no such edit, too; or why a step was not made, as sam_term_step says it; after SAM_NO_HANDLE *got is as it
- * was. */
+/* Makes steps as long as the next frame edits a text, Hgrowdata or Hcut, and says of each what sam_term_step does, one after the other in
+ * `did`, which has room for `most`. *got counts them; what is in the room after them is not kept. All edit the text of one file, none
+ * begins before the place `first`, and each ends where the one before it began, or above. So what goes can be read before the call, and
+ * what came after it. SAM_OK, where there is no such edit, too; or why a step was not made, as sam_term_step says it; after SAM_NO_HANDLE
+ * *got is as it was. */
 SAM_MUST_USE sam_status sam_term_step_edits(sam_term *term, uint32_t first, sam_did *did, size_t most, size_t *got);
 
 /* Whether the host's stream may end here: to be asked once the terminal's input has ended. It changes nothing. SAM_OK,

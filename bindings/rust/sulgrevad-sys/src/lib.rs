@@ -381,11 +381,11 @@ extern "C" {
     /// refused, where nothing has changed, so make the step again; or why the terminal has stopped, at this call or before: SAM_STREAM..,
     /// SAM_TERM_REFUSED... Unless it is SAM_OK, nothing is handed out.
     pub fn sam_term_step(term: *mut sam_term, did: *mut sam_did) -> sam_status;
-    /// Makes steps as long as the next frame edits a text, Hgrowdata or Hcut, and says of each what sam_term_step does: the first goes into
-    /// did[0], and *got counts them, at most `most`; the rest of `did` is not kept. All edit the text of one file, none begins before the
-    /// place `first`, and each ends where the one before it began, or above. So what goes can be read before the call, and what came after
-    /// it. SAM_OK, where there is no such edit, too; or why a step was not made, as sam_term_step says it; after SAM_NO_HANDLE *got is as
-    /// it was.
+    /// Makes steps as long as the next frame edits a text, Hgrowdata or Hcut, and says of each what sam_term_step does, one after the other
+    /// in `did`, which has room for `most`. *got counts them; what is in the room after them is not kept. All edit the text of one file,
+    /// none begins before the place `first`, and each ends where the one before it began, or above. So what goes can be read before the
+    /// call, and what came after it. SAM_OK, where there is no such edit, too; or why a step was not made, as sam_term_step says it; after
+    /// SAM_NO_HANDLE *got is as it was.
     pub fn sam_term_step_edits(term: *mut sam_term, first: u32, did: *mut sam_did, most: usize, got: *mut usize) -> sam_status;
     /// All of these at once, with sam_term_pending, sam_term_snarf_len and sam_term_tags.
     pub fn sam_term_state(term: *mut sam_term, state: *mut sam_state) -> sam_status;
