@@ -194,6 +194,9 @@ function checkSteps() {
   same(terminal.nextFrame(), { kind: 71, tag, start: 0, gone: 0 });
   same(terminal.step(), { step: "received", kind: 71, tag, change: none, event: 0, why: 0 });
   same([terminal.step().step, terminal.nextFrame()], ["idle", null]);
+  terminal.openCmd();
+  host.feed(terminal.takeOut());
+  terminal.feed(host.takeOut());
   terminal.work(tag);
   terminal.type(0, ",x/x/c/w/\n");
   host.feed(terminal.takeOut());
