@@ -115,13 +115,18 @@ void add_number(struct body *body, uint64_t number)
     }
 }
 
-void add_data(struct body *body, const void *bytes, size_t len)
+void add_raw(struct body *body, const void *bytes, size_t len)
 {
-    add_number(body, len);
     if (len > 0 && has_room(body, len)) {
         memcpy(body->bytes + body->len, bytes, len);
         body->len += len;
     }
+}
+
+void add_data(struct body *body, const void *bytes, size_t len)
+{
+    add_number(body, len);
+    add_raw(body, bytes, len);
 }
 
 void add_words(struct body *body, const char *words)

@@ -3,6 +3,9 @@
  * The files and the terminal's bytes alone decide what a host is, and what a link puts. So a new host and a new link are given the same, in
  * the same order, and have to say the very same: where they don't, that is a fault of this program, and nothing is sent. What was done to
  * files is not done again, but for what the process had not come to.
+ *
+ * The link goes ahead: it puts what the host said, as the journal has it, before the host has said it again. So the host gets much at once,
+ * and takes edits of one file together. It catches up before files join, before notes, and where much waits.
  */
 #define _GNU_SOURCE
 #include <errno.h>
@@ -12,6 +15,8 @@
 #include <unistd.h>
 
 #include "samhost.h"
+
+enum { MOST_AHEAD = 1 << 20 }; /* bytes of the terminal and of the host that may wait until the host catches up */
 
 static ssize_t take_in(struct session *session, uint8_t *into, size_t room)
 {
@@ -78,27 +83,43 @@ static void take_all(struct session *session)
     }
 }
 
-/* Has the link put what the host says, which has to be what it said before. */
-static void put_again(struct session *session, const struct record *record)
+/* Compares what the host says with what it said before. */
+static void compare_said(struct session *session)
 {
     struct wire *wire = &session->wire;
     struct replay *replay = session->stay->replay;
+    const struct body *said = &replay->said;
 
-    for (size_t at = 0; at < record->len && replay->fault == REPLAY_OK;) {
+    for (size_t at = 0; at < said->len && replay->fault == REPLAY_OK;) {
         if (wire->sent == wire->output_len)
             send_pending(session); /* fetches more */
-        if (wire->sent == wire->output_len) {
-            take_all(session);
-            send_pending(session);
-        }
-        size_t has = wire->output_len - wire->sent, len = has < record->len - at ? has : record->len - at;
-        if (len == 0 || memcmp(wire->output + wire->sent, record->body + at, len) != 0)
+        size_t has = wire->output_len - wire->sent, len = has < said->len - at ? has : said->len - at;
+        if (len == 0 || memcmp(wire->output + wire->sent, said->bytes + at, len) != 0)
             replay->fault = REPLAY_DIFFERS;
         wire->sent += len;
         at += len;
     }
-    if (replay->fault == REPLAY_OK && sam_link_put(&session->stay->link, record->body, record->len) != SAM_OK)
+    replay->said.len = 0;
+}
+
+/* Has the host take what has come, up to the next note, and say what it said before. */
+static void catch_up(struct session *session)
+{
+    take_all(session);
+    compare_said(session);
+    session->stay->replay->came = 0;
+}
+
+/* Has the link put what the host said before, and will say again. */
+static void put_again(struct session *session, const struct record *record)
+{
+    struct replay *replay = session->stay->replay;
+
+    add_raw(&replay->said, record->body, record->len);
+    if (replay->said.is_short || sam_link_put(&session->stay->link, record->body, record->len) != SAM_OK)
         replay->fault = REPLAY_SHORT;
+    else if (replay->came + replay->said.len >= MOST_AHEAD)
+        catch_up(session);
 }
 
 static void take_start(struct session *session, struct record *record)
@@ -179,7 +200,7 @@ static void answer_note_again(struct session *session, struct record *record)
     uint8_t note[SAM_LINK_MOST_NOTE];
     size_t len;
 
-    take_all(session);
+    catch_up(session);
     if (sam_link_next_note(&session->stay->link, note, sizeof note, &len) != SAM_OK)
         session->stay->replay->fault = REPLAY_DIFFERS;
     while (record->len > 0 && !record->is_wrong) {
@@ -195,16 +216,17 @@ static void replay_step(struct session *session, struct record *record)
     uint32_t code = SAM_OK;
 
     if (record->step == STEP_FILE || record->step == STEP_KEPT || record->step == STEP_KEPT_CUT)
-        take_all(session);
+        catch_up(session);
     if (record->step == STEP_START)
         take_start(session, record);
     else if (record->step == STEP_FILE)
         take_file(session, record);
     else if (record->step == STEP_HELLO)
         code = answer_again(session, record);
-    else if (record->step == STEP_UP)
+    else if (record->step == STEP_UP) {
+        replay->came += record->len;
         code = feed_again(session->stay, record);
-    else if (record->step == STEP_DOWN)
+    } else if (record->step == STEP_DOWN)
         put_again(session, record);
     else if (record->step == STEP_NOTE)
         note_again(session, record->body, record->len);
@@ -257,7 +279,8 @@ static void replay_all(struct session *session, const struct text *all, size_t e
     session->wire.carrier = &by_journal;
     for (size_t at = first_record(); at < end && stay->replay->fault == REPLAY_OK && next_record(all, &at, &record);)
         replay_step(session, &record);
-    take_all(session);
+    if (stay->replay->fault == REPLAY_OK)
+        catch_up(session);
     if (stay->replay->fault == REPLAY_OK && stay->replay->next < stay->replay->count)
         stay->replay->fault = REPLAY_DIFFERS;
     if (stay->attempt > 0)
@@ -285,6 +308,7 @@ enum replay_fault begin_again(struct session *session)
         replay_all(session, &all, end);
     stay->replay = NULL;
     free(replay.done);
+    free(replay.said.bytes);
     close_records(&all);
     return replay.fault != REPLAY_OK || kind == JOURNAL_SAME ? replay.fault : REPLAY_OTHER;
 }

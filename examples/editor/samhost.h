@@ -317,6 +317,8 @@ enum replay_fault {
 struct replay {
     struct record *done; /* what was done to files, in order */
     size_t count, next;
+    struct body said; /* what the host said before, and has not said again */
+    size_t came;      /* how many bytes came for the host since it caught up */
     enum replay_fault fault;
 };
 
@@ -819,6 +821,7 @@ bool next_record(const struct text *all, size_t *at, struct record *record);
 
 /* What a body has, in order. Words may be NULL; they are taken into memory of the caller's. */
 void add_number(struct body *body, uint64_t number);
+void add_raw(struct body *body, const void *bytes, size_t len);
 void add_data(struct body *body, const void *bytes, size_t len);
 void add_words(struct body *body, const char *words);
 uint64_t take_number(struct record *record);
