@@ -1,6 +1,9 @@
 /* The calls of the library that are C, and not proved: its version, words for a status, and a loop of proved calls. */
 #include "sulgrevad.h"
 
+/* The kinds of the frames that edit a text, by their numbers on the wire. */
+enum { HGROWDATA = 77, HCUT = 81 };
+
 uint32_t sam_library_version(void)
 {
     return SAM_VERSION;
@@ -86,7 +89,7 @@ const char *sam_status_text(sam_status status)
  * edit, and each has to begin at the place `first` or below, and to end where the last one began, or above. */
 static bool is_next_edit(const sam_did *next, const sam_did *last, uint32_t first)
 {
-    if (next->kind != 77 && next->kind != 81)
+    if (next->kind != HGROWDATA && next->kind != HCUT)
         return false;
     if (last != NULL && (next->tag != last->tag || next->start > last->start || next->gone > last->start - next->start))
         return false;
