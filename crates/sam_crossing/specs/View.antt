@@ -5,7 +5,7 @@ use Rattle.sam_runes.specs.Checks.{first_of_checks}
 use Rattle.sam_mesg.specs.declared.tmesg.Tmesg.{Tmesg}
 use Rattle.sam_mesg.specs.declared.tmesg.Tmesg.TheVariants.{Tack}
 use Rattle.sam_mesg.specs.declared.hmesg.Hmesg.{Hmesg}
-use Rattle.sam_mesg.specs.declared.hmesg.Hmesg.TheVariants.{Hcheck, Hunlockfile, Hack}
+use Rattle.sam_mesg.specs.declared.hmesg.Hmesg.TheVariants.{Hversion, Hbindname, Hcurrent, Hnewname, Hmovname, Hgrow, Hcheck, Hunlock, Hdata, Horigin, Hunlockfile, Hsetdot, Hgrowdata, Hmoveto, Hclean, Hdirty, Hcut, Hsetpat, Hdelname, Hclose, Hsetsnarf, Hsnarflen, Hack, Hexit}
 use Rattle.sam_text.specs.Files.{PlainFile}
 use Rattle.sam_term.specs.declared.records.Window.{Window}
 use Rattle.sam_term.specs.declared.records.KnownFile.{KnownFile}
@@ -44,14 +44,54 @@ abbrev pub effect : PlainTerminal → Hmesg → PlainTerminal
 effect t (Hcheck f) = t
 effect t (Hunlockfile f) = took_unlockfile t f
 effect t Hack = t
-effect t m = (frame_outcome t m).0
+effect t (Hversion v) = (frame_outcome t (Hversion v)).0
+effect t (Hbindname f) = (frame_outcome t (Hbindname f)).0
+effect t (Hcurrent f) = (frame_outcome t (Hcurrent f)).0
+effect t (Hnewname f) = (frame_outcome t (Hnewname f)).0
+effect t (Hmovname f s) = (frame_outcome t (Hmovname f s)).0
+effect t (Hgrow f p n) = (frame_outcome t (Hgrow f p n)).0
+effect t Hunlock = (frame_outcome t Hunlock).0
+effect t (Hdata f p s) = (frame_outcome t (Hdata f p s)).0
+effect t (Horigin f p) = (frame_outcome t (Horigin f p)).0
+effect t (Hsetdot f p q) = (frame_outcome t (Hsetdot f p q)).0
+effect t (Hgrowdata f p s) = (frame_outcome t (Hgrowdata f p s)).0
+effect t (Hmoveto f p) = (frame_outcome t (Hmoveto f p)).0
+effect t (Hclean f) = (frame_outcome t (Hclean f)).0
+effect t (Hdirty f) = (frame_outcome t (Hdirty f)).0
+effect t (Hcut f p n) = (frame_outcome t (Hcut f p n)).0
+effect t (Hsetpat s) = (frame_outcome t (Hsetpat s)).0
+effect t (Hdelname f) = (frame_outcome t (Hdelname f)).0
+effect t (Hclose f) = (frame_outcome t (Hclose f)).0
+effect t (Hsetsnarf s) = (frame_outcome t (Hsetsnarf s)).0
+effect t (Hsnarflen n) = (frame_outcome t (Hsnarflen n)).0
+effect t Hexit = (frame_outcome t Hexit).0
 
 -- what is composed for it
 abbrev pub composed_for : PlainTerminal → Hmesg → Option Tmesg
 composed_for t (Hcheck f) = wanted t f
 composed_for t (Hunlockfile f) = wanted (took_unlockfile t f) f
 composed_for t Hack = if t.has_exited then None else Some Tack
-composed_for t m = None
+composed_for t (Hversion v) = None
+composed_for t (Hbindname f) = None
+composed_for t (Hcurrent f) = None
+composed_for t (Hnewname f) = None
+composed_for t (Hmovname f s) = None
+composed_for t (Hgrow f p n) = None
+composed_for t Hunlock = None
+composed_for t (Hdata f p s) = None
+composed_for t (Horigin f p) = None
+composed_for t (Hsetdot f p q) = None
+composed_for t (Hgrowdata f p s) = None
+composed_for t (Hmoveto f p) = None
+composed_for t (Hclean f) = None
+composed_for t (Hdirty f) = None
+composed_for t (Hcut f p n) = None
+composed_for t (Hsetpat s) = None
+composed_for t (Hdelname f) = None
+composed_for t (Hclose f) = None
+composed_for t (Hsetsnarf s) = None
+composed_for t (Hsnarflen n) = None
+composed_for t Hexit = None
 
 -- no lens refuses the frame
 abbrev pub NoneRefuses : PlainTerminal → Hmesg → Type 0

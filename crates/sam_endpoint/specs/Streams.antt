@@ -66,7 +66,9 @@ if_brought (Err why) piece = []
 -- out of memory before what the call brought was taken
 abbrev pub not_taken : {S : Type 0} → EndpointFault S → EndpointFault S
 not_taken fault.Unfinished = fault.OutOfMemory
-not_taken why = why
+not_taken fault.OutOfMemory = fault.OutOfMemory
+not_taken fault.CountFull = fault.CountFull
+not_taken (fault.Stopped why) = fault.Stopped why
 
 -- why a piece is not brought that a framer did not take
 abbrev pub bring_fault : {S : Type 0} → EndpointFault S → BringFault S

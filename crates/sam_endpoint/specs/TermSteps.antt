@@ -51,7 +51,14 @@ stopped_by e fault.CountFull = e
 -- out of memory leaves work unfinished, and any other fault of the terminal stops the end
 abbrev pub end_fault : TermFault → EndpointFault TermStop
 end_fault refusal.OutOfMemory = fault.Unfinished
-end_fault why = fault.Stopped (stop.Refused why)
+end_fault refusal.FromTheFuture = fault.Stopped (stop.Refused refusal.FromTheFuture)
+end_fault refusal.NoFile = fault.Stopped (stop.Refused refusal.NoFile)
+end_fault refusal.NotOpen = fault.Stopped (stop.Refused refusal.NotOpen)
+end_fault refusal.AlreadyBound = fault.Stopped (stop.Refused refusal.AlreadyBound)
+end_fault refusal.BadPosition = fault.Stopped (stop.Refused refusal.BadPosition)
+end_fault refusal.TooLong = fault.Stopped (stop.Refused refusal.TooLong)
+end_fault refusal.LockNotHeld = fault.Stopped (stop.Refused refusal.LockNotHeld)
+end_fault refusal.CountFull = fault.Stopped (stop.Refused refusal.CountFull)
 
 -- a call of the terminal answers as the definition does, or refuses as it does, or is short of memory; without an answer it changes nothing
 abbrev pub Tries : {A : Type 0} → PlainTerminal → Result (PlainTerminal × A) TermFault

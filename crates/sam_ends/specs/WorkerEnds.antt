@@ -43,7 +43,11 @@ use Rattle.sam_ends.specs.declared.ends.Ends.{Ends}
 abbrev pub UserStopped : ℕ → ℕ → Option Stop → Type 0
 UserStopped n all None = n ≡ all
 UserStopped n all (Some stop.Gate) = Unit {0}
-UserStopped n all (Some other) = ⊥
+UserStopped n all (Some (stop.Frame number)) = ⊥
+UserStopped n all (Some (stop.Host number)) = ⊥
+UserStopped n all (Some (stop.Term number)) = ⊥
+UserStopped n all (Some stop.PeerGone) = ⊥
+UserStopped n all (Some stop.Memory) = ⊥
 
 -- the first events were put, each once and in order, all of them where nothing stopped it, and then the end mark
 pub record UserTold (number : ℕ) (events : List UserEvent) (line : LineView) (e : UserEnd) : Type 0 where

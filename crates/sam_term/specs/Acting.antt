@@ -25,15 +25,84 @@ made_first t = event_outcome (record t { held = drop 1 t.held }) (first_event t.
 
 abbrev pub is_typing : UserEvent → Bool
 is_typing (Typed f s) = true
-is_typing _ = false
+is_typing (Select f p q) = false
+is_typing (Cut f) = false
+is_typing (Paste f) = false
+is_typing (Snarf f) = false
+is_typing (Look f) = false
+is_typing (Search f) = false
+is_typing (Send f) = false
+is_typing (Dclick f p) = false
+is_typing (Scroll f n) = false
+is_typing (View f p n) = false
+is_typing (Load f p n) = false
+is_typing (Edit f p q s) = false
+is_typing (Open f) = false
+is_typing (Close f) = false
+is_typing (Write f) = false
+is_typing (Work f) = false
+is_typing OpenCmd = false
+is_typing New = false
+is_typing Exit = false
+is_typing (Check f) = false
+is_typing GetSnarf = false
+is_typing (SetSnarf s) = false
+is_typing (Version v) = false
+is_typing Flush = false
 
 abbrev pub is_editing : UserEvent → Bool
 is_editing (Edit f p q s) = true
-is_editing _ = false
+is_editing (Typed f s) = false
+is_editing (Select f p q) = false
+is_editing (Cut f) = false
+is_editing (Paste f) = false
+is_editing (Snarf f) = false
+is_editing (Look f) = false
+is_editing (Search f) = false
+is_editing (Send f) = false
+is_editing (Dclick f p) = false
+is_editing (Scroll f n) = false
+is_editing (View f p n) = false
+is_editing (Load f p n) = false
+is_editing (Open f) = false
+is_editing (Close f) = false
+is_editing (Write f) = false
+is_editing (Work f) = false
+is_editing OpenCmd = false
+is_editing New = false
+is_editing Exit = false
+is_editing (Check f) = false
+is_editing GetSnarf = false
+is_editing (SetSnarf s) = false
+is_editing (Version v) = false
+is_editing Flush = false
 
 abbrev pub is_snarfing : UserEvent → Bool
 is_snarfing (SetSnarf s) = true
-is_snarfing _ = false
+is_snarfing (Typed f s) = false
+is_snarfing (Select f p q) = false
+is_snarfing (Cut f) = false
+is_snarfing (Paste f) = false
+is_snarfing (Snarf f) = false
+is_snarfing (Look f) = false
+is_snarfing (Search f) = false
+is_snarfing (Send f) = false
+is_snarfing (Dclick f p) = false
+is_snarfing (Scroll f n) = false
+is_snarfing (View f p n) = false
+is_snarfing (Load f p n) = false
+is_snarfing (Edit f p q s) = false
+is_snarfing (Open f) = false
+is_snarfing (Close f) = false
+is_snarfing (Write f) = false
+is_snarfing (Work f) = false
+is_snarfing OpenCmd = false
+is_snarfing New = false
+is_snarfing Exit = false
+is_snarfing (Check f) = false
+is_snarfing GetSnarf = false
+is_snarfing (Version v) = false
+is_snarfing Flush = false
 
 -- what the code has to do for an event, by the message that is all that it composes
 abbrev pub deed_by : Option Tmesg → UserEvent → Deed

@@ -5,7 +5,7 @@ use Rattle.sam_rasp.specs.Rasp.{PartialText}
 use Rattle.sam_mesg.specs.declared.hmesg.Hmesg.{Hmesg}
 use Rattle.sam_term.specs.Term.{PlainTerminal, window_at, wanted, stretches, event_outcome, frame_outcome}
 use Rattle.sam_term.specs.declared.event.UserEvent.{UserEvent}
-use Rattle.sam_term.specs.declared.event.UserEvent.TheVariants.{Load}
+use Rattle.sam_term.specs.declared.event.UserEvent.TheVariants.{Typed, Select, Cut, Paste, Snarf, Look, Search, Send, Dclick, Scroll, View, Load, Edit, Open, Close, Write, Work, OpenCmd, New, Exit, Check, GetSnarf, SetSnarf, Version, Flush}
 
 -- the stretches lie from p to q, none before the end of the one in front of it; each is of gaps alone, at least one of them and at most
 -- as many as one message asks for
@@ -38,7 +38,30 @@ LoadsAll = (rasp : PartialText) (p q n : ℕ) → length (stretches rasp p q n) 
 
 abbrev pub is_load : UserEvent → Bool
 is_load (Load f p n) = true
-is_load _ = false
+is_load (Typed f s) = false
+is_load (Select f p q) = false
+is_load (Cut f) = false
+is_load (Paste f) = false
+is_load (Snarf f) = false
+is_load (Look f) = false
+is_load (Search f) = false
+is_load (Send f) = false
+is_load (Dclick f p) = false
+is_load (Scroll f n) = false
+is_load (View f p n) = false
+is_load (Edit f p q s) = false
+is_load (Open f) = false
+is_load (Close f) = false
+is_load (Write f) = false
+is_load (Work f) = false
+is_load OpenCmd = false
+is_load New = false
+is_load Exit = false
+is_load (Check f) = false
+is_load GetSnarf = false
+is_load (SetSnarf s) = false
+is_load (Version v) = false
+is_load Flush = false
 
 -- no request is composed by the rule while one is awaited, so without a Load no file ever awaits two
 abbrev pub RuleWaits : Type 0
