@@ -1,11 +1,17 @@
 -- What is kept of a text stays kept through frames, events and flushes.
-use Rattle.std.proofs.Common.{◌≡◌, ◌≢◌, ◌∙◌, refl, sym, ap, subst, ℕ, zero, suc, ◌+◌, ◌-◌, ◌≤◌, ◌⊎◌, inl, inr, min, Bool, true, false, ◌==◌, ◌&&◌, if◌then◌else◌, List, [], ◌∷◌, ◌++◌, length, length-append, length-drop, length-take, take, drop, drop-drop, append-nil, append_assoc, take-append-drop, set, Some, None, arith, rules}
+use Rattle.std.proofs.Common.{◌≡◌, ◌≢◌, ◌∙◌, refl, sym, ap, subst, ℕ, zero, suc, ◌+◌, ◌-◌, ◌≤◌, ◌⊎◌, inl, inr, min, Bool, true, false, ◌==◌, ◌&&◌, if◌then◌else◌, List, [], ◌∷◌, ◌++◌, length, length-append, length-drop, length-take, take, drop, drop-drop, append-nil, append_assoc, take-append-drop, set, Option, Some, None, arith, rules}
 use Rattle.std.proofs.Math.Seq.{drop-append-add, take-append-le, take-take}
 use Rattle.std.proofs.lemmas.Grind.{common_steps}
 use Rattle.std.proofs.lemmas.List.{get_or-set_other, get_or_past}
 use Rattle.sam_rasp.specs.Rasp.{PartialText, put_cells}
 use Rattle.sam_endpoint.specs.Changes.{IsChange, IsKept, last, unasked, kept_at, change_of, narrowed, kept_after, edit_touch, KeptTellsChange, UnaskedIsKept, AskingBegins}
 use Rattle.sam_endpoint.specs.declared.changes.Kept.{Kept}
+use Rattle.sam_endpoint.specs.declared.changes.Touch.{Touch}
+
+-- where nothing was asked for, nothing is kept
+pub none_asked : (touch : Option Touch) → kept_after [] touch ≡ []
+none_asked None = refl
+none_asked (Some t) = refl
 
 -- ## A text that is kept
 

@@ -93,6 +93,18 @@ impl Changes {
         }
     }
 
+    /// Returns what the oldest held event leaves of the text of a file, before it acts, as far as `note` takes note of it. It is looked for
+    /// only where some text was asked for.
+    #[tactic(auto, using(crate::proofs::ChangeLaws::none_asked))]
+    pub fn oldest_noted(&self, term: &Terminal) -> Option<Touch>
+        ensures { kept_after self.now result ≡ kept_after self.now (oldest_touch term.now) }
+    {
+        if self.kept.is_empty() {
+            return None;
+        }
+        oldest_touch(term)
+    }
+
     /// Returns what changed in the text of a file, which has `len` runes and gaps, since this was asked last, and keeps all of it from now
     /// on. Its only error is out of memory, the first time for a tag alone; nothing has changed then.
     pub fn ask(&mut self, tag: u16, len: u32) -> Result<Change, AllocError>

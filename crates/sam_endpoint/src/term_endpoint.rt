@@ -8,7 +8,7 @@ ghost use Rattle.sam_mesg.specs.HostKinds.{fits_h};
 ghost use Rattle.sam_term.specs.Fitting.{AllFit, composed_in};
 ghost use Rattle.sam_term.specs.Term.{act_of, flush_of, take_of};
 
-use crate::changes::{Change, Changes, frame_touch, len_if_open, oldest_touch};
+use crate::changes::{Change, Changes, frame_touch, len_if_open};
 use crate::fault::{EndpointFault, FinishFault, StreamFault, TermStop};
 use crate::incoming::{drop_first, feed_framer};
 use crate::known::know_messages;
@@ -157,7 +157,7 @@ impl TermEndpoint {
         if self.refusals.reserve(1).is_err() {
             return Err(EndpointFault::Unfinished);
         }
-        let touch = oldest_touch(&self.term);
+        let touch = self.changes.oldest_noted(&self.term);
         match act_now(&mut self.term) {
             Ok(Acted::Idle) => Ok(Decision::Idle),
             Ok(Acted::Locked) => Ok(Decision::Locked),

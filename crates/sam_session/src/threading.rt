@@ -15,10 +15,20 @@ use sam_modes::{PlayFault, fault_of, write_or_tell};
 use sam_script::{Script, run_lines, show};
 use sam_settle::Settled;
 use sam_spawn::RunFault;
-use std::alloc::Global;
+use std::alloc::{AllocError, Global};
 use std::io::{Read, Write};
 use std::sync::Wait;
 use std::thread::Threads;
+
+/// How many bytes [`keep_freed_memory`] asks for.
+const KEPT_MEMORY: usize = 16_777_216;
+
+/// Asks for a large piece of memory, and lets go of it untouched. From then on the C library keeps what is freed, in pieces of up to this
+/// size, and doesn't hand it back to the system. So what a session frees as it goes on holds its schedule in the end, and fewer pages are
+/// touched for the first time. Without memory it does nothing.
+fn keep_freed_memory(alloc: Global) {
+    let _piece: Result<Vec<u8>, AllocError> = Vec::with_capacity(alloc, KEPT_MEMORY);
+}
 
 /// Runs the session of the script that the reader gives on five threads, and writes what it came to, or in place of all that the line of
 /// the fault. The faults and their order stand at [`play`](crate::play).
@@ -56,6 +66,7 @@ fn threads_lines<T: Threads + Wait + Sync, R: Read>(
     ensures ok { IfOk result (λ lines. IfSome (R.remaining reader.old) (λ input. IsThreaded input lines.items)) }
     ensures fault { IfErr result (λ fault. IfSome (R.remaining reader.old) (λ input. IsThreadsFault input fault)) }
 {
+    keep_freed_memory(alloc);
     let script = script_in(alloc, reader)?;
     session_lines(rt, alloc, script, piece, capacity)
 }

@@ -136,6 +136,17 @@ impl<'q> Side<'q> {
         unreachable!()
     }
 
+    /// Acts as `act_all` does if an entry was taken. Where none was, no event can act that could not before: only a frame frees a lock.
+    fn act_after<R: Wait>(&mut self, rt: &R, found: Found)
+        ensures goes { Goes self.old self.new }
+        ensures acted { found ≡ Found.Entry → HasActed self.new }
+    {
+        match found {
+            Found::Entry => self.act_all(rt),
+            Found::Nothing | Found::Ended => {}
+        }
+    }
+
     /// Composes the unsent runes, if there are any.
     #[tactic(auto, using(crate::proofs::TermKeeping::steps_kept))]
     fn compose(&mut self)
@@ -334,8 +345,8 @@ impl<'q> Side<'q> {
         }
     }
 
-    /// Makes one turn where nothing has stopped the worker: it takes, acts, puts, and tries to finish. If it took and put nothing, it
-    /// waits a little for an entry, and composes the unsent runes before it would sleep. Returns whether all is done.
+    /// Makes one turn where nothing has stopped the worker: it takes, acts if it took an entry, puts, and tries to finish. If it took and
+    /// put nothing, it waits a little for an entry, and composes the unsent runes before it would sleep. Returns whether all is done.
     #[tactic(auto, using(crate::proofs::TermKeeping::goes_on, crate::proofs::TermKeeping::found_still, sam_ends::proofs::GateLaws::let_on_to))]
     fn turn<R: Wait, G: Gate>(&mut self, rt: &R, gate: &G, backoff: &mut Backoff) -> bool
         requires running { is_some self.old.stop ≡ false }
@@ -348,7 +359,7 @@ impl<'q> Side<'q> {
         let found = self.take_next(rt, gate);
         let waits = found != Found::Entry;
         self.put_exit();
-        self.act_all(rt);
+        self.act_after(rt, found);
         if waits && backoff.sleeps_next() && self.logged.is_all_put() {
             self.flush();
         }

@@ -64,7 +64,7 @@ returns-in-Ok-Done c =
     subst (λ (x : PlainTermEndpoint). Decides x (Ok decision.Acted) g) c.self.view_is
     (let fit : FitMessages c.in-Ok-Done.composed = subst (λ a. FitMessages (composed_in a)) c.in-Ok-Done.field-0-is c.in-Ok-Done.ensures.known in
     let first : ActsFirst e g = acted_first e g u (Done c.in-Ok-Done.composed) c.self.invariant act tt fit
-    (grind (arith, c.into_vec.ensures, c.reserve.ensures.items, c.note.ensures, c.oldest_touch-touch.ensures, append-nil)) in
+    (grind (arith, c.into_vec.ensures, c.reserve.ensures.items, c.note.ensures, c.oldest_noted-touch.ensures, append-nil)) in
     (first, c.in-Ok-Done.composed, acted_is e u first.term (Done c.in-Ok-Done.composed) first.acted act first.acts))
 
 pub returns-in-Ok-Refused : goal.returns-in-Ok-Refused
