@@ -216,7 +216,7 @@ enum sam_step {
     SAM_STEP_IDLE = 0,     /* nothing: nothing waits, and a terminal holds no event */
     SAM_STEP_LOCKED = 1,   /* nothing: no frame waits, and a lock holds the terminal's oldest event back */
     SAM_STEP_WROTE = 2,    /* what was answered or composed last is pending now */
-    SAM_STEP_EDITED = 3,   /* the host took messages that type or cut in one file, all at once: their file and how many */
+    SAM_STEP_EDITED = 3,   /* the host took edits of one file, and the checks (Tcheck) among them, at once: the file, how many messages */
     SAM_STEP_ANSWERED = 4, /* the host answered one message: its kind and its file */
     SAM_STEP_RECEIVED = 5, /* the terminal received one frame: its kind, its file, and the change of that file's text */
     SAM_STEP_ACTED = 6,    /* one event acted: its number, its file, and the change of that file's text */
@@ -312,9 +312,9 @@ SAM_MUST_USE sam_status sam_host_bring(sam_host *host, const uint8_t *bytes, siz
 SAM_MUST_USE sam_status sam_host_next_message(sam_host *host, uint8_t *kind, uint16_t *tag);
 
 /* Does one thing of what waits, and says what: it writes what was answered last, if that is left over; or the host takes edits of one
- * file that follow each other, or else answers the oldest message. sam_host_feed makes such steps up to SAM_STEP_IDLE. SAM_OK,
- * SAM_NO_HANDLE, SAM_UNFINISHED if memory was refused, where nothing has changed, so make the step again; or why the host has stopped, at
- * this call or before: SAM_STREAM.., SAM_HOST_REFUSED... Unless it is SAM_OK, nothing is handed out. */
+ * file that follow each other, and the checks (Tcheck) among them, or else answers the oldest message. sam_host_feed makes such steps up
+ * to SAM_STEP_IDLE. SAM_OK, SAM_NO_HANDLE, SAM_UNFINISHED if memory was refused, where nothing has changed, so make the step again; or why
+ * the host has stopped, at this call or before: SAM_STREAM.., SAM_HOST_REFUSED... Unless it is SAM_OK, nothing is handed out. */
 SAM_MUST_USE sam_status sam_host_step(sam_host *host, sam_did *did);
 
 /* Whether the terminal's stream may end here: to be asked once the host's input has ended. It changes nothing. SAM_OK,

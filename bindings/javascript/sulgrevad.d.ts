@@ -170,8 +170,8 @@ export declare class Host extends Side {
    * waits. The next step that takes a message begins with it. */
   nextMessage(): { kind: number; tag: number } | null;
   /** Does one thing of what waits, and says what: it writes what was answered last, if that is left over; or the host takes edits of one
-   * file that follow each other, or else answers the oldest message. `feed` makes such steps until one is idle. What a step doesn't say
-   * is 0. Throws Unfinished, where nothing has changed, or why the host has stopped. */
+   * file that follow each other, and the checks (Tcheck) among them, or else answers the oldest message. `feed` makes such steps until
+   * one is idle. What a step doesn't say is 0. Throws Unfinished, where nothing has changed, or why the host has stopped. */
   step(): HostStep;
   /** The tag of a file that the terminal asked the host to write: write `saved` of it now. Each Twrite gives its tag once, in order; null
    * if there is none left. */

@@ -435,21 +435,26 @@ static void handle_send(void)
     want_text(1, "");
 }
 
-/* Edits that come all at once. Where memory is refused the host has taken some of them, and takes the others later. */
+/* Edits that come all at once, with checks among them. Where memory is refused the host has taken some of them, and takes the others
+ * later. */
 static void handle_edits(void)
 {
-    struct piece edits = {0}, nothing = {0};
+    struct piece edits = {0}, wanted = {0};
     uint64_t taken = 0;
     work_host("abab\n");
     add_message(&edits, TCUT, "244", 1, 0, 1);
     add_message(&edits, TTYPE, "24s", 1, 0, "X");
+    add_message(&edits, TCHECK, "2", 1);
     add_message(&edits, TCUT, "244", 1, 2, 3);
+    add_message(&edits, TCHECK, "2", 0);
     add_message(&edits, TTYPE, "24s", 1, 2, "X");
     want("edits", fed(HOST, &edits));
-    want_pending(HOST, &nothing);
+    add_frame(&wanted, HCHECK, 6, "2", 1);
+    add_frame(&wanted, HCHECK, 8, "2", 0);
+    want_pending(HOST, &wanted);
     want_text(1, "XbXb\n");
     want("taken", sam_host_taken(&host, &taken));
-    want_number("how many messages are taken", taken, 7);
+    want_number("how many messages are taken", taken, 9);
 }
 
 /* ---- Events and frames at the terminal ---- */

@@ -84,11 +84,50 @@ def test_edits_of_one_file_are_one_step():
     expect_equal(list(host.written()), [1])
 
 
+def test_checks_among_edits_are_answered_with_them():
+    one, many = host_with("abcdef", "ghi"), host_with("abcdef", "ghi")
+    run = (
+        frame("Ttype", 1, 0, "x"), frame("Tcheck", 1), frame("Tcut", 1, 1, 3), frame("Tcheck", 2), frame("Tcheck", 1),
+        frame("Ttype", 1, 0, "yz"), frame("Tcheck", 1),
+    )  # fmt: skip
+    many.bring(b"".join(run) + frame("Tcheck", 0))
+    expect_steps(many, edited(1, 7))
+    expect_equal((many.text(1), many.taken, many.pending), ("yzxcdef", 9, 0))
+    expect_steps(many, WROTE)
+    for message in run:
+        one.feed(message)
+    told, seen = ((1, 4), (2, 6), (1, 7), (1, 9)), many.take_out()
+    expect_equal(seen, b"".join(frame("Hcheck", tag, seen=stamp) for tag, stamp in told))
+    expect_equal((seen, many.text(1), many.taken), (one.take_out(), one.text(1), one.taken))
+    expect_equal(code_of(many.step), "HOST_NOT_OPEN")  # the command file, which no terminal has opened
+
+
+def test_a_check_in_front_of_edits_is_a_step_of_its_own():
+    host = host_with("abc")
+    host.bring(frame("Tcheck", 1) + frame("Ttype", 1, 0, "x") + frame("Tcheck", 1) + frame("Twrite", 1))
+    expect_steps(host, answered("Tcheck", 1), WROTE, answered("Ttype", 1), answered("Tcheck", 1), WROTE, answered("Twrite", 1), WROTE, IDLE)
+
+
 def test_edits_in_front_of_a_refused_one_are_one_step():
     host = host_with("abc")
     host.bring(frame("Ttype", 1, 0, "x") + frame("Tcut", 1, 0, 99))
     expect_steps(host, edited(1, 1))
     expect_equal((code_of(host.step), host.text(1)), ("HOST_BAD_POSITION", "xabc"))
+
+
+def test_checks_in_front_of_a_refused_edit_are_answered():
+    host = host_with("abc")
+    host.bring(frame("Ttype", 1, 0, "x") + 2 * frame("Tcheck", 1) + frame("Tcut", 1, 0, 99) + frame("Tcheck", 1))
+    expect_steps(host, edited(1, 3), WROTE)
+    expect_equal((code_of(host.step), host.text(1)), ("HOST_BAD_POSITION", "xabc"))
+    expect_equal(host.take_out(), frame("Hcheck", 1, seen=3) + frame("Hcheck", 1, seen=4))
+
+
+def test_edits_in_front_of_a_refused_check_are_one_step():
+    host = host_with("abc")
+    host.bring(frame("Ttype", 1, 0, "x") + frame("Tcheck", 1) + frame("Ttype", 1, 0, "y") + frame("Tcheck", 9) + frame("Ttype", 1, 0, "z"))
+    expect_steps(host, edited(1, 3), WROTE)
+    expect_equal((code_of(host.step), host.text(1), host.taken), ("HOST_NO_FILE", "yxabc", 4))
 
 
 def test_a_text_is_saved_before_its_file_closes():

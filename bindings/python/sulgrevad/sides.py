@@ -309,8 +309,8 @@ class Host(_Side):
 
     def step(self) -> HostDid:
         """Does one thing of what waits, and says what: it writes what was answered last, if that is left over; or the host takes edits of
-        one file that follow each other, or else answers the oldest message. `feed` makes such steps until one is IDLE. Raises Unfinished,
-        where nothing has changed, or why the host has stopped, now or before."""
+        one file that follow each other, and the checks (Tcheck) among them, or else answers the oldest message. `feed` makes such steps
+        until one is IDLE. Raises Unfinished, where nothing has changed, or why the host has stopped, now or before."""
         did = Did()
         self._call("step", byref(did))
         return HostDid(STEPS[did.step], did.kind, did.tag, did.count)

@@ -1,13 +1,12 @@
 -- Going on with what waits, step by step.
-use Rattle.sam_endpoint.proofs.Common.{◌≡◌, ◌⊎◌, ◌<◌, ◌≤◌, take, drop, length, length-append, refl, sym, ap, if◌then◌else◌, subst, ◌∙◌, ℕ, List, [], ◌∷◌, ◌++◌, Option, None, Ok, Err, inl, inr, append_assoc, append-nil, arith, All-append, All-nil, FitsH, Tmesg, HFrame, host, terminal, stream_of, Held, stream_of-append, PlainHost, answer, with_given, map, StreamFault, HostStop, EndpointFault, FitFrames, Gives, PlainHostEndpoint, Answers, Feeds, GoesOn, Serves, TakesIn, writes_of, Answer, AnswersFirst, Ends, Writes}
-use Rattle.std.proofs.Common.{length-take-le, take-append-drop}
+use Rattle.sam_endpoint.proofs.Common.{◌≡◌, ◌⊎◌, ◌<◌, ◌≤◌, take, drop, length, length-append, refl, sym, ap, subst, ◌∙◌, ℕ, List, [], ◌∷◌, ◌++◌, Option, None, Ok, Err, inl, inr, append_assoc, append-nil, arith, All-append, All-cons, All-nil, FitsH, Tmesg, HFrame, host, terminal, stream_of, Held, stream_of-append, PlainHost, answer, with_given, map, StreamFault, HostStop, EndpointFault, FitFrames, Gives, PlainHostEndpoint, Answers, Feeds, GoesOn, Serves, TakesIn, writes_of, Answer, AnswersFirst, Ends, Writes}
+use Rattle.std.proofs.Common.{All, length-take-le, take-append-drop}
 use Rattle.std.proofs.lemmas.List.{map-append}
 use Rattle.sam_endpoint.specs.HostEndpoints.{Step, Answered, Joined}
 use Rattle.sam_endpoint.specs.declared.fault.HostStop.TheVariants as stop
 use Rattle.sam_endpoint.specs.declared.fault.EndpointFault.TheVariants as fault
-use Rattle.sam_host.specs.Edits.{EditFile, TakesInSilence}
-use Rattle.sam_host.proofs.EditLaws.{silent_write}
-use Rattle.sam_mesg.specs.declared.tmesg.Tmesg.TheVariants.{Twrite}
+use Rattle.std.proofs.lemmas.List.Elements.{All-head, All-tail}
+use Rattle.sam_host.specs.Edits.{EditFile, EditsOrChecks, TakesAll}
 use Rattle.sam_endpoint.specs.HostSteps.{Handles, TakesEdits, TakesSo, written}
 
 -- ## Answers one after another
@@ -105,42 +104,49 @@ first_gone e l k gone first =
 pub starts : (e g : PlainHostEndpoint) → e.stop ≡ None → g ≡ written e → HasGone e g
 starts e g goes is = then_written e e g [] (answers_nothing e) goes is
 
--- a message that needs no answer tells the host to write nothing
-no_write : (h k : PlainHost) (m : Tmesg) → answer h m ≡ Ok (k, []) → writes_of h m ≡ []
-no_write h k (Twrite f) e = ap (λ b. if b then [] else f ∷ []) (silent_write h k f e)
-no_write h k m e = refl
+-- a message that edits, and a check, tell the host to write nothing
+no_write : (h : PlainHost) (f : ℕ) (m : Tmesg) → EditsOrChecks f m → writes_of h m ≡ []
+no_write h f m (inl edits) = grind arith
+no_write h f m (inr (g, is)) = ap (writes_of h) is
 
--- to take messages in silence is to answer them
-silent : (h : PlainHost) (ms : List Tmesg) (g : PlainHost) → TakesInSilence h ms g → Serves h (map Answered ms) [] [] g
-silent h [] g is = (refl, refl, is)
-silent h (m ∷ ms) g (k, answered, rest) = (k, [], [], [], answered, refl, grind (arith, (no_write h k m answered)), silent k ms g rest)
+-- to take such messages one after another is to answer them
+serves_all : (h : PlainHost) (f : ℕ) (ms : List Tmesg) (frames : List HFrame) (g : PlainHost) → All (EditsOrChecks f) ms → TakesAll h ms frames g → Serves h (map Answered ms) frames [] g
+serves_all h f [] frames g run (none, is) = (none, refl, is)
+serves_all h f (m ∷ ms) frames g run (k, first, rest, answered, are, more) =
+    (k, first, rest, [], answered, are, sym (ap (λ (x : List ℕ). x ++ []) (no_write h f m (All-head (EditsOrChecks f) m ms run))), serves_all k f ms rest g (All-tail (EditsOrChecks f) m ms run) more)
 
-edits_gone : (e l k : PlainHostEndpoint) → HasGone e l → TakesEdits l k → HasGone e k
-edits_gone e l k gone took =
-    let after : PlainHostEndpoint = record l { host = took.host; waiting = took.rest } in
-    let answers : Answers l took.messages after = record {
-      frames = [];
+each_runs : (f : ℕ) (ms : List Tmesg) → EditFile f ms → All (EditsOrChecks f) ms
+each_runs f [] one = All-nil (EditsOrChecks f)
+each_runs f (m ∷ ms) one = All-cons (EditsOrChecks f) m ms (inl one.0) one.1
+
+-- edits were taken, and the checks among them answered, where all frames are written
+answers_taken : (l k : PlainHostEndpoint) → l.unwritten ≡ [] → (took : TakesEdits l k) → Answers l took.messages k
+answers_taken l k none took =
+    subst (λ (x : PlainHostEndpoint). Answers l took.messages x) (sym took.after) (record {
+      frames = took.frames;
       more = [];
-      serves = silent l.host took.messages took.host took.taken;
-      frames_fit = All-nil (FitsH 2);
+      serves = serves_all l.host took.file took.messages took.frames took.host (each_runs took.file took.messages took.one_file) took.taken;
+      frames_fit = took.frames_fit;
       waiting = took.waited;
-      bytes = grind (arith, append-nil);
+      bytes = ap (λ (fs : List HFrame). l.pending_bytes ++ stream_of host (fs ++ took.frames)) (sym none);
       writes = sym (append-nil l.writes);
       framer = refl;
       broken_by = refl;
-    } in
-    subst (λ (x : PlainHostEndpoint). HasGone e x) (sym took.after) (record {
-      messages = gone.messages ++ took.messages;
-      answers = answers_more e l after gone.messages took.messages gone.answers answers;
-      written = gone.written;
-      goes = gone.goes;
     })
 
+edits_gone : (e l k : PlainHostEndpoint) (gone : HasGone e l) (took : TakesEdits l k) → Answers e (gone.messages ++ took.messages) k × (k.stop ≡ None)
+edits_gone e l k gone took =
+    (answers_more e l k gone.messages took.messages gone.answers (answers_taken l k gone.written took), ap (λ (x : PlainHostEndpoint). x.stop) took.after ∙ gone.goes)
+
+-- the host took no message
+pub took_none : (h g : PlainHost) (n : ℕ) (ms : List Tmesg) (frames : List HFrame) → n ≡ 0 → TakesAll h (take n ms) frames g → g ≡ h
+took_none h g n ms frames none taken = (subst (λ (x : ℕ). TakesAll h (take x ms) frames g) none taken).1
+
 -- the host took the first n messages that waited
-pub took_first : (e g : PlainHostEndpoint) (n : ℕ) (h : PlainHost) → 0 < n → n ≤ length e.waiting → TakesInSilence e.host (take n e.waiting) h
-    → ((f : ℕ) × EditFile f (take n e.waiting))
-    → g ≡ record e { host = h; waiting = drop n e.waiting } → TakesSo e n g
-took_first e g n h some there taken (f, one) is =
+pub took_first : (e g : PlainHostEndpoint) (n : ℕ) (h : PlainHost) (frames : List HFrame) → 0 < n → n ≤ length e.waiting → TakesAll e.host (take n e.waiting) frames h
+    → FitFrames frames → ((f : ℕ) × EditFile f (take n e.waiting))
+    → g ≡ record e { host = h; waiting = drop n e.waiting; unwritten = frames } → TakesSo e n g
+took_first e g n h frames some there taken fit (f, one) is =
     let count : length (take n e.waiting) ≡ n = length-take-le n e.waiting there in (
       record {
         messages = take n e.waiting;
@@ -148,7 +154,9 @@ took_first e g n h some there taken (f, one) is =
         host = h;
         some = omega (arith, some, count);
         waited = sym (take-append-drop n e.waiting);
+        frames = frames;
         taken = taken;
+        frames_fit = fit;
         file = f;
         one_file = one;
         after = is;
@@ -159,7 +167,7 @@ took_first e g n h some there taken (f, one) is =
 -- what waited first was answered
 next_gone : (e l k : PlainHostEndpoint) → HasGone e l → AnswersFirst l k ⊎ TakesEdits l k → (ms : List Tmesg) × Answers e ms k × (k.stop ≡ None)
 next_gone e l k gone (inl first) = let g = first_gone e l k gone first in (gone.messages ++ first.message ∷ [], g.0, g.1)
-next_gone e l k gone (inr took) = let g = edits_gone e l k gone took in (g.messages, g.answers, g.goes)
+next_gone e l k gone (inr took) = let g = edits_gone e l k gone took in (gone.messages ++ took.messages, g.0, g.1)
 
 pub goes_further : (e l k g : PlainHostEndpoint) → HasGone e l → AnswersFirst l k ⊎ TakesEdits l k → g ≡ written k → HasGone e g
 goes_further e l k g gone next is = let n = next_gone e l k gone next in then_written e k g n.0 n.1 n.2 is

@@ -3,7 +3,6 @@ use Rattle.sam_endpoint.proofs.Common.{◌≡◌, refl, sym, ap, subst, ◌∙�
 use Rattle.std.specs.Prelude.{zero, suc, drop, option_and_then, slice_get}
 use Rattle.sam_mesg.specs.TerminalKinds.{kind_t}
 use Rattle.std.proofs.Common.{◌<◌, length}
-use Rattle.std.proofs.lemmas.List.Elements.{All-head}
 use Rattle.sam_host.specs.Edits.{EditFile, edited_file}
 use Rattle.sam_endpoint.specs.Naming.{file_of_t}
 use Rattle.sam_endpoint.specs.declared.fault.HostStop.TheVariants as stop
@@ -40,7 +39,7 @@ names_one : (ms rest waiting : List Tmesg) (message : Tmesg) (f tag : ℕ) → 0
 names_one [] rest waiting message f tag some is first edits named = absurd (omega (arith, some))
 names_one (m ∷ ms) rest waiting message f tag some is first edits named =
     let same : m ≡ message = same_message m message (ms ++ rest) (drop 1 waiting) (sym is ∙ first) in
-    let by : file_of_t m ≡ Some f = edits_name m f (All-head (λ x. edited_file x ≡ Some f) m ms edits) in
+    let by : file_of_t m ≡ Some f = edits_name m f edits.0 in
     some_same f tag (sym by ∙ ap file_of_t same ∙ named)
 
 -- the host took some messages, of which this was the oldest

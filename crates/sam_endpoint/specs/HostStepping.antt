@@ -29,7 +29,7 @@ BringsIn e piece (Err bring.Waiting) g = (e.stop ≡ None) × (IsDone e → ⊥)
 BringsIn e piece (Err bring.CountFull) g = IsReady e × (2 ^ 64 ≤ e.framer.offset + length e.framer.bytes + length piece) × (g ≡ e)
 BringsIn e piece (Err bring.OutOfMemory) g = IsReady e × HasRoom e.framer piece × (g ≡ e)
 
--- the host took so many messages that waited first, all of which type or cut in this file, and answered none of them with a frame
+-- the host took so many messages that waited first: edits of this file, the first one too, and the checks among them
 pub record TookEdits (e : PlainHostEndpoint) (tag count : ℕ) (g : PlainHostEndpoint) : Type 0 where
   pub edits : TakesEdits e g
   pub count_is : length edits.messages ≡ count

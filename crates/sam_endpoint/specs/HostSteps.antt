@@ -5,7 +5,7 @@ use Rattle.sam_mesg.specs.declared.hmesg.HFrame.{HFrame}
 use Rattle.sam_frame.specs.Direction.{host, terminal}
 use Rattle.sam_frame.specs.Framing.{HasRoom}
 use Rattle.sam_frame.specs.Stream.{CanEncode, stream_of}
-use Rattle.sam_host.specs.Edits.{EditFile, TakesInSilence}
+use Rattle.sam_host.specs.Edits.{EditFile, TakesAll}
 use Rattle.sam_host.specs.Host.{PlainHost, answer}
 use Rattle.sam_endpoint.specs.declared.fault.HostStop.{HostStop}
 use Rattle.sam_endpoint.specs.declared.fault.HostStop.TheVariants as stop
@@ -61,17 +61,19 @@ Handles e (Err (fault.Stopped (stop.Stream why))) g = ⊥
 Handles e (Err fault.OutOfMemory) g = ⊥
 Handles e (Err fault.CountFull) g = ⊥
 
--- the host took some messages that waited first, all of which type or cut in one file, and answered none of them with a frame
+-- the host took some messages that waited first: edits of one file, and the checks among them, whose answers are these frames
 pub record TakesEdits (e : PlainHostEndpoint) (g : PlainHostEndpoint) : Type 0 where
   pub messages : List Tmesg
   pub rest : List Tmesg
   pub host : PlainHost
   pub some : 0 < length messages
   pub waited : e.waiting ≡ messages ++ rest
-  pub taken : TakesInSilence e.host messages host
+  pub frames : List HFrame
+  pub taken : TakesAll e.host messages frames host
+  pub frames_fit : FitFrames frames
   pub file : ℕ
   pub one_file : EditFile file messages
-  pub after : g ≡ record e { host = host; waiting = rest }
+  pub after : g ≡ record e { host = host; waiting = rest; unwritten = frames }
 
 -- so many
 abbrev pub TakesSo : PlainHostEndpoint → ℕ → PlainHostEndpoint → Type 0

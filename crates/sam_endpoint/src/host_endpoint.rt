@@ -13,7 +13,7 @@ use crate::fault::{AddFault, EndpointFault, FinishFault, HostStop, StreamFault};
 use crate::incoming::{drop_first, feed_framer};
 use crate::known::know_frames;
 use sam_frame::{FramerT, PendingBytes};
-use sam_host::{Host, HostFault};
+use sam_host::{Host, HostFault, Taken};
 use sam_mesg::{HFrame, Tmesg};
 use sam_runes::{ALL_TAGS, MAX_RUNES, MOST_IN_NAME, Text, read_utf8};
 use std::alloc::{AllocError, Global};
@@ -106,7 +106,7 @@ pub struct HostEndpoint {
     pub(crate) waiting: VecDeque<Tmesg>,
     /// What is wrong with the stream after these messages; `None` if nothing is.
     pub(crate) broken_by: Option<StreamFault>,
-    /// The frames of the last answer, while their bytes are not pending. There are none after a `feed` that returned `Ok`.
+    /// The frames of the last answer or answers, while their bytes are not pending. There are none after a `feed` that returned `Ok`.
     pub(crate) unwritten: Vec<HFrame>,
     /// The bytes for the terminal that were not taken out yet.
     pending_bytes: PendingBytes,
@@ -381,17 +381,24 @@ impl HostEndpoint {
         }
     }
 
-    /// Has the host take edits of one file that wait first, at once. Returns how many; they need no answer, and wait no longer.
+    /// Has the host take edits of one file that wait first, with the checks among them, at once. Returns how many messages it took; they
+    /// wait no longer, and the answers to the checks are left over to be written.
+    #[tactic(auto, using(crate::proofs::HostEndpointGoing::took_none))]
     pub(crate) fn take_edits(&mut self) -> usize
         ensures took { 0 < result → TakesSo self.old result self.new }
         ensures unchanged { result ≡ 0 → self.new ≡ self.old }
     {
-        let count = self.host.handle_edits(&self.waiting);
+        let Taken { count, frames } = self.host.handle_edits(&self.waiting);
+        if count == 0 {
+            return 0;
+        }
+        know_frames(frames.as_slice());
         drop_oldest(&mut self.waiting, count);
+        self.unwritten = frames;
         count
     }
 
-    /// Has the host take what waits first: edits of one file at once, else the oldest message.
+    /// Has the host take what waits first: edits of one file at once, with the checks among them, else the oldest message.
     fn answer_next(&mut self) -> Result<(), EndpointFault<HostStop>>
         requires { 0 < length self.old.waiting }
         ensures { HandlesNext self.old result self.new }
@@ -432,7 +439,7 @@ impl HostEndpoint {
     }
 
     /// Goes on with what waits: it writes the last answer, and then answers and writes one message after another. Edits of one file that
-    /// follow each other cost the text once.
+    /// follow each other cost the text once, also where checks stand among them, which are answered with them.
     fn go_on(&mut self) -> Result<(), EndpointFault<HostStop>>
         requires { self.old.stop ≡ None }
         ensures { GoesOn self.old result self.new }

@@ -42,7 +42,8 @@ impl HostEndpoint {
 
     /// Goes on by one step with what waits, and says what it did. It writes the frames of the last answer, if some are left over. Else it
     /// has the host take what waits first: messages that type or cut in one file and follow each other, at once, or the oldest message.
-    /// `feed` does these steps until one is `Idle`.
+    /// Checks (Tcheck) of open files that stand among the edits or behind them are answered with them. `feed` does these steps until one
+    /// is `Idle`.
     ///
     /// Errors, in this order:
     ///

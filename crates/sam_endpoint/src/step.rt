@@ -15,11 +15,12 @@ pub enum HostStep {
     Idle,
     /// It wrote the frames of the last answer, whose bytes are pending now.
     Wrote,
-    /// The host took messages that follow each other, typed or cut in one file, all at once. They need no answer.
+    /// The host took messages that follow each other and type or cut in one file, all at once, with the checks (Tcheck) of open files that
+    /// stand among them or behind them. The answers to the checks are left over for the next step, if there are any.
     Edited {
-        /// The file.
+        /// The file that is edited.
         tag: u16,
-        /// How many messages: one at least.
+        /// How many messages, with the checks: one at least.
         count: usize,
     },
     /// The host answered the oldest message. Its frames are left over for the next step, if there are any.

@@ -232,9 +232,9 @@ extern "C" {
     /// takes a message begins with it. SAM_NONE if none waits.
     pub fn sam_host_next_message(host: *mut sam_host, kind: *mut u8, tag: *mut u16) -> sam_status;
     /// Does one thing of what waits, and says what: it writes what was answered last, if that is left over; or the host takes edits of one
-    /// file that follow each other, or else answers the oldest message. sam_host_feed makes such steps up to SAM_STEP_IDLE. SAM_OK,
-    /// SAM_NO_HANDLE, SAM_UNFINISHED if memory was refused, where nothing has changed, so make the step again; or why the host has stopped,
-    /// at this call or before: SAM_STREAM.., SAM_HOST_REFUSED... Unless it is SAM_OK, nothing is handed out.
+    /// file that follow each other, and the checks (Tcheck) among them, or else answers the oldest message. sam_host_feed makes such steps
+    /// up to SAM_STEP_IDLE. SAM_OK, SAM_NO_HANDLE, SAM_UNFINISHED if memory was refused, where nothing has changed, so make the step again;
+    /// or why the host has stopped, at this call or before: SAM_STREAM.., SAM_HOST_REFUSED... Unless it is SAM_OK, nothing is handed out.
     pub fn sam_host_step(host: *mut sam_host, did: *mut sam_did) -> sam_status;
     /// Whether the terminal's stream may end here: to be asked once the host's input has ended. It changes nothing. SAM_OK, SAM_NO_HANDLE,
     /// why the host has stopped before (SAM_STREAM.., SAM_HOST_REFUSED..), SAM_UNFINISHED if some of what came still waits for memory, or

@@ -66,8 +66,8 @@ impl Host {
     }
 
     /// Does one thing of what waits, and says what: it writes what was answered last, if that is left over; or the host takes edits of one
-    /// file that follow each other, or else answers the oldest message. `feed` makes such steps until one is `Idle`. Errors: `Unfinished`,
-    /// where nothing has changed, or why the host has stopped, now or before.
+    /// file that follow each other, and the checks (Tcheck) among them, or else answers the oldest message. `feed` makes such steps until
+    /// one is `Idle`. Errors: `Unfinished`, where nothing has changed, or why the host has stopped, now or before.
     pub fn step(&mut self) -> Result<HostStep, Error> {
         let mut did = sam_did::default();
         done(unsafe { sys::sam_host_step(self.at(), &mut did) })?;

@@ -24,7 +24,7 @@ pub enum HostStep {
     Idle,
     /// What was answered last is pending now.
     Wrote,
-    /// The host took so many messages that type or cut in one file, all at once.
+    /// The host took so many messages at once: edits of one file, and the checks (Tcheck) among them.
     Edited { tag: u16, count: usize },
     /// The host answered one message of this kind, by the numbers of docs/PROTOCOL.md; `tag` is the file that it names, or 0.
     Answered { kind: u8, tag: u16 },
