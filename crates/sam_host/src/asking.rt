@@ -1,10 +1,9 @@
 //! The answers to what the terminal asks of a file: a check, a stretch of its text, the start of a line, a word, an occurrence. A method
 //! for a kind leaves the count of messages to its caller, and after an error the host is unchanged.
 
-ghost use Rattle.std.specs.Prelude.{◌≡◌, ◌<◌, ◌≤◌, ◌+◌, ◌-◌, ◌^◌, [], true, min, is_some, IfOk, IfSome, OnOk, OnErr, Err, None, Some, length, vec_len, vec_capacity};
-ghost use Rattle.sam_host.specs.Host.{host_checks, Refuses, Appends, stamped, told_found, reply_check, reply_request, reply_origin, reply_look, reply_search, reply_dclick};
+ghost use Rattle.std.specs.Prelude.{◌≡◌, ◌<◌, ◌≤◌, ◌+◌, ◌-◌, ◌^◌, [], true, min, is_some, IfOk, IfSome, OnErr, Err, None, Some, length, vec_len, vec_capacity};
+ghost use Rattle.sam_host.specs.Host.{Replies, Appends, told_found};
 ghost use Rattle.sam_runes.specs.Texts.{lines_before, most_in_pattern};
-ghost use Rattle.sam_runes.specs.Checks.{first_of_checks};
 ghost use Rattle.sam_text.specs.Files.{file_at};
 
 use crate::fault::HostFault;
@@ -18,12 +17,7 @@ impl Host {
     #[tactic(auto, unfolding(crate::specs::Host::reply_check))]
     pub(crate) fn check(&mut self, tag: u16) -> Result<Vec<HFrame>, HostFault>
         requires { self.old.taken + 1 < 2 ^ 64 }
-        ensures allowed { OnOk result (first_of_checks (host_checks self.old (Tmesg.Tcheck tag)) ≡ None) }
-        ensures host { OnOk result (self.new ≡ (reply_check self.old tag).0) }
-        ensures frames { IfOk result (λ frames. frames.items ≡ stamped (self.old.taken + 1) (reply_check self.old tag).1) }
-        ensures refused { Refuses self.old (Tmesg.Tcheck tag) result }
-        ensures count { self.new.taken ≡ self.old.taken }
-        ensures unchanged { OnErr result (self.new ≡ self.old) }
+        ensures replied { Replies self.old (Tmesg.Tcheck tag) result self.new }
     {
         self.wants_open(tag)?;
         let mut frames = Vec::new(self.alloc);
@@ -37,12 +31,7 @@ impl Host {
     #[tactic(auto, unfolding(crate::specs::Host::reply_request, crate::specs::Host::when))]
     pub(crate) fn request(&mut self, tag: u16, p: u32, n: u16) -> Result<Vec<HFrame>, HostFault>
         requires { self.old.taken + 1 < 2 ^ 64 }
-        ensures allowed { OnOk result (first_of_checks (host_checks self.old (Tmesg.Trequest tag p n)) ≡ None) }
-        ensures host { OnOk result (self.new ≡ (reply_request self.old tag p n).0) }
-        ensures frames { IfOk result (λ frames. frames.items ≡ stamped (self.old.taken + 1) (reply_request self.old tag p n).1) }
-        ensures refused { Refuses self.old (Tmesg.Trequest tag p n) result }
-        ensures count { self.new.taken ≡ self.old.taken }
-        ensures unchanged { OnErr result (self.new ≡ self.old) }
+        ensures replied { Replies self.old (Tmesg.Trequest tag p n) result self.new }
     {
         if self.files.tags() <= tag as usize {
             return Err(HostFault::NoFile);
@@ -80,12 +69,7 @@ impl Host {
     #[tactic(auto, unfolding(crate::specs::Host::reply_origin))]
     pub(crate) fn origin(&mut self, tag: u16, p: u32, n: u32) -> Result<Vec<HFrame>, HostFault>
         requires { self.old.taken + 1 < 2 ^ 64 }
-        ensures allowed { OnOk result (first_of_checks (host_checks self.old (Tmesg.Torigin tag p n)) ≡ None) }
-        ensures host { OnOk result (self.new ≡ (reply_origin self.old tag p n).0) }
-        ensures frames { IfOk result (λ frames. frames.items ≡ stamped (self.old.taken + 1) (reply_origin self.old tag p n).1) }
-        ensures refused { Refuses self.old (Tmesg.Torigin tag p n) result }
-        ensures count { self.new.taken ≡ self.old.taken }
-        ensures unchanged { OnErr result (self.new ≡ self.old) }
+        ensures replied { Replies self.old (Tmesg.Torigin tag p n) result self.new }
     {
         self.wants_place(tag, p)?;
         let start = self.line_start_before(tag, p, n);
@@ -100,12 +84,7 @@ impl Host {
     #[tactic(auto, unfolding(crate::specs::Host::reply_dclick))]
     pub(crate) fn double_click(&mut self, tag: u16, p: u32) -> Result<Vec<HFrame>, HostFault>
         requires { self.old.taken + 1 < 2 ^ 64 }
-        ensures allowed { OnOk result (first_of_checks (host_checks self.old (Tmesg.Tdclick tag p)) ≡ None) }
-        ensures host { OnOk result (self.new ≡ (reply_dclick self.old tag p).0) }
-        ensures frames { IfOk result (λ frames. frames.items ≡ stamped (self.old.taken + 1) (reply_dclick self.old tag p).1) }
-        ensures refused { Refuses self.old (Tmesg.Tdclick tag p) result }
-        ensures count { self.new.taken ≡ self.old.taken }
-        ensures unchanged { OnErr result (self.new ≡ self.old) }
+        ensures replied { Replies self.old (Tmesg.Tdclick tag p) result self.new }
     {
         self.wants_open(tag)?;
         let Ok(mut frames) = Vec::with_capacity(self.alloc, 2) else {
@@ -167,12 +146,7 @@ impl Host {
     #[tactic(auto, unfolding(crate::specs::Host::reply_look))]
     pub(crate) fn look(&mut self, tag: u16, p: u32, q: u32) -> Result<Vec<HFrame>, HostFault>
         requires { self.old.taken + 1 < 2 ^ 64 }
-        ensures allowed { OnOk result (first_of_checks (host_checks self.old (Tmesg.Tlook tag p q)) ≡ None) }
-        ensures host { OnOk result (self.new ≡ (reply_look self.old tag p q).0) }
-        ensures frames { IfOk result (λ frames. frames.items ≡ stamped (self.old.taken + 1) (reply_look self.old tag p q).1) }
-        ensures refused { Refuses self.old (Tmesg.Tlook tag p q) result }
-        ensures count { self.new.taken ≡ self.old.taken }
-        ensures unchanged { OnErr result (self.new ≡ self.old) }
+        ensures replied { Replies self.old (Tmesg.Tlook tag p q) result self.new }
     {
         self.wants_open(tag)?;
         let Ok((mut frames, pattern)) = self.room_for_look(p, q) else {
@@ -194,12 +168,7 @@ impl Host {
     #[tactic(auto, unfolding(crate::specs::Host::reply_search))]
     pub(crate) fn search(&mut self, tag: u16, p: u32, q: u32) -> Result<Vec<HFrame>, HostFault>
         requires { self.old.taken + 1 < 2 ^ 64 }
-        ensures allowed { OnOk result (first_of_checks (host_checks self.old (Tmesg.Tsearch tag p q)) ≡ None) }
-        ensures host { OnOk result (self.new ≡ (reply_search self.old tag p q).0) }
-        ensures frames { IfOk result (λ frames. frames.items ≡ stamped (self.old.taken + 1) (reply_search self.old tag p q).1) }
-        ensures refused { Refuses self.old (Tmesg.Tsearch tag p q) result }
-        ensures count { self.new.taken ≡ self.old.taken }
-        ensures unchanged { OnErr result (self.new ≡ self.old) }
+        ensures replied { Replies self.old (Tmesg.Tsearch tag p q) result self.new }
     {
         self.wants_open(tag)?;
         let Ok(mut frames) = Vec::with_capacity(self.alloc, 4) else {

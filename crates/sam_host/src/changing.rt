@@ -1,11 +1,10 @@
 //! The answers to what changes a file or the snarf buffer: cutting, pasting, snarfing and writing. A method for a kind
 //! leaves the count of messages to its caller, and after an error the host is unchanged.
 
-ghost use Rattle.std.specs.Prelude.{◌≡◌, ◌<◌, ◌≤◌, ◌+◌, ◌∷◌, [], ◌^◌, IfOk, IfErr, OnOk, OnErr, Err, None, Some, IsTrue, true, length};
-ghost use Rattle.sam_host.specs.Host.{host_checks, Refuses, Appends, stamped, told_paste, with_file, reply_cut, reply_paste, reply_snarf, reply_setsnarf, reply_startsnarf, reply_write};
+ghost use Rattle.std.specs.Prelude.{◌≡◌, ◌<◌, ◌≤◌, ◌+◌, ◌∷◌, [], ◌^◌, IfOk, IfErr, OnOk, OnErr, Err, Some, IsTrue, length};
+ghost use Rattle.sam_host.specs.Host.{host_checks, Replies, Appends, stamped, told_paste};
 ghost use Rattle.sam_runes.specs.Texts.{max_runes};
 ghost use Rattle.sam_runes.specs.Checks.{first_of_checks};
-ghost use Rattle.sam_text.specs.Files.{has_file, file_at, typed_file, pasted_file};
 ghost use Rattle.sam_mesg.specs.TerminalKinds.{fits_t};
 
 use crate::fault::HostFault;
@@ -22,14 +21,9 @@ impl Host {
     #[tactic(auto, unfolding(crate::specs::Host::reply_cut))]
     pub(crate) fn cut(&mut self, tag: u16, p: u32, q: u32) -> Result<Vec<HFrame>, HostFault>
         requires { self.old.taken + 1 < 2 ^ 64 }
-        ensures allowed { OnOk result (first_of_checks (host_checks self.old (Tmesg.Tcut tag p q)) ≡ None) }
-        ensures host { OnOk result (self.new ≡ (reply_cut self.old tag p q).0) }
-        ensures frames { IfOk result (λ frames. frames.items ≡ stamped (self.old.taken + 1) (reply_cut self.old tag p q).1) }
-        ensures refused { Refuses self.old (Tmesg.Tcut tag p q) result }
+        ensures replied { Replies self.old (Tmesg.Tcut tag p q) result self.new }
         // It takes no memory.
         ensures memory { IfErr result (λ why. first_of_checks (host_checks self.old (Tmesg.Tcut tag p q)) ≡ Some why) }
-        ensures count { self.new.taken ≡ self.old.taken }
-        ensures unchanged { OnErr result (self.new ≡ self.old) }
     {
         self.wants_open(tag)?;
         self.files.delete(tag, p, q)?;
@@ -82,12 +76,7 @@ impl Host {
     #[tactic(auto, unfolding(crate::specs::Host::reply_paste))]
     pub(crate) fn paste(&mut self, tag: u16, p: u32) -> Result<Vec<HFrame>, HostFault>
         requires { self.old.taken + 1 < 2 ^ 64 }
-        ensures allowed { OnOk result (first_of_checks (host_checks self.old (Tmesg.Tpaste tag p)) ≡ None) }
-        ensures host { OnOk result (self.new ≡ (reply_paste self.old tag p).0) }
-        ensures frames { IfOk result (λ frames. frames.items ≡ stamped (self.old.taken + 1) (reply_paste self.old tag p).1) }
-        ensures refused { Refuses self.old (Tmesg.Tpaste tag p) result }
-        ensures count { self.new.taken ≡ self.old.taken }
-        ensures unchanged { OnErr result (self.new ≡ self.old) }
+        ensures replied { Replies self.old (Tmesg.Tpaste tag p) result self.new }
     {
         self.wants_open(tag)?;
         if self.files.snarf_text().len() == 0 {
@@ -109,12 +98,7 @@ impl Host {
     #[tactic(auto, using(crate::proofs::FileLaws::part_length), unfolding(crate::specs::Host::reply_snarf))]
     pub(crate) fn snarf(&mut self, tag: u16, p: u32, q: u32) -> Result<Vec<HFrame>, HostFault>
         requires { self.old.taken + 1 < 2 ^ 64 }
-        ensures allowed { OnOk result (first_of_checks (host_checks self.old (Tmesg.Tsnarf tag p q)) ≡ None) }
-        ensures host { OnOk result (self.new ≡ (reply_snarf self.old tag p q).0) }
-        ensures frames { IfOk result (λ frames. frames.items ≡ stamped (self.old.taken + 1) (reply_snarf self.old tag p q).1) }
-        ensures refused { Refuses self.old (Tmesg.Tsnarf tag p q) result }
-        ensures count { self.new.taken ≡ self.old.taken }
-        ensures unchanged { OnErr result (self.new ≡ self.old) }
+        ensures replied { Replies self.old (Tmesg.Tsnarf tag p q) result self.new }
     {
         self.wants_open(tag)?;
         let Ok(mut frames) = Vec::with_capacity(self.alloc, 1) else {
@@ -130,12 +114,7 @@ impl Host {
     pub(crate) fn set_snarf(&mut self, runes: &Runes) -> Result<Vec<HFrame>, HostFault>
         requires count { self.old.taken + 1 < 2 ^ 64 }
         requires fits { IsTrue (fits_t 2 (Tmesg.Tsetsnarf runes.now)) }
-        ensures allowed { OnOk result (first_of_checks (host_checks self.old (Tmesg.Tsetsnarf runes.now)) ≡ None) }
-        ensures host { OnOk result (self.new ≡ (reply_setsnarf self.old runes.now).0) }
-        ensures frames { IfOk result (λ frames. frames.items ≡ stamped (self.old.taken + 1) (reply_setsnarf self.old runes.now).1) }
-        ensures refused { Refuses self.old (Tmesg.Tsetsnarf runes.now) result }
-        ensures count { self.new.taken ≡ self.old.taken }
-        ensures unchanged { OnErr result (self.new ≡ self.old) }
+        ensures replied { Replies self.old (Tmesg.Tsetsnarf runes.now) result self.new }
     {
         let mut frames = Vec::new(self.alloc);
         self.say(&mut frames, Hmesg::Hsnarflen(runes.len() as u32))?;
@@ -148,12 +127,7 @@ impl Host {
     #[tactic(auto, unfolding(crate::specs::Host::reply_startsnarf))]
     pub(crate) fn start_snarf(&mut self) -> Result<Vec<HFrame>, HostFault>
         requires { self.old.taken + 1 < 2 ^ 64 }
-        ensures allowed { OnOk result (first_of_checks (host_checks self.old Tmesg.Tstartsnarf) ≡ None) }
-        ensures host { OnOk result (self.new ≡ (reply_startsnarf self.old).0) }
-        ensures frames { IfOk result (λ frames. frames.items ≡ stamped (self.old.taken + 1) (reply_startsnarf self.old).1) }
-        ensures refused { Refuses self.old Tmesg.Tstartsnarf result }
-        ensures count { self.new.taken ≡ self.old.taken }
-        ensures unchanged { OnErr result (self.new ≡ self.old) }
+        ensures replied { Replies self.old Tmesg.Tstartsnarf result self.new }
     {
         let snarf = self.files.snarf_text().as_slice();
         let len = prefix_in_bytes(snarf, snarf_limit(self.version));
@@ -168,12 +142,7 @@ impl Host {
     #[tactic(auto, unfolding(crate::specs::Host::reply_write))]
     pub(crate) fn write(&mut self, tag: u16) -> Result<Vec<HFrame>, HostFault>
         requires { self.old.taken + 1 < 2 ^ 64 }
-        ensures allowed { OnOk result (first_of_checks (host_checks self.old (Tmesg.Twrite tag)) ≡ None) }
-        ensures host { OnOk result (self.new ≡ (reply_write self.old tag).0) }
-        ensures frames { IfOk result (λ frames. frames.items ≡ stamped (self.old.taken + 1) (reply_write self.old tag).1) }
-        ensures refused { Refuses self.old (Tmesg.Twrite tag) result }
-        ensures count { self.new.taken ≡ self.old.taken }
-        ensures unchanged { OnErr result (self.new ≡ self.old) }
+        ensures replied { Replies self.old (Tmesg.Twrite tag) result self.new }
     {
         self.wants_other(tag)?;
         self.wants_open(tag)?;

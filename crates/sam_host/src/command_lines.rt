@@ -3,13 +3,12 @@
 //! all memory is had before the first change, and no change can fail. The functions `tell_..` add frames to those of the answer. The only
 //! error of a private function is `OutOfMemory`, and the host is then unchanged.
 
-ghost use Rattle.std.specs.Prelude.{◌≡◌, ◌==◌, ◌<◌, ◌≤◌, ◌+◌, ◌-◌, ◌++◌, ◌∷◌, [], ◌^◌, IfOk, IsTrue, OnOk, OnErr, Err, None, Some, true, not, ◌&&◌, nat_lt, if◌then◌else◌, length};
+ghost use Rattle.std.specs.Prelude.{◌≡◌, ◌==◌, ◌<◌, ◌≤◌, ◌+◌, ◌-◌, ◌∷◌, [], ◌^◌, IfOk, OnOk, OnErr, Err, None, Some, not, ◌&&◌, nat_lt, if◌then◌else◌, length};
 ghost use Rattle.sam_host.specs.Typing.{typed, sent, typed_line, reply_typed_line, told_line, IsSameButEdits};
-ghost use Rattle.sam_host.specs.Host.{host_checks, Refuses, Appends, stamped, when, when_given, printed, told_edit, told_edits, told_outcome, with_file, line_to, reply_line, reply_type, reply_send};
-ghost use Rattle.sam_runes.specs.Texts.{max_runes, part, as_lines, last_line, ends_line};
+ghost use Rattle.sam_host.specs.Host.{Replies, Appends, stamped, when, when_given, printed, told_edit, told_edits, told_outcome, line_to, reply_line};
+ghost use Rattle.sam_runes.specs.Texts.{max_runes, part, as_lines, last_line};
 ghost use Rattle.sam_runes.specs.Edits.{inserted};
-ghost use Rattle.sam_runes.specs.Checks.{first_of_checks};
-ghost use Rattle.sam_text.specs.Files.{has_file, file_at, typed_file, after_print, committed, IsOutcomeOf};
+ghost use Rattle.sam_text.specs.Files.{file_at, IsOutcomeOf};
 ghost use Rattle.sam_text.specs.Views.{room_at};
 ghost use Rattle.sam_text.specs.Outcomes.{effect};
 ghost use Rattle.sam_text.specs.Meaning.{meaning, nothing};
@@ -373,12 +372,7 @@ impl Host {
         runes: &Runes,
     ) -> Result<Vec<HFrame>, HostFault>
         requires { self.old.taken + 1 < 2 ^ 64 }
-        ensures allowed { OnOk result (first_of_checks (host_checks self.old (Tmesg.Ttype tag p runes.now)) ≡ None) }
-        ensures host { OnOk result (self.new ≡ (reply_type self.old tag p runes.now).0) }
-        ensures frames { IfOk result (λ frames. frames.items ≡ stamped (self.old.taken + 1) (reply_type self.old tag p runes.now).1) }
-        ensures refused { Refuses self.old (Tmesg.Ttype tag p runes.now) result }
-        ensures count { self.new.taken ≡ self.old.taken }
-        ensures unchanged { OnErr result (self.new ≡ self.old) }
+        ensures replied { Replies self.old (Tmesg.Ttype tag p runes.now) result self.new }
     {
         self.wants_open(tag)?;
         if tag == 0 && runes.ends_line() {
@@ -445,12 +439,7 @@ impl Host {
     #[tactic(auto, using(crate::proofs::TypingLaws::send_nothing, crate::proofs::TypingLaws::lines_filled))]
     pub(crate) fn send(&mut self, tag: u16, p: u32, q: u32) -> Result<Vec<HFrame>, HostFault>
         requires { self.old.taken + 1 < 2 ^ 64 }
-        ensures allowed { OnOk result (first_of_checks (host_checks self.old (Tmesg.Tsend tag p q)) ≡ None) }
-        ensures host { OnOk result (self.new ≡ (reply_send self.old tag p q).0) }
-        ensures frames { IfOk result (λ frames. frames.items ≡ stamped (self.old.taken + 1) (reply_send self.old tag p q).1) }
-        ensures refused { Refuses self.old (Tmesg.Tsend tag p q) result }
-        ensures count { self.new.taken ≡ self.old.taken }
-        ensures unchanged { OnErr result (self.new ≡ self.old) }
+        ensures replied { Replies self.old (Tmesg.Tsend tag p q) result self.new }
     {
         self.wants_range(tag, p, q)?;
         if p == q {

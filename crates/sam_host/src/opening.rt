@@ -1,11 +1,9 @@
 //! The answers to the version, to what makes, opens, chooses or closes a file, and to the end of the session. A method for a kind leaves
 //! the count of messages to its caller, and after an error the host is unchanged.
 
-ghost use Rattle.std.specs.Prelude.{◌≡◌, ◌<◌, ◌+◌, ◌++◌, ◌∷◌, [], ◌^◌, IfOk, OnOk, OnErr, Err, None, Some, true, not, drop};
-ghost use Rattle.sam_host.specs.Host.{host_checks, Refuses, Appends, stamped, when, told_length, told_names, with_files, printed, no_tag_left, reply_version, reply_startcmdfile, reply_startfile, reply_startnewfile, reply_workfile, reply_close, reply_exit};
-ghost use Rattle.sam_runes.specs.Checks.{first_of_checks};
-ghost use Rattle.sam_text.specs.Files.{file_at, has_file, change_file, after_print};
-ghost use Rattle.sam_text.specs.Views.{changed, FitsIn};
+ghost use Rattle.std.specs.Prelude.{◌≡◌, ◌<◌, ◌+◌, ◌++◌, ◌∷◌, [], ◌^◌, IfOk, OnOk, OnErr, Err, true, not, drop};
+ghost use Rattle.sam_host.specs.Host.{Replies, Appends, stamped, when, told_length, told_names, with_files, printed, no_tag_left};
+ghost use Rattle.sam_text.specs.Files.{file_at, after_print};
 
 use crate::fault::HostFault;
 use crate::host::Host;
@@ -45,12 +43,7 @@ impl Host {
     #[tactic(auto, using(crate::proofs::FrameLaws::stamped_append), unfolding(crate::specs::Host::reply_version))]
     pub(crate) fn agree(&mut self, offered: u16) -> Result<Vec<HFrame>, HostFault>
         requires { self.old.taken + 1 < 2 ^ 64 }
-        ensures allowed { OnOk result (first_of_checks (host_checks self.old (Tmesg.Tversion offered)) ≡ None) }
-        ensures host { OnOk result (self.new ≡ (reply_version self.old offered).0) }
-        ensures frames { IfOk result (λ frames. frames.items ≡ stamped (self.old.taken + 1) (reply_version self.old offered).1) }
-        ensures refused { Refuses self.old (Tmesg.Tversion offered) result }
-        ensures count { self.new.taken ≡ self.old.taken }
-        ensures unchanged { OnErr result (self.new ≡ self.old) }
+        ensures replied { Replies self.old (Tmesg.Tversion offered) result self.new }
     {
         if offered == 0 {
             return Err(HostFault::BadVersion);
@@ -69,12 +62,7 @@ impl Host {
     #[tactic(auto, using(crate::proofs::FrameLaws::stamped_append), unfolding(crate::specs::Host::reply_startcmdfile))]
     pub(crate) fn start_command_file(&mut self) -> Result<Vec<HFrame>, HostFault>
         requires { self.old.taken + 1 < 2 ^ 64 }
-        ensures allowed { OnOk result (first_of_checks (host_checks self.old Tmesg.Tstartcmdfile) ≡ None) }
-        ensures host { OnOk result (self.new ≡ (reply_startcmdfile self.old).0) }
-        ensures frames { IfOk result (λ frames. frames.items ≡ stamped (self.old.taken + 1) (reply_startcmdfile self.old).1) }
-        ensures refused { Refuses self.old Tmesg.Tstartcmdfile result }
-        ensures count { self.new.taken ≡ self.old.taken }
-        ensures unchanged { OnErr result (self.new ≡ self.old) }
+        ensures replied { Replies self.old Tmesg.Tstartcmdfile result self.new }
     {
         self.files.facts();
         let mut frames = Vec::new(self.alloc);
@@ -112,12 +100,7 @@ impl Host {
     #[tactic(auto, using(crate::proofs::FrameLaws::stamped_append), unfolding(crate::specs::Host::reply_startfile))]
     pub(crate) fn start_file(&mut self, tag: u16) -> Result<Vec<HFrame>, HostFault>
         requires { self.old.taken + 1 < 2 ^ 64 }
-        ensures allowed { OnOk result (first_of_checks (host_checks self.old (Tmesg.Tstartfile tag)) ≡ None) }
-        ensures host { OnOk result (self.new ≡ (reply_startfile self.old tag).0) }
-        ensures frames { IfOk result (λ frames. frames.items ≡ stamped (self.old.taken + 1) (reply_startfile self.old tag).1) }
-        ensures refused { Refuses self.old (Tmesg.Tstartfile tag) result }
-        ensures count { self.new.taken ≡ self.old.taken }
-        ensures unchanged { OnErr result (self.new ≡ self.old) }
+        ensures replied { Replies self.old (Tmesg.Tstartfile tag) result self.new }
     {
         self.wants_other(tag)?;
         let mut frames = Vec::new(self.alloc);
@@ -151,12 +134,7 @@ impl Host {
     #[tactic(auto, unfolding(crate::specs::Host::reply_startnewfile))]
     pub(crate) fn start_new_file(&mut self) -> Result<Vec<HFrame>, HostFault>
         requires { self.old.taken + 1 < 2 ^ 64 }
-        ensures allowed { OnOk result (first_of_checks (host_checks self.old Tmesg.Tstartnewfile) ≡ None) }
-        ensures host { OnOk result (self.new ≡ (reply_startnewfile self.old).0) }
-        ensures frames { IfOk result (λ frames. frames.items ≡ stamped (self.old.taken + 1) (reply_startnewfile self.old).1) }
-        ensures refused { Refuses self.old Tmesg.Tstartnewfile result }
-        ensures count { self.new.taken ≡ self.old.taken }
-        ensures unchanged { OnErr result (self.new ≡ self.old) }
+        ensures replied { Replies self.old Tmesg.Tstartnewfile result self.new }
     {
         let tags = self.files.tags();
         if tags >= ALL_TAGS {
@@ -177,12 +155,7 @@ impl Host {
     #[tactic(auto, unfolding(crate::specs::Host::reply_workfile))]
     pub(crate) fn work_file(&mut self, tag: u16, p: u32, q: u32) -> Result<Vec<HFrame>, HostFault>
         requires { self.old.taken + 1 < 2 ^ 64 }
-        ensures allowed { OnOk result (first_of_checks (host_checks self.old (Tmesg.Tworkfile tag p q)) ≡ None) }
-        ensures host { OnOk result (self.new ≡ (reply_workfile self.old tag p q).0) }
-        ensures frames { IfOk result (λ frames. frames.items ≡ stamped (self.old.taken + 1) (reply_workfile self.old tag p q).1) }
-        ensures refused { Refuses self.old (Tmesg.Tworkfile tag p q) result }
-        ensures count { self.new.taken ≡ self.old.taken }
-        ensures unchanged { OnErr result (self.new ≡ self.old) }
+        ensures replied { Replies self.old (Tmesg.Tworkfile tag p q) result self.new }
     {
         self.wants_other(tag)?;
         self.wants_open(tag)?;
@@ -199,12 +172,7 @@ impl Host {
     #[tactic(auto, unfolding(crate::specs::Host::reply_close))]
     pub(crate) fn close(&mut self, tag: u16) -> Result<Vec<HFrame>, HostFault>
         requires { self.old.taken + 1 < 2 ^ 64 }
-        ensures allowed { OnOk result (first_of_checks (host_checks self.old (Tmesg.Tclose tag)) ≡ None) }
-        ensures host { OnOk result (self.new ≡ (reply_close self.old tag).0) }
-        ensures frames { IfOk result (λ frames. frames.items ≡ stamped (self.old.taken + 1) (reply_close self.old tag).1) }
-        ensures refused { Refuses self.old (Tmesg.Tclose tag) result }
-        ensures count { self.new.taken ≡ self.old.taken }
-        ensures unchanged { OnErr result (self.new ≡ self.old) }
+        ensures replied { Replies self.old (Tmesg.Tclose tag) result self.new }
     {
         self.wants_other(tag)?;
         self.wants_open(tag)?;
@@ -220,12 +188,7 @@ impl Host {
     #[tactic(auto, unfolding(crate::specs::Host::reply_exit))]
     pub(crate) fn exit(&mut self) -> Result<Vec<HFrame>, HostFault>
         requires { self.old.taken + 1 < 2 ^ 64 }
-        ensures allowed { OnOk result (first_of_checks (host_checks self.old Tmesg.Texit) ≡ None) }
-        ensures host { OnOk result (self.new ≡ (reply_exit self.old).0) }
-        ensures frames { IfOk result (λ frames. frames.items ≡ stamped (self.old.taken + 1) (reply_exit self.old).1) }
-        ensures refused { Refuses self.old Tmesg.Texit result }
-        ensures count { self.new.taken ≡ self.old.taken }
-        ensures unchanged { OnErr result (self.new ≡ self.old) }
+        ensures replied { Replies self.old Tmesg.Texit result self.new }
     {
         let mut frames = Vec::new(self.alloc);
         self.say(&mut frames, Hmesg::Hexit)?;

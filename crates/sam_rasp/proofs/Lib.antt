@@ -6,5 +6,5 @@ pub mod RaspLaws
 pub mod Agreeing
 pub mod Rows
 pub mod SectionLists
-pub mod Tallies
+pub mod Fewest
 pub mod Readings

@@ -392,6 +392,3 @@ pub ruleset row_hole_facts = (from-end, from-runes, some-parts, half-length)
 pub ruleset before_facts = (length-push)
 
 pub ruleset row_before_facts = (before-runes, before-most)
-
--- what `tally` rests on
-pub ruleset tally_facts = (length-first, append_assoc, append-nil)

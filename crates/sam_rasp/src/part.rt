@@ -3,11 +3,10 @@
 ghost use Rattle.std.specs.Prelude.{◌≡◌, ◌≢◌, ◌<◌, ◌≤◌, ◌+◌, ◌++◌, ◌↔◌, IsTrue, IfOk, OnErr, MatchOption, length, take, drop, vec_len, true, false};
 ghost use Rattle.sam_runes.specs.Texts.{del};
 ghost use Rattle.sam_rasp.specs.Rasp.{Agrees, PartialText, put_cells, sort_before, sort_from};
-ghost use Rattle.sam_rasp.specs.Rows.{gaps_of, incoming_cells, members_of, most_kept, CanComeIn, IsTallied, NoneEmpty};
+ghost use Rattle.sam_rasp.specs.Rows.{gaps_of, incoming_cells, members_of, most_kept, CanComeIn, NoneEmpty};
 ghost use Rattle.sam_rasp.specs.Sections.{cells, size};
 
 use crate::section::{Incoming, Section};
-use crate::tally::Tally;
 use std::alloc::{AllocError, Global};
 
 /// A section, or a row of parts, which stands for a part of a partial text.
@@ -112,14 +111,4 @@ pub trait Part: Drop {
         requires { p ≤ length (members self.now) }
         ensures count { result ≡ sort_before loaded (members self.now) p }
         ensures limit { result ≤ p };
-
-    /// Returns the tally of `before` with all its sections added.
-    fn tally(&self, before: Tally) -> Tally
-        requires some { 0 < length (members self.now) }
-        requires count { before.count + length (members self.now) ≤ most_kept }
-        requires len { before.len + length (members self.now) ≤ most_kept }
-        ensures tallied { (r : PartialText) → IsTallied r before.count before.loaded before.len
-            → IsTallied (r ++ members self.now) result.count result.loaded result.len }
-        ensures count { result.count ≤ before.count + length (members self.now) }
-        ensures len { result.len ≤ before.len + length (members self.now) };
 }

@@ -4,14 +4,13 @@ ghost use Rattle.std.specs.Prelude.{◌≡◌, ◌≢◌, ◌<◌, ◌≤◌, �
 ghost use Rattle.sam_runes.specs.Texts.{del};
 ghost use Rattle.sam_rasp.specs.Rasp.{put_cells};
 ghost use Rattle.sam_rasp.specs.Rows.{incoming_cells, most_kept, CanComeIn};
-ghost use Rattle.sam_rasp.specs.Sections.{cells, size, IsKeptIn};
+ghost use Rattle.sam_rasp.specs.Sections.{cells, size};
 
 mod list;
 mod reading;
 
 use crate::part::Part;
 use crate::section::{Incoming, Section};
-use crate::tally::Tally;
 use std::alloc::{AllocError, Global};
 use std::marker::Model;
 
@@ -131,16 +130,6 @@ impl<P: Part> Row<P> {
             return None;
         }
         Some(self.section_at(p))
-    }
-
-    /// Returns how many sections there are if each is joined with the one before it where the two may be one.
-    pub fn joined_count(&self) -> usize
-        ensures { IsKeptIn self.now result }
-    {
-        if self.len == 0 {
-            return 0;
-        }
-        self.tally(Tally::new()).count
     }
 }
 
@@ -265,9 +254,5 @@ impl<P: Part> Part for Row<P> {
             return p;
         }
         reading::sort_before(self.parts.as_slice(), self.len, loaded, p)
-    }
-
-    fn tally(&self, before: Tally) -> Tally {
-        reading::tally(self.parts.as_slice(), before)
     }
 }

@@ -10,7 +10,6 @@ mod list;
 
 use crate::part::Part;
 use crate::piece::Piece;
-use crate::tally::Tally;
 use sam_runes::MOST_IN_MESSAGE;
 use std::alloc::{AllocError, Global};
 
@@ -312,9 +311,5 @@ impl Part for Section {
     #[tactic(auto, using(crate::proofs::Runs::section_before_facts))]
     fn sort_before(&self, loaded: bool, p: u32) -> u32 {
         if self.is_loaded() == loaded { p } else { 0 }
-    }
-
-    fn tally(&self, before: Tally) -> Tally {
-        before.add(self)
     }
 }

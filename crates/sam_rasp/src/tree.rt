@@ -4,7 +4,7 @@ ghost use Rattle.std.specs.Prelude.{◌≡◌, ◌≢◌, ◌<◌, ◌≤◌, �
 ghost use Rattle.sam_runes.specs.Texts.{del};
 ghost use Rattle.sam_rasp.specs.Rasp.{put_cells, sort_before, sort_from, Agrees};
 ghost use Rattle.sam_rasp.specs.Rows.{incoming_cells, most_kept, CanComeIn};
-ghost use Rattle.sam_rasp.specs.Sections.{cells, size, IsKeptIn};
+ghost use Rattle.sam_rasp.specs.Sections.{cells, size};
 
 use crate::part::Part;
 use crate::row::Row;
@@ -113,12 +113,5 @@ impl Tree {
         ensures limit { result ≤ p }
     {
         self.rows.sort_before(loaded, p)
-    }
-
-    /// Returns how many sections there are if each is joined with the one before it where the two may be one.
-    pub fn joined_count(&self) -> usize
-        ensures { IsKeptIn self.now result }
-    {
-        self.rows.joined_count()
     }
 }

@@ -1,11 +1,10 @@
 //! What is read off a list of parts.
 
-ghost use Rattle.std.specs.Prelude.{◌≡◌, ◌≤◌, ◌+◌, ◌++◌, ◌↔◌, IsTrue, length, true, false};
-ghost use Rattle.sam_rasp.specs.Rasp.{sort_before, sort_from, Agrees, PartialText};
-ghost use Rattle.sam_rasp.specs.Rows.{members_of, most_kept, IsTallied, NoneEmpty};
+ghost use Rattle.std.specs.Prelude.{◌≡◌, ◌≤◌, ◌+◌, ◌↔◌, IsTrue, length, true, false};
+ghost use Rattle.sam_rasp.specs.Rasp.{sort_before, sort_from, Agrees};
+ghost use Rattle.sam_rasp.specs.Rows.{members_of, most_kept};
 
 use crate::part::Part;
-use crate::tally::Tally;
 
 /// Returns whether the parts have the length of `text`, and each of their runes is the rune of `text` at the same place.
 #[tactic(auto, using(crate::proofs::Rows::agrees_facts))]
@@ -96,21 +95,4 @@ pub fn sort_before<P: Part>(parts: &[P], len: u32, loaded: bool, p: u32) -> u32
         rest = others;
     }
     found
-}
-
-/// Returns the tally of `before` with all sections of the parts added.
-#[tactic(auto, using(crate::proofs::Rows::tally_facts))]
-pub fn tally<P: Part>(parts: &[P], before: Tally) -> Tally
-    requires some { NoneEmpty P.members parts.now }
-    requires count { before.count + length (members_of P.members parts.now) ≤ most_kept }
-    requires len { before.len + length (members_of P.members parts.now) ≤ most_kept }
-    ensures tallied { (r : PartialText) → IsTallied r before.count before.loaded before.len
-        → IsTallied (r ++ members_of P.members parts.now) result.count result.loaded result.len }
-    ensures count { result.count ≤ before.count + length (members_of P.members parts.now) }
-    ensures len { result.len ≤ before.len + length (members_of P.members parts.now) }
-{
-    let Some((first, others)) = parts.split_first() else {
-        return before;
-    };
-    tally(others, first.tally(before))
 }
