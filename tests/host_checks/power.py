@@ -198,7 +198,7 @@ def seconds_to_read(folder, session):
 
 def check_journal_is_read_quickly(folder):
     """Another samhost reads a journal of 16 MB, of edits all over a text of some 50,000 characters, in less than a second of a quiet
-    processor. Of longer texts each edit takes longer, as it did before."""
+    processor."""
     import sulgrevad
 
     made(folder, a="one\n")
@@ -219,26 +219,28 @@ def check_journal_is_read_quickly(folder):
     expect(took < SECONDS_TO_READ * times_slower(), f"{LONG:,} bytes with {count:,} edits took {took:.2f} s of the processor")
 
 
-def check_journal_has_edits_taken_at_once(folder):
-    """Edits that follow each other cost a long text once, though each came by itself: they take half as long at most as those that have a
-    question between them."""
+def seconds_of_keys(place, what_follows):
+    """Seconds that it takes to read a journal of keys in a long text, of which each came by itself and this followed."""
     import sulgrevad
 
-    def seconds(asks):
-        place = folder / f"asks {asks}"
-        place.mkdir()
-        made(place, a="one two\n" * 62_500)
-        with Staying(place, "a.txt", kind=sulgrevad.Link) as session:
-            terminal, link = session.terminal, session.link
-            for number in range(2000):
-                terminal.select(1, number * 100, number * 100)
-                terminal.type(1, "k")
-                if asks:
-                    terminal.check(1)
-                session.send()
-                session.carry(lambda: link.acknowledged == link.put_count, "it isn't taken")
-            session.settle()
-            return seconds_to_read(place, session)
+    place.mkdir()
+    made(place, a="one two\n" * 62_500)
+    with Staying(place, "a.txt", kind=sulgrevad.Link) as session:
+        terminal, link = session.terminal, session.link
+        for number in range(1000):
+            terminal.select(1, number * 200, number * 200)
+            terminal.type(1, "k")
+            what_follows(terminal)
+            session.send()
+            session.carry(lambda: link.acknowledged == link.put_count, "it isn't taken")
+        session.settle()
+        return seconds_to_read(place, session)
 
-    together, apart = seconds(False), seconds(True)
-    expect(2 * together < apart, f"they took {together:.2f} s of the processor, and {apart:.2f} s one by one")
+
+def check_journal_has_edits_taken_at_once(folder):
+    """Edits of one file cost a long text once, though each came by itself, and though a question follows each, as the editor asks: they
+    take half as long at most as those that have another message between them."""
+    apart = seconds_of_keys(folder / "apart", lambda terminal: terminal.work(1))
+    for name, what_follows in (("nothing", lambda _: None), ("a question", lambda terminal: terminal.check(1))):
+        took = seconds_of_keys(folder / name, what_follows)
+        expect(2 * took < apart, f"{name} between them: they took {took:.2f} s of the processor, and {apart:.2f} s one by one")
