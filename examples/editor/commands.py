@@ -1,6 +1,7 @@
 """Command lines of the user: what has to hold before the host runs one."""
 from typing import Dict, List, Optional, Tuple
 
+from keys import Input, Paste, Text
 from layout import line_end, line_start
 from lines import is_address, line_number, removes
 from texts import COMMAND, GAP, Change
@@ -30,6 +31,17 @@ class Commands:
         if self._may_run(line_at(self.command, self.command.caret), "Enter"):
             self._work()
             self.texts.replace(COMMAND, "\n")
+
+    def may_leave_by(self, window: Window, key: Input) -> bool:
+        """Whether the line may be `q` that a key runs in a window: Enter that of the caret, with what is typed before it, `^E` what is
+        selected."""
+        start, end = window.dot
+        if isinstance(key, (Text, Paste)):
+            last, typed = line_end(window.read, end), key.runes.partition("\n")[0]
+            line = line_at(window, start) + typed + window.read(end, last - end)
+        else:
+            line = line_at(window, end - (window.read(end - 1, 1) == "\n" if start < end else 0), start)
+        return GAP in line or line.strip(" \t") == "q"
 
     def _may_run(self, line: str, key: str) -> bool:
         """Whether a command line may run: nothing is lost by it, or the user is sure."""

@@ -2,7 +2,7 @@
 from collections import deque
 from itertools import repeat
 from operator import add, itemgetter
-from typing import Callable, Dict, Iterator, List, NamedTuple, Tuple
+from typing import Callable, Dict, Iterator, List, NamedTuple, Sequence, Tuple
 
 from sulgrevad import Terminal, Unfinished
 
@@ -106,7 +106,7 @@ class Texts:
         else:
             self.terminal.select(tag, start, end)
 
-    def read_each(self, tag: int, places: List[int], counts: List[int]) -> List[str]:
+    def read_each(self, tag: int, places: Sequence[int], counts: Sequence[int]) -> List[str]:
         """The same from each of some places on, so many runes: by one look where they stand close to each other."""
         start, end = min(places), max(map(add, places, counts))
         if end - start > DENSE * (len(counts) - counts.count(0)):
