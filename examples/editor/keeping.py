@@ -5,7 +5,7 @@ from typing import Dict, List, Optional, Set, Tuple
 import rescue
 from copies import Copies
 from notes import Said, printable
-from texts import GAP, Change
+from texts import GAP, Changes
 
 HERE_AFTER = 10.0  # seconds without a line after which changed texts are also written here, and then again
 MOST_RUNES_IN_NAME = 64  # in the session; of a longer path the host shows the end
@@ -68,8 +68,8 @@ class Keeping:
             self.unwritten[tag] = True
         self._writing[tag] = max(0, self._writing[tag] - 1)
 
-    def hear_changes(self, changes: List[Change]) -> None:
-        self._changes[changes[0].tag] += len(changes)
+    def hear_changes(self, changes: Changes) -> None:
+        self._changes[changes.tag] += len(changes)
 
     def hear_host(self, told: Said, line: str) -> Set[int]:
         """A line of the host's standard error. Returns the files that it may be about."""
