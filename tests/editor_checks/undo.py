@@ -261,7 +261,8 @@ def check_received_changes(folder):
             last = change.place + len(change.came)
             end = max(last, end + len(change.came) - len(change.gone)) if end > change.place else last
         editor._before, editor._ends = {}, {}
-        editor.hear_run(got)
+        for changes in filter(None, (received([some]) for some in edits)):
+            editor.hear_run(changes)
         expect(editor._ends == {1: end}, f"{each}: the caret goes to {editor._ends}, wanted {end}")
 
 
