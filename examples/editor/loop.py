@@ -26,7 +26,9 @@ SCREENS = (signal.SIGWINCH, signal.SIGCONT, signal.SIGTSTP)
 RETRY = 0.1  # seconds until that for which the memory was too small is tried again
 LONGEST_UNDRAWN = 0.05  # seconds of an answer that comes without a pause, after which what has come is drawn
 MOST_READ = 65_536  # bytes of keys that are read at once
-MOST_UNCOLLECTED = 200_000  # objects that are made and not freed until it is looked which of them only lead to themselves
+# Objects that are made and not freed until it is looked which of them only lead to themselves: a key that comes then waits for that, some
+# 5 milliseconds.
+MOST_UNCOLLECTED = 50_000
 MOST_SIGNALS = 4096  # numbers of signals that are read at once
 BROKEN_PASTE = "the end of a paste has not come, so all keys are part of it. Esc twice ends it"
 
