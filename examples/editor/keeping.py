@@ -9,7 +9,7 @@ from texts import GAP, Changes
 
 HERE_AFTER = 10.0  # seconds without a line after which changed texts are also written here, and then again
 # To begin that takes some milliseconds, so it comes between two keys: right after one, or once none has come for a while.
-JUST, QUIET = 0.01, 0.1  # seconds since a key
+JUST, QUIET = 0.01, 0.25  # seconds since a key
 MOST_PUT_OFF = 1.0  # seconds that it waits for that
 AGAIN = 0.1  # seconds until it is looked again whether what is to go is written
 MOST_RUNES_IN_NAME = 64  # in the session; of a longer path the host shows the end

@@ -187,7 +187,7 @@ def check_writes_here_between_keys(folder):
     editor = SimpleNamespace(terminal=None, way=way, is_lost=False, quiet_for=0.0, clock=lambda: 0.0)
     kept, after = keeping.Keeping(editor), keeping.HERE_AFTER
     for silence, quiet, wanted in (
-        (after - 1, 0.05, 1.0), (after, 0.05, 0.05), (after + 0.97, 0.05, 0.03), (after, 0.005, 0.0), (after, 0.2, 0.0), (after + 1, 0.05, 0.0)
+        (after - 1, 0.1, 1.0), (after, 0.1, 0.15), (after + 0.97, 0.1, 0.03), (after, 0.005, 0.0), (after, 0.3, 0.0), (after + 1, 0.1, 0.0),
     ):  # fmt: skip
         way.silence, editor.quiet_for = silence, quiet
         left = kept.seconds_until_here
