@@ -232,6 +232,9 @@ def check_received_changes(folder):
     from sulgrevad import Edits, Pieces
     from texts import Change, received
 
+    def pieces(texts):
+        return Pieces("".join(texts), [sum(map(len, texts[:at])) for at in range(len(texts))], [*map(len, texts)])
+
     numbers, (pair, editor, *_) = random.Random(2), opened("")
     expect(received([]) is None, "no edits are a change")
     for _ in range(500):
@@ -244,8 +247,7 @@ def check_received_changes(folder):
                 came.append("xyz"[: numbers.randrange(4)])
                 length += len(came[-1]) - len(gone[-1])
                 each.append(Change(1, starts[-1], gone[-1], came[-1]))
-            pieces = [Pieces("".join(texts), [sum(map(len, texts[:at])) for at in range(len(texts))], [*map(len, texts)]) for texts in (gone, came)]
-            edits.append(Edits(1, starts, *pieces))
+            edits.append(Edits(1, starts, *(pieces(texts) for texts in (gone, came))))
         each, got = [change for change in each if change.gone or change.came], received(edits)
         if not each:
             expect(got is None, "edits that change nothing are changes")
