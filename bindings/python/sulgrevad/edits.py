@@ -3,7 +3,7 @@ call counts.
 """
 import ctypes
 import sys
-from codecs import utf_32_be_decode, utf_32_le_decode
+from codecs import utf_16_be_decode, utf_16_le_decode, utf_32_be_decode, utf_32_le_decode
 from ctypes import byref, c_size_t, c_uint32
 from itertools import accumulate, repeat
 from operator import add, sub
@@ -22,7 +22,7 @@ _OK, _NONE, _RECEIVED = int(Status.OK), int(Status.NONE), int(Step.RECEIVED)
 _WORDS = ctypes.sizeof(Did) // ctypes.sizeof(c_uint32)  # of a sam_did
 _START, _GONE, _CAME = (getattr(Did, name).offset // ctypes.sizeof(c_uint32) for name in ("start", "gone", "came"))  # among these
 _NOT_LOADED, _WIDTH = b"\xff" * 4, 4  # what stands for a rune that is not loaded; bytes of a rune
-_DECODE = utf_32_le_decode if sys.byteorder == "little" else utf_32_be_decode
+_DECODE, _HALVES, _LOW = (utf_32_le_decode, utf_16_le_decode, 0) if sys.byteorder == "little" else (utf_32_be_decode, utf_16_be_decode, 1)
 _STAND_INS = [chr(rune) for rune in range(0xFDD0, 0xFDF0)]  # for what is not loaded: no text is likely to have them all
 
 
@@ -75,6 +75,11 @@ def _with_gaps(data: bytes, gap: str) -> str:
     count = len(data) // _WIDTH
     if data == _NOT_LOADED * count:
         return gap * count
+    halves = _HALVES(data, "surrogatepass")[0]
+    low, high = halves[_LOW::2], halves[1 - _LOW :: 2]
+    gaps = high.count("\uffff")
+    if gaps == low.count("\uffff") and gaps + high.count("\0") == count:  # each rune is below U+10000, and its low half
+        return low.replace("\uffff", gap)
     for rune in _STAND_INS:
         stand_in = rune.encode("utf-32")[-_WIDTH:]  # in the order of this machine
         if stand_in not in data:
