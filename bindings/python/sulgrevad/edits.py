@@ -64,11 +64,11 @@ class Edits:
 
 def text_of(runes: Any, count: int, gap: str) -> str:
     """The first runes of an array, as many as are counted, with `gap` for one that is not loaded."""
-    data = bytes(memoryview(runes)[:count])
+    data = memoryview(runes)[:count]
     try:
         return _DECODE(data)[0]
     except UnicodeDecodeError:
-        return _with_gaps(data, gap)
+        return _with_gaps(bytes(data), gap)
 
 
 def _with_gaps(data: bytes, gap: str) -> str:
