@@ -9,7 +9,8 @@ import time
 from typing import Callable, Dict, List, Optional, Union
 
 PIECE = 65_536  # bytes that one call reads
-MOST_AT_ONCE = 262_144  # bytes that are taken before a key is: handling them takes some 20 milliseconds
+MOST_AT_ONCE = 131_072  # bytes that are taken before a key is: to handle them takes some 10 milliseconds
+IN_PIPE = 262_144  # bytes that wait in the pipe, so a relay need not wait for us at each piece
 SECONDS_TO_END = 10  # how long the host may take to end
 SECONDS_OF_SILENCE = 2  # the same where it has not answered for a while
 MOST_NOISE = 65_536  # bytes that may come before the stream
@@ -38,7 +39,7 @@ class Link:
         for end in (self.sink, self.source, self.messages):
             os.set_blocking(end, False)
         with contextlib.suppress(AttributeError, OSError):  # outside Linux, or where the user has many pipes
-            fcntl.fcntl(self.source, fcntl.F_SETPIPE_SZ, MOST_AT_ONCE)  # so a relay need not wait for us at each piece
+            fcntl.fcntl(self.source, fcntl.F_SETPIPE_SZ, IN_PIPE)
         self.waiting = bytearray()  # bytes that the pipe has not taken yet
         self.up = self.down = 0  # bytes that have gone each way
         self.is_lost = self.is_deaf = self.is_quiet = False  # the host writes, reads, tells nothing more
