@@ -124,18 +124,25 @@ class Actions(Commands, Moves):
             self.message = "the screen is too small for another window"
         else:
             self.show(other, replaces=False)
+            self.update_windows()
 
     def do_unsplit(self) -> None:
         if self.focus is not self.command and len(self.files) > 1:
             self.drop(self.focus)
+            self.update_windows()
 
     def do_small(self) -> None:
         self.is_small = not self.is_small
-        self.arrange(self.rows, self.columns)
+        self._arrange_anew()
 
     def do_numbers(self) -> None:
         self.has_numbers = not self.has_numbers
+        self._arrange_anew()
+
+    def _arrange_anew(self) -> None:
+        """Shares the screen anew. The windows follow at once, so a key that comes right after goes by the same rows as a later one."""
         self.arrange(self.rows, self.columns)
+        self.update_windows()
 
     def do_redraw(self) -> None:
         self.wishes.append("redraw")

@@ -8,7 +8,7 @@ from bisect import bisect_left
 from typing import Any, Callable, Dict, Iterator, List, NamedTuple, Optional, Sequence, Set, Tuple
 
 from layout import Reader, Strip
-from texts import GAP, Change
+from texts import GAP, Changes
 
 # What is told apart: 0 is for text without a colour.
 KEYWORD, STRING, COMMENT, NUMBER, NAME, SPECIAL, GONE, CAME = range(1, 9)
@@ -162,7 +162,7 @@ class Coloured:
             fresh.units = [Unit(length, self.units[0].before, None, ())]
         return fresh
 
-    def hear(self, changes: List[Change]) -> None:
+    def hear(self, changes: Changes) -> None:
         if len(changes) > MOST_CHANGES:
             self.units.clear()
             return
@@ -287,8 +287,8 @@ class Colours:
         self._changed: Set[int] = set()  # files that have changed since they were looked at all over
         self._anew: Dict[int, Coloured] = {}  # what is looked at all over, and shown once that is done
 
-    def hear(self, changes: List[Change]) -> None:
-        tag = changes[0].tag
+    def hear(self, changes: Changes) -> None:
+        tag = changes.tag
         self._anew.pop(tag, None)
         if tag in self._files:
             self._files[tag].hear(changes)

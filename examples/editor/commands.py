@@ -1,9 +1,12 @@
 """Command lines of the user: what has to hold before the host runs one."""
+from itertools import accumulate
+from operator import add, sub
 from typing import Dict, List, Optional, Tuple
 
+from keys import Input, Paste, Text
 from layout import line_end, line_start
 from lines import is_address, line_number, removes
-from texts import COMMAND, GAP, Change
+from texts import COMMAND, GAP, Changes
 from windows import Window
 
 
@@ -31,6 +34,17 @@ class Commands:
             self._work()
             self.texts.replace(COMMAND, "\n")
 
+    def may_leave_by(self, window: Window, key: Input) -> bool:
+        """Whether the line may be `q` that a key runs in a window: Enter that of the caret, with what is typed before it, `^E` what is
+        selected."""
+        start, end = window.dot
+        if isinstance(key, (Text, Paste)):
+            last, typed = line_end(window.read, end), key.runes.partition("\n")[0]
+            line = line_at(window, start) + typed + window.read(end, last - end)
+        else:
+            line = line_at(window, end - (window.read(end - 1, 1) == "\n" if start < end else 0), start)
+        return GAP in line or line.strip(" \t") == "q"
+
     def _may_run(self, line: str, key: str) -> bool:
         """Whether a command line may run: nothing is lost by it, or the user is sure."""
         is_known, line = not line.startswith(GAP), line.lstrip(GAP).strip(" \t")
@@ -53,17 +67,13 @@ class Commands:
             self._sought = (window.tag, number)
         return True
 
-    def hear_run(self, changes: List[Change]) -> None:
+    def hear_run(self, changes: Changes) -> None:
         """Changes of a file, perhaps by a command line. The last one is that which stands farthest down, in whichever order they come."""
         if self._before is not None:
-            tag = changes[0].tag
-            end = self._ends.get(tag, -1)
-            for _, place, gone, came in changes:  # a change moves no place past another
-                last = place + len(came)
-                end = end + len(came) - len(gone) if end > place else last
-                if end < last:
-                    end = last
-            self._ends[tag] = end
+            tag, came = changes.tag, changes.came
+            by_all, *by = [*accumulate(map(sub, reversed(came), reversed(changes.gone)), initial=0)][::-1]  # how far the next ones move it
+            ends = map(add, map(add, changes.places, came), by)  # a change moves no place past another
+            self._ends[tag] = max(self._ends.get(tag, -1) + by_all, max(ends))
 
     def end_run(self) -> None:
         """The host has run a command line. Unless that was an address alone the next key replaces nothing that the line has selected: the

@@ -21,9 +21,14 @@ class Copies:
         self._process = 0  # that writes; 0 for none
         self._told = -1  # what it tells of the paths
 
+    @property
+    def is_writing(self) -> bool:
+        """Whether the last texts are still written."""
+        return self._process != 0 and not select.select([self._told], [], [], 0)[0]
+
     def write(self, texts: List[Tuple[Which, Callable[[], str]]]) -> None:
         """Begins to write texts, each of which a call reads; unless the last ones are still written."""
-        if self._process and not select.select([self._told], [], [], 0)[0]:
+        if self.is_writing:
             return
         self.finish()
         told, tells = os.pipe()

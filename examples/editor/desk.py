@@ -1,7 +1,7 @@
 """The desk: the windows on the screen, and the one to which the keys go."""
 from typing import Dict, List, Optional
 
-from texts import COMMAND, Change, Texts
+from texts import COMMAND, Changes, Texts
 from windows import LEAST_WITH_NUMBERS, Window
 
 SMALL = 2  # the fewest rows of a window with its title
@@ -91,10 +91,10 @@ class Desk:
             self.focus = self.active
         self.arrange(self.rows, self.columns)
 
-    def hear_changes(self, changes: List[Change]) -> None:
+    def hear_changes(self, changes: Changes) -> None:
         """Changes of a text, which a window of it goes by."""
-        if changes[0].tag in self.all_windows:
-            self.all_windows[changes[0].tag].hear(changes)
+        if changes.tag in self.all_windows:
+            self.all_windows[changes.tag].hear(changes)
 
     def window_at(self, row: int) -> Optional[Window]:
         """The window whose title or text stands in a row of the screen."""

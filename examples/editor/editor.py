@@ -298,10 +298,10 @@ class Editor(Desk, Waiting, Actions):
                 self._tell_refusal(refusal)
             self.left.go_on()
             self.keeping.go_on()
-            self._update_windows()
+            self.update_windows()
             self.slices.go_on()
         elif self.is_lost:
-            self._update_windows()
+            self.update_windows()
         is_time = self._leaves_at is not None and self.clock() >= self._leaves_at
         goes = is_time or (self.is_leaving and self.way.silence >= SECONDS_TO_END)
         self.leaves_alone = goes and not self.is_lost and not self.terminal.exited
@@ -313,7 +313,7 @@ class Editor(Desk, Waiting, Actions):
             self.vault.has_lost_copied, self._snarfed = False, ""
             self.message = "what was copied or cut last is lost: the host had no room to keep it beside what came back"
 
-    def _update_windows(self) -> None:
+    def update_windows(self) -> None:
         is_busy, rests = self.is_busy, self.rests
         for window in self.windows:
             window.update(is_busy, rests)

@@ -2,7 +2,7 @@
 from functools import wraps
 from typing import Any, Callable, Dict, Iterator, Optional, Tuple
 
-from sulgrevad import Edit, FileState, Terminal, TerminalDid, TerminalState
+from sulgrevad import Edits, FileState, Terminal, TerminalDid, TerminalState
 from texts import GAP
 
 # What changes something of a file: each event, and what takes bytes in.
@@ -34,9 +34,9 @@ class Glance(Terminal):
         finally:
             self._now = None
 
-    def edits(self, gap: str = GAP) -> Iterator[Edit]:
+    def edits_at_once(self, gap: str = GAP) -> Iterator[Edits]:
         try:
-            yield from super().edits(gap)
+            yield from super().edits_at_once(gap)
         finally:
             self.forget()
 

@@ -5,9 +5,13 @@ from typing import Dict, List, Optional, Set, Tuple
 import rescue
 from copies import Copies
 from notes import Said, printable
-from texts import GAP, Change
+from texts import GAP, Changes
 
 HERE_AFTER = 10.0  # seconds without a line after which changed texts are also written here, and then again
+# To begin that takes some milliseconds, so it comes between two keys: right after one, or once none has come for a while.
+JUST, QUIET = 0.01, 0.25  # seconds since a key
+MOST_PUT_OFF = 1.0  # seconds that it waits for that
+AGAIN = 0.1  # seconds until it is looked again whether what is to go is written
 MOST_RUNES_IN_NAME = 64  # in the session; of a longer path the host shows the end
 
 
@@ -68,8 +72,8 @@ class Keeping:
             self.unwritten[tag] = True
         self._writing[tag] = max(0, self._writing[tag] - 1)
 
-    def hear_changes(self, changes: List[Change]) -> None:
-        self._changes[changes[0].tag] += len(changes)
+    def hear_changes(self, changes: Changes) -> None:
+        self._changes[changes.tag] += len(changes)
 
     def hear_host(self, told: Said, line: str) -> Set[int]:
         """A line of the host's standard error. Returns the files that it may be about."""
@@ -154,20 +158,31 @@ class Keeping:
 
     @property
     def seconds_until_here(self) -> Optional[float]:
-        """How long until changed texts are written here; None where the line is not lost."""
-        if not self.editor.way.is_late:
+        """How long until changed texts are written here, or what was written goes; None where neither is to be done. No key is to wait
+        for that."""
+        if self.editor.is_lost:
             return None
-        since = self._here_at
-        return HERE_AFTER - (self.editor.way.silence if since is None else self.editor.clock() - since)
+        if not self.editor.way.is_late:
+            return AGAIN if self._copies.is_writing else None
+        since, quiet = self._here_at, self.editor.quiet_for
+        left = HERE_AFTER - (self.editor.way.silence if since is None else self.editor.clock() - since)
+        return left if left > 0 or not JUST < quiet < QUIET else min(QUIET - quiet, left + MOST_PUT_OFF)
+
+    @property
+    def is_here_due(self) -> bool:
+        """Whether changed texts are to be written here now, as the line is lost for a while."""
+        left = self.seconds_until_here
+        return left is not None and left <= 0  # as it never is where the line is back
+
+    def write_here(self) -> None:
+        """Begins to write them."""
+        self._here_at = self.editor.clock()
+        self._keep_all_here()
 
     def go_on(self) -> None:
-        """Where the line is lost for a while, changed texts are also written here. Once it is back, and the host has all, they go, and
-        files are written that were to be written."""
-        way, left = self.editor.way, self.seconds_until_here
-        if left is not None and left <= 0:
-            self._here_at = self.editor.clock()
-            self._keep_all_here()
-        elif left is None and self._here_at is not None and way.has_all:
+        """Once the line is back, and the host has all, what was written here goes, and files are written that were to be written."""
+        way = self.editor.way
+        if not way.is_late and self._here_at is not None and way.has_all and not self._copies.is_writing:
             self._here_at = None
             self._copies.drop()
         for tag in [] if way.is_late else list(self.put_off):

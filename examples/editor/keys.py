@@ -14,7 +14,10 @@ ROWS = "rows"  # what an action needs that goes by all that is shown
 # Among which keys that wait an action keeps its order.
 FREE = "free"  # none: it changes no file and no place, and says alone where the keys after it go
 FILE = "file"  # those of the same file
-ALL = "all"  # all: it goes by several files, or by how the screen is shared
+LINE = "line"  # those of the command window, of its own window, and of the file that a command line works on
+SCREEN = "screen"  # those that go by how the screen is shared, which it changes
+WINDOW = "window"  # these, and those of the window that it takes off the screen
+ALL = "all"  # all
 
 CLIPBOARD, PATTERN = "clipboard", "pattern"  # what keys of several files share
 
@@ -41,17 +44,17 @@ BINDINGS = (
     Binding(("Esc",), "switch", "goes to the command window, and back to the file", WINDOWS, reads=True, leads=True, order=FREE),
     Binding(("^P", "F6"), "next_window", "goes to the next window", WINDOWS, reads=True, leads=True, order=FREE),
     Binding(("^O", "F2"), "menu", "menu of files: type or use arrows, Enter opens, Esc ends", WINDOWS, reads=True, leads=True, order=FREE),
-    Binding(("^T", "F3"), "split", "another window, for the next file without one", WINDOWS, reads=True, leads=True, order=ALL),
-    Binding(("^Y", "F4"), "unsplit", "takes the window off the screen; its file stays open", WINDOWS, reads=True, leads=True, order=ALL),
-    Binding(("F8",), "small", "makes the command window small, and large again", WINDOWS, reads=True, order=ALL),
-    Binding(("F10",), "numbers", "shows the numbers of lines, or hides them", WINDOWS, reads=True, order=ALL),
+    Binding(("^T", "F3"), "split", "another window, for the next file without one", WINDOWS, reads=True, leads=True, order=SCREEN),
+    Binding(("^Y", "F4"), "unsplit", "takes the window off the screen; its file stays open", WINDOWS, reads=True, leads=True, order=WINDOW),
+    Binding(("F8",), "small", "makes the command window small, and large again", WINDOWS, reads=True, order=SCREEN),
+    Binding(("F10",), "numbers", "shows the numbers of lines, or hides them", WINDOWS, reads=True, order=SCREEN),
     Binding(("F5",), "redraw", "draws the screen anew; tries a lost line at once", WINDOWS, reads=True, order=FREE),
     Binding(("^\\", "F12"), "suspend", "goes back to the shell, until its `fg`", WINDOWS, reads=True, order=FREE),
     Binding(("F9",), "old", "takes, compares or drops what an earlier session left", WINDOWS, leads=True, order=ALL),
-    Binding(("^N",), "new", "makes a new file; the command line `f NAME` names it", WINDOWS, leads=True, asks=True, order=ALL),
+    Binding(("^N",), "new", "makes a new file; the command line `f NAME` names it", WINDOWS, leads=True, asks=True, order=WINDOW),
     Binding(("^W",), "write", "writes the file", WRITTEN),
-    Binding(("^U",), "reload", "puts in what the file has now, where another program changed it", ANSWERS, asks=True, order=ALL),
-    Binding(("^K",), "close", "closes the file for good; asks if it was not written", ANSWERS, leads=True, asks=True, order=ALL),
+    Binding(("^U",), "reload", "puts in what the file has now, where another program changed it", ANSWERS, asks=True),
+    Binding(("^K",), "close", "closes the file for good; asks if it was not written", WRITTEN, leads=True, asks=True, order=WINDOW),
     Binding(("^Q",), "leave", "leaves; asks if a file was not written", ANSWERS, reads=True, leads=True, asks=True, order=ALL),
     Binding(("^Z",), "undo", "takes back the last change of this window"),
     Binding(("^R",), "redo", "makes again what was taken back"),
@@ -64,7 +67,7 @@ BINDINGS = (
     Binding(("^L",), "look", "looks for the next place of the selected text", reads=True, shares=PATTERN),
     Binding(("^F",), "search", "searches the last pattern again", reads=True, shares=PATTERN),
     Binding(("^B",), "search_back", "searches it above", reads=True, shares=PATTERN),
-    Binding(("^E",), "send", "runs the selection as a command line", ANSWERS, ROWS, asks=True, order=ALL),
+    Binding(("^E",), "send", "runs the selection as a command line", ANSWERS, ROWS, asks=True, order=LINE, shares=PATTERN),
     Binding(("Backspace",), "erase_left", "erase the selection, or a character", needs="erased_left"),
     Binding(("Delete",), "erase_right", "erase the selection, or a character", needs="erased_right"),
     Binding(("Shift-Tab",), "unindent", "takes a tab from the line or each selected one; Tab puts them in", needs="untabbed"),

@@ -10,7 +10,7 @@ import rescue
 from keeping import shown_name
 from keys import Input, Key, Mouse, Paste, Text
 from notes import printable
-from texts import COMMAND, MOST_RUNES, Change
+from texts import COMMAND, MOST_RUNES, Change, Changes
 from undo import Step
 from windows import end_of_load
 
@@ -171,7 +171,7 @@ class Left:
             return
         gone = editor.texts.read(tag, 0, self.terminal.len(tag))
         self.terminal.edit(tag, 0, len(gone), text)
-        editor.texts.tell([Change(tag, 0, gone, text)])
+        editor.texts.tell(Changes([Change(tag, 0, gone, text)]))
         editor.window_of(tag).select(0)
 
     def _snarf(self, old: Old) -> bool:

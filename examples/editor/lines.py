@@ -2,7 +2,7 @@
 import re
 from typing import Dict, List, Optional, Tuple
 
-from texts import GAP, PLACE_OF, Change, Texts
+from texts import GAP, Changes, Texts
 
 MOST_COUNTED = 65_536  # runes between a place whose line is known and another, over which lines are counted
 MOST_DIGITS = 7  # of the number of a line that a text may have
@@ -56,10 +56,10 @@ class Numbers:
         self.texts = texts
         self._known: Dict[int, Tuple[int, int]] = {}  # a place, and its line, counted from 1
 
-    def hear(self, changes: List[Change]) -> None:
-        tag = changes[0].tag
+    def hear(self, changes: Changes) -> None:
+        tag = changes.tag
         place, line = self._known.get(tag, (0, 1))
-        if min(map(PLACE_OF, changes)) >= place:
+        if min(changes.places) >= place:
             return
         for change in changes:
             if change.place >= place:

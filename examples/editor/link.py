@@ -1,5 +1,6 @@
 """The link: the process of the host, and the bytes that go to it and come from it."""
 import contextlib
+import fcntl
 import os
 import select
 import signal
@@ -7,7 +8,9 @@ import subprocess
 import time
 from typing import Callable, Dict, List, Optional, Union
 
-PIECE = 65_536  # bytes that are read at once
+PIECE = 65_536  # bytes that one call reads
+MOST_AT_ONCE = 131_072  # bytes that are taken before a key is: to handle them takes some 10 milliseconds
+IN_PIPE = 262_144  # bytes that wait in the pipe, so a relay need not wait for us at each piece
 SECONDS_TO_END = 10  # how long the host may take to end
 SECONDS_OF_SILENCE = 2  # the same where it has not answered for a while
 MOST_NOISE = 65_536  # bytes that may come before the stream
@@ -35,6 +38,8 @@ class Link:
         )
         for end in (self.sink, self.source, self.messages):
             os.set_blocking(end, False)
+        with contextlib.suppress(AttributeError, OSError):  # outside Linux, or where the user has many pipes
+            fcntl.fcntl(self.source, fcntl.F_SETPIPE_SZ, IN_PIPE)
         self.waiting = bytearray()  # bytes that the pipe has not taken yet
         self.up = self.down = 0  # bytes that have gone each way
         self.is_lost = self.is_deaf = self.is_quiet = False  # the host writes, reads, tells nothing more
@@ -58,15 +63,25 @@ class Link:
 
     def receive(self) -> bytes:
         """What has come from the host; the link is lost where that has ended."""
-        try:
-            data = os.read(self.source, PIECE)
-        except BlockingIOError:
-            return b""
-        except OSError:
-            data = b""
-        self.is_lost = self.is_lost or not data
+        pieces: List[bytes] = []
+        with contextlib.suppress(BlockingIOError):
+            while len(pieces) < MOST_AT_ONCE // PIECE and not self.is_lost:
+                pieces.append(self._read())
+                self.is_lost = not pieces[-1]
+                if len(pieces[-1]) < PIECE:
+                    break
+        data = b"".join(pieces)
         self.down += len(data)
         return data
+
+    def _read(self) -> bytes:
+        """One piece; none where the stream has ended."""
+        try:
+            return os.read(self.source, PIECE)
+        except BlockingIOError:
+            raise
+        except OSError:
+            return b""
 
     def listen(self) -> List[str]:
         """The lines that the host has written to its standard error since."""

@@ -24,8 +24,11 @@ KEYBOARD = 0
 ENDS = (signal.SIGTERM, signal.SIGHUP, signal.SIGINT, signal.SIGQUIT)
 SCREENS = (signal.SIGWINCH, signal.SIGCONT, signal.SIGTSTP)
 RETRY = 0.1  # seconds until that for which the memory was too small is tried again
+LONGEST_UNDRAWN = 0.05  # seconds of an answer that comes without a pause, after which what has come is drawn
 MOST_READ = 65_536  # bytes of keys that are read at once
-MOST_UNCOLLECTED = 200_000  # objects that are made and not freed until it is looked which of them only lead to themselves
+# Objects that are made and not freed until it is looked which of them only lead to themselves: a key that comes then waits for that, some
+# 5 milliseconds.
+MOST_UNCOLLECTED = 50_000
 MOST_SIGNALS = 4096  # numbers of signals that are read at once
 BROKEN_PASTE = "the end of a paste has not come, so all keys are part of it. Esc twice ends it"
 
@@ -39,6 +42,7 @@ class Loop:
         self.keys: Deque[Input] = deque()  # those that the editor has not taken
         self.is_short = False  # memory was too small since the last pause
         self.ended_by = 0  # the signal that ended the session
+        self.drawn_at = 0.0  # when what had come was drawn, or there was nothing more to draw
         self.signals, wakes = os.pipe()
         for end in (self.signals, wakes):
             os.set_blocking(end, False)
@@ -65,6 +69,10 @@ class Loop:
         if not ready:
             self.editor.notes.settle(since)
             ready = self._ready(self._idle())
+            self.drawn_at = time.monotonic()
+        elif since - self.drawn_at >= LONGEST_UNDRAWN:
+            self.screen.draw(self.editor, self.link)
+            self.drawn_at = time.monotonic()
         self._take_keys(ready)
         self._take_signals(ready)
         self._take_bytes(ready)
@@ -89,12 +97,21 @@ class Loop:
             return 0
         waits += [self.screen.draw(self.editor, self.link), self.editor.colours.seconds]
         self.editor.notes.drawn()
+        self._write_here()
         waits.append(self.editor.notes.left)
         if self.is_short:
             waits.append(RETRY)
         if self.editor.rests and gc.get_count()[0] > MOST_UNCOLLECTED:
             self._collect()
         return min((wait for wait in waits if wait is not None), default=None)
+
+    def _write_here(self) -> None:
+        """Where it is due, and no key waits, has another process write changed texts. That shares the memory of this one, and what is
+        written to first is copied: this draws once more at once, so no key pays for it."""
+        if self.editor.keeping.is_here_due and not self._ready(0):
+            self._do(self.editor.keeping.write_here)
+            self._do(self.editor.update)
+            self.screen.draw(self.editor, self.link)
 
     def _collect(self) -> None:
         """Frees what only leads to itself, and looks at what is left no more: while keys come one would wait for that."""

@@ -2,8 +2,8 @@
 from collections import deque
 from typing import Callable, Deque, Dict, List, Optional
 
-from sulgrevad import Step, Terminal, TerminalDid
-from texts import GAP, Change, Texts
+from sulgrevad import Edits, Step, Terminal, TerminalDid
+from texts import GAP, Change, Changes, Texts, received
 
 # Kinds of frames.
 BINDNAME, NEWNAME, GROW, UNLOCK, DATA, UNLOCKFILE, SETDOT, GROWDATA, MOVETO, CLEAN = 66, 68, 70, 72, 73, 75, 76, 77, 78, 79
@@ -21,7 +21,7 @@ class Stream:
         self.terminal, self.texts, self.told, self.settled = terminal, texts, told, settled
         self._bytes = bytearray()  # what was not brought, since the terminal had no memory
         self._is_stepping = False  # what was brought is not done yet
-        self._edits: List[Change] = []  # of one file, not told yet
+        self._edits: List[Edits] = []  # of one file, not told yet
         self._later: Deque[Callable[[], None]] = deque()  # what is to be called after all steps
         self._bound: Optional[int] = None  # the file that the last frame opened; its text comes next
 
@@ -62,11 +62,9 @@ class Stream:
 
     def _take_edits(self) -> bool:
         """Receives the edits of one file that come next, and tells of them. Returns whether there were any."""
-        takes, edits, made = False, self._edits, tuple.__new__  # there may be thousands
-        for edit in self.terminal.edits(GAP):
-            takes = True
-            if edit[2] or edit[3]:
-                edits.append(made(Change, edit))
+        for edits in self.terminal.edits_at_once(GAP):
+            self._edits.append(edits)
+        takes = bool(self._edits)
         self._bound = None if takes else self._bound
         self._tell_edits()
         return takes
@@ -86,9 +84,10 @@ class Stream:
         """Notes the change of a step, to be told."""
         start, gone, came = did.change
         if gone or came:
-            self._edits.append(Change(did.tag, start, GAP * gone, self.texts.read(did.tag, start, came)))
+            self.texts.tell(Changes([Change(did.tag, start, GAP * gone, self.texts.read(did.tag, start, came))]))
 
     def _tell_edits(self) -> None:
         edits, self._edits = self._edits, []
-        if edits:
-            self.texts.tell(edits)
+        changes = received(edits)
+        if changes is not None:
+            self.texts.tell(changes)

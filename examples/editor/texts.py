@@ -1,10 +1,10 @@
 """The texts of the terminal, with word of each change: by the user here, or by a frame of the host."""
 from collections import deque
-from itertools import repeat
+from itertools import chain, repeat
 from operator import add, itemgetter
-from typing import Callable, Dict, Iterator, List, NamedTuple, Tuple
+from typing import Callable, Dict, Iterator, List, NamedTuple, Optional, Sequence, Tuple
 
-from sulgrevad import Terminal, Unfinished
+from sulgrevad import Edits, Terminal, Unfinished
 
 COMMAND = 0  # the tag of the command file
 COMMAND_NAME = "~~sam~~"  # which the host tells, too
@@ -30,15 +30,54 @@ class Change(NamedTuple):
         return place if place == self.place else place + len(self.came)
 
 
-PLACE_OF = itemgetter(Change._fields.index("place"))
+PLACE_OF, GONE_OF, CAME_OF = (itemgetter(Change._fields.index(name)) for name in ("place", "gone", "came"))
 
 
-def moved(changes: List[Change], place: int) -> int:
-    """Where a place stands after some changes."""
-    for change in changes:
-        if place > change.place:
-            place = change.moved(place)
-    return place
+class Changes:
+    """Changes of one file, in order: their places, and how many runes went and came at each."""
+
+    def __init__(self, changes: List[Change]):
+        self.tag, self.places = changes[0].tag, [*map(PLACE_OF, changes)]
+        self.gone, self.came = ([*map(len, map(text_of, changes))] for text_of in (GONE_OF, CAME_OF))
+        self._each = changes
+
+    def __len__(self) -> int:
+        return len(self.places)
+
+    def __iter__(self) -> Iterator[Change]:
+        return iter(self._each)
+
+    def moved(self, place: int) -> int:
+        """Where a place stands after them."""
+        for start, gone, came in zip(self.places, self.gone, self.came):
+            if place > start:
+                place = max(start, place - gone)
+                place += came if place > start else 0
+        return place
+
+
+class Received(Changes):
+    """Changes that frames made. There may be thousands, so each is made only where it is asked for."""
+
+    def __init__(self, edits: List[Edits]):
+        self._edits, self.tag = edits, edits[0].tag
+        self.places = [*chain.from_iterable(some.starts for some in edits)]
+        self.gone = [*chain.from_iterable(some.gone.counts for some in edits)]
+        self.came = [*chain.from_iterable(some.came.counts for some in edits)]
+
+    def __iter__(self) -> Iterator[Change]:
+        return (Change(*edit) for some in self._edits for edit in some)
+
+
+def received(edits: List[Edits]) -> Optional[Changes]:
+    """The changes that frames made, without edits that change nothing; None where there are none."""
+    if not edits:
+        return None
+    changes = Received(edits)
+    if all(map(add, changes.gone, changes.came)):
+        return changes
+    each = [change for change in changes if change.gone or change.came]
+    return Changes(each) if each else None
 
 
 class Run:
@@ -90,7 +129,7 @@ class Texts:
         self.holds_back = False  # its answers are late, so nothing is asked for
         self._dots: Dict[int, Tuple[int, int]] = {}  # where dots were moved to since: the terminal may hold such events for ever
         self.left = ""  # what is to be typed, and was not taken
-        self.listeners: List[Callable[[List[Change]], None]] = []
+        self.listeners: List[Callable[[Changes], None]] = []
 
     def read(self, tag: int, place: int, count: int) -> str:
         """The runes of an open file from a place on, GAP for one that is not loaded."""
@@ -106,7 +145,7 @@ class Texts:
         else:
             self.terminal.select(tag, start, end)
 
-    def read_each(self, tag: int, places: List[int], counts: List[int]) -> List[str]:
+    def read_each(self, tag: int, places: Sequence[int], counts: Sequence[int]) -> List[str]:
         """The same from each of some places on, so many runes: by one look where they stand close to each other."""
         start, end = min(places), max(map(add, places, counts))
         if end - start > DENSE * (len(counts) - counts.count(0)):
@@ -114,9 +153,9 @@ class Texts:
         runes = self.read(tag, start, end - start)
         return [runes[place - start : place - start + count] if count else "" for place, count in zip(places, counts)]
 
-    def tell(self, changes: List[Change]) -> None:
+    def tell(self, changes: Changes) -> None:
         """Tells of changes of one file."""
-        self.touch(changes[0].tag)
+        self.touch(changes.tag)
         for listener in self.listeners:
             listener(changes)
 
@@ -135,7 +174,7 @@ class Texts:
             self.terminal.edit(tag, start, end, came)
         finally:
             if came != gone and self.terminal.len(tag) - before == len(came) - len(gone) and self.read(tag, start, len(came)) == came:
-                self.tell([Change(tag, start, gone, came)])
+                self.tell(Changes([Change(tag, start, gone, came)]))
 
     def cut(self, tag: int) -> None:
         """Cuts the dot into the snarf buffer."""
@@ -168,4 +207,4 @@ class Texts:
             came = came[: grown + len(gone)]
             is_made = grown == len(came) - len(gone) and (grown != 0 or self.read(tag, start, len(came)) == came)
             if is_made and came != gone:
-                self.tell([Change(tag, start, gone, came)])
+                self.tell(Changes([Change(tag, start, gone, came)]))

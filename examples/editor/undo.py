@@ -1,8 +1,9 @@
 """Undo: the changes of each file, oldest first. Of a text nothing is kept but what came and what went."""
-from typing import Dict, List, Optional
+from itertools import chain
+from typing import Dict, Iterable, Iterator, List, Optional
 
 from sulgrevad import Terminal, Unfinished
-from texts import GAP, Change, Texts, runs
+from texts import GAP, Change, Changes, Texts, runs
 from vault import Kept, Part, Vault
 
 MOST_STEPS = 10_000  # steps that are kept of a file
@@ -15,8 +16,24 @@ class Step:
     def __init__(self, kind: str = "", before: Optional[Kept] = None):
         self.kind = kind  # "type" or "erase" where the next change of this kind may join
         self.before, self.after = before, None  # what the host keeps of the text, where not all that went or came is known here
-        self.changes: List[Change] = []
+        self._changes: List[Change] = []
+        self._later: List[Iterable[Change]] = []  # after these: each is made where it is asked for, as there may be thousands
         self.turned = 0  # how many of them are taken back, from the last one on
+
+    @property
+    def changes(self) -> List[Change]:
+        if self._later:
+            self._changes = [*self._changes, *chain.from_iterable(self._later)]
+            self._later = []
+        return self._changes
+
+    @changes.setter
+    def changes(self, changes: List[Change]) -> None:
+        self._changes, self._later = changes, []
+
+    @property
+    def is_empty(self) -> bool:
+        return not self._changes and not self._later
 
     @property
     def stand(self) -> List[Change]:
@@ -38,16 +55,16 @@ class Step:
         """The same of a step that was taken back, to make it again."""
         return 0 if self.after is not None else sum(change.came.count(GAP) for change in self.went)
 
-    def add(self, changes: List[Change]) -> None:
+    def add(self, changes: Iterable[Change]) -> None:
         if not self.kind:
-            self.changes += changes
+            self._later.append(changes)
             return
         for change in changes:
             self.changes.append(_joined(self.changes.pop(), change) if self.changes else change)
 
     def takes(self, kind: str, start: int, end: int) -> bool:
         """Whether a change of this kind from one place to another goes on where the last one stopped."""
-        if not self.changes or self.kind != kind:
+        if self.kind != kind or not self.changes:
             return False
         last = self.changes[-1]
         if len(last.came) >= MOST_TYPED:
@@ -72,6 +89,19 @@ def _filled(text: str, known: str) -> str:
     if text == GAP * len(text):
         return known
     return "".join(other if rune == GAP else rune for rune, other in zip(text, known))
+
+
+class Known:
+    """Changes whose gaps are filled, as far as what the host takes out or puts in is known."""
+
+    def __init__(self, changes: Changes, goes: str, comes: str):
+        self._changes, self._goes, self._comes = changes, goes, comes
+
+    def __iter__(self) -> Iterator[Change]:
+        for change in self._changes:
+            _, _, gone, came = change
+            has_gap = GAP in gone or GAP in came
+            yield change._replace(gone=_filled(gone, self._goes), came=_filled(came, self._comes)) if has_gap else change
 
 
 class Undo:
@@ -101,7 +131,7 @@ class Undo:
         steps, kept = self.past.setdefault(tag, []), self.vault.take(tag)
         if steps and kind and kept is None and steps[-1].takes(kind, start, end):
             return
-        if steps and not steps[-1].changes:
+        if steps and steps[-1].is_empty:
             steps.pop()
         steps.append(Step(kind) if kept is None else Step(before=kept))
         del steps[:-MOST_STEPS]
@@ -112,30 +142,17 @@ class Undo:
         goes_on = steps and tag not in self._halves and steps[-1].takes("type", start, end)
         return MOST_TYPED - len(steps[-1].changes[-1].came) if steps and goes_on else MOST_TYPED
 
-    def hear(self, changes: List[Change]) -> None:
+    def hear(self, changes: Changes) -> None:
         """Notes changes of a file; what was taken back can't be made again then."""
-        tag = changes[0].tag
+        tag = changes.tag
         if tag in (0, self.vault.tag, self._turned):
             return
         self._stay(tag)
         steps = self.past.setdefault(tag, [])
         if not steps:
             steps.append(Step())
-        if self.goes or tag in self.comes:
-            changes = self._with_known(tag, changes)
-        steps[-1].add(changes)
-
-    def _with_known(self, tag: int, changes: List[Change]) -> List[Change]:
-        """Changes whose gaps are filled as far as what the host takes out or puts in is known."""
-        goes, comes, filled = self.goes, self.comes.get(tag, ""), []
-        gaps = GAP * len(goes)  # there may be thousands of changes, so the usual one comes first
-        for change in changes:
-            _, place, gone, came = change
-            if GAP in gone or GAP in came:
-                came = _filled(came, comes) if GAP in came else came
-                change = Change(tag, place, goes if gone == gaps else _filled(gone, goes), came)
-            filled.append(change)
-        return filled
+        goes, comes = self.goes, self.comes.get(tag, "")
+        steps[-1].add(Known(changes, goes, comes) if goes or comes else changes)
 
     def _stay(self, tag: int) -> None:
         """What was taken back stays so."""
@@ -156,7 +173,7 @@ class Undo:
         if tag in self._halves:
             return self._halves[tag]
         kept = steps.get(tag, [])
-        while kept and not kept[-1].changes:
+        while kept and kept[-1].is_empty:
             kept.pop()
         return kept[-1] if kept else None
 
@@ -218,7 +235,7 @@ class Undo:
             self.terminal.select(tag, caret, caret)
         finally:
             if made:
-                self.texts.tell(changes[:made])
+                self.texts.tell(Changes(changes[:made]))
             self._end(tag, step, step.turned + sign * made)
 
     def _fill(self, step: Step, changes: List[Change], made: int, sign: int) -> None:

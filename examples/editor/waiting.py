@@ -6,7 +6,8 @@ from collections import deque
 from itertools import islice
 from typing import Callable, Deque, Dict, Iterator, NamedTuple, Optional, Set
 
-from keys import ACTIONS, ALL, ANSWERS, FILE, FREE, NOTHING, PATTERN, PLACE, ROWS, WINDOWS, WRITTEN, Binding, Input, Key, Mouse, Paste, Text
+from keys import ACTIONS, ALL, ANSWERS, FILE, FREE, LINE, NOTHING, PATTERN, PLACE, ROWS, SCREEN, WINDOW, WINDOWS, WRITTEN
+from keys import Binding, Input, Key, Mouse, Paste, Text
 from notes import REPEAT
 from sulgrevad import SamError
 from targets import Missing
@@ -36,6 +37,7 @@ class Pressed(NamedTuple):
     # The window that it goes to, wherever later keys go: known once no key before it can change that. None for one that keeps its order
     # among all keys, or goes to a menu.
     window: Optional[Window] = None
+    work: Optional[Window] = None  # the window of the file that its command line works on
 
 
 TAB = Text("\t")
@@ -44,9 +46,11 @@ MOUSE = "mouse"  # what clicks share: whether two of them are a double click, an
 TYPING, ENTER, TABBING = (Binding((), "", "", needs=needs) for needs in ("selection", "new_line", "tabbed"))
 POINTING, SCROLLING = Binding((), "", "", needs=ROWS, shares=MOUSE), Binding((), "", "", WINDOWS)
 NO_ACTION = Binding((), "", "", WINDOWS, order=ALL)
-RUNNING = Binding((), "", "", ANSWERS, ROWS, asks=True, order=ALL)  # Enter in the command window
+RUNNING = Binding((), "", "", ANSWERS, ROWS, asks=True, order=LINE, shares=PATTERN)  # Enter in the command window
 FINDING = ("look", "search")  # actions that go on in what is loaded where the line is lost
 TURNING = ("page_up", "page_down")  # those that turn pages: the caret stays
+OF_THE_FILE = ("write", "reload")  # those that are for the file that was used last, wherever keys go
+BY_ROWS = (ROWS, "up", "down")  # what keys need that go by the rows of the screen
 
 
 def bound(key: Input) -> Binding:
@@ -68,6 +72,11 @@ def last_of(key: Input) -> Input:
     return Text(key.runes[-1:]) if isinstance(key, Text) else key
 
 
+def goes_by_screen(binding: Binding) -> bool:
+    """Whether a key goes by how the screen is shared."""
+    return binding is SCROLLING or (binding.order == FILE and binding.needs in BY_ROWS)
+
+
 class Held:
     """What the keys that wait hold back."""
 
@@ -75,18 +84,20 @@ class Held:
         self.is_all = False  # every key: one that waits says where those after it go
         self.windows: Set[Window] = set()  # keys of these
         self.shared: Set[str] = set()  # keys that share this
+        self.goes_by_screen = False  # keys that change how the screen is shared
 
-    def add(self, pressed: Pressed) -> None:
-        binding = bound(pressed.key)
-        self.is_all = pressed.window is None or binding.leads
-        if pressed.window is not None:
-            self.windows.add(pressed.window)
-            self.shared.add(binding.shares)
+    def add(self, pressed: Pressed, binding: Binding, windows: Set[Window]) -> None:
+        """A key waits that goes by these windows."""
+        self.is_all = binding.leads or pressed.window is None
+        self.windows |= windows
+        self.shared.add(binding.shares)
+        self.goes_by_screen = self.goes_by_screen or goes_by_screen(binding)
 
-    def holds(self, pressed: Pressed) -> bool:
-        """Whether a key of a window waits for one before it."""
-        shares = bound(pressed.key).shares
-        return pressed.window in self.windows or (shares != "" and shares in self.shared)
+    def holds(self, binding: Binding, windows: Set[Window]) -> bool:
+        """Whether a key that goes by these windows waits for one before it."""
+        if not self.windows.isdisjoint(windows) or (binding.shares != "" and binding.shares in self.shared):
+            return True
+        return self.goes_by_screen and binding.order in (SCREEN, WINDOW)
 
 
 class Waiting:
@@ -144,7 +155,8 @@ class Waiting:
         self._act_in_order()
         if binding.leads or binding is POINTING:
             self._foresee()
-        if self.deferred and binding.waits == ANSWERS and not self.deferred[-1].answers:
+        is_last = bool(self.deferred) and self.deferred[-1].key is key and not self.deferred[-1].answers
+        if is_last and (binding.waits == ANSWERS or binding.action == "close"):
             if is_leave:
                 self._ask(LEAVING if self.is_leaving else WAITING, key)
             else:
@@ -255,7 +267,7 @@ class Waiting:
                 del self.deferred[self._at]
                 self._act_in_window(pressed)
             elif is_held or not self._is_refused(pressed):
-                held.add(pressed)
+                held.add(pressed, self._binding(pressed), self._windows_of(pressed))
                 self._at += 1
         if not self.deferred:
             self._foreseen = None
@@ -266,10 +278,12 @@ class Waiting:
         if pressed.window is not None or pressed.answers:
             return pressed
         key, binding = pressed.key, self._binding(pressed)
-        if binding.order != FILE or self._is_for_menu(key) or self._are_windows_due:
+        if binding.order not in (FILE, LINE) or self._is_for_menu(key) or self._are_windows_due:
             return pressed
         window = self.focus
-        if binding.waits == WRITTEN:
+        if binding.order == LINE:
+            return pressed._replace(window=window, work=self.active)
+        if binding.action in OF_THE_FILE:
             window = self.active
         elif binding is SCROLLING or (isinstance(key, Mouse) and key.what == "press"):
             at = self.window_at(key.row)
@@ -279,28 +293,40 @@ class Waiting:
         return pressed._replace(window=window)
 
     def _binding(self, pressed: Pressed) -> Binding:
-        """What is known of what a key does, in the window that it goes to."""
-        binding = bound(pressed.key)
-        return RUNNING if binding is ENTER and (pressed.window or self.focus) is self.command else binding
+        """What is known of what a key does, in the window that it goes to. A line that leaves goes by all files."""
+        binding, window = bound(pressed.key), pressed.window or self.focus
+        if binding is ENTER and window is self.command:
+            binding = RUNNING
+        if binding.order == LINE and window.is_open and self.may_leave_by(window, pressed.key):
+            return binding._replace(order=ALL)
+        return binding
+
+    def _windows_of(self, pressed: Pressed) -> Set[Window]:
+        """The windows that a key goes by."""
+        order = self._binding(pressed).order
+        windows = {self.focus, self.active} if order == WINDOW else {self.command, pressed.work} if order == LINE else set()
+        return {window for window in (*windows, pressed.window) if window is not None}
 
     def _is_held(self, pressed: Pressed, held: Held) -> bool:
         """Whether a key waits for one before it. What is typed in the command window may stand behind a line that a search puts there."""
-        if pressed.window is self.command and PATTERN in held.shared:
-            return True
-        if pressed.window is not None:
-            return held.holds(pressed) or (self.command in held.windows and bound(pressed.key).shares == PATTERN)
-        if self._is_for_menu(pressed.key):
+        binding = self._binding(pressed)
+        if pressed.window is None and self._is_for_menu(pressed.key):
             if not self.menu.is_box:
                 return PATTERN in held.shared or self.command in held.windows
             return any(window not in self.windows for window in held.windows)  # else it might come up at another place of the screen
-        return bool(held.windows) and (pressed.answers != "" or self._binding(pressed).order != FREE)
+        if pressed.answers != "" or binding.order == ALL or (pressed.window is None and binding.order in (FILE, LINE)):
+            return bool(held.windows)
+        if pressed.window is self.command and PATTERN in held.shared:
+            return True
+        return held.holds(binding, self._windows_of(pressed)) or (self.command in held.windows and binding.shares == PATTERN)
 
     @contextlib.contextmanager
-    def _in(self, window: Optional[Window]) -> Iterator[None]:
-        """Has a window be that to which keys go, meanwhile; None changes nothing."""
+    def _in(self, window: Optional[Window], work: Optional[Window] = None) -> Iterator[None]:
+        """Has a window be that to which keys go, meanwhile, and another that of which the file is worked on; None changes nothing."""
         focus, active = self.focus, self.active
         if window is not None:
             self.go_to(window)
+            self.active = work or self.active
         try:
             yield
         finally:
@@ -314,7 +340,7 @@ class Waiting:
         if window is not None and bound(pressed.key).leads:
             self.go_to(window)
             window = None
-        with self._in(window):
+        with self._in(window, pressed.work):
             self._act(pressed)
 
     def _put_back(self, pressed: Pressed) -> None:
@@ -332,7 +358,7 @@ class Waiting:
     # ---- What a key waits for
 
     def _must_wait_in_window(self, pressed: Pressed) -> bool:
-        with self._in(pressed.window):
+        with self._in(pressed.window, pressed.work):
             return self._must_wait(pressed)
 
     def _must_wait(self, pressed: Pressed) -> bool:
@@ -353,6 +379,8 @@ class Waiting:
         if binding.waits == WINDOWS:
             return False
         if binding.waits == ANSWERS:
+            if binding.needs != "" and self.active not in self.windows and not self._has_shown(self.active, binding):
+                return True
             return self._is_answer_due or (binding.needs != "" and self._lacks_text(self.active, binding))
         window = pressed.window or self.focus
         if binding.waits == WRITTEN and (self.keeping.is_writing(window.tag) or not self.way.is_confirmed):
@@ -376,13 +404,13 @@ class Waiting:
         """Whether a key that waits, and for no other key, goes with a word, since the line is lost and the user knows. One that typed text
         waits behind stays: that text would go elsewhere."""
         behind = (kept for kept in islice(self.deferred, self._at + 1, None) if isinstance(kept.key, (Text, Paste)))
-        has_text_behind = any(first.window is None or kept.window in (None, first.window) for kept in behind)
+        has_text_behind = any(first.window is None or kept.window in (None, first.window, first.work) for kept in behind)
         if not self.way.is_known_late or first.answers or has_text_behind:
             return False
         key = first.key
         indents = key == TAB and first.window is not None and first.window.is_settled and first.window.targets.may_indent()
         if isinstance(key, (Text, Paste)) and not indents:
-            return self._is_line_refused(key)
+            return self._is_line_refused(key, first.window or self.focus)
         del self.deferred[self._at]
         self.notes.take(first.has_read)
         name = "Tab" if indents else key.name if isinstance(key, Key) else "the mouse"
@@ -392,10 +420,10 @@ class Waiting:
             self.message = f"{name} can't act until the line is back" + ("; ^Q again leaves" if action_of(key) == "leave" else "")
         return True
 
-    def _is_line_refused(self, key: Input) -> bool:
+    def _is_line_refused(self, key: Input, window: Window) -> bool:
         """The same of Enter in the command window: the line that it would run stays there."""
         front, newline, rest = key.runes.partition("\n")
-        if self.focus is not self.command or not self.command.is_settled or isinstance(key, Paste) or not newline or rest:
+        if window is not self.command or not window.is_settled or isinstance(key, Paste) or not newline or rest:
             return False
         del self.deferred[self._at]
         if front:

@@ -4,7 +4,7 @@ from typing import List, NamedTuple, Optional, Tuple
 from layout import Layout, line_start, row_start, top_above
 from sulgrevad import Terminal
 from targets import Targets
-from texts import GAP, PLACE_OF, Change, Texts, moved
+from texts import GAP, Changes, Texts
 
 MOST_STRETCHES, MOST_IN_STRETCH = 64, 512  # that are asked for at once, so that no key waits long, and the runes of each
 MOST_IN_LOAD = MOST_STRETCHES * MOST_IN_STRETCH
@@ -124,13 +124,13 @@ class Window:
 
     # ---- What is shown
 
-    def hear(self, changes: List[Change]) -> None:
+    def hear(self, changes: Changes) -> None:
         """Changes of the text move the place where the window begins."""
         self.goal = None
-        if min(map(PLACE_OF, changes)) < self._top:  # there may be thousands
-            self._is_shifted, self._top = True, moved(changes, self._top)
+        if min(changes.places) < self._top:  # there may be thousands
+            self._is_shifted, self._top = True, changes.moved(self._top)
         if self._aim is not None:
-            self._aim = self._aim._replace(place=moved(changes, self._aim.place))
+            self._aim = self._aim._replace(place=changes.moved(self._aim.place))
 
     def follow(self) -> None:
         """Brings the dot into view, also where it stays."""

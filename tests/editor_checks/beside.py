@@ -63,6 +63,130 @@ def check_enter_after_keys_of_all_files(folder):
     expect(got == [",d\nz", "y", "two\n"], f"keys go elsewhere: the texts are {got}")
 
 
+def beside_a_locked_file(texts=("one\n", "two\n", "three\n")):
+    """An editor with a key that waits for its first file, and the keyboard in the second."""
+    pair, editor, key, text = locked(*texts)
+    for each in (text("x"), key("^P")):
+        editor.take(each)
+    expect(editor.focus.tag == 2 and len(editor.deferred) == 1, "this test is wrong: no key waits")
+    return pair, editor, key, text
+
+
+def check_screen_keys_beside_a_locked_file(folder):
+    """F8, F10, ^T and ^Y wait for no other file. Of a file whose keys wait ^Y takes the window off once these have acted."""
+    pair, editor, key, text = beside_a_locked_file()
+    second = editor.focus
+    editor.take(key("F8"))
+    editor.take(key("F10"))
+    expect(editor.is_small and editor.has_numbers, "F8 or F10 waits for another file")
+    editor.take(key("^Y"))
+    expect(second not in editor.files, "^Y waits for another file")
+    editor.take(key("^T"))
+    editor.take(text("!"))
+    expect(second in editor.files and shown(pair, 2) == "!two\n", f"^T waits for another file: {shown(pair, 2)!r}")
+    first = editor.window_of(1)
+    editor.go_to(first)
+    for each in (key("^Y"), text("y")):
+        editor.take(each)
+    expect(first in editor.files, "^Y comes before the keys of its own file")
+    pair.finish()
+    got = [pair.host.text(tag) for tag in (1, 2, 3)]
+    expect(first not in editor.files and editor.has_numbers, "the window stays")
+    expect(got == [".xone\n", "!two\n", "ythree\n"] and editor.focus.tag == 3, f"keys go elsewhere: {got}")
+
+
+def check_screen_keys_behind_a_click(folder):
+    """A key that shares the screen anew waits for clicks and moves by rows before it: these go by the rows that their user saw."""
+    for name in ("F8", "F10", "^T", "^Y"):
+        dots = []
+        for waits in (True, False):
+            pair, editor, key, text = opened("one two three\n" * 60, "b\n", "c\n", size=(40, 80))
+            pair.press(key("^Y"))
+            go_to(pair, 1)
+            window = editor.focus
+            pair.press(text("."))
+            editor.take(key("^W"))
+            keys = [pair.keys.Mouse(what, window.y + 5, 3, 0.0) for what in ("press", "release")] + [key("Down"), key(name)]
+            for each in keys if name != "^Y" else [*keys[:3], key("^P"), key("^P"), key(name)]:
+                editor.take(each)
+                if not waits:
+                    pair.finish()
+            if waits:
+                expect(len(editor.deferred) == 4, f"{name} comes before a click")
+            pair.finish()
+            dots.append((window.dot, editor.focus.tag))
+        expect(dots[0] == dots[1], f"{name}: a click leads to {dots[0]}, over a quick line to {dots[1]}")
+
+
+def check_new_and_close_beside_a_locked_file(folder):
+    """^N and ^K wait for their own file alone; what waits for another goes there all the same, and what comes after them to the new file,
+    or to the window that stays."""
+    for name, wanted, focus in (("^N", [".xone\n", "two\n", "three\n", "y"], 4), ("^K", [".xyone\n", None, "three\n"], 1)):
+        pair, editor, key, text = beside_a_locked_file()
+        events = pair.terminal.events
+        editor.take(key(name))
+        expect(pair.terminal.events > events, f"{name} waits for another file")
+        editor.take(text("y"))
+        pair.finish()
+        got = [pair.host.text(tag) if pair.host.has_file(tag) else None for tag in range(1, len(wanted) + 1)]
+        expect(got == wanted and editor.focus.tag == focus, f"{name}: the texts are {got}, keys go to {editor.focus.tag}")
+        pair.check()
+    for name, wanted in (("^N", [".xone\n", "two\n", "y"]), ("^K", [None, "ytwo\n"])):
+        pair, editor, key, text = locked("one\n", "two\n")
+        events = pair.terminal.events
+        for each in (text("x"), *[key("^W")] * (name == "^K"), key(name), text("y")):
+            editor.take(each)
+        expect(pair.terminal.events == events, f"{name} comes before the keys of its own file")
+        pair.finish()
+        got = [pair.host.text(tag) if pair.host.has_file(tag) else None for tag in range(1, len(wanted) + 1)]
+        expect(got == wanted, f"{name}: the texts are {got}")
+
+
+def check_lines_beside_a_locked_file(folder):
+    """While a command line waits, keys of files that it doesn't work on act. It works on the file that was used last when it was pressed,
+    and what is typed there comes after it."""
+    for name in ("Enter", "^E"):
+        pair, editor, key, text = locked("one\n", "aa\nbb\n2d", "three\n")
+        second, third = editor.window_of(2), editor.window_of(3)
+        pair.terminal.select(2, 6, 8)
+        editor.go_to(second)
+        for each in [key("Esc"), text("2d\n"), key("Esc")] if name == "Enter" else [key("^E")]:
+            editor.take(each)
+        for each in (text("y"), key("^P"), text("z")):
+            editor.take(each)
+        expect(editor.focus is third and shown(pair, 3) == "zthree\n", f"{name}: the third file has {shown(pair, 3)!r}")
+        expect(shown(pair, 2) == "aa\nbb\n2d", f"{name}: the second file has {shown(pair, 2)!r} already")
+        pair.finish()
+        got = [pair.host.text(tag) for tag in (1, 2, 3)]
+        expect(got == [".one\n", "aa\ny2d", "zthree\n"], f"{name}: the texts are {got}")
+        expect(editor.focus is third, f"{name}: keys go to {editor.focus.tag}")
+        pair.check()
+
+
+def check_line_that_leaves(folder):
+    """The command line `q` waits for the keys of all files, and asks of what they have changed; all keys after it wait, too."""
+    pair, editor, key, text = locked("one\n", "two\n", "three\n")
+    for each in (text("x"), key("^P"), key("Esc"), text("q\n"), key("Esc"), key("^P"), text("z")):
+        editor.take(each)
+    expect(shown(pair, 3) == "three\n", "a key comes before a line that leaves")
+    pair.finish()
+    got = [pair.host.text(tag) for tag in (1, 2, 3)]
+    expect(not editor.is_over and got == [".xone\n", "two\n", "zthree\n"], f"it leaves, or the texts are {got}")
+
+
+def check_reload_beside_a_locked_file(folder):
+    """^U waits until no answer is due, and holds back its own file alone."""
+    pair, editor, key, text = beside_a_locked_file()
+    third = editor.window_of(3)
+    for each in (key("^U"), text("y"), key("^P"), text("z")):
+        editor.take(each)
+    expect(shown(pair, 2) == "two\n" and shown(pair, 3) == "zthree\n", f"the files have {shown(pair, 2)!r} and {shown(pair, 3)!r}")
+    expect("reloaded" not in editor.message, "it doesn't wait")
+    pair.finish()
+    got = [pair.host.text(tag) for tag in (1, 2, 3)]
+    expect(got == [".xone\n", "ytwo\n", "zthree\n"] and editor.focus is third, f"the texts are {got}")
+
+
 def check_what_files_share(folder):
     """What was cut in a file that waits is pasted into another; what was looked for there is found."""
     pair, editor, key, text = locked("one\n", "two\n")
@@ -107,7 +231,8 @@ def check_question_beside_a_late_key(folder):
 
 
 KEYS = ("^P", "^P", "^P", "Esc", "^W", "^W", "^V", "^V", "^X", "^C", "^Z", "^R", "^D", "^A", "^L", "^F", "^T", "^Y", "F8", "F10", "Left",
-        "Right", "Up", "Down", "Home", "End", "^Home", "^End", "Shift-Right", "Shift-Down", "Backspace", "Delete", "^Right")  # fmt: skip
+        "Right", "Up", "Down", "Home", "End", "^Home", "^End", "Shift-Right", "Shift-Down", "Backspace", "Delete", "^Right", "^T", "^Y",
+        "F8", "F10", "^E", "^E", "^N", "F9")  # fmt: skip
 
 
 def random_keys(numbers, keys):
@@ -116,8 +241,9 @@ def random_keys(numbers, keys):
     line = [keys.Key("Esc"), keys.Text(numbers.choice((",x/o/c/00/\n", "1d\n", "2\n", "/e/\n"))), keys.Key("Esc")]
     menu = [keys.Key("F2"), *[keys.Key("Down")] * numbers.randrange(3), keys.Text("\n")]
     typed = [keys.Text(numbers.choice(("a", "bc", "d\n", "\t")))]
+    close = [keys.Key("^W"), keys.Key("^K")]
     one = [[keys.Key(numbers.choice(KEYS))] for _ in range(6)]
-    return numbers.choice((mouse, mouse, line, menu, typed, typed, typed, *one))
+    return numbers.choice((mouse, mouse, line, line, menu, close, typed, typed, typed, *one))
 
 
 def check_several_files_as_quick(folder):

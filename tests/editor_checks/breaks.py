@@ -133,7 +133,9 @@ def check_long_text_beside_keys(folder):
     line.is_broken, line.silence = True, 11.0
     os.chdir(folder)
     try:
+        expect(editor.keeping.is_here_due, "it is not due")
         start = time.process_time()
+        editor.keeping.write_here()
         editor.update()
         cost = time.process_time() - start
         editor.take(text("y"))

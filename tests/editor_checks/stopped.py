@@ -12,6 +12,7 @@ import sys
 import termios
 import time
 from pathlib import Path
+from types import SimpleNamespace
 
 from checks import times_longer
 
@@ -175,6 +176,41 @@ class Measured:
     def usual(self):
         """That half of the keys need at most."""
         return share_of(self.keys, 50)
+
+
+def check_writes_here_between_keys(folder):
+    """Changed texts begin to be written here right after a key, or once none has come for a while; where keys leave no such moment, a
+    second later all the same."""
+    import keeping
+
+    way = SimpleNamespace(is_late=True, silence=0.0)
+    editor = SimpleNamespace(terminal=None, way=way, is_lost=False, quiet_for=0.0, clock=lambda: 0.0)
+    kept, after = keeping.Keeping(editor), keeping.HERE_AFTER
+    for silence, quiet, wanted in (
+        (after - 1, 0.1, 1.0), (after, 0.1, 0.15), (after + 0.97, 0.1, 0.03), (after, 0.005, 0.0), (after, 0.3, 0.0), (after + 1, 0.1, 0.0),
+    ):  # fmt: skip
+        way.silence, editor.quiet_for = silence, quiet
+        left = kept.seconds_until_here
+        expect(abs(max(0.0, left) - wanted) < 1e-6, f"after {silence} s, {quiet} after a key, it waits {left} s more, wanted {wanted}")
+        expect(kept.is_here_due == (wanted == 0), f"after {silence} s, {quiet} after a key, it is {kept.is_here_due} that it begins")
+    editor.is_lost = True
+    expect(kept.seconds_until_here is None and not kept.is_here_due, "it is written again once the host is lost")
+
+
+def check_draws_a_long_answer(folder):
+    """An answer that comes without a pause is drawn while it comes, but no more often than each 50 milliseconds."""
+    import loop
+
+    drawn, turns = [], loop.Loop.__new__(loop.Loop)
+    turns.editor, turns.link, turns.drawn_at = None, None, time.monotonic()
+    turns.screen = SimpleNamespace(draw=lambda editor, link: drawn.append(time.monotonic()))
+    turns._ready = lambda seconds: {0: 1}
+    turns._take_keys = turns._take_signals = lambda ready: None
+    turns._take_bytes, turns._send = lambda ready: time.sleep(0.02), lambda: None
+    for _ in range(20):
+        turns._go_round()
+    expect(len(drawn) >= 5, f"it is drawn {len(drawn)} times")
+    expect(all(later - sooner >= 0.05 for sooner, later in zip(drawn, drawn[1:])), f"it is drawn at {drawn}")
 
 
 def check_keys_while_the_line_stands_still(folder):

@@ -226,6 +226,48 @@ def check_runs(folder):
     expect(counts == [4, 1], f"the runs have {counts} changes")
 
 
+def check_received_changes(folder):
+    """Changes that came in a few calls are those that came one by one: the same changes, and they move each place as these do. The caret
+    goes to the end of the one that stands farthest down then."""
+    from sulgrevad import Edits, Pieces
+    from texts import Change, received
+
+    def pieces(texts):
+        return Pieces("".join(texts), [sum(map(len, texts[:at])) for at in range(len(texts))], [*map(len, texts)])
+
+    numbers, (pair, editor, *_) = random.Random(2), opened("")
+    expect(received([]) is None, "no edits are a change")
+    for _ in range(500):
+        each, edits, length = [], [], 40
+        for _ in range(numbers.randrange(1, 4)):
+            starts, gone, came = [], [], []
+            for _ in range(numbers.randrange(1, 5)):
+                starts.append(numbers.randrange(length + 1))
+                gone.append("abc"[: numbers.randrange(min(4, length - starts[-1] + 1))])
+                came.append("xyz"[: numbers.randrange(4)])
+                length += len(came[-1]) - len(gone[-1])
+                each.append(Change(1, starts[-1], gone[-1], came[-1]))
+            edits.append(Edits(1, starts, *(pieces(texts) for texts in (gone, came))))
+        each, got = [change for change in each if change.gone or change.came], received(edits)
+        if not each:
+            expect(got is None, "edits that change nothing are changes")
+            continue
+        expect([*got] == each and len(got) == len(each), f"{each} came as {[*got]}")
+        for place in range(42):
+            wanted = place
+            for change in each:
+                wanted = change.moved(wanted)
+            expect(got.moved(place) == wanted, f"{each} move {place} to {got.moved(place)}, wanted {wanted}")
+        end = -1
+        for change in each:
+            last = change.place + len(change.came)
+            end = max(last, end + len(change.came) - len(change.gone)) if end > change.place else last
+        editor._before, editor._ends = {}, {}
+        for changes in filter(None, (received([some]) for some in edits)):
+            editor.hear_run(changes)
+        expect(editor._ends == {1: end}, f"{each}: the caret goes to {editor._ends}, wanted {end}")
+
+
 def check_undo_step_by_step(folder):
     """After each step that is taken back or made again the text is what it was, also where it is not loaded."""
     for seed in range(4):

@@ -45,7 +45,7 @@ piece or an event was taken, and what `step`, `edits`, `next_written`, `next_ref
 that goes on after a signal has a handler that only notes it. A `MemoryError` of Python's own may lose what these and `add_file` hand out,
 too; but nothing that a link hands out.
 """
-from sulgrevad.edits import Edit
+from sulgrevad.edits import Edit, Edits, Pieces
 from sulgrevad.link import HELLO_BYTES, MOST_NOTE, Hello, Link, What, read_hello, write_refusal
 from sulgrevad.scripts import replay
 from sulgrevad.sides import Change, FileState, Host, HostDid, NextFrame, Refusal, Terminal, TerminalDid, TerminalState
@@ -74,8 +74,8 @@ from sulgrevad.status import (
 __version__ = "0.1.0"
 
 __all__ = [
-    "HELLO_BYTES", "MOST_NOTE", "AddRefused", "Change", "CountFull", "Edit", "FileState", "HandleFault", "Hello", "Host", "HostDid",
-    "HostRefused", "Link", "LinkFault", "Missing", "NextFrame", "NoMemory", "NotText", "Refusal", "SamError", "ScriptFault", "Status",
-    "Step", "StreamFault", "Terminal", "TerminalDid", "TerminalRefused", "TerminalState", "Unfinished", "Waiting", "What", "error_of",
-    "library_version", "read_hello", "replay", "status_text", "write_refusal",
+    "HELLO_BYTES", "MOST_NOTE", "AddRefused", "Change", "CountFull", "Edit", "Edits", "FileState", "HandleFault", "Hello", "Host",
+    "HostDid", "HostRefused", "Link", "LinkFault", "Missing", "NextFrame", "NoMemory", "NotText", "Pieces", "Refusal", "SamError",
+    "ScriptFault", "Status", "Step", "StreamFault", "Terminal", "TerminalDid", "TerminalRefused", "TerminalState", "Unfinished", "Waiting",
+    "What", "error_of", "library_version", "read_hello", "replay", "status_text", "write_refusal",
 ]  # fmt: skip

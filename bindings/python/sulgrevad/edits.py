@@ -3,11 +3,11 @@ call counts.
 """
 import ctypes
 import sys
-from codecs import utf_32_be_decode, utf_32_le_decode
+from codecs import utf_16_be_decode, utf_16_le_decode, utf_32_be_decode, utf_32_le_decode
 from ctypes import byref, c_size_t, c_uint32
-from itertools import accumulate
-from struct import Struct
-from typing import Any, Iterator, List, NamedTuple, Optional, Tuple
+from itertools import accumulate, repeat
+from operator import add, sub
+from typing import Any, Iterator, List, NamedTuple, Optional, Sequence, Tuple
 
 from sulgrevad._library import LIBRARY, Did, Handle
 from sulgrevad.status import Status, Step, error_of
@@ -19,9 +19,10 @@ FEW = 16  # edits for which that doesn't pay
 ALONE = 64  # edits that are received one by one where it did not
 
 _OK, _NONE, _RECEIVED = int(Status.OK), int(Status.NONE), int(Step.RECEIVED)
-_DID = Struct("=24x III 4x")  # start, gone and came of a sam_did
+_WORDS = ctypes.sizeof(Did) // ctypes.sizeof(c_uint32)  # of a sam_did
+_START, _GONE, _CAME = (getattr(Did, name).offset // ctypes.sizeof(c_uint32) for name in ("start", "gone", "came"))  # among these
 _NOT_LOADED, _WIDTH = b"\xff" * 4, 4  # what stands for a rune that is not loaded; bytes of a rune
-_DECODE = utf_32_le_decode if sys.byteorder == "little" else utf_32_be_decode
+_DECODE, _HALVES, _LOW = (utf_32_le_decode, utf_16_le_decode, 0) if sys.byteorder == "little" else (utf_32_be_decode, utf_16_be_decode, 1)
 _STAND_INS = [chr(rune) for rune in range(0xFDD0, 0xFDF0)]  # for what is not loaded: no text is likely to have them all
 
 
@@ -34,19 +35,51 @@ class Edit(NamedTuple):
     came: str
 
 
+class Pieces(NamedTuple):
+    """Pieces of a text: from each of some places on so many runes."""
+
+    text: str
+    places: Sequence[int]
+    counts: List[int]
+
+    def each(self) -> List[str]:
+        """The pieces."""
+        text = self.text
+        return [text[place : place + count] for place, count in zip(self.places, self.counts)]
+
+
+class Edits:
+    """Edits of one file, in the order in which frames made them: at each of the places `starts` the piece of `gone` gave way to that of
+    `came`. There may be thousands, so each is made only where it is asked for."""
+
+    def __init__(self, tag: int, starts: List[int], gone: Pieces, came: Pieces):
+        self.tag, self.starts, self.gone, self.came = tag, starts, gone, came
+
+    def __len__(self) -> int:
+        return len(self.starts)
+
+    def __iter__(self) -> Iterator[Edit]:
+        return map(Edit, repeat(self.tag), self.starts, self.gone.each(), self.came.each())
+
+
 def text_of(runes: Any, count: int, gap: str) -> str:
     """The first runes of an array, as many as are counted, with `gap` for one that is not loaded."""
-    data = bytes(memoryview(runes)[:count])
+    data = memoryview(runes)[:count]
     try:
         return _DECODE(data)[0]
     except UnicodeDecodeError:
-        return _with_gaps(data, gap)
+        return _with_gaps(bytes(data), gap)
 
 
 def _with_gaps(data: bytes, gap: str) -> str:
     count = len(data) // _WIDTH
     if data == _NOT_LOADED * count:
         return gap * count
+    halves = _HALVES(data, "surrogatepass")[0]
+    low, high = halves[_LOW::2], halves[1 - _LOW :: 2]
+    gaps = high.count("\uffff")
+    if gaps == low.count("\uffff") and gaps + high.count("\0") == count:  # each rune is below U+10000, and its low half
+        return low.replace("\uffff", gap)
     for rune in _STAND_INS:
         stand_in = rune.encode("utf-32")[-_WIDTH:]  # in the order of this machine
         if stand_in not in data:
@@ -64,13 +97,14 @@ def read_runes(handle: Handle, tag: int, place: int, count: int, gap: str) -> st
     return text_of(into, got.value, gap)
 
 
-class _Edits:
+class _Receiver:
     """Receives the edits of one file."""
 
     def __init__(self, handle: Handle, gap: str):
         self._handle, self._gap, self._did = handle, gap, Did()
         self._at, self._did_at = byref(handle), byref(self._did)
         self._tag: Optional[int] = None
+        self._dids: Any = None  # room for what one call receives
 
     def is_next(self) -> bool:
         """Whether the next frame edits the file."""
@@ -83,51 +117,47 @@ class _Edits:
             self._tag = self._did.tag
         return bool(self._tag == self._did.tag)
 
-    def one(self) -> List[Edit]:
-        """Receives the edit that is next."""
-        gone = self._read(self._did.start, self._did.gone)
+    def one(self) -> Tuple[Optional[Edits], int]:
+        """Receives the edit that is next, and returns it, with the status of the call."""
+        start, gone = self._did.start, self._read(self._did.start, self._did.gone)
         code = LIBRARY.sam_term_step(self._at, self._did_at)
-        if code != _OK:
-            raise error_of(code)
-        if self._did.step != _RECEIVED:  # it wrote what was left over
-            return []
-        return [Edit(self._did.tag, self._did.start, gone, self._read(self._did.start, self._did.came))]
+        if code != _OK or self._did.step != _RECEIVED:  # it wrote what was left over
+            return None, code
+        came = self._read(start, self._did.came)
+        return Edits(self._did.tag, [start], Pieces(gone, [0], [len(gone)]), Pieces(came, [0], [len(came)])), code
 
-    def many(self) -> Tuple[List[Edit], int]:
-        """Receives edits from the one that is next on, as long as each is at the place of the one before it or above, and returns them, with
-        the status of the call."""
+    def many(self) -> Tuple[Optional[Edits], int]:
+        """The same of edits from the one that is next on, as long as each is at the place of the one before it or above."""
         last = self._did.start + self._did.gone
         first = max(0, self._did.start - WINDOW)
         before = self._read(first, last - first)
-        dids, got = (Did * MOST)(), c_size_t()
-        code = LIBRARY.sam_term_step_edits(self._at, first, dids, MOST, byref(got))
-        told = [*_DID.iter_unpack(ctypes.string_at(dids, got.value * _DID.size))]
-        if not told:
-            return [], code
-        moved = [*accumulate((came - gone for _, gone, came in reversed(told[1:])), initial=0)][::-1]  # by those after it
-        after = self._read(told[-1][0], told[0][0] + moved[0] + told[0][2] - told[-1][0])
-        edits, made, tag, low = [], tuple.__new__, self._tag, told[-1][0]
-        for (start, gone, came), by in zip(told, moved):
-            at = start + by - low
-            edits.append(made(Edit, (tag, start, before[start - first : start - first + gone], after[at : at + came])))
-        return edits, code
+        self._dids, got = self._dids or (Did * MOST)(), c_size_t()
+        code = LIBRARY.sam_term_step_edits(self._at, first, self._dids, MOST, byref(got))
+        if got.value == 0:
+            return None, code
+        words = memoryview(ctypes.string_at(self._dids, got.value * ctypes.sizeof(Did))).cast("I")
+        starts, gone, came = (words[at::_WORDS].tolist() for at in (_START, _GONE, _CAME))
+        moved = [*accumulate(map(sub, came[:0:-1], gone[:0:-1]), initial=0)][::-1]  # how far those after it move each
+        low = starts[-1]
+        after = self._read(low, starts[0] + moved[0] + came[0] - low)
+        places = [*map(add, map(sub, starts, repeat(low)), moved)]
+        return Edits(self._tag or 0, starts, Pieces(before, [*map(sub, starts, repeat(first))], gone), Pieces(after, places, came)), code
 
     def _read(self, place: int, count: int) -> str:
         return read_runes(self._handle, self._tag or 0, place, count, self._gap) if count else ""
 
 
-def received(handle: Handle, gap: str) -> Iterator[Edit]:
+def received(handle: Handle, gap: str) -> Iterator[Edits]:
     """Receives the next frames, as long as each edits a text and all of them that of one file. Raises what a step does, once those before
     it are told."""
-    edits, alone = _Edits(handle, gap), FEW
-    while edits.is_next():
-        if alone > 0:
-            alone -= 1
-            yield from edits.one()
-            continue
-        found, code = edits.many()
-        yield from found
+    receiver, alone = _Receiver(handle, gap), FEW
+    while receiver.is_next():
+        found, code = receiver.many() if alone == 0 else receiver.one()
+        if found is not None:
+            yield found
         if code != _OK:
             raise error_of(code)
-        if len(found) < FEW:
+        if alone > 0:
+            alone -= 1
+        elif found is None or len(found) < FEW:
             alone = ALONE

@@ -3,11 +3,12 @@ import ctypes
 import operator
 from collections import deque
 from ctypes import byref, c_bool, c_size_t, c_uint8, c_uint16, c_uint32, c_uint64
+from itertools import chain
 from types import TracebackType
 from typing import Any, Deque, Iterator, List, NamedTuple, NoReturn, Optional, SupportsIndex, Tuple, Type, TypeVar, Union
 
 from sulgrevad._library import LIBRARY, PIECE, Did, File, Handle, State, Text, bytes_of
-from sulgrevad.edits import Edit, read_runes, received
+from sulgrevad.edits import Edit, Edits, read_runes, received
 from sulgrevad.status import Missing, Status, Step, error_of
 
 MOST_IN_NAME = 256  # bytes of the longest name
@@ -538,6 +539,10 @@ class Terminal(_Side):
         """Makes the steps that receive the next frames, as long as each edits a text and all of them that of one file, and says of each what
         went and what came; `gap` stands for a rune that is not loaded. Many may be received before the first of them is told: take all, and
         make no event between two. Raises what `step` does, once those received before are told."""
+        return chain.from_iterable(self.edits_at_once(gap))
+
+    def edits_at_once(self, gap: str = "\N{REPLACEMENT CHARACTER}") -> Iterator[Edits]:
+        """The same, of each call of the library all that it received: that takes less time where there are thousands."""
         return received(self._handle, gap)
 
     def step(self) -> TerminalDid:
