@@ -1,34 +1,50 @@
 """The terminal as the editor reads it: what it holds, and what it knows of a file, is asked of the library once, until something is done."""
 from functools import wraps
+from operator import itemgetter
 from typing import Any, Callable, Dict, Iterator, Optional, Tuple
 
-from sulgrevad import Edit, FileState, Terminal, TerminalDid, TerminalState
+from sulgrevad import Edit, FileState, Refusal, Terminal, TerminalDid, TerminalState
 from texts import GAP
 
-# What changes something of a file: each event, and what takes bytes in.
+# What changes something of a file, but for what takes frames in: each event, and what sends.
 DEEDS = (
     "type", "edit", "select", "dclick", "look", "search", "flush", "cut", "snarf", "paste", "get_snarf", "set_snarf", "view", "load", "scroll",
-    "check", "open", "new_file", "write", "close", "open_cmd", "work", "send", "offer_version", "exit", "flush_now", "bring", "step", "feed",
-    "free",
+    "check", "open", "new_file", "write", "close", "open_cmd", "work", "send", "offer_version", "exit", "flush_now",
 )  # fmt: skip
+FRAMES = ("bring", "feed", "free")  # what takes frames in, and so names
+NAMING = (68, 69, 83)  # the kinds of frames that change a name: Hnewname, Hmovname, Hdelname
 COUNTS = (
     "events", "decided", "held", "sent", "under_way", "tags", "unsent", "snarf_len", "version", "command_locked", "exited",
 )  # fmt: skip
 
 
+LEAST_PIECE, MORE, MOST_PIECE = 1025, 4_096, 65_536  # runes of a read that is kept; that are read behind it; and that are kept of a file
+
+
 class Glance(Terminal):
-    """A terminal of which the readers below ask once for all."""
+    """A terminal of which the readers below ask once for all. Of each file one piece of the text is kept, and follows its changes."""
 
     def __init__(self) -> None:
         super().__init__()
-        self.forget()
-
-    def forget(self) -> None:
         self._now: Optional[TerminalState] = None
         self._known: Dict[int, FileState] = {}
+        self._gaps: Dict[int, Tuple[int, Optional[int]]] = {}  # of a file a place, and the first gap from there on
+        self._pieces: Dict[int, Tuple[int, str, int]] = {}  # of a file a place, the runes from there on, and after which deed that was so
         self._names: Dict[int, str] = {}
+        self._current: Tuple[Optional[int], ...] = ()  # empty where it was not asked
+        self._refuses = False  # an event may be refused that was not told
+        self.deeds = 0  # how often something was done
+
+    def forget(self) -> None:
+        """What is known of files and counts may be otherwise; names are not."""
+        self._now, self._current, self._refuses = None, (), True
+        self.deeds += 1
+        self._known.clear()
+        self._gaps.clear()
 
     def take_out(self, most: Optional[int] = None) -> bytes:
+        if not self.pending:
+            return b""
         try:
             return super().take_out(most)
         finally:
@@ -39,6 +55,11 @@ class Glance(Terminal):
             yield from super().edits(gap)
         finally:
             self.forget()
+
+    def refusals(self) -> Iterator[Refusal]:
+        if self._refuses:
+            yield from super().refusals()
+            self._refuses = False
 
     def state(self) -> TerminalState:
         if self._now is None:
@@ -51,6 +72,47 @@ class Glance(Terminal):
             file = self._known[tag] = super().file(tag)
         return file
 
+    def first_gap(self, tag: int, place: int = 0) -> Optional[int]:
+        known = self._gaps.get(tag)
+        if known is None or place < known[0] or (known[1] is not None and known[1] < place):
+            known = self._gaps[tag] = place, super().first_gap(tag, place)
+        return known[1]
+
+    def runes(self, tag: int, place: int, count: int, gap: str = GAP) -> str:
+        """Runes, from the piece that is kept where they are in it."""
+        if gap != GAP:
+            return super().runes(tag, place, count, gap)
+        end, piece = min(place + count, self.len(tag)), self._pieces.get(tag)
+        if piece is not None and piece[2] != self.deeds:
+            piece = self._changed_piece(tag, *piece)
+        if piece is not None and piece[0] <= place <= end <= piece[0] + len(piece[1]):
+            return piece[1][place - piece[0] : end - piece[0]]
+        if not LEAST_PIECE <= count <= MOST_PIECE - MORE:
+            return super().runes(tag, place, count, gap)
+        try:
+            super().changed(tag)
+        except MemoryError:  # nobody knows what changes from now on
+            return super().runes(tag, place, count, gap)
+        text = super().runes(tag, place, count + MORE, gap)
+        self._pieces[tag] = place, text, self.deeds
+        return text[:count]
+
+    def _changed_piece(self, tag: int, start: int, text: str, _deed: int) -> Optional[Tuple[int, str, int]]:
+        """A piece as it is after what was done since; None where what was there before isn't all there any more."""
+        del self._pieces[tag]  # until it is known
+        place, gone, came = super().changed(tag)
+        at = place - start
+        if gone == came == 0 or at >= len(text):
+            pass
+        elif at + gone <= 0:
+            start += came - gone
+        elif at >= 0 and at + gone <= len(text) and len(text) + came <= MOST_PIECE:
+            text = text[:at] + super().runes(tag, place, came, GAP) + text[at + gone :]
+        else:
+            return None
+        piece = self._pieces[tag] = start, text, self.deeds
+        return piece
+
     def name(self, tag: int) -> str:
         name = self._names.get(tag)
         if name is None:
@@ -58,27 +120,33 @@ class Glance(Terminal):
         return name
 
     @property
+    def current(self) -> Optional[int]:
+        if not self._current:
+            self._current = (super().current,)
+        return self._current[0]
+
+    @property
     def pending(self) -> int:
         return super().pending if self._left else self.state().pending
 
     def is_known(self, tag: int) -> bool:
-        return self.file(tag).is_known
+        return (self._known.get(tag) or self.file(tag)).is_known
 
     def is_open(self, tag: int) -> bool:
-        return self.file(tag).is_open
+        return (self._known.get(tag) or self.file(tag)).is_open
 
     def is_changed(self, tag: int) -> bool:
-        return self.file(tag).is_changed
+        return (self._known.get(tag) or self.file(tag)).is_changed
 
     def locked(self, tag: int) -> bool:
-        return self.file(tag).is_locked
+        return (self._known.get(tag) or self.file(tag)).is_locked
 
     def len(self, tag: int) -> int:
-        file = self.file(tag)
+        file = self._known.get(tag) or self.file(tag)
         return file.len if file.is_open else super().len(tag)
 
     def dot(self, tag: int) -> Tuple[int, int]:
-        file = self.file(tag)
+        file = self._known.get(tag) or self.file(tag)
         return file.dot if file.is_open else super().dot(tag)
 
     def view_of(self, tag: int) -> Tuple[int, int]:
@@ -86,27 +154,38 @@ class Glance(Terminal):
         return file.view if file.is_open else super().view_of(tag)
 
 
-def _forgetting(deed: Callable[..., Any]) -> Callable[..., Any]:
+def _forgetting(deed: Callable[..., Any], names: bool) -> Callable[..., Any]:
     @wraps(deed)
     def done(self: Glance, *words: Any, **more: Any) -> Any:
         try:
             return deed(self, *words, **more)
         finally:  # what was refused memory may be done in part
             self.forget()
+            if names:
+                self._names.clear()
 
     return done
 
 
 def _step(self: Glance) -> TerminalDid:
     """The same, without what costs time: there may be thousands of steps."""
-    self._now = None
+    self._now, self._current, self._refuses = None, (), True
+    self.deeds += 1
     self._known.clear()
-    self._names.clear()
-    return Terminal.step(self)
+    self._gaps.clear()
+    did = Terminal.step(self)
+    if did.kind in NAMING:
+        self._names.clear()
+    return did
 
 
-for _deed in DEEDS:
-    setattr(Glance, _deed, _forgetting(getattr(Terminal, _deed)))
+def _count_of(name: str) -> property:
+    of = itemgetter(TerminalState._fields.index(name))
+    return property(lambda self: of(self._now or self.state()))
+
+
+for _deed in (*DEEDS, *FRAMES):
+    setattr(Glance, _deed, _forgetting(getattr(Terminal, _deed), _deed in FRAMES))
 Glance.step = _step  # type: ignore[method-assign]
 for _count in COUNTS:
-    setattr(Glance, _count, property(lambda self, name=_count: getattr(self.state(), name)))
+    setattr(Glance, _count, _count_of(_count))

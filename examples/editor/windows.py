@@ -61,9 +61,12 @@ class Window:
         self._followed: Optional[Tuple[int, int]] = None  # the dot that was brought into view
         self._aim: Optional[Aim] = None  # what is to be shown once the text above it is loaded
         self._layout: Optional[Layout] = None
+        self._heard = 0  # how many changes there were since
+        self._change: Optional[Change] = None  # the last one
         self._layout_of: tuple = ()
         self._loaded: Optional[Layout] = None  # what is shown, where all of it is loaded and the terminal was told so
         self._is_shifted = False  # text above it changed, so that it may not begin with a row any more
+        self.drawn = None  # its rows as the screen has drawn them
         self._turns = False  # the user turns pages, and those on either side were not asked for yet
 
     # ---- Reading
@@ -101,14 +104,26 @@ class Window:
 
     def layout(self) -> Layout:
         """The rows that the window shows."""
-        length = self.length
+        length = self.terminal.len(self.tag)
         top = min(self._top, length)
         layout_of = (self.texts.versions.get(self.tag, 0), length, top, self.width, self.height)
         if self._layout is None or self._layout_of != layout_of:
-            longest = 0 if self._layout is None else self._layout.end - self._layout.top + 2 * self.width
-            self._layout = Layout(self.read, top, self.width, self.height, longest)
-            self._layout_of = layout_of
+            self._layout, self._layout_of = self._new_layout(layout_of), layout_of
+            self._change, self._heard = None, 0
         return self._layout
+
+    def _new_layout(self, layout_of: tuple) -> Layout:
+        """The layout of the text as it is now. Where nothing but one change was made since the last one that is changed."""
+        (version, length, top, *size), before, change = layout_of, self._layout, self._change
+        if before is not None and change is not None and self._heard == 1:
+            grown = len(change.came) - len(change.gone)
+            changed = None
+            if self._layout_of == (version - 1, length - grown, top, *size):
+                changed = before.changed(self.read, change)
+            if changed is not None:
+                return changed
+        longest = 0 if before is None else before.end - before.top + 2 * self.width
+        return Layout(self.read, top, self.width, self.height, longest)
 
     def put(self, y: int, height: int, width: int) -> None:
         """Gives it a place on the screen. A caret that was shown stays so, and the window begins with a row of the new width. Where a screen
@@ -127,6 +142,8 @@ class Window:
     def hear(self, changes: List[Change]) -> None:
         """Changes of the text move the place where the window begins."""
         self.goal = None
+        self._heard += len(changes)
+        self._change = changes[-1]
         if min(map(PLACE_OF, changes)) < self._top:  # there may be thousands
             self._is_shifted, self._top = True, moved(changes, self._top)
         if self._aim is not None:
@@ -139,18 +156,18 @@ class Window:
     def update(self, is_busy: bool = False, rests: bool = False, turns: int = 0) -> None:
         """Follows what the host and the user did, and has the terminal load what is shown; while the user is busy only what he needs, and
         while he rests what he may turn to next. `turns` is how many page keys wait, as for `ask`."""
-        if self.is_open and self._is_shifted:
+        if not self.is_open:
+            return
+        if self._is_shifted:
             self._begin_with_a_row()
-        if self.is_open and self.texts.is_final:
-            self._follow_dot()
-        elif self.is_open:
+        if not self.texts.is_final:
             self._reach()
-            self._follow_dot()
-            if self.texts.holds_back:
-                return
-            self._load(is_busy, turns)
-            if rests and self._turns:
-                self._load_beside()
+        self._follow_dot()
+        if self.texts.is_final or self.texts.holds_back:
+            return
+        self._load(is_busy, turns)
+        if rests and self._turns:
+            self._load_beside()
 
     def _begin_with_a_row(self) -> None:
         """Begins with the row of the place where it begins, if the start of its line is known."""
