@@ -353,6 +353,11 @@ class Colours:
             return LOOK_AGAIN
         return 0.0 if self.is_behind else None
 
+    @property
+    def goes_on(self) -> bool:
+        """Whether what is shown may get other colours though its text stays."""
+        return self.is_behind or self._reader is not None
+
     def begin(self) -> None:
         """The screen is drawn: so much may be worked on it."""
         self.is_behind, self._until = False, None

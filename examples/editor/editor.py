@@ -120,9 +120,10 @@ class Editor(Desk, Waiting, Actions):
         return tag != COMMAND and (self.terminal.is_changed(tag) or tag in self.keeping.unwritten)
 
     def name(self, tag: int) -> str:
-        if not self.terminal.is_known(tag):
+        terminal = self.terminal
+        if not terminal.is_known(tag):
             return COMMAND_NAME if tag == COMMAND else "(closed)"
-        return self.terminal.name(tag) or f"(file {tag}, no name)"
+        return terminal.name(tag) or f"(file {tag}, no name)"
 
     def show(self, tag: int, replaces: bool = True) -> None:
         """Shows a file: in its window, else in place of the one that was used last, or in another. Before that it is opened."""

@@ -1,18 +1,21 @@
 """The terminal as the editor reads it: what it holds, and what it knows of a file, is asked of the library once, until something is done."""
 from functools import wraps
 from operator import itemgetter
-from typing import Any, Callable, Dict, Iterator, Optional, Tuple
+from typing import Any, Callable, Dict, Iterator, Optional, Tuple, Union
 
-from sulgrevad import Edit, FileState, Refusal, Terminal, TerminalDid, TerminalState
-from texts import GAP
+from sulgrevad import Edit, FileState, Refusal, Step, Terminal, TerminalDid, TerminalState
+from texts import COMMAND, GAP
 
-# What changes something of a file, but for what takes frames in: each event, and what sends.
+# What changes something of one file alone, where no event is held that may act then, too.
+OF_ONE = ("type", "edit", "select", "view", "check")
+# Each other event, and what takes frames in.
 DEEDS = (
-    "type", "edit", "select", "dclick", "look", "search", "flush", "cut", "snarf", "paste", "get_snarf", "set_snarf", "view", "load", "scroll",
-    "check", "open", "new_file", "write", "close", "open_cmd", "work", "send", "offer_version", "exit", "flush_now",
+    "dclick", "look", "search", "flush", "cut", "snarf", "paste", "get_snarf", "set_snarf", "load", "scroll", "open", "new_file", "write",
+    "close", "open_cmd", "work", "send", "offer_version", "exit", "feed", "free",
 )  # fmt: skip
-FRAMES = ("bring", "feed", "free")  # what takes frames in, and so names
 NAMING = (68, 69, 83)  # the kinds of frames that change a name: Hnewname, Hmovname, Hdelname
+CHECKING = 71  # Hcheck, which may have the terminal ask for more of its file
+DONE = (Step.RECEIVED, Step.ACTED, Step.REFUSED)  # steps that may change anything; the others change counts alone
 COUNTS = (
     "events", "decided", "held", "sent", "under_way", "tags", "unsent", "snarf_len", "version", "command_locked", "exited",
 )  # fmt: skip
@@ -33,6 +36,7 @@ class Glance(Terminal):
         self._names: Dict[int, str] = {}
         self._current: Tuple[Optional[int], ...] = ()  # empty where it was not asked
         self._refuses = False  # an event may be refused that was not told
+        self._is_short = False  # memory was out, so some of what was done may be done later
         self.deeds = 0  # how often something was done
 
     def forget(self) -> None:
@@ -51,10 +55,29 @@ class Glance(Terminal):
             self._now = None
 
     def edits(self, gap: str = GAP) -> Iterator[Edit]:
+        edits, takes = super().edits(gap), True
         try:
-            yield from super().edits(gap)
+            first = next(edits, None)
+            takes = first is not None
+            if first is not None:
+                yield first
+                yield from edits
         finally:
+            self._now = None
+            if takes:
+                self.forget()
+
+    def bring(self, data: Union[bytes, bytearray, memoryview]) -> None:
+        self._now = None  # the steps after it change more
+        super().bring(data)
+
+    def flush_now(self) -> None:
+        """What is typed is sent; and what waited for memory goes on, which may be anything."""
+        is_short, self._is_short, self._now = self._is_short, True, None
+        if is_short:
             self.forget()
+        super().flush_now()
+        self._is_short = False
 
     def refusals(self) -> Iterator[Refusal]:
         if self._refuses:
@@ -154,28 +177,55 @@ class Glance(Terminal):
         return file.view if file.is_open else super().view_of(tag)
 
 
-def _forgetting(deed: Callable[..., Any], names: bool) -> Callable[..., Any]:
+def _forgetting(deed: Callable[..., Any]) -> Callable[..., Any]:
     @wraps(deed)
     def done(self: Glance, *words: Any, **more: Any) -> Any:
         try:
             return deed(self, *words, **more)
+        except MemoryError:
+            self._is_short = True
+            raise
         finally:  # what was refused memory may be done in part
             self.forget()
-            if names:
+            if deed is Terminal.feed:
                 self._names.clear()
+
+    return done
+
+
+def _of_one(deed: Callable[..., Any], is_typing: bool) -> Callable[..., Any]:
+    """The same where only one file may change: no event is held. What is typed in the command file may lock all."""
+    forgets = _forgetting(deed)
+
+    @wraps(deed)
+    def done(self: Glance, tag: int, *words: Any) -> Any:
+        if (is_typing and tag == COMMAND) or self._is_short or self.held:
+            return forgets(self, tag, *words)
+        self._is_short = True  # until it is done
+        self._now, self._refuses = None, True
+        self.deeds += 1
+        self._known.pop(tag, None)
+        self._gaps.pop(tag, None)
+        deed(self, tag, *words)
+        self._is_short = False
 
     return done
 
 
 def _step(self: Glance) -> TerminalDid:
     """The same, without what costs time: there may be thousands of steps."""
-    self._now, self._current, self._refuses = None, (), True
-    self.deeds += 1
-    self._known.clear()
-    self._gaps.clear()
-    did = Terminal.step(self)
-    if did.kind in NAMING:
-        self._names.clear()
+    self._now, is_done = None, True
+    try:
+        did = Terminal.step(self)
+        is_done = did.step in DONE
+        if did.kind == CHECKING:
+            is_done = False
+            self._known.pop(did.tag, None)
+        elif did.kind in NAMING:
+            self._names.clear()
+    finally:
+        if is_done:
+            self.forget()
     return did
 
 
@@ -184,8 +234,10 @@ def _count_of(name: str) -> property:
     return property(lambda self: of(self._now or self.state()))
 
 
-for _deed in (*DEEDS, *FRAMES):
-    setattr(Glance, _deed, _forgetting(getattr(Terminal, _deed), _deed in FRAMES))
+for _deed in DEEDS:
+    setattr(Glance, _deed, _forgetting(getattr(Terminal, _deed)))
+for _deed in OF_ONE:
+    setattr(Glance, _deed, _of_one(getattr(Terminal, _deed), _deed == "type"))
 Glance.step = _step  # type: ignore[method-assign]
 for _count in COUNTS:
     setattr(Glance, _count, _count_of(_count))

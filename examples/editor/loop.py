@@ -42,7 +42,7 @@ class Loop:
         self.ended_by = 0  # the signal that ended the session
         self._wanted: Optional[Dict[int, int]] = None  # what is waited for of the link
         self._poll = select.poll()
-        self._is_updated = False  # the editor is, and nothing was done since
+        self._is_updated = False  # the editor is, by what came last, and nothing is left to be done by that
         self.signals, wakes = os.pipe()
         for end in (self.signals, wakes):
             os.set_blocking(end, False)
@@ -69,6 +69,7 @@ class Loop:
         if not ready:
             self.editor.notes.settle(since)
             ready = self._ready(self._idle())
+        self._is_updated = False
         self._take_keys(ready)
         self._take_signals(ready)
         self._take_bytes(ready)
@@ -88,7 +89,6 @@ class Loop:
             self._do(self.editor.feed)
         if not self._is_updated:
             self._do(self.editor.update)
-        self._is_updated = False
         if not self.editor.is_lost:
             self._do(self.editor.pause)
         self._send()
@@ -101,7 +101,7 @@ class Loop:
         waits.append(self.editor.notes.left)
         if self.is_short:
             waits.append(RETRY)
-        if self.editor.rests and gc.get_count()[0] > MOST_UNCOLLECTED:
+        if gc.get_count()[0] > MOST_UNCOLLECTED and self.editor.rests:
             self._collect()
         return min((wait for wait in waits if wait is not None), default=None)
 
@@ -133,7 +133,6 @@ class Loop:
     def _act_on(self, keys: List[Input]) -> None:
         self.keys.extend(keys)
         while self.keys:
-            self._is_updated = False
             self.editor.take(self.keys.popleft())
         if self.editor.clip is not None:
             self.screen.put_on_clipboard(self.editor.clip)
@@ -203,6 +202,7 @@ class Loop:
             else:
                 self.editor.meet_note(item)
         if self.link.is_lost and not self.editor.is_over:
+            self._is_updated = False
             self.editor.lose(self.link.why)
 
     def _send(self) -> None:

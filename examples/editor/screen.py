@@ -57,6 +57,7 @@ class Screen:
         self.screen = screen
         self.drawn: Dict[int, List[Run]] = {}  # what stands in each row; a list of runs never changes
         self._shown: Optional[tuple] = None  # what was drawn last, but for the counts
+        self._sight: Optional[tuple] = None  # what that goes by, but for the status line
         self._counts, self._drawn_at = (0, 0), 0.0
         curses.raw()
         curses.nonl()
@@ -141,9 +142,13 @@ class Screen:
     def draw(self, editor: Editor, link: Line) -> Optional[float]:
         """Draws what changed. Where that is the count of bytes alone it is drawn a little later: returns in how many seconds."""
         rows, columns = self.screen.getmaxyx()
-        editor.colours.begin()
-        parts = parts_of(editor, rows, columns)
-        shown = (parts, cursor_of(editor), status(editor, link))
+        sight = sight_of(editor)
+        if self._shown is not None and sight == self._sight is not None and not editor.colours.goes_on:
+            parts, cursor = self._shown[:2]
+        else:
+            editor.colours.begin()
+            parts, cursor, self._sight = parts_of(editor, rows, columns), cursor_of(editor), sight
+        shown = (parts, cursor, status(editor, link))
         counts, now = (link.up, link.down), time.monotonic()
         left = self._drawn_at + COUNTS_AFTER - now
         if shown == self._shown and left > 0:
@@ -156,7 +161,7 @@ class Screen:
         frame[foot] = [(fitted(f"{shown[2]} | up {link.up} down {link.down}", columns), curses.A_REVERSE)]
         for y in range(rows) if len(frame) >= rows else frame:
             self._put(y, frame[y])
-        self._put_cursor(shown[1], rows, columns)
+        self._put_cursor(cursor, rows, columns)
         self.screen.refresh()
         return None
 
@@ -182,6 +187,14 @@ class Screen:
             pass
         if cursor is not None:
             self.screen.move(min(cursor[0], rows - 1), min(cursor[1], columns - 1))
+
+
+def sight_of(editor: Editor) -> Optional[tuple]:
+    """What the windows and the cursor go by: while that is the same they are, too, but for colours. None where it isn't known."""
+    if editor.is_lost or editor.shown_menu is not None:
+        return None
+    windows = [window.sight for window in editor.windows]
+    return editor.terminal.deeds, editor.message, editor.shown_focus, editor.is_tiny, windows, [*editor.keeping.unwritten]
 
 
 class Parts(NamedTuple):

@@ -70,7 +70,7 @@ class Staying:
         self._begun = bytearray()  # what has come of a connection before it was welcomed
         self._unput, self._unfed = bytearray(), bytearray()  # for which there was no memory
         self._has_out, self._has_in = True, False  # whether the end may have bytes for the connection, and for us
-        self._phase = self._end.phase
+        self._phase, self._attempt = self._end.phase, 0
         self._due = self._asked = 0  # up to which byte of ours an answer is wanted, and where the last question stands
         self._acknowledged = 0  # how many of them the host has acknowledged: it is asked for several times at each key
         self._asked_at = self._heard_at = self._called_at = self._again_at = 0.0
@@ -131,7 +131,7 @@ class Staying:
 
     def _note_phase(self) -> None:
         """The connection stands otherwise, or may. It is asked for several times at each key."""
-        self._phase, self._has_out = self._end.phase, True
+        self._phase, self._attempt, self._has_out = self._end.phase, self._end.attempt, True
 
     @property
     def is_open(self) -> bool:
@@ -206,6 +206,8 @@ class Staying:
 
     def send(self, data: bytes = b"") -> None:
         """Sends bytes of the stream, as many as go; the others wait."""
+        if not (data or self._unput or self._has_out or self.waiting or self._acknowledged < self._due):
+            return
         self._put(data)
         self._ask()
         self._push()
@@ -241,7 +243,7 @@ class Staying:
     def _push(self) -> None:
         relay, room = self.relay, LEAST_PIECE
         while relay is not None and not relay.is_deaf and (self._has_out or relay.waiting):
-            data = b"" if relay.waiting or self._phase == self._end.DOWN else self._end.take_out(self._end.attempt, room)
+            data = b"" if relay.waiting or self._phase == self._end.DOWN else self._end.take_out(self._attempt, room)
             if not relay.waiting and len(data) < room:  # of an open connection the hello has gone, so this was all
                 self._has_out = bool(data) and not self.is_open
             if not data and not relay.waiting:
@@ -281,9 +283,7 @@ class Staying:
             if relay.is_lost and relay is self.relay and not self.is_lost:
                 self._break()
         self.go_on()
-        self._put(b"")
-        self._ask()
-        self._push()
+        self.send()
         return items
 
     def _new_lines(self, relay: Link) -> List[str]:
@@ -331,7 +331,7 @@ class Staying:
 
     def _feed(self) -> None:
         try:
-            self._end.feed(self._end.attempt, bytes(self._unfed))
+            self._end.feed(self._attempt, bytes(self._unfed))
         except MemoryError:
             return
         except SamError:  # the packet is wrong
@@ -400,7 +400,7 @@ class Staying:
         """For how many seconds nothing has come, though an answer is due."""
         if self._lost_at is not None:
             return self.clock() - self._lost_at
-        return self.clock() - max(self._asked_at, self._heard_at) if self._is_answer_due else 0.0
+        return self.clock() - max(self._asked_at, self._heard_at) if self._acknowledged < self._asked else 0.0
 
     @property
     def late_after(self) -> float:

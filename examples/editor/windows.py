@@ -91,13 +91,18 @@ class Window:
     @property
     def caret(self) -> int:
         """The end of the dot that moves."""
-        start, end = self.dot
+        start, end = self.texts.dot(self.tag)
         return start if self.anchor == end else end
 
     @property
     def top(self) -> int:
         """Where the window begins."""
-        return min(self._top, self.length)
+        return min(self._top, self.terminal.len(self.tag))
+
+    @property
+    def sight(self) -> tuple:
+        """What it shows, but for the text and the selection."""
+        return self.tag, self._top, self.y, self.height, self.width, self.gutter, self.is_row
 
     def read(self, place: int, count: int) -> str:
         return self.texts.read(self.tag, place, count)

@@ -10,8 +10,10 @@ from .support import expect
 SEEDS, KEYS = 8, 200
 SIZES = ((24, 80), (50, 120), (9, 30), (4, 12), (24, 41))
 TYPED = (*"abcdef", '"""', "y z", "é", "日", '"', "#", "\t", "\n", "q\nr", "x" * 90)
-MORE_KEYS = ("Left", "Right", "Up", "Down", "Shift-Right", "Shift-Down", "Backspace", "Delete", "Page Down", "Page Up", "Home", "End", "^X", "^V",
-             "^Z", "^R", "^S", "Esc", "F10", "F8", "^T", "^Y", "^P", "^D")  # fmt: skip
+MORE_KEYS = (
+    "Left", "Right", "Up", "Down", "Shift-Right", "Shift-Down", "Backspace", "Delete", "Page Down", "Page Up", "Home", "End", "^X", "^V", "^Z",
+    "^R", "^S", "Esc", "F10", "F8", "^T", "^Y", "^P", "^D",
+)  # fmt: skip
 
 
 class Paper:
@@ -50,7 +52,8 @@ class Paper:
 def screen_on(pair, paper):
     """A screen that draws there."""
     screen = pair.screen.Screen.__new__(pair.screen.Screen)
-    screen.screen, screen.drawn, screen._shown, screen._counts, screen._drawn_at = paper, {}, None, (0, 0), 0.0
+    screen.screen, screen.drawn, screen._shown, screen._sight = paper, {}, None, None
+    screen._counts, screen._drawn_at = (0, 0), 0.0
     return screen
 
 
