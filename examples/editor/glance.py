@@ -194,12 +194,12 @@ def _forgetting(deed: Callable[..., Any]) -> Callable[..., Any]:
 
 
 def _of_one(deed: Callable[..., Any], is_typing: bool) -> Callable[..., Any]:
-    """The same where only one file may change: no event is held. What is typed in the command file may lock all."""
+    """The same where only one file may change: it is known that no event is held. What is typed in the command file may lock all."""
     forgets = _forgetting(deed)
 
     @wraps(deed)
     def done(self: Glance, tag: int, *words: Any) -> Any:
-        if (is_typing and tag == COMMAND) or self._is_short or self.held:
+        if self._now is None or self._now.held or self._is_short or (is_typing and tag == COMMAND):
             return forgets(self, tag, *words)
         self._is_short = True  # until it is done
         self._now, self._refuses = None, True
