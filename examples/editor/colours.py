@@ -4,7 +4,9 @@ import importlib
 import sys
 import threading
 import time
-from bisect import bisect_left
+from bisect import bisect_left, bisect_right
+from itertools import accumulate
+from operator import itemgetter
 from typing import Any, Callable, Dict, Iterator, List, NamedTuple, Optional, Sequence, Set, Tuple
 
 from layout import Reader, Strip
@@ -60,6 +62,7 @@ class Unit(NamedTuple):
     lines: Sequence[Line]
 
 
+LENGTH_OF, AFTER_OF = itemgetter(Unit._fields.index("length")), itemgetter(Unit._fields.index("after"))
 ROOT = ("root",)
 
 
@@ -147,24 +150,49 @@ def _lines(text: str, start: int, end: int, spans: List[Span]) -> List[Line]:
     return lines
 
 
+NO_LINES: Dict[int, Spans] = {}
+
+
 class Coloured:
     """The units of a file, one after the other from the place `first` on."""
 
     def __init__(self, language: Language):
         self.language, self.first = language, 0
         self.units: List[Unit] = []
+        self._starts: Optional[List[int]] = None  # of the units, and the end of the last one; None where that is to be counted
+        self._unlooked = 0  # units that have to be looked at again
+        self._found: Optional[Dict[int, Spans]] = None  # what `lines` found last
+        self._found_for = (0, 0)  # from which place to which
+
+    @property
+    def starts(self) -> List[int]:
+        """Where each unit begins, and the last one ends."""
+        if self._starts is None:
+            self._starts = [*accumulate(map(LENGTH_OF, self.units), initial=self.first)]
+        return self._starts
+
+    def _replace(self, low: int, high: int, units: List[Unit]) -> None:
+        """Puts units in the place of others."""
+        self._unlooked += [*map(AFTER_OF, units)].count(None) - [*map(AFTER_OF, self.units[low:high])].count(None)
+        self.units[low:high] = units
+        self._starts = self._found = None
+
+    def _begin(self, first: int) -> None:
+        """Nothing is known from a place on."""
+        self._replace(0, len(self.units), [])
+        self.first = first
 
     def anew(self, top: int) -> "Coloured":
         """The same lines, to be looked at all over: a change may have ended what was begun far above it."""
         fresh = Coloured(self.language)
         if 0 <= top - self.first <= FAR and self.units:
-            fresh.first, length = self.first, sum(unit.length for unit in self.units)
-            fresh.units = [Unit(length, self.units[0].before, None, ())]
+            fresh.first, length = self.first, self.starts[-1] - self.first
+            fresh._replace(0, 0, [Unit(length, self.units[0].before, None, ())])
         return fresh
 
     def hear(self, changes: Changes) -> None:
         if len(changes) > MOST_CHANGES:
-            self.units.clear()
+            self._begin(self.first)
             return
         for _, place, gone, came in changes:
             self._change(place, len(gone), len(came))
@@ -172,28 +200,32 @@ class Coloured:
     def _change(self, place: int, gone: int, came: int) -> None:
         """What a change touches has to be looked at again."""
         if place < self.first:
-            self.first += came - gone
-            if place + gone > self.first - came + gone:
-                self.units.clear()
+            is_touched = place + gone > self.first
+            self.first, self._starts, self._found = self.first + came - gone, None, None
+            if is_touched:
+                self._begin(self.first)
             return
-        at, start = 0, self.first
-        while at < len(self.units) - 1 and start + self.units[at].length <= place:
-            start, at = start + self.units[at].length, at + 1
-        last, end = at, start
-        while last < len(self.units) and (end <= place + gone or last == at):
-            end, last = end + self.units[last].length, last + 1
-        if at < last:
-            length = end - start - gone + came
-            self.units[at:last] = [Unit(length, self.units[at].before, None, ())] if end >= place + gone and length > 0 else []
-            if end < place + gone or length <= 0:
-                del self.units[at:]
+        if not self.units:
+            return
+        starts = self.starts
+        at = min(bisect_right(starts, place), len(self.units)) - 1
+        last = min(max(at + 1, bisect_right(starts, place + gone)), len(self.units))
+        length = starts[last] - starts[at] - gone + came
+        if starts[last] >= place + gone and length > 0:
+            self._replace(at, last, [Unit(length, self.units[at].before, None, ())])
+        else:
+            self._replace(at, len(self.units), [])
+
+    def is_known(self, top: int, end: int, length: int) -> bool:
+        """Whether all lines from one place to another are."""
+        return not self._unlooked and bool(self.units) and self.first <= top and self.starts[-1] >= min(end, length)
 
     def look(self, read: Reader, top: int, end: int, length: int, until: Callable[[], bool]) -> bool:
         """Looks at the lines from one place to another, at one unit at least, until that holds. Returns whether all of them are known."""
-        known = sum(unit.length for unit in self.units)
-        if known == 0 or not self.first <= top <= self.first + known + CONTEXT:
-            self.units, self.first = [], _start_above(read, top)
-        start, at, text, base, is_first = self.first, 0, "", 0, True
+        if not self.units or not self.first <= top <= self.starts[-1] + CONTEXT:
+            self._begin(_start_above(read, top))
+        at = [*map(AFTER_OF, self.units), None].index(None)
+        start, text, base, is_first = self.starts[at], "", 0, True
         while start < min(end, length):
             unit = self.units[at] if at < len(self.units) else None
             if unit is None or unit.after is None:
@@ -205,9 +237,11 @@ class Coloured:
                     text = text if base + len(text) >= length else text[: text.rfind("\n") + 1] or text
                 before = unit.before if unit is not None else self.units[-1].after if self.units else ROOT
                 self._put(at, self._unit(text, start - base, before or ROOT, base + len(text) >= length))
+                if self.is_known(top, end, length):
+                    break
             start, at = start + self.units[at].length, at + 1
             if self.units[at - 1].after is None:  # what is not there yet
-                del self.units[at:]
+                self._replace(at, len(self.units), [])
                 break
         self._forget(top)
         return True
@@ -225,40 +259,44 @@ class Coloured:
 
     def _put(self, at: int, unit: Unit) -> None:
         """Puts a unit in the place of those that it covers. Where the states after it are those that were there, what follows stays."""
-        left, last = unit.length, at
+        left, last, units = unit.length, at, [unit]
         while last < len(self.units) and left > 0:
             left, last = left - self.units[last].length, last + 1
-        rest = self.units[last:]
         if left < 0:  # it ends inside of another
-            rest.insert(0, Unit(-left, unit.after or ROOT, None, ()))
-        elif rest and unit.after is not None and rest[0].before != unit.after:
-            rest[0] = Unit(rest[0].length, unit.after, None, ())
-        self.units[at:] = [unit, *rest]
+            units.append(Unit(-left, unit.after or ROOT, None, ()))
+        elif last < len(self.units) and unit.after is not None and self.units[last].before != unit.after:
+            units.append(Unit(self.units[last].length, unit.after, None, ()))
+            last += 1
+        self._replace(at, last, units)
 
     def _forget(self, top: int) -> None:
         """Keeps no more than some units, from above a window on."""
-        while len(self.units) > MOST_UNITS and self.first + self.units[0].length <= top:
-            self.first += self.units.pop(0).length
+        count = min(len(self.units) - MOST_UNITS, bisect_right(self.starts, top) - 1)
+        if count > 0:
+            first = self.starts[count]
+            self._replace(0, count, [])
+            self.first = first
 
     def lines(self, top: int, end: int) -> Dict[int, Spans]:
-        """The spans of each line from one place to another, by where it begins, or the first from where it is shown."""
+        """The spans of each line from one place to another, by where it begins, or the first from where it is shown. They are the same
+        object as long as nothing changes, and so are those of a line."""
+        if self._found is None or self._found_for != (top, end):
+            self._found, self._found_for = self._spans(top, end), (top, end)
+        return self._found
+
+    def _spans(self, top: int, end: int) -> Dict[int, Spans]:
         found: Dict[int, Spans] = {}
-        start = self.first
-        for unit in self.units:
+        first = max(0, bisect_right(self.starts, top) - 1)
+        for unit, start in zip(self.units[first:], self.starts[first:]):
             if start >= end:
                 break
-            if start + unit.length > top:
-                self._add_lines(found, unit, start, top)
-            start += unit.length
+            for length, spans in unit.lines:
+                if start < top < start + length:
+                    found[top] = [(low - top + start, high - top + start, colour) for low, high, colour in spans]
+                elif spans:
+                    found[start] = spans
+                start += length
         return found
-
-    def _add_lines(self, found: Dict[int, Spans], unit: Unit, start: int, top: int) -> None:
-        for length, spans in unit.lines:
-            if start < top < start + length:
-                found[top] = [(low - top + start, high - top + start, colour) for low, high, colour in spans]
-            elif spans:
-                found[start] = spans
-            start += length
 
 
 def _start_above(read: Reader, top: int) -> int:
@@ -280,7 +318,8 @@ class Colours:
         self.name_of, self.clock = name_of, clock
         self.attributes: Sequence[int] = ()
         self.is_behind = False  # what is shown has lines that were not looked at
-        self._until = 0.0
+        self._until: Optional[float] = None  # None where nothing was looked at since `begin`
+        self._names: Dict[str, str] = {}  # of files, the names that LANGUAGES has
         self._languages: Dict[str, Optional[Language]] = {}  # by the names that LANGUAGES has; None for one that can't be had
         self._reader: Optional[threading.Thread] = None
         self._files: Dict[int, Coloured] = {}
@@ -314,10 +353,14 @@ class Colours:
             return LOOK_AGAIN
         return 0.0 if self.is_behind else None
 
+    @property
+    def goes_on(self) -> bool:
+        """Whether what is shown may get other colours though its text stays."""
+        return self.is_behind or self._reader is not None
+
     def begin(self) -> None:
         """The screen is drawn: so much may be worked on it."""
-        self.is_behind = False
-        self._until = self.clock() + BUDGET
+        self.is_behind, self._until = False, None
         if self._reader is not None and not self._reader.is_alive():
             self._reader = None
 
@@ -326,7 +369,7 @@ class Colours:
         language = self._language(self.name_of(window.tag)) if self.attributes else None
         if language is None:
             self._files.pop(window.tag, None)
-            return {}
+            return NO_LINES
         file = self._files.get(window.tag)
         if file is None or file.language is not language:
             file = self._files[window.tag] = Coloured(language)
@@ -337,19 +380,24 @@ class Colours:
                 file = self._files[window.tag] = self._anew.pop(window.tag)
         except Exception:  # whatever it is, no text depends on it
             self._languages = {name: None if known is language else known for name, known in self._languages.items()}
-            return {}
+            return NO_LINES
         return file.lines(layout.top, layout.end)
 
     def _looks(self, file: Coloured, window) -> bool:
         """Looks at what a window shows, as far as there is time. Returns whether that is known."""
-        layout = window.layout()
-        is_known = file.look(window.read, layout.top, layout.end, window.length, lambda: self.clock() > self._until)
+        layout, length = window.layout(), window.length
+        if file.is_known(layout.top, layout.end, length):
+            return True
+        until = self._until = self.clock() + BUDGET if self._until is None else self._until
+        is_known = file.look(window.read, layout.top, layout.end, length, lambda: self.clock() > until)
         self.is_behind = self.is_behind or not is_known
         return is_known
 
     def _language(self, file: str) -> Optional[Language]:
         """The language of a file by its name; None where there is none, or it is not read yet."""
-        name = next((name for name, ends in LANGUAGES.items() if file.endswith(ends)), "")
+        name = self._names.get(file)
+        if name is None:
+            name = self._names[file] = next((name for name, ends in LANGUAGES.items() if file.endswith(ends)), "")
         if name and name not in self._languages and self._reader is None:
             self._reader = threading.Thread(target=self._read, args=(name,), daemon=True)
             self._reader.start()

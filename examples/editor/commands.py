@@ -1,7 +1,7 @@
 """Command lines of the user: what has to hold before the host runs one."""
 from itertools import accumulate
 from operator import add, sub
-from typing import Dict, List, Optional, Tuple
+from typing import Dict, Optional, Tuple
 
 from keys import Input, Paste, Text
 from layout import line_end, line_start

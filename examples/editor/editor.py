@@ -23,7 +23,7 @@ from stream import CLEAN, CLOSE, DELNAME, MOVETO, NEWNAME, SETDOT, UNLOCK, UNLOC
 from texts import COMMAND, COMMAND_NAME, Texts
 from undo import Undo
 from vault import Vault
-from waiting import LEAVING, Pressed, Waiting, action_of, bound, last_of
+from waiting import BUSY, LEAVING, REST, Pressed, Waiting, action_of, bound, last_of
 from way import Way
 from windows import ask
 
@@ -120,9 +120,10 @@ class Editor(Desk, Waiting, Actions):
         return tag != COMMAND and (self.terminal.is_changed(tag) or tag in self.keeping.unwritten)
 
     def name(self, tag: int) -> str:
-        if not self.terminal.is_known(tag):
+        terminal = self.terminal
+        if not terminal.is_known(tag):
             return COMMAND_NAME if tag == COMMAND else "(closed)"
-        return self.terminal.name(tag) or f"(file {tag}, no name)"
+        return terminal.name(tag) or f"(file {tag}, no name)"
 
     def show(self, tag: int, replaces: bool = True) -> None:
         """Shows a file: in its window, else in place of the one that was used last, or in another. Before that it is opened."""
@@ -251,7 +252,7 @@ class Editor(Desk, Waiting, Actions):
         for window in gone:
             self.drop(window)
             del self.all_windows[window.tag]
-        for window in {pressed.window for pressed in self.deferred} - {None, self.command}:
+        for window in {pressed.window for pressed in self.deferred} - {None, self.command} if self.deferred else ():
             if window.tag not in known:
                 self.let_go_of(window)
         current = self.terminal.current
@@ -286,7 +287,9 @@ class Editor(Desk, Waiting, Actions):
 
     def update(self) -> None:
         """After keys or bytes: files that came or went, keys that waited, refusals, what the windows show."""
-        self._asks_at = [] if self.is_lost else [self.clock() + left for left in (self.busy_left, self.rest_left) if left > 0]
+        now = self.clock()
+        lefts = () if self.is_lost else (self._left(self._edited_at, BUSY, now), self._left(self._pressed_at, REST, now))
+        self._asks_at = [now + left for left in lefts if left > 0]
         if not self.is_lost and not self.terminal.exited:
             self._meet_files()
             self.joining.go_on()
@@ -302,7 +305,7 @@ class Editor(Desk, Waiting, Actions):
             self.slices.go_on()
         elif self.is_lost:
             self.update_windows()
-        is_time = self._leaves_at is not None and self.clock() >= self._leaves_at
+        is_time = self._leaves_at is not None and now >= self._leaves_at
         goes = is_time or (self.is_leaving and self.way.silence >= SECONDS_TO_END)
         self.leaves_alone = goes and not self.is_lost and not self.terminal.exited
         self.is_over = self.is_over or self.terminal.exited or goes
@@ -323,12 +326,13 @@ class Editor(Desk, Waiting, Actions):
     def wakes_in(self) -> Optional[float]:
         """Seconds until something is to be done though nothing comes; None where that has no end. A time that has come since the last
         update counts: else nobody would ask any more for what that left."""
-        waits = [self.way.seconds, self.keeping.seconds_until_here, self.joining.seconds, *(when - self.clock() for when in self._asks_at)]
+        now = self.clock()
+        waits = [self.way.seconds, self.keeping.seconds_until_here, self.joining.seconds, *(when - now for when in self._asks_at)]
         if not self.is_lost:
             waits.append(self.way.seconds_of_silence)
-        waits += [pressed.when + REPEAT - self.clock() for pressed in self.deferred if pressed.answers]
+        waits += [pressed.when + REPEAT - now for pressed in self.deferred if pressed.answers]
         if self._leaves_at is not None:
-            waits.append(self._leaves_at - self.clock())
+            waits.append(self._leaves_at - now)
         return min((max(0.0, wait) for wait in waits if wait is not None), default=None)
 
     def _tell_refusal(self, refusal: Refusal) -> None:

@@ -1,44 +1,88 @@
 """The terminal as the editor reads it: what it holds, and what it knows of a file, is asked of the library once, until something is done."""
 from functools import wraps
-from typing import Any, Callable, Dict, Iterator, Optional, Tuple
+from operator import itemgetter
+from typing import Any, Callable, Dict, Iterator, Optional, Tuple, Union
 
-from sulgrevad import Edits, FileState, Terminal, TerminalDid, TerminalState
-from texts import GAP
+from sulgrevad import Edits, FileState, Refusal, Step, Terminal, TerminalDid, TerminalState
+from texts import COMMAND, GAP
 
-# What changes something of a file: each event, and what takes bytes in.
+# What changes something of one file alone, where no event is held that may act then, too.
+OF_ONE = ("type", "edit", "select", "view", "check")
+# Each other event, and what takes frames in.
 DEEDS = (
-    "type", "edit", "select", "dclick", "look", "search", "flush", "cut", "snarf", "paste", "get_snarf", "set_snarf", "view", "load", "scroll",
-    "check", "open", "new_file", "write", "close", "open_cmd", "work", "send", "offer_version", "exit", "flush_now", "bring", "step", "feed",
-    "free",
+    "dclick", "look", "search", "flush", "cut", "snarf", "paste", "get_snarf", "set_snarf", "load", "scroll", "open", "new_file", "write",
+    "close", "open_cmd", "work", "send", "offer_version", "exit", "feed", "free",
 )  # fmt: skip
+NAMING = (68, 69, 83)  # the kinds of frames that change a name: Hnewname, Hmovname, Hdelname
+CHECKING = 71  # Hcheck, which may have the terminal ask for more of its file
+DONE = (Step.RECEIVED, Step.ACTED, Step.REFUSED)  # steps that may change anything; the others change counts alone
 COUNTS = (
     "events", "decided", "held", "sent", "under_way", "tags", "unsent", "snarf_len", "version", "command_locked", "exited",
 )  # fmt: skip
 
 
+LEAST_PIECE, MORE, MOST_PIECE = 1025, 4_096, 65_536  # runes of a read that is kept; that are read behind it; and that are kept of a file
+
+
 class Glance(Terminal):
-    """A terminal of which the readers below ask once for all."""
+    """A terminal of which the readers below ask once for all. Of each file one piece of the text is kept, and follows its changes."""
 
     def __init__(self) -> None:
         super().__init__()
-        self.forget()
-
-    def forget(self) -> None:
         self._now: Optional[TerminalState] = None
         self._known: Dict[int, FileState] = {}
+        self._gaps: Dict[int, Tuple[int, Optional[int]]] = {}  # of a file a place, and the first gap from there on
+        self._pieces: Dict[int, Tuple[int, str, int]] = {}  # of a file a place, the runes from there on, and after which deed that was so
         self._names: Dict[int, str] = {}
+        self._current: Tuple[Optional[int], ...] = ()  # empty where it was not asked
+        self._refuses = False  # an event may be refused that was not told
+        self._is_short = False  # memory was out, so some of what was done may be done later
+        self.deeds = 0  # how often something was done
+
+    def forget(self) -> None:
+        """What is known of files and counts may be otherwise; names are not."""
+        self._now, self._current, self._refuses = None, (), True
+        self.deeds += 1
+        self._known.clear()
+        self._gaps.clear()
 
     def take_out(self, most: Optional[int] = None) -> bytes:
+        if not self.pending:
+            return b""
         try:
             return super().take_out(most)
         finally:
             self._now = None
 
     def edits_at_once(self, gap: str = GAP) -> Iterator[Edits]:
+        edits, takes = super().edits_at_once(gap), True
         try:
-            yield from super().edits_at_once(gap)
+            first = next(edits, None)
+            takes = first is not None
+            if first is not None:
+                yield first
+                yield from edits
         finally:
+            self._now = None
+            if takes:
+                self.forget()
+
+    def bring(self, data: Union[bytes, bytearray, memoryview]) -> None:
+        self._now = None  # the steps after it change more
+        super().bring(data)
+
+    def flush_now(self) -> None:
+        """What is typed is sent; and what waited for memory goes on, which may be anything."""
+        is_short, self._is_short, self._now = self._is_short, True, None
+        if is_short:
             self.forget()
+        super().flush_now()
+        self._is_short = False
+
+    def refusals(self) -> Iterator[Refusal]:
+        if self._refuses:
+            yield from super().refusals()
+            self._refuses = False
 
     def state(self) -> TerminalState:
         if self._now is None:
@@ -51,6 +95,47 @@ class Glance(Terminal):
             file = self._known[tag] = super().file(tag)
         return file
 
+    def first_gap(self, tag: int, place: int = 0) -> Optional[int]:
+        known = self._gaps.get(tag)
+        if known is None or place < known[0] or (known[1] is not None and known[1] < place):
+            known = self._gaps[tag] = place, super().first_gap(tag, place)
+        return known[1]
+
+    def runes(self, tag: int, place: int, count: int, gap: str = GAP) -> str:
+        """Runes, from the piece that is kept where they are in it."""
+        if gap != GAP:
+            return super().runes(tag, place, count, gap)
+        end, piece = min(place + count, self.len(tag)), self._pieces.get(tag)
+        if piece is not None and piece[2] != self.deeds:
+            piece = self._changed_piece(tag, *piece)
+        if piece is not None and piece[0] <= place <= end <= piece[0] + len(piece[1]):
+            return piece[1][place - piece[0] : end - piece[0]]
+        if not LEAST_PIECE <= count <= MOST_PIECE - MORE:
+            return super().runes(tag, place, count, gap)
+        try:
+            super().changed(tag)
+        except MemoryError:  # nobody knows what changes from now on
+            return super().runes(tag, place, count, gap)
+        text = super().runes(tag, place, count + MORE, gap)
+        self._pieces[tag] = place, text, self.deeds
+        return text[:count]
+
+    def _changed_piece(self, tag: int, start: int, text: str, _deed: int) -> Optional[Tuple[int, str, int]]:
+        """A piece as it is after what was done since; None where what was there before isn't all there any more."""
+        del self._pieces[tag]  # until it is known
+        place, gone, came = super().changed(tag)
+        at = place - start
+        if gone == came == 0 or at >= len(text):
+            pass
+        elif at + gone <= 0:
+            start += came - gone
+        elif at >= 0 and at + gone <= len(text) and len(text) + came <= MOST_PIECE:
+            text = text[:at] + super().runes(tag, place, came, GAP) + text[at + gone :]
+        else:
+            return None
+        piece = self._pieces[tag] = start, text, self.deeds
+        return piece
+
     def name(self, tag: int) -> str:
         name = self._names.get(tag)
         if name is None:
@@ -58,27 +143,33 @@ class Glance(Terminal):
         return name
 
     @property
+    def current(self) -> Optional[int]:
+        if not self._current:
+            self._current = (super().current,)
+        return self._current[0]
+
+    @property
     def pending(self) -> int:
         return super().pending if self._left else self.state().pending
 
     def is_known(self, tag: int) -> bool:
-        return self.file(tag).is_known
+        return (self._known.get(tag) or self.file(tag)).is_known
 
     def is_open(self, tag: int) -> bool:
-        return self.file(tag).is_open
+        return (self._known.get(tag) or self.file(tag)).is_open
 
     def is_changed(self, tag: int) -> bool:
-        return self.file(tag).is_changed
+        return (self._known.get(tag) or self.file(tag)).is_changed
 
     def locked(self, tag: int) -> bool:
-        return self.file(tag).is_locked
+        return (self._known.get(tag) or self.file(tag)).is_locked
 
     def len(self, tag: int) -> int:
-        file = self.file(tag)
+        file = self._known.get(tag) or self.file(tag)
         return file.len if file.is_open else super().len(tag)
 
     def dot(self, tag: int) -> Tuple[int, int]:
-        file = self.file(tag)
+        file = self._known.get(tag) or self.file(tag)
         return file.dot if file.is_open else super().dot(tag)
 
     def view_of(self, tag: int) -> Tuple[int, int]:
@@ -91,22 +182,62 @@ def _forgetting(deed: Callable[..., Any]) -> Callable[..., Any]:
     def done(self: Glance, *words: Any, **more: Any) -> Any:
         try:
             return deed(self, *words, **more)
+        except MemoryError:
+            self._is_short = True
+            raise
         finally:  # what was refused memory may be done in part
             self.forget()
+            if deed is Terminal.feed:
+                self._names.clear()
+
+    return done
+
+
+def _of_one(deed: Callable[..., Any], is_typing: bool) -> Callable[..., Any]:
+    """The same where only one file may change: it is known that no event is held. What is typed in the command file may lock all."""
+    forgets = _forgetting(deed)
+
+    @wraps(deed)
+    def done(self: Glance, tag: int, *words: Any) -> Any:
+        if self._now is None or self._now.held or self._is_short or (is_typing and tag == COMMAND):
+            return forgets(self, tag, *words)
+        self._is_short = True  # until it is done
+        self._now, self._refuses = None, True
+        self.deeds += 1
+        self._known.pop(tag, None)
+        self._gaps.pop(tag, None)
+        deed(self, tag, *words)
+        self._is_short = False
 
     return done
 
 
 def _step(self: Glance) -> TerminalDid:
     """The same, without what costs time: there may be thousands of steps."""
-    self._now = None
-    self._known.clear()
-    self._names.clear()
-    return Terminal.step(self)
+    self._now, is_done = None, True
+    try:
+        did = Terminal.step(self)
+        is_done = did.step in DONE
+        if did.kind == CHECKING:
+            is_done = False
+            self._known.pop(did.tag, None)
+        elif did.kind in NAMING:
+            self._names.clear()
+    finally:
+        if is_done:
+            self.forget()
+    return did
+
+
+def _count_of(name: str) -> property:
+    of = itemgetter(TerminalState._fields.index(name))
+    return property(lambda self: of(self._now or self.state()))
 
 
 for _deed in DEEDS:
     setattr(Glance, _deed, _forgetting(getattr(Terminal, _deed)))
+for _deed in OF_ONE:
+    setattr(Glance, _deed, _of_one(getattr(Terminal, _deed), _deed == "type"))
 Glance.step = _step  # type: ignore[method-assign]
 for _count in COUNTS:
-    setattr(Glance, _count, property(lambda self, name=_count: getattr(self.state(), name)))
+    setattr(Glance, _count, _count_of(_count))

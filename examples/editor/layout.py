@@ -3,12 +3,13 @@
 `read(place, count)` stands for a reader of runes: a text, with GAP for a rune that is not loaded.
 """
 import ctypes
+import re
 import unicodedata
 from bisect import bisect_right
 from functools import lru_cache
 from typing import Callable, List, NamedTuple, Optional, Sequence, Tuple
 
-from texts import GAP
+from texts import GAP, Change
 
 Reader = Callable[[int, int], str]
 
@@ -38,9 +39,12 @@ def looks(rune: str) -> Tuple[str, int]:
     return rune, 2 if unicodedata.east_asian_width(rune) in "WF" else 1
 
 
+NOT_ASCII = re.compile(r"[^\x00-\x7f]")
+
+
 def has_wide(text: str) -> bool:
     """Whether a rune of a text takes two columns."""
-    return not text.isascii() and any(looks(rune)[1] > 1 for rune in text)
+    return not text.isascii() and any(looks(rune)[1] > 1 for rune in NOT_ASCII.findall(text))
 
 
 class Strip(NamedTuple):
@@ -148,8 +152,25 @@ class Row(NamedTuple):
         return self.base + self.strip.offsets[max(0, bisect_right(self.strip.columns, column) - 1)]
 
 
+class Patch(NamedTuple):
+    """The rows of one line that a key has changed, from the row `at` on, in the place of as many. Those below stand `by` runes farther."""
+
+    at: int
+    rows: Sequence[Row]
+    by: int
+
+    @property
+    def start(self) -> int:
+        return self.rows[0].start
+
+    @property
+    def end(self) -> int:
+        return self.rows[-1].end
+
+
 class Layout:
-    """The rows of a window that shows a text from the place `top` on. `likely` runes are read first, where that is known."""
+    """The rows of a window that shows a text from the place `top` on. `likely` runes are read first, where that is known. After a key that
+    changes one line all other rows stay as they are: few of them are looked at."""
 
     def __init__(self, read: Reader, top: int, width: int, height: int, likely: int = 0):
         self.width, self.height = max(width, 2), height
@@ -161,34 +182,95 @@ class Layout:
             rows = self._rows(text, top, is_all)
             count = max(4 * count, most)
         self.is_whole = is_all and len(rows) <= height  # the end of the text is shown
-        self.rows = rows[:height]
-        self.top, self.end = top, self.rows[-1].end if self.rows else top
-        self._starts = [row.start for row in self.rows]
+        self._base, self._patch = rows[:height], None  # type: List[Row], Optional[Patch]
+        self._all: Optional[List[Row]] = self._base  # None where the patch is not put in yet
+        self.top, self.end = top, self._base[-1].end if self._base else top
+        self._starts = [row.start for row in self._base]
 
     def _rows(self, text: str, top: int, is_all: bool) -> List[Row]:
         """The rows of a text, and perhaps some more than fit. Where the text goes on, its last row is not known."""
         rows: List[Row] = []
-        at, goes_on = 0, True
-        while goes_on and len(rows) <= self.height:
-            newline = text.find("\n", at)
-            goes_on = newline >= 0
-            end = newline if goes_on else len(text)
-            strips = strips_of(text[at:end], self.width, goes_on)
-            rows += (Row(top + at + strip.start, top + at + strip.end, top + at + strip.end, top + at, strip) for strip in strips)
-            if goes_on:
-                rows[-1] = rows[-1]._replace(end=top + newline + 1)
-                at = newline + 1
-        if not goes_on and not is_all:
+        made, width, height, at = tuple.__new__, self.width, self.height, top
+        *lines, last = text.split("\n", height + 1)
+        for line in lines:
+            strips, end = strips_of(line, width, True), at + len(line) + 1
+            if len(strips) > 1:
+                rows += [made(Row, (at + strip.start, at + strip.end, at + strip.end, at, strip)) for strip in strips[:-1]]
+            strip = strips[-1]
+            rows.append(made(Row, (at + strip.start, end, at + strip.end, at, strip)))
+            at = end
+            if len(rows) > height:
+                return rows
+        rows += (Row(at + strip.start, at + strip.end, at + strip.end, at, strip) for strip in strips_of(last, width, False))
+        if not is_all:
             rows.pop()
         return rows
+
+    @property
+    def rows(self) -> List[Row]:
+        if self._all is None:
+            at, rows, by = self._patch
+            below = self._base[at + len(rows) :]
+            moved = (Row(start + by, end + by, stop + by, base + by, strip) for start, end, stop, base, strip in below)
+            self._all = [*self._base[:at], *rows, *moved]
+        return self._all
+
+    def changed(self, read: Reader, change: Change) -> Optional["Layout"]:
+        """The layout after a change inside of one line that is shown whole, if that has as many rows as before; else None."""
+        by, patch = len(change.came) - len(change.gone), self._patch_at(change.place)
+        if patch is None or change.place + len(change.gone) >= patch.end or "\n" in change.came:
+            return None
+        base, end = patch.rows[0].base, patch.end + by
+        line = read(base, end - 1 - base)
+        strips = strips_of(line, self.width, True)
+        if len(strips) != len(patch.rows) or "\n" in line:
+            return None
+        rows = [Row(base + strip.start, base + strip.end, base + strip.end, base, strip) for strip in strips]
+        rows[-1] = rows[-1]._replace(end=end)
+        other = Layout.__new__(Layout)
+        other.width, other.height, other.is_whole, other.top, other.end = self.width, self.height, self.is_whole, self.top, self.end + by
+        other._base, other._starts, other._all, other._patch = self._base, self._starts, None, Patch(patch.at, rows, patch.by + by)
+        return other
+
+    def _patch_at(self, place: int) -> Optional[Patch]:
+        """The rows of the line of a place, where that ends with a newline that is shown."""
+        if not self.top <= place < self.end:
+            return None
+        patch = self._patch
+        if patch is not None and patch.start <= place < patch.end:
+            return patch
+        if patch is not None:
+            self._base, self._starts, self._patch = self.rows, [row.start for row in self.rows], None
+        rows = self._base
+        first = last = bisect_right(self._starts, place) - 1
+        while first > 0 and rows[first - 1].base == rows[first].base:
+            first -= 1
+        while last < len(rows) - 1 and rows[last].end == rows[last].text_end:
+            last += 1
+        return Patch(first, rows[first : last + 1], 0) if rows[last].text_end < rows[last].end else None
+
+    def rows_since(self, before: "Layout") -> Optional[Sequence[Tuple[int, Row]]]:
+        """The rows that are others than in a layout before, each with its number, where those below only stand elsewhere; None where
+        that isn't known."""
+        patch, old = self._patch, before._patch
+        if self._base is not before._base or patch is None or (old is not None and (old.at, len(old.rows)) != (patch.at, len(patch.rows))):
+            return None
+        return [*enumerate(patch.rows, patch.at)]
 
     def shows(self, place: int) -> bool:
         return self.top <= place < self.end or (self.is_whole and place == self.end)
 
     def position_of(self, place: int) -> Tuple[int, int]:
         """Row and column of a place that is shown."""
-        at = bisect_right(self._starts, place) - 1
-        return at, self.rows[at].column_of(place)
+        patch = self._patch
+        if patch is None or place < patch.start:
+            at = bisect_right(self._starts, place) - 1
+            return at, self._base[at].column_of(place)
+        if place < patch.end or patch.at + len(patch.rows) == len(self._base):
+            at = sum(row.start <= place for row in patch.rows) - 1
+            return patch.at + at, patch.rows[at].column_of(place)
+        at = bisect_right(self._starts, place - patch.by) - 1
+        return at, self._base[at].column_of(place - patch.by)
 
     def place_at(self, at: int, column: int) -> int:
         """The place that stands nearest to a row and column."""
@@ -280,7 +362,7 @@ def _starts_of_rows(read: Reader, start: int, end: int, width: int) -> List[int]
 
 def fitted(text: str, width: int) -> str:
     """A text of exactly so many columns: cut, or filled with blanks."""
-    if text.isascii() and text.isprintable():
+    if text.isprintable() and (text.isascii() or all(looks(rune) == (rune, 1) for rune in NOT_ASCII.findall(text))):
         return text[:width].ljust(width)
     shown, used = "", 0
     for rune in text:

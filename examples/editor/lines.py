@@ -1,6 +1,6 @@
 """Command lines, as far as a terminal has to know them; and the numbers of lines."""
 import re
-from typing import Dict, List, Optional, Tuple
+from typing import Dict, Optional, Tuple
 
 from texts import GAP, Changes, Texts
 
@@ -59,19 +59,19 @@ class Numbers:
     def hear(self, changes: Changes) -> None:
         tag = changes.tag
         place, line = self._known.get(tag, (0, 1))
-        if min(changes.places) >= place:
+        if min(changes.places) > place:
             return
         for change in changes:
-            if change.place >= place:
+            at, came = change.place, change.came
+            if at > place:
                 continue
-            end = change.place + len(change.gone)
-            gone = change.gone[: place - change.place]
-            came = change.came if end < place else ""
-            if GAP in gone + came:
-                self._known.pop(tag, None)
-                return
-            place, line = change.moved(place), line - gone.count("\n") + came.count("\n")
-            self._known[tag] = (place, line)
+            gone, came = change.gone[: place - at], came if at == place or at + len(change.gone) < place else ""
+            if GAP not in gone + came:
+                # What comes at the place itself is typed there: the caret goes on behind it.
+                place, line = change.moved(place) if at < place else place + len(came), line - gone.count("\n") + came.count("\n")
+            elif at < place:
+                place, line = 0, 1
+            self._known[tag] = place, line
 
     def drop(self, tag: int) -> None:
         self._known.pop(tag, None)
@@ -83,6 +83,8 @@ class Numbers:
     def line(self, tag: int, place: int) -> Optional[int]:
         """The line of a place, counted from 1; None where it is not known."""
         for start, line in (self._known.get(tag, (0, 1)), (0, 1)):
+            if start == place:
+                return line
             low, high = sorted((start, place))
             gap = self.texts.terminal.first_gap(tag, low)
             if high - low <= MOST_COUNTED and (gap is None or gap >= high):

@@ -16,12 +16,22 @@ SECONDS_OF_SILENCE = 2  # the same where it has not answered for a while
 MOST_NOISE = 65_536  # bytes that may come before the stream
 
 
-def wait_for(wanted: Dict[int, int], seconds: Optional[float]) -> Dict[int, int]:
-    """Waits for events by descriptor, for so many seconds at most; for ever where that is None. Returns those that are there."""
+def poll_of(wanted: Dict[int, int]) -> "select.poll":
+    """What waits for events by descriptor."""
     poll = select.poll()
     for descriptor, events in wanted.items():
         poll.register(descriptor, events)
+    return poll
+
+
+def polled(poll: "select.poll", seconds: Optional[float]) -> Dict[int, int]:
+    """The events that are there, by descriptor. Waits for so many seconds at most; for ever where that is None."""
     return dict(poll.poll(None if seconds is None else max(0, int(seconds * 1000 + 0.999))))
+
+
+def wait_for(wanted: Dict[int, int], seconds: Optional[float]) -> Dict[int, int]:
+    """The same of what is wanted once."""
+    return polled(poll_of(wanted), seconds)
 
 
 class Link:
@@ -97,6 +107,8 @@ class Link:
 
     def take(self, ready: Dict[int, int]) -> List[Union[str, bytes]]:
         """What has come: first what the host says of a text, which it says before it answers."""
+        if self.source not in ready and self.messages not in ready:
+            return []
         data = self.receive() if self.source in ready and not self.is_lost else b""
         lines: List[Union[str, bytes]] = [] if self.is_quiet else list(self.listen())
         return lines + ([data] if data else [])

@@ -13,11 +13,12 @@ from typing import Callable, Deque, Dict, List, Optional
 
 from decode import Decoder
 from editor import Editor
+from glance import Glance
 from keys import Input
-from link import wait_for
+from link import poll_of, polled
 from notes import printable
 from staying import Line
-from sulgrevad import SamError, Terminal
+from sulgrevad import SamError
 from screen import Screen, sequences
 
 KEYBOARD = 0
@@ -36,13 +37,16 @@ BROKEN_PASTE = "the end of a paste has not come, so all keys are part of it. Esc
 class Loop:
     """One session at a screen."""
 
-    def __init__(self, terminal: Terminal, link: Line, screen: Screen, editor: Editor, hear: Callable[[str], None]):
+    def __init__(self, terminal: Glance, link: Line, screen: Screen, editor: Editor, hear: Callable[[str], None]):
         self.terminal, self.link, self.screen, self.editor, self.hear = terminal, link, screen, editor, hear
         self.decoder = Decoder(sequences())
         self.keys: Deque[Input] = deque()  # those that the editor has not taken
         self.is_short = False  # memory was too small since the last pause
         self.ended_by = 0  # the signal that ended the session
         self.drawn_at = 0.0  # when what had come was drawn, or there was nothing more to draw
+        self._wanted: Optional[Dict[int, int]] = None  # what is waited for of the link
+        self._poll = select.poll()
+        self._is_updated = False  # the editor is, by what came last, and nothing is left to be done by that
         self.signals, wakes = os.pipe()
         for end in (self.signals, wakes):
             os.set_blocking(end, False)
@@ -73,6 +77,7 @@ class Loop:
         elif since - self.drawn_at >= LONGEST_UNDRAWN:
             self.screen.draw(self.editor, self.link)
             self.drawn_at = time.monotonic()
+        self._is_updated = False
         self._take_keys(ready)
         self._take_signals(ready)
         self._take_bytes(ready)
@@ -80,14 +85,18 @@ class Loop:
 
     def _ready(self, seconds: Optional[float]) -> Dict[int, int]:
         """What is there to be read or written: events by descriptor. Sleeps until something is, or so long where a time is given."""
-        return wait_for({KEYBOARD: select.POLLIN, self.signals: select.POLLIN, **self.link.wanted()}, seconds)
+        wanted = self.link.wanted()
+        if wanted != self._wanted:
+            self._wanted, self._poll = wanted, poll_of({KEYBOARD: select.POLLIN, self.signals: select.POLLIN, **wanted})
+        return polled(self._poll, seconds)
 
     def _idle(self) -> Optional[float]:
         """Before it sleeps: sends what was typed, and draws. Returns how many seconds it may sleep; None where that has no end."""
         self.is_short = False
         if self.editor.stream.is_waiting:
             self._do(self.editor.feed)
-        self._do(self.editor.update)
+        if not self._is_updated:
+            self._do(self.editor.update)
         if not self.editor.is_lost:
             self._do(self.editor.pause)
         self._send()
@@ -101,7 +110,7 @@ class Loop:
         waits.append(self.editor.notes.left)
         if self.is_short:
             waits.append(RETRY)
-        if self.editor.rests and gc.get_count()[0] > MOST_UNCOLLECTED:
+        if gc.get_count()[0] > MOST_UNCOLLECTED and self.editor.rests:
             self._collect()
         return min((wait for wait in waits if wait is not None), default=None)
 
@@ -199,14 +208,18 @@ class Loop:
 
     def _take_bytes(self, ready: Dict[int, int]) -> None:
         for item in self.link.take(ready):
+            self._is_updated = False
             if isinstance(item, str):
                 self.hear(item)
             elif isinstance(item, bytes):
                 self._do(functools.partial(self.editor.feed, item))
+                deeds = self.terminal.deeds
                 self._do(self.editor.update)
+                self._is_updated = deeds == self.terminal.deeds and not (self.editor.deferred or self.is_short)
             else:
                 self.editor.meet_note(item)
         if self.link.is_lost and not self.editor.is_over:
+            self._is_updated = False
             self.editor.lose(self.link.why)
 
     def _send(self) -> None:

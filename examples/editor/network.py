@@ -20,6 +20,9 @@ class Heard(NamedTuple):
     gone: bool
 
 
+NOTHING = Heard(False, False)
+
+
 class Network:
     """A socket on which the kernel tells of addresses. Without one, as outside Linux, nothing is heard."""
 
@@ -43,6 +46,8 @@ class Network:
 
     def hear(self, ready: Dict[int, int]) -> Heard:
         """What has happened since the last call, where what is ready has its descriptor."""
+        if self._socket is None or self._socket.fileno() not in ready:
+            return NOTHING
         kinds: Set[int] = set()
         while self._socket is not None and self._socket.fileno() in ready:
             try:

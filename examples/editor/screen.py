@@ -6,15 +6,18 @@ import os
 import signal
 import sys
 import time
-from typing import Dict, List, Optional, Sequence, Tuple
+from functools import lru_cache
+from itertools import chain, count, repeat
+from typing import Dict, Iterable, List, NamedTuple, Optional, Sequence, Tuple
 
 from colours import Spans, painted
 from editor import Editor
-from layout import Row, fitted, has_wide
+from layout import Row, Strip, fitted, has_wide
 from staying import Line
 from windows import Window
 
 Run = Tuple[str, int]  # a text and its curses attributes
+NO_RUNS: List[Run] = []
 
 MOST_IN_STATUS = 20  # runes of a name in the status line
 MOST_IN_CLIP = 74_994  # bytes of a text for the clipboard; xterm takes no more
@@ -52,8 +55,9 @@ class Screen:
 
     def __init__(self, screen):
         self.screen = screen
-        self.drawn: Dict[int, tuple] = {}  # what stands in each row
+        self.drawn: Dict[int, List[Run]] = {}  # what stands in each row; a list of runs never changes
         self._shown: Optional[tuple] = None  # what was drawn last, but for the counts
+        self._sight: Optional[tuple] = None  # what that goes by, but for the status line
         self._counts, self._drawn_at = (0, 0), 0.0
         curses.raw()
         curses.nonl()
@@ -138,27 +142,35 @@ class Screen:
     def draw(self, editor: Editor, link: Line) -> Optional[float]:
         """Draws what changed. Where that is the count of bytes alone it is drawn a little later: returns in how many seconds."""
         rows, columns = self.screen.getmaxyx()
-        editor.colours.begin()
-        shown = (frame_of(editor, rows, columns), cursor_of(editor), status(editor, link))
-        left = self._drawn_at + COUNTS_AFTER - time.monotonic()
+        sight = sight_of(editor)
+        if self._shown is not None and sight == self._sight is not None and not editor.colours.goes_on:
+            parts, cursor = self._shown[:2]
+        else:
+            editor.colours.begin()
+            parts, cursor, self._sight = parts_of(editor, rows, columns), cursor_of(editor), sight
+        shown = (parts, cursor, status(editor, link))
+        counts, now = (link.up, link.down), time.monotonic()
+        left = self._drawn_at + COUNTS_AFTER - now
         if shown == self._shown and left > 0:
-            return left if self._counts != (link.up, link.down) else None
-        self._shown, self._counts, self._drawn_at = shown, (link.up, link.down), time.monotonic()
-        frame, cursor, line = shown
-        text_rows = len(lines_of(editor.message, columns, rows))
-        frame = {**frame, rows - 1 - text_rows: [(fitted(f"{line} | up {link.up} down {link.down}", columns), curses.A_REVERSE)]}
-        for y in range(rows):
-            self._put(y, frame.get(y, []))
+            return left if self._counts != counts else None
+        before, self._shown, self._counts, self._drawn_at = self._shown, shown, counts, now
+        foot = rows - 1 - len(parts.lines)
+        frame = changed_rows(before[0], parts, foot) if before is not None else None
+        if frame is None:
+            frame = {**dict.fromkeys(range(rows), NO_RUNS), **joined(parts, rows)}
+        frame[foot] = [(fitted(f"{shown[2]} | up {link.up} down {link.down}", columns), curses.A_REVERSE)]
+        for y in range(rows) if len(frame) >= rows else frame:
+            self._put(y, frame[y])
         self._put_cursor(cursor, rows, columns)
         self.screen.refresh()
         return None
 
     def _put(self, y: int, runs: List[Run]) -> None:
         before = self.drawn.get(y)
-        if before == tuple(runs):
+        self.drawn[y] = runs
+        if before == runs:
             return
-        self.drawn[y] = tuple(runs)
-        if any(has_wide(text) for text, _ in (*(before or ()), *runs)):
+        if any(not text.isascii() and has_wide(text) for text, _ in (*(before or ()), *runs)):
             self.screen.redrawln(y, 1)  # screens differ in what they leave of a wide character that is written over in part
         self.screen.move(y, 0)
         self.screen.clrtoeol()
@@ -177,61 +189,172 @@ class Screen:
             self.screen.move(min(cursor[0], rows - 1), min(cursor[1], columns - 1))
 
 
-def frame_of(editor: Editor, rows: int, columns: int) -> Dict[int, List[Run]]:
+def sight_of(editor: Editor) -> Optional[tuple]:
+    """What the windows and the cursor go by: while that is the same they are, too, but for colours. None where it isn't known."""
+    if editor.is_lost or editor.shown_menu is not None:
+        return None
+    windows = [window.sight for window in editor.windows]
+    return editor.terminal.deeds, editor.message, editor.shown_focus, editor.is_tiny, windows, [*editor.keeping.unwritten]
+
+
+class Parts(NamedTuple):
+    """What stands on the screen, but for the status line: windows, the rows of a menu that lies over them, and the message."""
+
+    windows: List["Drawn"]
+    menu: Optional[Dict[int, List[Run]]]
+    lines: Sequence[str]
+
+
+def parts_of(editor: Editor, rows: int, columns: int) -> Parts:
+    windows, menu = [editor.shown_focus] if editor.is_tiny else editor.windows, editor.shown_menu
+    box = menu_rows(menu, max(1, rows - FOOT), columns) if menu is not None and menu.is_box else None
+    return Parts([drawn_of(editor, window) for window in windows], box, lines_of(editor.message, columns, rows))
+
+
+def joined(parts: Parts, rows: int) -> Dict[int, List[Run]]:
     """What stands in each row of the screen, but for the status line."""
     frame: Dict[int, List[Run]] = {}
-    for window in [editor.shown_focus] if editor.is_tiny else editor.windows:
-        frame.update(window_rows(editor, window))
-    menu = editor.shown_menu
-    if menu is not None and menu.is_box:
-        frame.update(menu_rows(menu, max(1, rows - FOOT), columns))
-    lines = lines_of(editor.message, columns, rows)
-    frame.update((rows - len(lines) + at, [(line, curses.A_BOLD)]) for at, line in enumerate(lines))
+    for drawn in parts.windows:
+        frame.update(drawn.frame)
+    frame.update(parts.menu or {})
+    frame.update((rows - len(parts.lines) + at, [(line, curses.A_BOLD)]) for at, line in enumerate(parts.lines))
     return frame
 
 
-def lines_of(message: str, columns: int, rows: int) -> List[str]:
+def changed_rows(before: Parts, parts: Parts, foot: int) -> Optional[Dict[int, List[Run]]]:
+    """The rows above the status line that a key has changed since; None where others may be otherwise."""
+    if before.menu is not None or parts.menu is not None or before.lines != parts.lines or len(before.windows) != len(parts.windows):
+        return None
+    frame: Dict[int, List[Run]] = {}
+    for drawn, old in zip(parts.windows, before.windows):
+        if drawn is not old:
+            if drawn.after != old.number or max(drawn.changed) >= foot:
+                return None
+            frame.update((y, drawn.frame[y]) for y in drawn.changed)
+    return frame
+
+
+def frame_of(editor: Editor, rows: int, columns: int) -> Dict[int, List[Run]]:
+    return joined(parts_of(editor, rows, columns), rows)
+
+
+@lru_cache(maxsize=64)
+def lines_of(message: str, columns: int, rows: int) -> Sequence[str]:
     """A message in as many rows as it takes, but no more than half of them."""
-    lines, width = [], max(1, columns - 1)
+    lines: List[str] = []
+    width = max(1, columns - 1)
     while len(lines) < max(1, min(MOST_LINES, rows // 2)) and (message or not lines):
         line = fitted(message, width)
         lines.append(line)
         message = message[max(1, len(line.rstrip())) :] if len(message) > len(line.rstrip()) else ""
-    return lines
+    return tuple(lines)
+
+
+FIXED = 6  # how many of the things by which a window is drawn one has that is not open
+NUMBERS = count()  # of what was drawn
+Plain = Tuple[Strip, Spans, List[Run], List[Run]]  # what a row goes by that has no selection and no caret, and the row
+
+
+class Drawn:
+    """The rows of a window by the row of the screen, and what they go by: as long as that is the same they are, too."""
+
+    def __init__(self, by: tuple, frame: Dict[int, List[Run]], plain: List[Optional[Plain]], after: Optional[int] = None):
+        self.by, self.frame = by, frame
+        self.plain = plain  # of each row of text; None for one with the selection or the caret
+        self.number, self.after = next(NUMBERS), after  # the number of that from which it differs in few rows
+        self.changed: List[int] = []  # these rows
 
 
 def window_rows(editor: Editor, window: Window) -> Dict[int, List[Run]]:
     """The title of a window and its rows, by the row of the screen."""
-    is_focus = window is editor.shown_focus
-    mark = "*" if editor.is_changed(window.tag) else " "
-    title = f"{'>' if is_focus else ' '}{mark} {editor.name(window.tag)}"
-    attributes = curses.A_REVERSE | (curses.A_BOLD if is_focus else curses.A_NORMAL)
-    frame: Dict[int, List[Run]] = {}
-    if window.is_row:
-        title = fitted(title, window.gutter - 1)
-        frame[window.y + 1] = [(title, attributes)]
-    else:
-        frame[window.y] = [(fitted(title, window.width + window.gutter), attributes)]
+    return drawn_of(editor, window).frame
+
+
+def drawn_of(editor: Editor, window: Window) -> Drawn:
+    is_focus, tag = window is editor.shown_focus, window.tag
+    title = f"{'>' if is_focus else ' '}{'*' if editor.is_changed(tag) else ' '} {editor.name(tag)}"
+    by: tuple = (title, is_focus, window.y, window.width, window.gutter, window.is_row)
     if window.is_open:
-        dot, rows = window.dot, window.layout().rows
-        if window.is_row:
-            heads = [[(title, attributes), (" ", curses.A_NORMAL)]] * len(rows)
+        layout, colours = window.layout(), editor.colours
+        by += (first_number(editor, window), colours.attributes, layout, window.dot, colours.of(window))
+    before = window.drawn
+    if before is None or before.by != by:
+        window.drawn = (None if before is None else drawn_after(by, before)) or drawn_anew(by, before)
+    return window.drawn
+
+
+def drawn_after(by: tuple, before: Drawn) -> Optional[Drawn]:
+    """The rows of a window after a key that changed one line. None where others may be otherwise."""
+    *base, layout, dot, spans = by if len(by) > FIXED else (None, None, None)
+    *old_base, old_layout, old_dot, old_spans = before.by
+    if layout is None or base != old_base or not base[1] or dot[0] < dot[1] or old_dot[0] < old_dot[1]:
+        return None
+    rows = layout.rows_since(old_layout)
+    if rows is None or not has_same_colours(spans, old_spans, rows[0][1].base, layout.end - old_layout.end):
+        return None
+    drawn = Drawn(by, before.frame, before.plain, before.number)
+    for at, row in rows:
+        _, _, head, _ = before.plain[at]
+        kept = row.strip, spans.get(row.base, ()), head, head + row_runs(row, dot, base[3], True, spans.get(row.base, ()), base[7])
+        drawn.plain[at] = kept
+        drawn.frame[base[2] + 1 + at] = kept[3]
+        drawn.changed.append(base[2] + 1 + at)
+    return drawn
+
+
+def has_same_colours(spans: Dict[int, Spans], before: Dict[int, Spans], place: int, by: int) -> bool:
+    """Whether no line but that of a place has other colours than before, where those below it stand so many runes farther."""
+    if spans is before and not spans:
+        return True
+    moved = {start + by if start > place else start: line for start, line in before.items() if start != place}
+    return moved == {start: line for start, line in spans.items() if start != place}
+
+
+def drawn_anew(by: tuple, before: Optional[Drawn]) -> Drawn:
+    """The rows of a window. Those are kept that are as before."""
+    title, is_focus, y, width, gutter, is_row, *shown = by
+    frame: Dict[int, List[Run]] = {}
+    reverse = curses.A_REVERSE | (curses.A_BOLD if is_focus else curses.A_NORMAL)
+    if is_row:
+        title = fitted(title, gutter - 1)
+        frame[y + 1] = [(title, reverse)]
+    else:
+        frame[y] = [(fitted(title, width + gutter), reverse)]
+    if not shown:
+        return Drawn(by, frame, [])
+    number, attributes, layout, dot, spans = shown
+    heads: Iterable[List[Run]] = repeat([(title, reverse), (" ", curses.A_NORMAL)] if is_row else [])
+    if number:
+        heads = numbers_of(layout.rows, gutter, *number)
+    low, high, plain = *dot, []  # type: int, int, List[Optional[Plain]]
+    old = before.plain if before is not None and len(before.by) > FIXED and before.by[FIXED + 1] is attributes else []
+    for at, (row, head, kept) in enumerate(zip(layout.rows, heads, chain(old, repeat(None)))):
+        start, end, _, base, strip = row
+        of_line = spans.get(base, ())
+        if (low < end and start < high) if low < high else (not is_focus and start <= low < end):
+            frame[y + 1 + at] = head + row_runs(row, dot, width, is_focus, of_line, attributes)
+            kept = None
         else:
-            heads = numbers_of(editor, window, rows) if window.gutter else [[]] * len(rows)
-        spans, attributes = editor.colours.of(window), editor.colours.attributes
-        for at, (row, head) in enumerate(zip(rows, heads)):
-            frame[window.y + 1 + at] = head + row_runs(row, dot, window.width, is_focus, spans.get(row.base, ()), attributes)
-    return frame
+            if kept is None or kept[0] is not strip or kept[1] is not of_line or kept[2] != head:
+                kept = strip, of_line, head, head + row_runs(row, dot, width, is_focus, of_line, attributes)
+            frame[y + 1 + at] = kept[3]
+        plain.append(kept)
+    return Drawn(by, frame, plain)
 
 
-def numbers_of(editor: Editor, window: Window, rows: List[Row]) -> List[List[Run]]:
+def first_number(editor: Editor, window: Window) -> Tuple:
+    """The number of the line in which a window begins, where it is known, and whether it begins there; empty where it shows none."""
+    if window.is_row or not window.gutter:
+        return ()
+    return editor.numbers.line(window.tag, window.top), window.top == 0 or window.read(window.top - 1, 1) == "\n"
+
+
+def numbers_of(rows: List[Row], gutter: int, number: Optional[int], begins: bool) -> List[List[Run]]:
     """What stands before each row: the number of the line that begins there, where it is known."""
     heads: List[List[Run]] = []
-    number = editor.numbers.line(window.tag, window.top)
-    begins = window.top == 0 or window.read(window.top - 1, 1) == "\n"
     for row in rows:
         shown = str(number) if begins and number is not None else ""
-        heads.append([(shown.rjust(window.gutter - 1) + " ", curses.A_DIM)])
+        heads.append([(shown.rjust(gutter - 1) + " ", curses.A_DIM)])
         begins = row.text_end < row.end
         number = number + 1 if begins and number is not None else number
     return heads
@@ -281,24 +404,25 @@ def menu_rows(menu, rows: int, columns: int) -> Dict[int, List[Run]]:
 
 def status(editor: Editor, link: Line) -> str:
     """Name, mark of a change, dot, line, locks, held events, runes not sent, and messages on the way."""
-    terminal, window = editor.terminal, editor.active
-    name = editor.name(window.tag)
+    terminal, window, way = editor.terminal, editor.active, editor.way
+    name, state = editor.name(window.tag), terminal.state()
     parts = [("…" + name[-MOST_IN_STATUS:] if len(name) > MOST_IN_STATUS else name) + (" *" if editor.is_changed(window.tag) else "")]
     if window.is_open:
         start, end = window.dot
         line = editor.numbers.line(window.tag, window.caret)
         parts.append(f"{start},{end} of {window.length}" + (f", line {line}" if line is not None else ""))
     parts.append("HOST LOST" if editor.is_lost else locks_of(editor))
-    is_broken = editor.way.is_broken and not editor.is_lost
+    is_broken = way.is_broken and not editor.is_lost
     if is_broken:
-        parts.append(editor.way.line.told)
-    for name, count in (("held", terminal.held + len(editor.deferred)), ("unsent", terminal.unsent), ("waiting", len(link.waiting))):
+        parts.append(way.line.told)
+    for name, count in (("held", state.held + len(editor.deferred)), ("unsent", state.unsent), ("waiting", len(link.waiting))):
         if count:
             parts.append(f"{name} {count}")
-    if editor.way.told and not editor.is_lost and not is_broken:
-        parts.append(f"{editor.way.told} on the way")
-    if editor.way.is_silent and not editor.is_lost and not is_broken:
-        parts.append(f"no answer for {int(editor.way.silence)} s")
+    if not editor.is_lost and not is_broken:
+        if state.under_way and way.told:
+            parts.append(f"{way.told} on the way")
+        if way.is_silent:
+            parts.append(f"no answer for {int(way.silence)} s")
     return " | ".join(parts)
 
 

@@ -16,7 +16,7 @@ from sulgrevad import SamError
 MARK = bytes.fromhex("8973616d6c696e6b")  # with which a hello begins
 HELLO_BYTES = 42
 ID_BYTES, NAME_BYTES = 16, 8  # of a session; of its name the first ones, in hexadecimal digits
-PIECE = 65_536  # bytes that are taken at once
+LEAST_PIECE, PIECE = 4_096, 65_536  # bytes that are taken at once: first so many, and then more
 MOST_NOISE = 65_536  # bytes that may come before a hello
 
 SECONDS_TO_BREAK = 15.0  # without a byte, where an answer is due, after which a connection counts as broken
@@ -69,6 +69,8 @@ class Staying:
         self._early: List[Item] = []
         self._begun = bytearray()  # what has come of a connection before it was welcomed
         self._unput, self._unfed = bytearray(), bytearray()  # for which there was no memory
+        self._has_out, self._has_in = True, False  # whether the end may have bytes for the connection, and for us
+        self._phase, self._attempt = self._end.phase, 0
         self._due = self._asked = 0  # up to which byte of ours an answer is wanted, and where the last question stands
         self._acknowledged = 0  # how many of them the host has acknowledged: it is asked for several times at each key
         self._asked_at = self._heard_at = self._called_at = self._again_at = 0.0
@@ -82,12 +84,14 @@ class Staying:
     def _call(self, words: Sequence[str], in_front: bool = False) -> None:
         """Begins another connection. But for the first, and those that the user waits for, it has no screen on which ssh could ask."""
         attempt = self._end.call(self.takes_over)
+        self._note_phase()
         self._begun.clear()
         self._called_at = self._heard_at = self.clock()
         try:
             self.relay = Link([*self.command, *words], own_session=attempt > 1 and not in_front)
         except OSError:
             self._end.broken(attempt)
+            self._note_phase()
             if attempt == 1:
                 raise
             self._pause()
@@ -104,6 +108,7 @@ class Staying:
         relay, self.relay = self.relay, None
         if relay is not None:
             self._end.broken(self._end.attempt)
+            self._note_phase()
             self._gone = (self._gone[0] + relay.up, self._gone[1] + relay.down)
             relay.kill()
             self._old.append(relay)
@@ -124,9 +129,13 @@ class Staying:
         if not self.is_lost:
             self.is_lost, self.why = True, why
 
+    def _note_phase(self) -> None:
+        """The connection stands otherwise, or may. It is asked for several times at each key."""
+        self._phase, self._attempt, self._has_out = self._end.phase, self._end.attempt, True
+
     @property
     def is_open(self) -> bool:
-        return self._end.phase == self._end.OPEN
+        return self._phase == self._end.OPEN
 
     @property
     def is_connecting(self) -> bool:
@@ -135,7 +144,8 @@ class Staying:
     def go_on(self) -> None:
         """Does what is due by the clock."""
         now = self.clock()
-        self._old = [relay for relay in self._old if not relay.is_over()]
+        if self._old:
+            self._old = [relay for relay in self._old if not relay.is_over()]
         if self.is_lost:
             return
         if self.relay is None:
@@ -192,10 +202,12 @@ class Staying:
     @property
     def waiting(self) -> bytes:
         """Bytes that the pipe has not taken yet."""
-        return bytes(self.relay.waiting) if self.relay else b""
+        return bytes(self.relay.waiting) if self.relay and self.relay.waiting else b""
 
     def send(self, data: bytes = b"") -> None:
         """Sends bytes of the stream, as many as go; the others wait."""
+        if not (data or self._unput or self._has_out or self.waiting or self._acknowledged < self._due):
+            return
         self._put(data)
         self._ask()
         self._push()
@@ -204,7 +216,7 @@ class Staying:
         """Sends a note, in its order with the stream."""
         self._put(b"")
         self._end.put_note(" ".join((verb, *words)).encode("utf-8", "surrogateescape"))
-        self._due = self._end.put_count
+        self._due, self._has_out = self._end.put_count, True
 
     def _put(self, data: bytes) -> None:
         self._unput += data
@@ -214,7 +226,7 @@ class Staying:
             except MemoryError:
                 return
             self._unput.clear()
-            self._due = self._end.put_count
+            self._due, self._has_out = self._end.put_count, True
 
     def _ask(self) -> None:
         """Asks whether all has come, unless such a question is under way."""
@@ -226,23 +238,28 @@ class Staying:
             self._end.ask()
         except MemoryError:
             return
-        self._asked, self._asked_at, self._is_measured = self._end.put_count, self.clock(), False
+        self._asked, self._asked_at, self._is_measured, self._has_out = self._end.put_count, self.clock(), False, True
 
     def _push(self) -> None:
-        relay = self.relay
-        while relay is not None and not relay.is_deaf:
-            data = b"" if relay.waiting or self._end.phase == self._end.DOWN else self._end.take_out(self._end.attempt, PIECE)
+        relay, room = self.relay, LEAST_PIECE
+        while relay is not None and not relay.is_deaf and (self._has_out or relay.waiting):
+            data = b"" if relay.waiting or self._phase == self._end.DOWN else self._end.take_out(self._attempt, room)
+            if not relay.waiting and len(data) < room:  # of an open connection the hello has gone, so this was all
+                self._has_out = bool(data) and not self.is_open
             if not data and not relay.waiting:
                 return
             relay.send(data)
             if relay.waiting:
                 return
+            room = PIECE
 
     def wanted(self) -> Dict[int, int]:
         """What to wait for: events by descriptor."""
         if self.is_lost:
             return {}
-        return {**self._network.wanted(), **({} if self.relay is None else self.relay.wanted())}
+        wanted = {} if self.relay is None else self.relay.wanted()
+        wanted.update(self._network.wanted())
+        return wanted
 
     def take_early(self) -> List[Item]:
         """What has come already, in its order."""
@@ -256,7 +273,7 @@ class Staying:
         relay = self.relay
         if relay is not None:
             data = relay.receive() if relay.source in ready and not relay.is_lost else b""
-            if not relay.is_quiet:
+            if not relay.is_quiet and (relay.messages in ready or relay.source in ready):  # it tells of a text before it answers
                 items += self._new_lines(relay)
             if data:
                 self._hear(data)
@@ -266,9 +283,7 @@ class Staying:
             if relay.is_lost and relay is self.relay and not self.is_lost:
                 self._break()
         self.go_on()
-        self._put(b"")
-        self._ask()
-        self._push()
+        self.send()
         return items
 
     def _new_lines(self, relay: Link) -> List[str]:
@@ -301,8 +316,10 @@ class Staying:
         try:
             what = sulgrevad.read_hello(hello).what
             self._end.welcomed(hello)
+            self._note_phase()
             self._acknowledged = self._end.acknowledged
         except SamError:
+            self._note_phase()
             if what in REFUSED:
                 self._lose(REFUSED[what])
             else:
@@ -314,14 +331,16 @@ class Staying:
 
     def _feed(self) -> None:
         try:
-            self._end.feed(self._end.attempt, bytes(self._unfed))
+            self._end.feed(self._attempt, bytes(self._unfed))
         except MemoryError:
             return
         except SamError:  # the packet is wrong
             self._unfed.clear()
+            self._note_phase()
             self._break()
             return
         self._unfed.clear()
+        self._has_in = self._has_out = True
         self._acknowledged = self._end.acknowledged
         if not self._is_measured and self._acknowledged >= self._asked:
             self._is_measured, self.round_trip = True, self.clock() - self._asked_at
@@ -329,16 +348,18 @@ class Staying:
     def _come(self) -> List[Item]:
         """What of the host's stream is here: bytes, joined as they came, and notes between them."""
         items: List[Item] = []
-        while True:
+        while self._has_in:
             data = b"".join(iter(lambda: self._end.take_in(PIECE), b""))
             if data:
                 items.append(data)
             note = self._end.next_note()
             if note is None:
+                self._has_in = False
                 return items
             item = self._meet(note.decode("utf-8", "replace"))
             if item is not None:
                 items.append(item)
+        return items
 
     def _meet(self, note: str) -> Optional[Item]:
         verb, _, rest = note.partition(" ")
@@ -349,6 +370,7 @@ class Staying:
         elif verb == "ended":
             self.ended_with = int(rest) if rest.isdecimal() else 1
             self._end.acknowledge()
+            self._has_out = True
             self._push()
             self._lose("the host is gone")
         elif verb == "gone":
@@ -378,7 +400,7 @@ class Staying:
         """For how many seconds nothing has come, though an answer is due."""
         if self._lost_at is not None:
             return self.clock() - self._lost_at
-        return self.clock() - max(self._asked_at, self._heard_at) if self._is_answer_due else 0.0
+        return self.clock() - max(self._asked_at, self._heard_at) if self._acknowledged < self._asked else 0.0
 
     @property
     def late_after(self) -> float:

@@ -1,12 +1,11 @@
 """The keys that wait. Each acts once what it acts on is settled. Keys of one file act in the order in which they came, and so do keys that
 go by several files; so the same keys do the same over any line, and a file that waits for the host holds back no key of another.
 """
-import contextlib
 from collections import deque
-from itertools import islice
-from typing import Callable, Deque, Dict, Iterator, NamedTuple, Optional, Set
+from itertools import chain, islice
+from typing import Callable, Deque, Dict, NamedTuple, Optional, Set
 
-from keys import ACTIONS, ALL, ANSWERS, FILE, FREE, LINE, NOTHING, PATTERN, PLACE, ROWS, SCREEN, WINDOW, WINDOWS, WRITTEN
+from keys import ACTIONS, ALL, ANSWERS, FILE, LINE, NOTHING, PATTERN, PLACE, ROWS, SCREEN, WINDOW, WINDOWS, WRITTEN
 from keys import Binding, Input, Key, Mouse, Paste, Text
 from notes import REPEAT
 from sulgrevad import SamError
@@ -55,10 +54,11 @@ BY_ROWS = (ROWS, "up", "down")  # what keys need that go by the rows of the scre
 
 def bound(key: Input) -> Binding:
     """What is known of what a key does."""
-    if isinstance(key, Mouse):
-        return SCROLLING if key.what.startswith("wheel") else POINTING
-    if isinstance(key, (Text, Paste)):
+    kind = type(key)
+    if kind is Text or kind is Paste:
         return TABBING if key == TAB else ENTER if "\n" in key.runes else TYPING
+    if kind is Mouse:
+        return SCROLLING if key.what.startswith("wheel") else POINTING
     return ACTIONS.get(key.name) or ACTIONS.get(key.name.replace("Shift-", ""), NO_ACTION)
 
 
@@ -117,8 +117,9 @@ class Waiting:
     @property
     def is_lock_held(self) -> bool:
         """Whether a lock is held, so that the host will answer, or an event waits for one."""
-        tags = (*self.all_windows, *self.left.tags, *self.reloading.hidden)
-        return self.vault.is_busy or self.terminal.held > 0 or any(map(self.terminal.locked, tags))
+        if self.vault.is_busy or self.terminal.held > 0:
+            return True
+        return any(map(self.terminal.locked, chain(self.all_windows, self.left.tags, self.reloading.hidden)))
 
     @property
     def _is_answer_due(self) -> bool:
@@ -320,18 +321,18 @@ class Waiting:
             return True
         return held.holds(binding, self._windows_of(pressed)) or (self.command in held.windows and binding.shares == PATTERN)
 
-    @contextlib.contextmanager
-    def _in(self, window: Optional[Window], work: Optional[Window] = None) -> Iterator[None]:
-        """Has a window be that to which keys go, meanwhile, and another that of which the file is worked on; None changes nothing."""
+    def _in(self, window: Optional[Window], does: Callable[[Pressed], Optional[bool]], pressed: Pressed) -> Optional[bool]:
+        """Does something of a key while a window is that to which keys go, and another that of which the file is worked on; None changes
+        nothing."""
+        if window is None:
+            return does(pressed)
         focus, active = self.focus, self.active
-        if window is not None:
-            self.go_to(window)
-            self.active = work or self.active
+        self.go_to(window)
+        self.active = pressed.work or self.active
         try:
-            yield
+            return does(pressed)
         finally:
-            if window is not None:
-                self.focus, self.active = focus, active
+            self.focus, self.active = focus, active
 
     def _act_in_window(self, pressed: Pressed) -> None:
         """Does what a key says in its window, wherever later keys go."""
@@ -340,8 +341,7 @@ class Waiting:
         if window is not None and bound(pressed.key).leads:
             self.go_to(window)
             window = None
-        with self._in(window, pressed.work):
-            self._act(pressed)
+        self._in(window, self._act, pressed)
 
     def _put_back(self, pressed: Pressed) -> None:
         """A key, or the rest of a text, comes where the key stood that acts now."""
@@ -357,9 +357,8 @@ class Waiting:
 
     # ---- What a key waits for
 
-    def _must_wait_in_window(self, pressed: Pressed) -> bool:
-        with self._in(pressed.window, pressed.work):
-            return self._must_wait(pressed)
+    def _must_wait_in_window(self, pressed: Pressed) -> Optional[bool]:
+        return self._in(pressed.window, self._must_wait, pressed)
 
     def _must_wait(self, pressed: Pressed) -> bool:
         """Whether what a key acts on is not settled: the windows, what was changed, or the places in a window."""
@@ -391,8 +390,7 @@ class Waiting:
 
     def _look_at_the_line(self) -> None:
         """What would lock a file until the line is back is held back while answers are late."""
-        self.way.note_late()
-        self.texts.holds_back = self.vault.is_out_of_reach = self.way.is_late
+        self.texts.holds_back = self.vault.is_out_of_reach = self.way.note_late()
 
     def _needs_line(self, key: Input, binding: Binding) -> bool:
         """Whether a key can't act while answers are late. It waits until the user can know of that; then it says so."""
@@ -507,7 +505,7 @@ class Waiting:
     @property
     def is_busy(self) -> bool:
         """Whether keys come, are held or wait, and not for text: nothing more is asked for then."""
-        return not self._wants_text and (self.busy_left > 0 or bool(self.deferred) or self.terminal.held > 0)
+        return not self._wants_text and (bool(self.deferred) or self.busy_left > 0 or self.terminal.held > 0)
 
     @property
     def busy_left(self) -> float:
@@ -516,7 +514,7 @@ class Waiting:
     @property
     def rests(self) -> bool:
         """Whether no key came for a while, and none waits."""
-        return self.rest_left <= 0 and not self.deferred and self.terminal.held == 0
+        return not self.deferred and self.rest_left <= 0 and self.terminal.held == 0
 
     @property
     def quiet_for(self) -> float:
@@ -527,6 +525,6 @@ class Waiting:
     def rest_left(self) -> float:
         return self._left(self._pressed_at, REST)
 
-    def _left(self, since: float, seconds: float) -> float:
+    def _left(self, since: float, seconds: float, now: Optional[float] = None) -> float:
         """How much is left of so many seconds since a time, to the microsecond."""
-        return round(since + seconds - self.clock(), 6)
+        return round(since + seconds - (self.clock() if now is None else now), 6)

@@ -2,7 +2,7 @@
 from typing import Callable, Optional
 
 from staying import Staying
-from sulgrevad import Terminal
+from glance import Glance
 from texts import COMMAND
 
 TOLD_AFTER = 0.15  # seconds on the way before messages are told of, so that with a quick host nothing flickers
@@ -17,8 +17,9 @@ class Way:
     nothing, where the answer to the last one has come.
     """
 
-    def __init__(self, terminal: Terminal, clock: Callable[[], float]):
+    def __init__(self, terminal: Glance, clock: Callable[[], float]):
         self.terminal, self.clock = terminal, clock
+        self._sent_at = -1  # after which deed all was sent
         self._asked = 0  # the number of the message that asked last
         self._confirms = 0  # the number of the message whose answer is waited for
         self._is_unasked = False  # that one is not sent yet
@@ -43,10 +44,12 @@ class Way:
     def send(self, tag: Optional[int]) -> None:
         """Sends what was typed, and asks by the file of this tag, which is open and free; by none where the tag is None."""
         self._note()
-        self.terminal.flush_now()
+        if self._sent_at != self.terminal.deeds:  # since nothing was done, nothing is there to be sent
+            self.terminal.flush_now()
+            self._sent_at = self.terminal.deeds
         if tag is not None and (self.terminal.under_way > 0 or self._is_unasked) and self._arrived >= self._asked:
             self.terminal.check(tag)
-            self._asked = self.terminal.sent
+            self._asked, self._sent_at = self.terminal.sent, self.terminal.deeds
             if self._is_unasked:
                 self._is_unasked, self._confirms = False, self._asked
         self._note()
@@ -89,30 +92,36 @@ class Way:
     @property
     def is_late(self) -> bool:
         """Whether the line is lost, or an answer is late: what would lock a file until the line is back is held back then."""
-        return self.line is not None and (self.line.is_broken or self.line.silence >= self.line.late_after)
+        if self.line is None:
+            return False
+        silence = self.line.silence
+        return self.line.is_broken or (silence > 0 and silence >= self.line.late_after)
 
     @property
     def is_known_late(self) -> bool:
         """Whether that stood on the screen for a while."""
         return self._late_since is not None and self.clock() - self._late_since >= KNOWN_AFTER
 
-    def note_late(self) -> None:
-        """Looks whether answers are late."""
-        if not self.is_late:
+    def note_late(self) -> bool:
+        """Looks whether answers are late, and returns that."""
+        is_late = self.is_late
+        if not is_late:
             self._late_since = None
         elif self._late_since is None:
             self._late_since = self.clock()
+        return is_late
 
     @property
     def _seconds_of_lateness(self) -> Optional[float]:
         """How long until the line may be late, is known to be, or another second of that is to be told of."""
         line = self.line
-        if line is None or (line.silence <= 0 and not line.is_broken):
+        silence = 0.0 if line is None else line.silence
+        if line is None or (silence <= 0 and not line.is_broken):
             return None
         if self._late_since is None:
-            return max(0.0, line.late_after - line.silence)
+            return max(0.0, line.late_after - silence)
         left = KNOWN_AFTER - (self.clock() - self._late_since)
-        return left if left > 0 else 1.0 - line.silence % 1.0
+        return left if left > 0 else 1.0 - silence % 1.0
 
     def _note(self) -> None:
         if self.terminal.under_way == 0:

@@ -1,10 +1,10 @@
 """Windows: what of a file is shown, and how it follows the user and the host. No text is kept here, each look reads the terminal."""
-from typing import List, NamedTuple, Optional, Tuple
+from typing import NamedTuple, Optional, Tuple
 
 from layout import Layout, line_start, row_start, top_above
 from sulgrevad import Terminal
 from targets import Targets
-from texts import GAP, Changes, Texts
+from texts import GAP, Change, Changes, Texts
 
 MOST_STRETCHES, MOST_IN_STRETCH = 64, 512  # that are asked for at once, so that no key waits long, and the runes of each
 MOST_IN_LOAD = MOST_STRETCHES * MOST_IN_STRETCH
@@ -61,9 +61,12 @@ class Window:
         self._followed: Optional[Tuple[int, int]] = None  # the dot that was brought into view
         self._aim: Optional[Aim] = None  # what is to be shown once the text above it is loaded
         self._layout: Optional[Layout] = None
+        self._heard = 0  # how many changes there were since
+        self._change: Optional[Change] = None  # the last one
         self._layout_of: tuple = ()
         self._loaded: Optional[Layout] = None  # what is shown, where all of it is loaded and the terminal was told so
         self._is_shifted = False  # text above it changed, so that it may not begin with a row any more
+        self.drawn = None  # its rows as the screen has drawn them
         self._turns = False  # the user turns pages, and those on either side were not asked for yet
 
     # ---- Reading
@@ -88,27 +91,44 @@ class Window:
     @property
     def caret(self) -> int:
         """The end of the dot that moves."""
-        start, end = self.dot
+        start, end = self.texts.dot(self.tag)
         return start if self.anchor == end else end
 
     @property
     def top(self) -> int:
         """Where the window begins."""
-        return min(self._top, self.length)
+        return min(self._top, self.terminal.len(self.tag))
+
+    @property
+    def sight(self) -> tuple:
+        """What it shows, but for the text and the selection."""
+        return self.tag, self._top, self.y, self.height, self.width, self.gutter, self.is_row
 
     def read(self, place: int, count: int) -> str:
         return self.texts.read(self.tag, place, count)
 
     def layout(self) -> Layout:
         """The rows that the window shows."""
-        length = self.length
+        length = self.terminal.len(self.tag)
         top = min(self._top, length)
         layout_of = (self.texts.versions.get(self.tag, 0), length, top, self.width, self.height)
         if self._layout is None or self._layout_of != layout_of:
-            longest = 0 if self._layout is None else self._layout.end - self._layout.top + 2 * self.width
-            self._layout = Layout(self.read, top, self.width, self.height, longest)
-            self._layout_of = layout_of
+            self._layout, self._layout_of = self._new_layout(layout_of), layout_of
+            self._change, self._heard = None, 0
         return self._layout
+
+    def _new_layout(self, layout_of: tuple) -> Layout:
+        """The layout of the text as it is now. Where nothing but one change was made since the last one that is changed."""
+        (version, length, top, *size), before, change = layout_of, self._layout, self._change
+        if before is not None and change is not None and self._heard == 1:
+            grown = len(change.came) - len(change.gone)
+            changed = None
+            if self._layout_of == (version - 1, length - grown, top, *size):
+                changed = before.changed(self.read, change)
+            if changed is not None:
+                return changed
+        longest = 0 if before is None else before.end - before.top + 2 * self.width
+        return Layout(self.read, top, self.width, self.height, longest)
 
     def put(self, y: int, height: int, width: int) -> None:
         """Gives it a place on the screen. A caret that was shown stays so, and the window begins with a row of the new width. Where a screen
@@ -127,6 +147,8 @@ class Window:
     def hear(self, changes: Changes) -> None:
         """Changes of the text move the place where the window begins."""
         self.goal = None
+        self._heard += len(changes)
+        self._change = next(iter(changes)) if len(changes) == 1 else None
         if min(changes.places) < self._top:  # there may be thousands
             self._is_shifted, self._top = True, changes.moved(self._top)
         if self._aim is not None:
@@ -139,18 +161,18 @@ class Window:
     def update(self, is_busy: bool = False, rests: bool = False, turns: int = 0) -> None:
         """Follows what the host and the user did, and has the terminal load what is shown; while the user is busy only what he needs, and
         while he rests what he may turn to next. `turns` is how many page keys wait, as for `ask`."""
-        if self.is_open and self._is_shifted:
+        if not self.is_open:
+            return
+        if self._is_shifted:
             self._begin_with_a_row()
-        if self.is_open and self.texts.is_final:
-            self._follow_dot()
-        elif self.is_open:
+        if not self.texts.is_final:
             self._reach()
-            self._follow_dot()
-            if self.texts.holds_back:
-                return
-            self._load(is_busy, turns)
-            if rests and self._turns:
-                self._load_beside()
+        self._follow_dot()
+        if self.texts.is_final or self.texts.holds_back:
+            return
+        self._load(is_busy, turns)
+        if rests and self._turns:
+            self._load_beside()
 
     def _begin_with_a_row(self) -> None:
         """Begins with the row of the place where it begins, if the start of its line is known."""

@@ -10,7 +10,7 @@ class Pair:
     LINES = (",x/a/c/bb/", ",d", "2", "/b/", "#3,$", "f name", "nonsense")
     SIZES = ((22, 80), (8, 20), (5, 7), (60, 200))
 
-    def __init__(self, random_numbers, texts, has_vault=False):
+    def __init__(self, random_numbers, texts, has_vault=False, names=None):
         import keys
         import sulgrevad
         import screen
@@ -20,11 +20,12 @@ class Pair:
 
         self.random, self.keys, self.screen, self.gap = random_numbers, keys, screen, GAP
         self.host, self.terminal, self.now = sulgrevad.Host(), Glance(), 0.0
-        for at, text in enumerate(texts):
-            self.host.add_file(f"file{at}", text)
+        names = names or [f"file{at}" for at in range(len(texts))]
+        for name, text in zip(names, texts):
+            self.host.add_file(name, text)
         if has_vault:
             self.host.add_file("~~undo~~")
-        self.editor = Editor(self.terminal, clock=lambda: self.now, asked_for=[f"file{at}" for at in range(len(texts))])
+        self.editor = Editor(self.terminal, clock=lambda: self.now, asked_for=names)
         self.editor.begin()
         self.editor.arrange(*self.random.choice(self.SIZES))
         self.up, self.down = bytearray(self.terminal.take_out()), bytearray()

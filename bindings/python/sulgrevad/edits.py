@@ -16,6 +16,7 @@ EDITING = (77, 81)  # the kinds Hgrowdata and Hcut
 MOST = 4096  # edits that one call receives
 WINDOW = 65_536  # runes that are read before it, since it may cut them
 FEW = 16  # edits for which that doesn't pay
+LEAST = 63  # runes for which there is room, but one
 ALONE = 64  # edits that are received one by one where it did not
 
 _OK, _NONE, _RECEIVED = int(Status.OK), int(Status.NONE), int(Step.RECEIVED)
@@ -90,7 +91,7 @@ def _with_gaps(data: bytes, gap: str) -> str:
 
 def read_runes(handle: Handle, tag: int, place: int, count: int, gap: str) -> str:
     """The runes of an open file from a place on, at most `count`, with `gap` for one that is not loaded. Raises Missing."""
-    into, got = (c_uint32 * count)(), c_uint32()
+    into, got = (c_uint32 * (1 << max(count - 1, LEAST).bit_length()))(), c_uint32()  # Python makes a type for each length of an array
     code = LIBRARY.sam_term_read(byref(handle), tag, place, into, count, byref(got))
     if code != _OK:
         raise error_of(code)

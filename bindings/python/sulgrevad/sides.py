@@ -4,12 +4,13 @@ import operator
 from collections import deque
 from ctypes import byref, c_bool, c_size_t, c_uint8, c_uint16, c_uint32, c_uint64
 from itertools import chain
+from struct import Struct
 from types import TracebackType
-from typing import Any, Deque, Iterator, List, NamedTuple, NoReturn, Optional, SupportsIndex, Tuple, Type, TypeVar, Union
+from typing import Any, Deque, Dict, Iterator, List, NamedTuple, NoReturn, Optional, SupportsIndex, Tuple, Type, TypeVar, Union
 
 from sulgrevad._library import LIBRARY, PIECE, Did, File, Handle, State, Text, bytes_of
 from sulgrevad.edits import Edit, Edits, read_runes, received
-from sulgrevad.status import Missing, Status, Step, error_of
+from sulgrevad.status import Status, Step, error_of
 
 MOST_IN_NAME = 256  # bytes of the longest name
 MOST_IN_PATTERN = 512  # bytes of the longest pattern
@@ -22,6 +23,7 @@ OK, NONE = int(Status.OK), int(Status.NONE)
 STEPS = tuple(Step)  # by their numbers
 
 _FEW_RUNES = c_uint32 * FEW
+_STATE, _FILE = Struct("5Q2N2IH2?"), Struct("5I5?")  # what State and File have, in their order
 
 # The first number that is too great for a type of an argument.
 _END = {c_uint16: 2**16, c_uint32: 2**32, c_uint64: 2**64, c_size_t: 2 ** (8 * ctypes.sizeof(c_size_t))}
@@ -114,6 +116,16 @@ def _index(kind: Any, number: SupportsIndex) -> int:
     return index
 
 
+# Of each call that was made, for each argument after the handle the first number that is too great; 0 for no number.
+_ENDS: Dict[str, Tuple[int, ...]] = {}
+
+
+def _ends_of(name: str) -> Tuple[int, ...]:
+    """Notes a call in _ENDS, and returns what stands there."""
+    ends = _ENDS[name] = tuple(_END.get(kind, 0) for kind in getattr(LIBRARY, name).argtypes[1:])
+    return ends
+
+
 def least(most: Optional[int], there: int) -> int:
     """The smaller of a wished number, if there is one, and of how many there are. ValueError for one below 0."""
     if most is None:
@@ -140,8 +152,13 @@ class Held:
     def _answer(self, name: str, *arguments: Any) -> int:
         """Makes a call, and returns its status. ValueError for a number that C's type can't hold: ctypes would wrap it. A
         MemoryError comes only before the call is made."""
-        function = getattr(LIBRARY, f"{self._prefix}_{name}")
-        words = [_index(kind, word) if kind in _END else word for kind, word in zip(function.argtypes[1:], arguments)]
+        whole = f"{self._prefix}_{name}"
+        function = getattr(LIBRARY, whole)
+        words: Any = arguments
+        for end, word in zip(_ENDS.get(whole) or _ends_of(whole), arguments):
+            if end and (type(word) is not int or not 0 <= word < end):
+                words = [_index(kind, word) if kind in _END else word for kind, word in zip(function.argtypes[1:], arguments)]
+                break
         try:
             status: int = function(byref(self._handle), *words)
         except ctypes.ArgumentError as error:  # all words are right, so this stands for a MemoryError
@@ -162,10 +179,13 @@ class Held:
 
     def _number_if_any(self, name: str, kind: Any, *arguments: Any) -> Optional[int]:
         """Makes a call that hands out one number; None if it answers SAM_NONE."""
-        try:
-            return self._number(name, kind, *arguments)
-        except Missing:
+        result = kind()
+        code = self._answer(name, *arguments, byref(result))
+        if code == NONE:
             return None
+        if code != OK:
+            raise error_of(code)
+        return int(result.value)
 
     def _truth(self, name: str, *arguments: Any) -> bool:
         """Makes a call that hands out yes or no."""
@@ -577,16 +597,15 @@ class Terminal(_Side):
         """What the terminal holds, by one call: for a screen, which draws it at each key."""
         state = State()
         self._call("state", byref(state))
-        return TerminalState._make([getattr(state, name) for name in TerminalState._fields])
+        return TerminalState._make(_STATE.unpack_from(state))
 
     def file(self, tag: int) -> FileState:
         """What the terminal knows of a tag, by one call. A tag without a file is no error."""
         file = File()
         self._call("file", tag, byref(file))
-        return FileState(
-            file.is_known, file.is_open, file.is_dirty, file.is_changed, file.is_locked, file.len,
-            (file.dot_start, file.dot_end), (file.view_start, file.view_end),
-        )  # fmt: skip
+        length, *places, is_known, is_open, is_dirty, is_changed, is_locked = _FILE.unpack_from(file)
+        start, end, view_start, view_end = places
+        return FileState(is_known, is_open, is_dirty, is_changed, is_locked, length, (start, end), (view_start, view_end))
 
     @property
     def events(self) -> int:
