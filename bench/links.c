@@ -8,8 +8,9 @@
 #include <unistd.h>
 
 enum {
-    PIECE = 65536,    /* bytes that a program sends or takes at once */
-    ROOM = PIECE + 64 /* and the heads of the packets that they become */
+    PIECE = 65536,     /* bytes that a program sends or takes at once */
+    ROOM = PIECE + 64, /* and the heads of the packets that they become */
+    PLACES = 32        /* more than these packets are */
 };
 
 /* Ends the program where the system doesn't do what it was asked. */
@@ -69,13 +70,17 @@ static uint64_t check_more(uint64_t check, const uint8_t *bytes, size_t len)
 static uint64_t carry_end(const int line[2], sam_link *from, sam_link *to, uint64_t attempt, uint64_t check)
 {
     uint8_t piece[ROOM], bytes[PIECE];
+    sam_place places[PLACES];
     size_t count;
     for (;;) {
         WANT(sam_link_take_out(from, attempt, piece, sizeof piece, &count));
         if (count == 0)
             return check;
         carry_piece(line, piece, count);
-        WANT(sam_link_feed_into(to, attempt, piece, count, bytes, sizeof bytes, &count));
+        WANT(sam_link_feed_places(to, attempt, piece, count, places, PLACES, &count));
+        for (size_t i = 0; i < count; i++)
+            check = check_more(check, piece + places[i].start, places[i].len);
+        WANT(sam_link_take_in(to, bytes, sizeof bytes, &count));
         while (count > 0) {
             check = check_more(check, bytes, count);
             WANT(sam_link_take_in(to, bytes, sizeof bytes, &count));

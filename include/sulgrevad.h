@@ -718,7 +718,7 @@ SAM_MUST_USE sam_status sam_term_snarf_len(sam_term *term, uint32_t *runes);
  *     sam_link_take_in(&link, ..)                     what of it is for the program, and sam_link_next_note the notes
  *
  * A count of a stream counts all its bytes, those of heads too. A piece, a note and an answer are taken whole or not at all. Of these
- * calls sam_link_new, _put, _put_note, _ask, _acknowledge, _feed and _feed_into take memory, the others none. */
+ * calls sam_link_new, _put, _put_note, _ask, _acknowledge, _feed, _feed_into and _feed_places take memory, the others none. */
 
 /* The side of an end. */
 enum sam_link_role { SAM_LINK_TERMINAL = 0, SAM_LINK_HOST = 1 };
@@ -733,6 +733,13 @@ enum sam_link_what { SAM_LINK_BEGIN = 1, SAM_LINK_RESUME = 2, SAM_LINK_TAKE_OVER
 #define SAM_LINK_ID_BYTES 16
 #define SAM_LINK_HELLO_BYTES 42
 #define SAM_LINK_MOST_NOTE 4096
+
+/* Where bytes lie in a piece: `len` of them, behind its first `start`. */
+struct sam_place {
+    size_t start;
+    size_t len;
+};
+typedef struct sam_place sam_place;
 
 /* ---- A link: making and freeing ---- */
 
@@ -818,6 +825,13 @@ SAM_MUST_USE sam_status sam_link_feed(sam_link *link, uint64_t attempt, const ui
  * as sam_link_feed is. */
 SAM_MUST_USE sam_status sam_link_feed_into(sam_link *link, uint64_t attempt, const uint8_t *bytes, size_t len, uint8_t *into, size_t room,
                                            size_t *count);
+
+/* Takes bytes that came as sam_link_feed does. Where nothing is left of earlier pieces, no note and no part of a packet, it then takes in
+ * the program's bytes, whole packets, until there is no room for a place (`most` of them), or a note is next, or nothing, and says where
+ * those of each lie among the bytes that came: no byte is copied. Hands out how many places it wrote, else 0. More may wait for
+ * sam_link_take_in. Refused as sam_link_feed is. */
+SAM_MUST_USE sam_status sam_link_feed_places(sam_link *link, uint64_t attempt, const uint8_t *bytes, size_t len, sam_place *places,
+                                             size_t most, size_t *count);
 
 /* Moves the next bytes of the other side's program into the buffer, as many as one packet has left and have room, and hands out how many:
  * call it until it hands out 0, where a note is next, or nothing. */

@@ -9,7 +9,7 @@
 #include <stdlib.h>
 #include <string.h>
 
-enum { SIDES = 2, MOST_PUT = 9000, LOG = 4000000, FLIGHT = 4000000, LINES = 2, ROOM = 5000, ROUNDS = 6 };
+enum { SIDES = 2, MOST_PUT = 9000, LOG = 4000000, FLIGHT = 4000000, LINES = 2, ROOM = 5000, PLACES = 4, ROUNDS = 12 };
 
 /* What was put at a side, or what came of it: for each byte a 0 and the byte, for each note a 1, its length in two bytes, and its bytes. */
 struct log {
@@ -35,6 +35,7 @@ static sam_link ends[SIDES];
 static struct log put[SIDES], came[SIDES];
 static struct line lines[LINES]; /* the newest is that of number `newest` */
 static unsigned newest, calls, breaks, refused;
+static size_t placed;
 static uint64_t seed;
 
 static void fail(const char *what, unsigned long why)
@@ -178,6 +179,28 @@ static sam_status feed_into(const struct line *line, unsigned side, const uint8_
     return status;
 }
 
+/* Feeds a piece and takes its bytes where they lie, at so many places at most. A call that is refused has written none. */
+static sam_status feed_places(const struct line *line, unsigned side, const uint8_t *from, size_t len, size_t most)
+{
+    sam_place places[PLACES], unused[PLACES];
+    size_t count = PLACES + 1;
+    memset(places, 0x55, sizeof places);
+    memset(unused, 0x55, sizeof unused);
+    sam_status status = sam_link_feed_places(&ends[side], line->attempt, from, len, places, most, &count);
+    size_t wrote = status == SAM_OK ? count : 0;
+    if (wrote > most || (status != SAM_OK && count != PLACES + 1))
+        fail("feed_places counts", (unsigned long)count);
+    if (memcmp(places + wrote, unused, (PLACES - wrote) * sizeof *places) != 0)
+        fail("feed_places writes behind its places", (unsigned long)wrote);
+    for (size_t i = 0; i < wrote; i++) {
+        if (places[i].len == 0 || places[i].start > len || places[i].len > len - places[i].start)
+            fail("a place is not in the piece", (unsigned long)i);
+        log_data(&came[!side], from + places[i].start, places[i].len);
+    }
+    placed += wrote;
+    return status;
+}
+
 static void reads(struct line *line, unsigned side, size_t most)
 {
     uint8_t *from = line->flight[!side];
@@ -186,8 +209,11 @@ static void reads(struct line *line, unsigned side, size_t most)
     size_t room = pick(ROOM + 1);
     if (line->is_over[side] || (!line->is_met[side] && line->len[!side] < SAM_LINK_HELLO_BYTES))
         return;
-    if (line->is_met[side] && pick(2) == 0) {
+    unsigned way = line->is_met[side] ? pick(3) : 0;
+    if (line->is_met[side] && way == 0) {
         TRIED(status, &ends[side], feed_into(line, side, from, len, room));
+    } else if (line->is_met[side] && way == 1) {
+        TRIED(status, &ends[side], feed_places(line, side, from, len, room % (PLACES + 1)));
     } else if (line->is_met[side]) {
         TRIED(status, &ends[side], sam_link_feed(&ends[side], line->attempt, from, len));
     } else {
@@ -258,12 +284,14 @@ static void step(void)
         drains(side, 1 + pick(ROOM));
 }
 
-/* Over a connection that holds all comes. */
+/* Over a connection that holds all comes, also what is put while nothing waits. */
 static void ends_well(void)
 {
     struct line *line = call();
     for (int round = 0; round < ROUNDS; round++) {
         for (unsigned side = 0; side < SIDES; side++) {
+            if (round < ROUNDS / 2)
+                puts_some(side);
             writes(line, side, FLIGHT);
             reads(line, !side, FLIGHT);
             reads(line, !side, FLIGHT);
@@ -296,7 +324,7 @@ int main(int argc, char **argv)
     for (long left = strtol(argv[2], NULL, 10); left > 0; left--)
         step();
     ends_well();
-    printf("%u connections, %u breaks, %u refusals; %lu and %lu bytes and notes, all came once and in order\n", calls, breaks, refused,
-           (unsigned long)came[0].len, (unsigned long)came[1].len);
+    printf("%u connections, %u breaks, %u refusals, %lu places; %lu and %lu bytes and notes, all came once and in order\n", calls, breaks,
+           refused, (unsigned long)placed, (unsigned long)came[0].len, (unsigned long)came[1].len);
     return 0;
 }

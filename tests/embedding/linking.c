@@ -33,6 +33,7 @@ static void no_handles(sam_link *link)
     uint64_t number = 5;
     uint32_t phase = 6;
     size_t count = 7;
+    sam_place place = {8, 9};
     WANT(sam_link_free(link), SAM_NO_HANDLE);
     WANT(sam_link_call(link, false, &number), SAM_NO_HANDLE);
     WANT(sam_link_welcomed(link, BYTES("x")), SAM_NO_HANDLE);
@@ -45,6 +46,7 @@ static void no_handles(sam_link *link)
     WANT(sam_link_take_out(link, 0, bytes, sizeof bytes, &count), SAM_NO_HANDLE);
     WANT(sam_link_feed(link, 0, BYTES("x")), SAM_NO_HANDLE);
     WANT(sam_link_feed_into(link, 0, BYTES("x"), bytes, sizeof bytes, &count), SAM_NO_HANDLE);
+    WANT(sam_link_feed_places(link, 0, BYTES("x"), &place, 1, &count), SAM_NO_HANDLE);
     WANT(sam_link_take_in(link, bytes, sizeof bytes, &count), SAM_NO_HANDLE);
     WANT(sam_link_next_note(link, bytes, 0, &count), SAM_NO_HANDLE);
     WANT(sam_link_phase(link, &phase), SAM_NO_HANDLE);
@@ -54,6 +56,7 @@ static void no_handles(sam_link *link)
     WANT(sam_link_unsent(link, &count), SAM_NO_HANDLE);
     WANT(sam_link_received(link, &number), SAM_NO_HANDLE);
     WANT(memcmp(bytes, "unused", 7) == 0 && number == 5 && phase == 6 && count == 7, 1);
+    WANT(place.start == 8 && place.len == 9, 1);
 }
 
 /* Hellos without a handle: what is wrong shows as early as it can, and what the pointers lead to is then as it was. */
@@ -183,6 +186,50 @@ static void at_once(sam_link *terminal, sam_link *host)
     WANT(came == 1 && memcmp(into, "!olsed!", 8) == 0, 1);
 }
 
+static bool is_place(sam_place place, size_t start, size_t len)
+{
+    return place.start == start && place.len == len;
+}
+
+/* Bytes stay where they are in the piece, as far as there are places and up to a note; what is left is taken in later. */
+static void by_place(sam_link *terminal, sam_link *host)
+{
+    uint8_t bytes[64], note[SAM_LINK_MOST_NOTE];
+    sam_place places[3] = {{90, 91}, {92, 93}, {94, 95}};
+    size_t count = 0, wrote = 9;
+    WANT(sam_link_put(terminal, BYTES("hello")), SAM_OK);
+    WANT(sam_link_put_note(terminal, BYTES("n")), SAM_OK);
+    WANT(sam_link_put(terminal, BYTES("!")), SAM_OK);
+    WANT(sam_link_take_out(terminal, 1, bytes, sizeof bytes, &count), SAM_OK);
+    WANT(sam_link_feed_places(host, 2, bytes, count, places, 3, &wrote), SAM_LINK_NOT_OPEN);
+    WANT(wrote == 9 && is_place(places[0], 90, 91), 1);
+    WANT(sam_link_feed_places(host, 1, bytes, count, places, 3, &wrote), SAM_OK);
+    WANT(wrote == 1 && is_place(places[0], 3, 5) && is_place(places[1], 92, 93), 1); /* a note is next */
+    WANT(READ(sam_link_take_in(host, bytes, sizeof bytes, &count)), SAM_OK);
+    WANT(count, 0);
+    WANT(READ(sam_link_next_note(host, note, sizeof note, &count)), SAM_OK);
+    WANT(count == 1 && note[0] == 'n', 1);
+    WANT(sam_link_feed_places(host, 1, bytes, 0, places, 3, &wrote), SAM_OK);
+    WANT(wrote == 0 && is_place(places[0], 3, 5), 1); /* what waits does not lie in the piece */
+    WANT(sam_link_take_in(host, bytes, sizeof bytes, &count), SAM_OK);
+    WANT(count == 1 && bytes[0] == '!', 1);
+    for (const char *word = "abc"; *word; word++)
+        WANT(sam_link_put(terminal, (const uint8_t *)word, 1), SAM_OK);
+    WANT(sam_link_take_out(terminal, 1, bytes, sizeof bytes, &count), SAM_OK);
+    WANT(sam_link_feed_places(host, 1, bytes, count, places, 2, &wrote), SAM_OK);
+    WANT(wrote == 2 && is_place(places[0], 3, 1) && is_place(places[1], 7, 1) && is_place(places[2], 94, 95), 1);
+    WANT(sam_link_take_in(host, bytes, sizeof bytes, &count), SAM_OK);
+    WANT(count == 1 && bytes[0] == 'c', 1); /* there was no room for its place */
+    WANT(sam_link_put(terminal, BYTES("in two")), SAM_OK);
+    WANT(sam_link_take_out(terminal, 1, bytes, sizeof bytes, &count), SAM_OK);
+    WANT(sam_link_feed_places(host, 1, bytes, 5, places, 3, &wrote), SAM_OK);
+    WANT(wrote, 0);
+    WANT(sam_link_feed_places(host, 1, bytes + 5, count - 5, places, 3, &wrote), SAM_OK);
+    WANT(wrote, 0);
+    WANT(sam_link_take_in(host, bytes, sizeof bytes, &count), SAM_OK);
+    WANT(count == 6 && memcmp(bytes, "in two", 6) == 0, 1);
+}
+
 /* Packets that are wrong, each on a connection of its own, which is then over, while nothing else has changed. */
 static void wrong_packets(sam_link *host)
 {
@@ -237,6 +284,7 @@ int main(void)
     refused_hellos(&terminal, &host);
     bytes_go(&terminal, &host);
     at_once(&terminal, &host);
+    by_place(&terminal, &host);
     wrong_packets(&host);
     WANT(READ(sam_link_broken(&terminal, 0)), SAM_OK); /* an older connection */
     WANT(sam_link_phase(&terminal, &phase), SAM_OK);

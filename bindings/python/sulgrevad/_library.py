@@ -43,6 +43,12 @@ class File(ctypes.Structure):
     ]  # fmt: skip
 
 
+class Place(ctypes.Structure):
+    """sam_place: where bytes lie in a piece."""
+
+    _fields_ = [("start", c_size_t), ("len", c_size_t)]
+
+
 class Handle(ctypes.Structure):
     """sam_host, sam_term and sam_link; empty if all bytes are zero."""
 
@@ -94,6 +100,7 @@ SIGNATURES: Dict[str, Tuple[Any, ...]] = {
     "link_broken": (c_uint64,), "link_put": _BYTES, "link_put_note": _BYTES, "link_ask": (), "link_acknowledge": (),
     "link_take_out": (c_uint64, *_BUFFER, _SIZE), "link_feed": (c_uint64, *_BYTES),
     "link_feed_into": (c_uint64, *_BYTES, *_BUFFER, _SIZE), "link_take_in": (*_BUFFER, _SIZE),
+    "link_feed_places": (c_uint64, *_BYTES, POINTER(Place), c_size_t, _SIZE),
     "link_next_note": (*_BUFFER, _SIZE), "link_phase": (_U32,), "link_attempt": (_U64,), "link_put_count": (_U64,),
     "link_acknowledged": (_U64,), "link_unsent": (_SIZE,), "link_received": (_U64,),
 }  # fmt: skip

@@ -3,9 +3,9 @@ import ctypes
 import enum
 from collections import deque
 from ctypes import byref, c_size_t, c_uint32, c_uint64
-from typing import Any, Deque, NamedTuple, Optional, Tuple, Union
+from typing import Any, Deque, List, NamedTuple, Optional, Tuple, Union
 
-from sulgrevad._library import LIBRARY
+from sulgrevad._library import LIBRARY, Place
 from sulgrevad.sides import OK, Held, least
 from sulgrevad.status import Status, error_of
 
@@ -14,6 +14,7 @@ HELLO_BYTES = 42
 MOST_NOTE = 4096
 MOST_BODY = 4096  # bytes that one packet has for the program
 MOST_PIECE = 2**20  # bytes that are taken out together
+MOST_PLACES = 1024  # places that are handed out together
 
 # How much of a buffer a call has filled that was not made yet.
 _NOT_YET = 2 ** (8 * ctypes.sizeof(c_size_t)) - 1
@@ -228,6 +229,20 @@ class Link(Held):
             return (self._moved(self._in, room, "take_in") if self._in else None) or b""
         except MemoryError:
             return b""  # the piece was taken: if this were raised, it would be fed again
+
+    def feed_places(self, attempt: int, data: _Bytes, most: int = 32) -> List[Place]:
+        """Takes bytes that came as `feed` does. Where nothing is left of earlier pieces, no note and no part of a packet, returns where the
+        next bytes of the other side's program lie in `data`, whole packets, at most so many places and none behind a note: of each its
+        `start` and `len`. Else, and of what is left, `take_in` has the bytes. Raises what `feed` raises, ValueError if `most` is below 0."""
+        data = bytes(memoryview(data))
+        places, count = (Place * least(most, MOST_PLACES))(), c_size_t(0)
+        found = list(places)  # before the piece is taken: if MemoryError were raised behind it, it would be fed again
+        if self._in:
+            places = (Place * 0)()  # what an exception kept back comes first
+        self._call("feed_places", attempt, data, len(data), places, len(places), byref(count))
+        while found and not found[-1].len:
+            found.pop()
+        return found
 
     def take_in(self, most: int = 65_536) -> bytes:
         """The next bytes of the other side's program, at most so many and of one packet: call it until it returns b"", where a note is

@@ -3,7 +3,7 @@ use Rattle.std.specs.Prelude.{◌≡◌, ◌⊎◌, ℕ, List, ◌++◌, length,
 use Rattle.sam_mesg.specs.Bounds.{entry}
 use Rattle.sam_mesg.specs.Spelling.{eight, frame}
 use Rattle.sam_link.specs.End.{Answers, Calls, End, TakesOut, Welcomes, broken, fresh}
-use Rattle.sam_link.specs.Feeding.{Feeds, FeedsInto, PutsNote}
+use Rattle.sam_link.specs.Feeding.{Feeds, FeedsInto, FeedsPlaces, PutsNote}
 use Rattle.sam_link.specs.Hellos.{ReadsHello, spelled, what_number}
 use Rattle.sam_link.specs.Inbox.{GivesNote, ready}
 use Rattle.sam_link.specs.Keeping.{Keeps, Puts}
@@ -17,6 +17,7 @@ use Rattle.sam_link.specs.declared.hello.Hello.{Hello}
 use Rattle.sam_link.specs.declared.hello.Id.{Id}
 use Rattle.sam_link.specs.declared.hello.Refusal.{Refusal}
 use Rattle.sam_link.specs.declared.hello.What.TheVariants.{Refused}
+use Rattle.sam_link.specs.declared.inbox.Place.{Place}
 use Rattle.sam_link.specs.declared.keeping.PutFault.{PutFault}
 use Rattle.sam_link.specs.declared.phase.Role.{Role}
 use Rattle.sam_c.specs.Calls.{AtHandle}
@@ -165,6 +166,16 @@ abbrev pub LinkFedInto : Option End → ℕ → List ℕ → List ℕ → List �
 LinkFedInto None attempt piece before after old status new g = (status ≡ no_handle) × (after ≡ before) × (new ≡ old) × (g ≡ None)
 LinkFedInto (Some e) attempt piece before after old status new g =
     (n : End) × (g ≡ Some n) × FedInto e attempt piece before after old status new n
+
+abbrev pub FedPlaces : End → ℕ → List ℕ → List Place → List Place → ℕ → ℕ → ℕ → End → Type 0
+FedPlaces e attempt piece before after old status new n =
+    (result : Result ℕ FeedFault) × FeedsPlaces e attempt piece before result after n × (status ≡ into_status result)
+    × (new ≡ handed_or old result)
+
+abbrev pub LinkFedPlaces : Option End → ℕ → List ℕ → List Place → List Place → ℕ → ℕ → ℕ → Option End → Type 0
+LinkFedPlaces None attempt piece before after old status new g = (status ≡ no_handle) × (after ≡ before) × (new ≡ old) × (g ≡ None)
+LinkFedPlaces (Some e) attempt piece before after old status new g =
+    (n : End) × (g ≡ Some n) × FedPlaces e attempt piece before after old status new n
 
 abbrev pub LinkTakenIn : Option End → List ℕ → List ℕ → ℕ → ℕ → ℕ → Option End → Type 0
 LinkTakenIn None before after old status new g = (status ≡ no_handle) × (after ≡ before) × (new ≡ old) × (g ≡ None)

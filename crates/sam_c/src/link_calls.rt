@@ -7,8 +7,8 @@ ghost use Rattle.sam_link.specs.Putting.{data_stream};
 ghost use Rattle.sam_c.specs.Calls.{Reports};
 ghost use Rattle.sam_c.specs.Hosts.{Freed};
 ghost use Rattle.sam_c.specs.LinkStatus.{phase_number};
-ghost use Rattle.sam_c.specs.Links.{FedInto, HelloTold, LinkAcknowledges, LinkAnswered, LinkBroken, LinkCalled, LinkFed, LinkFedInto, LinkMade};
-ghost use Rattle.sam_c.specs.Links.{LinkNextNote, LinkNotePut, LinkPut, LinkTakenIn, LinkTakenOut, LinkWelcomed};
+ghost use Rattle.sam_c.specs.Links.{FedInto, FedPlaces, HelloTold, LinkAcknowledges, LinkAnswered, LinkBroken, LinkCalled, LinkFed, LinkFedInto};
+ghost use Rattle.sam_c.specs.Links.{LinkFedPlaces, LinkMade, LinkNextNote, LinkNotePut, LinkPut, LinkTakenIn, LinkTakenOut, LinkWelcomed};
 ghost use Rattle.sam_c.specs.Links.{NextNote, RefusalWritten, TakesAnswer, TakesWelcome, id_bytes, refusing, told};
 
 use crate::handle::{SamLink, with_end};
@@ -17,7 +17,7 @@ use crate::link_status::{
     out_fault, phase_number, put_status, refusal_of, role_of, welcome_status, what_number,
 };
 use crate::status::{MADE, NO_HANDLE, NO_MEMORY, NONE, OK};
-use sam_link::{HELLO_BYTES, Hello, Id, Link, MOST_BODY, Refusal, What, read_hello};
+use sam_link::{HELLO_BYTES, Hello, Id, Link, MOST_BODY, Place, Refusal, What, read_hello};
 use std::alloc::Global;
 
 /// The id of a session: 16 bytes.
@@ -314,6 +314,42 @@ pub extern "C" fn sam_link_feed_into(
     ensures { LinkFedInto link.old.held.end attempt bytes.now into.old into.new count.old result count.new link.new.held.end }
 {
     with_end!(link alloc mut end { feed_into(&mut end, attempt, bytes, into, count) })
+}
+
+/// Feeds a piece, takes what data it brings, says where that lies, and hands out at how many places.
+fn feed_places(
+    end: &mut Link,
+    attempt: u64,
+    bytes: &[u8],
+    places: &mut [Place],
+    count: &mut usize,
+) -> u32
+    ensures { FedPlaces end.old attempt bytes.now places.old places.new count.old result count.new end.new }
+{
+    match end.feed_places(attempt, bytes, places) {
+        Ok(number) => {
+            *count = number;
+            OK
+        }
+        Err(why) => feed_status(Err(why)),
+    }
+}
+
+/// Takes the next piece as [`sam_link_feed`] does. Where nothing waited before, and nothing was held, it then takes the data that is next,
+/// packet by packet, until there is no room in `places`, or a note is next, or nothing; each place says where that of one lies in the
+/// piece. Hands out how many places it wrote, else 0. The errors are those of [`sam_link_feed`].
+#[unsafe(no_mangle)]
+pub extern "C" fn sam_link_feed_places(
+    link: &mut SamLink,
+    attempt: u64,
+    bytes: &[u8],
+    places: &mut [Place],
+    count: &mut usize,
+    alloc: Global,
+) -> u32
+    ensures { LinkFedPlaces link.old.held.end attempt bytes.now places.old places.new count.old result count.new link.new.held.end }
+{
+    with_end!(link alloc mut end { feed_places(&mut end, attempt, bytes, places, count) })
 }
 
 /// Moves the next bytes of the other side's program into the buffer, as many as one packet has left and have room, and hands out how many.

@@ -1,15 +1,16 @@
 -- What is left of a piece that was not taken.
-use Rattle.std.proofs.Common.{◌≡◌, ℕ, ◌+◌, ◌-◌, ◌<◌, ◌≤◌, List, ◌++◌, length, take, drop, Bool, Ok, Err, refl, sym, subst, ap, ◌∙◌}
+use Rattle.std.proofs.Common.{◌≡◌, ℕ, ◌+◌, ◌-◌, ◌<◌, ◌≤◌, ◌⊎◌, List, [], ◌++◌, length, take, drop, Bool, Ok, Err, refl, sym, subst, ap, ◌∙◌}
 use Rattle.std.specs.Prelude.{None, ◌||◌, if◌then◌else◌, nat_le}
 use Rattle.std.proofs.Math.Seq.{take-append_seam}
 use Rattle.sam_link.specs.End.{End, ended}
-use Rattle.sam_link.specs.Feeding.{Feeds, FeedsInto, IsFault, MayFeed, TakesSplit, ended_for, fed_to, has_come, read_to, said_to, tells, told}
-use Rattle.sam_link.specs.Inbox.{Arrived, IsRow, TakesAll, Waiting, items_among, lying, nothing}
+use Rattle.sam_link.specs.Feeding.{Feeds, FeedsInto, FeedsPlaces, GoesOn, IsFault, MayFeed, TakesSplit, ended_for, fed_to, has_come, read_to, said_to, tells, told}
+use Rattle.sam_link.specs.Inbox.{Arrived, IsRow, TakesAll, TakesPlaces, Waiting, items_among, lying, nothing, ready}
 use Rattle.sam_link.specs.Keeping.{acknowledged}
 use Rattle.sam_link.specs.Packets.{EndsIn, IsRead, IsSplit, Packet, asks, top_of}
 use Rattle.sam_link.specs.declared.fault.FeedFault.{FeedFault}
 use Rattle.sam_link.specs.declared.fault.FeedFault.TheVariants.{NotOpen, CountFull, OutOfMemory, Wrong, AckAhead}
 use Rattle.sam_link.specs.declared.inbox.Marks.{Marks}
+use Rattle.sam_link.specs.declared.inbox.Place.{Place}
 use Rattle.sam_link.specs.declared.reading.Said.{Said}
 use Rattle.sam_link.specs.declared.reading.Split.{Split}
 use Rattle.sam_link.proofs.Rows.{items_is}
@@ -110,3 +111,26 @@ passed_on e m attempt piece s old new count first last a may none split well m_i
     ap (λ x. x.held) a_is ∙ held ∙ ap (λ k. (lying k piece).held) first_is ∙ ap (λ x. drop s.len (x.held ++ piece)) (sym none) in
     subst (λ x. FeedsInto e attempt piece old (Ok count) new (record x { held = a.held; waiting = a.waiting })) (sym m_is)
     (then_taken e read attempt piece old new count a.held a.waiting fed all rest)
+
+-- ## By places
+
+-- a piece whose data is taken where it lies, where nothing was there before
+pub placed_on : (e m : End) (attempt : ℕ) (piece : List ℕ) (s : Split) (old new : List Place) (count : ℕ) (first last : Marks) (a : Arrived) → MayFeed e attempt piece
+    → has_come e ≡ nothing → IsSplit piece s → IsFault e s None → m ≡ said_to e s.said (e.received + length piece) → first ≡ row_marks s
+    → count ≤ length old → new ≡ take count new ++ drop count old → TakesPlaces piece (lying first piece).waiting (take count new) (lying last piece).waiting
+    → (lying last piece).held ≡ (lying first piece).held → (count ≡ length old) ⊎ ((ready (lying last piece).waiting).part ≡ []) → a ≡ lying last piece
+    → FeedsPlaces e attempt piece old (Ok count) new (record m { held = a.held; waiting = a.waiting })
+placed_on e m attempt piece s old new count first last a may none split well m_is first_is inside others takes held end a_is =
+    let read = read_to (holds e piece) s (e.received + length piece) in
+    let whole = whole_split e piece s none split in
+    let fed : Feeds e attempt piece (Ok tt) read = feed_done e read attempt piece s may whole (well.0, well.1, refl) in
+    let from_row = subst (λ k. TakesPlaces piece (lying k piece).waiting (take count new) (lying last piece).waiting) first_is takes in
+    let to_rest = subst (λ x. TakesPlaces piece (lying (row_marks s) piece).waiting (take count new) x.waiting) (sym a_is) from_row in
+    let all : TakesPlaces piece read.waiting (take count new) a.waiting =
+    subst (λ x. TakesPlaces piece (starts x s.count piece) (take count new) a.waiting) (sym none) to_rest in
+    let rest : a.held ≡ read.held =
+    ap (λ x. x.held) a_is ∙ held ∙ ap (λ k. (lying k piece).held) first_is ∙ ap (λ x. drop s.len (x.held ++ piece)) (sym none) in
+    let goes : GoesOn (has_come e) count (length old) a.waiting =
+    ((λ here. subst (λ x. (count ≡ length old) ⊎ ((ready x.waiting).part ≡ [])) (sym a_is) end), (λ some. absurd (some none))) in
+    subst (λ x. FeedsPlaces e attempt piece old (Ok count) new (record x { held = a.held; waiting = a.waiting })) (sym m_is)
+    (read, fed, inside, others, all, ap (λ h. record read { held = h; waiting = a.waiting }) rest, goes)

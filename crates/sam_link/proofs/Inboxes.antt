@@ -1,7 +1,6 @@
 -- Where what came lies in an inbox.
 use Rattle.std.proofs.Common.{◌≡◌, ℕ, ◌+◌, ◌-◌, ◌≤◌, List, [], ◌++◌, length, take, drop, refl, sym, ap, subst, ◌∙◌, arith, append_assoc, length-append, length-drop, length-take, drop-drop, take-append-drop}
 use Rattle.std.proofs.lemmas.List.{drop-append-le, drop-take, take-append-le}
-use Rattle.std.proofs.Math.ListN.{drop_of_length-le}
 use Rattle.std.proofs.Math.Seq.{drop-append_seam, take-add, take-append_seam}
 use Rattle.sam_frame.specs.Stream.{stream_of}
 use Rattle.sam_link.specs.Inbox.{Arrived, IsInbox, IsRow, Waiting, arrived, items_among, lying, nothing}
@@ -9,7 +8,7 @@ use Rattle.sam_link.specs.Packets.{Packet, packets}
 use Rattle.std.specs.Prelude.{OnOk, Result, Ok, Err, is_ok, if◌then◌else◌}
 use Rattle.std.specs.declared.alloc.AllocError.{AllocError}
 use Rattle.sam_link.specs.declared.inbox.Marks.{Marks}
-use Rattle.sam_link.proofs.Rows.{fewer, items_is, items_more, items_none, row_at, row_more, row_to}
+use Rattle.sam_link.proofs.Rows.{items_is, items_more, row_at, row_more, row_to}
 
 abbrev waits_as : List ℕ → List Packet → Waiting
 waits_as part ps = record { part = part; packets = ps }
@@ -32,18 +31,6 @@ nothing_came bytes is = subst (λ b. arrived b 0 0 0 0 ≡ lies_as [] [] []) (sy
 
 pub nothing_at : (bytes : List ℕ) (m : Marks) → bytes ≡ [] → m ≡ record { gone = 0; next = 0; whole = 0; count = 0 } → lying m bytes ≡ nothing
 nothing_at bytes m none is = ap (λ k. lying k bytes) is ∙ nothing_came bytes none
-
--- ## All is gone
-
-pub all_gone : (bytes : List ℕ) (gone next whole count : ℕ) → IsInbox bytes gone next whole count → gone ≡ length bytes → arrived bytes gone next whole count ≡ nothing
-all_gone bytes gone next whole count i end =
-    let all : whole ≡ length bytes = omega (arith, (i.begun), (i.behind), (i.inside), end) in
-    let no_part : next - gone ≡ 0 = omega (arith, (i.begun), (i.behind), (i.inside), end) in
-    let no_packets : count ≡ 0 = omega (arith, (fewer (drop next bytes) count (whole - next) i.row), (i.begun), (i.behind), (i.inside), end) in
-    same_arrived (drop whole bytes) [] (take (next - gone) (drop gone bytes)) [] (items_among count (drop next bytes)) []
-    (grind (arith, all, (drop_of_length-le bytes {i = whole})))
-    (ap (λ n. take n (drop gone bytes)) no_part)
-    (ap (λ n. items_among n (drop next bytes)) no_packets ∙ items_none (drop next bytes))
 
 -- ## Bytes behind a row
 

@@ -1,14 +1,16 @@
 -- Taking in again and again, as calls.
-use Rattle.std.proofs.Common.{◌≡◌, ℕ, zero, suc, ◌+◌, List, [], ◌∷◌, ◌++◌, take, drop, map, Ok, Err, Result, refl, sym, ap, subst, ◌∙◌, append-nil}
-use Rattle.std.proofs.Math.Seq.{take-add}
+use Rattle.std.proofs.Common.{◌≡◌, ℕ, zero, suc, ◌+◌, ◌≤◌, List, [], ◌∷◌, ◌++◌, length, min, take, drop, map, Ok, Err, Result, refl, sym, ap, subst, ◌∙◌, arith, append-nil, length-drop, length-take, take-append-drop}
+use Rattle.std.specs.Prelude.{flat_map}
+use Rattle.std.proofs.Math.Seq.{take-add, take-length}
 use Rattle.std.proofs.lemmas.List.{map-append}
 use Rattle.std.proofs.lemmas.List.Elements.{All-append, All-cons, All-nil}
-use Rattle.sam_link.specs.Calls.{Byte, Call, Does, DoesAll, DoesInto, IsTakeIn, Item, Moves, handed, handed_by}
+use Rattle.sam_link.specs.Calls.{Byte, Call, Does, DoesAll, DoesInto, DoesPlaces, IsTakeIn, Item, Moves, handed, handed_by}
 use Rattle.sam_link.specs.Calls.Call.{TakeIn}
 use Rattle.sam_link.specs.End.{End}
-use Rattle.sam_link.specs.Feeding.{FeedsInto}
-use Rattle.sam_link.specs.Inbox.{TakesOften, Waiting}
+use Rattle.sam_link.specs.Feeding.{FeedsInto, FeedsPlaces}
+use Rattle.sam_link.specs.Inbox.{TakesOften, TakesPlaces, Waiting, left_of, ready, stretch}
 use Rattle.sam_link.specs.declared.fault.FeedFault.{FeedFault}
+use Rattle.sam_link.specs.declared.inbox.Place.{Place}
 use Rattle.sam_link.proofs.OwnMoves.{with_last}
 
 one_after : (e m n : End) (calls : List Call) (call : Call) → DoesAll e calls m → Does m call n → DoesAll e (calls ++ call ∷ []) n
@@ -66,3 +68,34 @@ as_calls e attempt piece old (Ok count) new n f =
           (f.2.3.0, f.2.3.1, ap (λ v. record f.0 { waiting = v }) f.2.3.2) tt refl),
     )
 as_calls e attempt piece old (Err fault) new n f = f.0
+
+place_long : (piece : List ℕ) (p : Place) → p.start + p.len ≤ length piece → length (stretch piece p) ≡ p.len
+place_long piece p inside = omega (arith, inside, (length-take p.len (drop p.start piece)), (length-drop p.start piece))
+
+as_places : (piece : List ℕ) (ps : List Place) (e : End) (w : Waiting) → TakesPlaces piece e.waiting ps w
+    → Moves e (flat_map (stretch piece) ps) (record e { waiting = w })
+as_places piece [] e w takes =
+    record { takes = []; are = All-nil IsTakeIn; does = ap (λ v. record e { waiting = v }) takes; moved = refl }
+as_places piece (p ∷ ps) e w takes =
+    let m = record e { waiting = left_of e.waiting p.len } in
+    let rest = as_places piece ps m w takes.1 in
+    let bytes = stretch piece p in
+    let long = place_long piece p takes.0.0 in
+    let call = TakeIn bytes p.len bytes in
+    let count : p.len ≡ min (length (ready e.waiting).part) (length bytes) = omega (arith, long, (ap length takes.0.1)) in
+    let came : bytes ≡ take p.len (ready e.waiting).part ++ drop p.len bytes =
+    sym (take-append-drop p.len bytes) ∙ ap (λ b. take p.len b ++ drop p.len bytes) takes.0.1 in
+    record {
+      takes = call ∷ rest.takes;
+      are = All-cons IsTakeIn call rest.takes tt rest.are;
+      does = (m, (count, came, refl), rest.does);
+      moved = ap (λ b. map Byte b ++ handed rest.takes) (ap (λ n. take n bytes) (sym long) ∙ take-length bytes)
+          ∙ ap (λ (l : List Item). map Byte bytes ++ l) rest.moved
+          ∙ sym (map-append Byte bytes (flat_map (stretch piece) ps));
+    }
+
+pub places_as_calls : (e : End) (attempt : ℕ) (piece : List ℕ) (old : List Place) (result : Result ℕ FeedFault) (new : List Place) (n : End)
+    → FeedsPlaces e attempt piece old result new n → DoesPlaces e attempt piece result new n
+places_as_calls e attempt piece old (Ok count) new n f =
+    (f.0, f.1, subst (λ x. Moves f.0 (flat_map (stretch piece) (take count new)) x) (sym f.5) (as_places piece (take count new) f.0 n.waiting f.4))
+places_as_calls e attempt piece old (Err fault) new n f = f.0

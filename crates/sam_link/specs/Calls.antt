@@ -3,7 +3,7 @@ use Rattle.std.specs.Prelude.{◌≡◌, ℕ, List, [], ◌∷◌, ◌++◌, len
 use Rattle.sam_mesg.specs.Spelling.{eight, frame}
 use Rattle.sam_link.specs.End.{Answers, Calls, End, TakesOut, Welcomes, broken}
 use Rattle.sam_link.specs.Feeding.{Feeds, PutsNote}
-use Rattle.sam_link.specs.Inbox.{GivesNote, Waiting, left_of, ready}
+use Rattle.sam_link.specs.Inbox.{GivesNote, Waiting, left_of, ready, stretch}
 use Rattle.sam_link.specs.Keeping.{Puts}
 use Rattle.sam_link.specs.Putting.{data_stream}
 use Rattle.sam_link.specs.declared.fault.AnswerFault.{AnswerFault}
@@ -13,6 +13,7 @@ use Rattle.sam_link.specs.declared.fault.NotOpen.{NotOpen}
 use Rattle.sam_link.specs.declared.fault.NoteFault.{NoteFault}
 use Rattle.sam_link.specs.declared.fault.WelcomeFault.{WelcomeFault}
 use Rattle.sam_link.specs.declared.hello.Hello.{Hello}
+use Rattle.sam_link.specs.declared.inbox.Place.{Place}
 use Rattle.sam_link.specs.declared.keeping.PutFault.{PutFault}
 use Rattle.sam_link.specs.Packets.{Packet}
 use Rattle.sam_link.specs.Packets.{Packet as packet}
@@ -140,6 +141,12 @@ pub record Moves (e : End) (bytes : List ℕ) (n : End) : Type 0 where
 abbrev pub DoesInto : End → ℕ → List ℕ → Result ℕ FeedFault → List ℕ → End → Type 0
 DoesInto e attempt piece (Ok count) new n = (m : End) × Does e (Feed attempt piece (Ok tt)) m × Moves m (take count new) n
 DoesInto e attempt piece (Err fault) new n = Does e (Feed attempt piece (Err fault)) n
+
+-- `feed_places` is a feed, and then such calls, which move the bytes that lie at the places
+abbrev pub DoesPlaces : End → ℕ → List ℕ → Result ℕ FeedFault → List Place → End → Type 0
+DoesPlaces e attempt piece (Ok count) new n =
+    (m : End) × Does e (Feed attempt piece (Ok tt)) m × Moves m (flat_map (stretch piece) (take count new)) n
+DoesPlaces e attempt piece (Err fault) new n = Does e (Feed attempt piece (Err fault)) n
 
 -- the bytes among these items
 abbrev pub byte_of : Item → List ℕ

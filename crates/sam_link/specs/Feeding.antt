@@ -1,16 +1,17 @@
 -- What feeding a piece of the other side's stream does.
-use Rattle.std.specs.Prelude.{◌≡◌, ℕ, ◌+◌, ◌-◌, ◌^◌, ◌<◌, ◌≤◌, List, ◌++◌, length, drop, Bool, true, false, ◌&&◌, ◌||◌, ◌==◌, nat_le, nat_lt, if◌then◌else◌, Option, None, Some, Result, Ok, Err}
+use Rattle.std.specs.Prelude.{◌≡◌, ℕ, ◌+◌, ◌-◌, ◌^◌, ◌<◌, ◌≤◌, ◌⊎◌, List, [], ◌++◌, length, take, drop, Bool, true, false, ◌&&◌, ◌||◌, ◌==◌, nat_le, nat_lt, if◌then◌else◌, Option, None, Some, Result, Ok, Err}
 use Rattle.sam_mesg.specs.Spelling.{eight, frame}
 use Rattle.sam_frame.specs.Splitting.{Front}
 use Rattle.sam_frame.specs.Stream.{IsOpen, Shows}
 use Rattle.sam_link.specs.End.{End, ended}
-use Rattle.sam_link.specs.Inbox.{Arrived, TakesAll, items_among, items_of}
+use Rattle.sam_link.specs.Inbox.{Arrived, TakesAll, TakesPlaces, Waiting, items_among, items_of, nothing, ready}
 use Rattle.sam_link.specs.Keeping.{Keeps, Puts, acknowledged, put}
 use Rattle.sam_link.specs.Packets.{Packet, asks, mesg_fault, packets, top_of}
 use Rattle.sam_link.specs.declared.fault.FeedFault.{FeedFault}
 use Rattle.sam_link.specs.declared.fault.FeedFault.TheVariants.{NotOpen, CountFull, OutOfMemory, Wrong, AckAhead}
 use Rattle.sam_link.specs.declared.fault.NoteFault.{NoteFault}
 use Rattle.sam_link.specs.declared.fault.NoteFault.TheVariants as notes
+use Rattle.sam_link.specs.declared.inbox.Place.{Place}
 use Rattle.sam_link.specs.declared.keeping.PutFault.TheVariants as puts
 use Rattle.sam_link.specs.declared.reading.Said.{Said}
 use Rattle.sam_link.specs.declared.reading.Split.{Split}
@@ -140,3 +141,15 @@ abbrev pub FeedsInto : End → ℕ → List ℕ → List ℕ → Result ℕ Feed
 FeedsInto e attempt piece old (Ok count) new n =
     (m : End) × Feeds e attempt piece (Ok tt) m × TakesAll m.waiting old count new n.waiting × (n ≡ record m { waiting = n.waiting })
 FeedsInto e attempt piece old (Err fault) new n = Feeds e attempt piece (Err fault) n × (new ≡ old)
+
+-- where nothing was there before, it goes on until there is no room for a place, or a note is first, or nothing; else it takes nothing
+abbrev pub GoesOn : Arrived → ℕ → ℕ → Waiting → Type 0
+GoesOn before count room n = (before ≡ nothing → (count ≡ room) ⊎ ((ready n).part ≡ [])) × ((before ≡ nothing → ⊥) → count ≡ 0)
+
+-- what feed_places may answer: it is a feed, and if that is well, the data is taken that lies at these places of the piece
+abbrev pub FeedsPlaces : End → ℕ → List ℕ → List Place → Result ℕ FeedFault → List Place → End → Type 0
+FeedsPlaces e attempt piece old (Ok count) new n =
+    (m : End) × Feeds e attempt piece (Ok tt) m × (count ≤ length old) × (new ≡ take count new ++ drop count old)
+    × TakesPlaces piece m.waiting (take count new) n.waiting × (n ≡ record m { waiting = n.waiting })
+    × GoesOn (has_come e) count (length old) n.waiting
+FeedsPlaces e attempt piece old (Err fault) new n = Feeds e attempt piece (Err fault) n × (new ≡ old)

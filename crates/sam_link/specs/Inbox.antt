@@ -1,5 +1,5 @@
 -- What came and was not taken yet.
-use Rattle.std.specs.Prelude.{◌≡◌, ℕ, zero, suc, ◌+◌, ◌*◌, ◌-◌, ◌≤◌, List, [], ◌∷◌, ◌++◌, length, take, drop, slice_index, Option, None, Some, Bool, true, false, ◌==◌, if◌then◌else◌, min, option_map}
+use Rattle.std.specs.Prelude.{◌≡◌, ℕ, zero, suc, ◌+◌, ◌*◌, ◌-◌, ◌<◌, ◌≤◌, List, [], ◌∷◌, ◌++◌, length, take, drop, slice_index, Option, None, Some, Bool, true, false, ◌==◌, if◌then◌else◌, min, option_map}
 use Rattle.std.specs.List.{flat_map}
 use Rattle.sam_frame.specs.Splitting.{Front}
 use Rattle.sam_link.specs.Packets.{Packet, packets}
@@ -9,6 +9,7 @@ use Rattle.sam_link.specs.declared.inbox.Found.{Found}
 use Rattle.sam_link.specs.declared.inbox.Found.TheVariants.{Nothing}
 use Rattle.sam_link.specs.declared.inbox.Found.TheVariants as found
 use Rattle.sam_link.specs.declared.inbox.Marks.{Marks}
+use Rattle.sam_link.specs.declared.inbox.Place.{Place}
 
 -- the rest of the data whose first bytes were taken, and the packets after it
 pub record Waiting : Type 0 where
@@ -60,6 +61,19 @@ TakesOften (suc often) w old count new n =
 abbrev pub TakesAll : Waiting → List ℕ → ℕ → List ℕ → Waiting → Type 0
 TakesAll w old count new n =
     (often : ℕ) × (mid : Waiting) × TakesOften often w old count new mid × TakesIn mid (drop count new) 0 (drop count new) n
+
+-- the bytes of the piece at the place
+abbrev pub stretch : List ℕ → Place → List ℕ
+stretch piece p = take p.len (drop p.start piece)
+
+-- at the place in the piece lies this data: all of it, and some
+abbrev pub Holds : List ℕ → Place → List ℕ → Type 0
+Holds piece p body = (p.start + p.len ≤ length piece) × (stretch piece p ≡ body) × (0 < p.len)
+
+-- the data that is first is taken whole, one packet after the other: these places of the piece hold it
+abbrev pub TakesPlaces : List ℕ → Waiting → List Place → Waiting → Type 0
+TakesPlaces piece w [] n = n ≡ w
+TakesPlaces piece w (p ∷ ps) n = Holds piece p (ready w).part × TakesPlaces piece (left_of w p.len) ps n
 
 -- the note that is first, once all bytes before it are taken
 abbrev pub note_of : List ℕ → List Packet → Option (List ℕ × List Packet)

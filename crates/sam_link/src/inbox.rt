@@ -1,14 +1,24 @@
 //! What came and was not taken yet.
 
 ghost use Rattle.std.specs.Prelude.{◌≡◌, ◌≤◌, ◌<◌, ◌+◌, ◌-◌, ◌++◌, [], OnOk, OnErr, drop, length, min, slice_index, take};
-ghost use Rattle.std.specs.Prelude.{true, vec_capacity};
-ghost use Rattle.sam_link.specs.Inbox.{GivesNote, Finds, IsRow, LiesIn, RestStays, TakesAll, TakesIn, items_among, lying, made_ready};
-ghost use Rattle.sam_link.specs.Inbox.{note_in, nothing, parted};
+ghost use Rattle.std.specs.Prelude.{◌⊎◌, true, false, vec_capacity};
+ghost use Rattle.sam_link.specs.Inbox.{GivesNote, Finds, IsRow, LiesIn, RestStays, TakesAll, TakesIn, TakesPlaces, items_among, lying};
+ghost use Rattle.sam_link.specs.Inbox.{made_ready, note_in, nothing, parted, ready, stretch};
 
 use crate::reading::head_of;
 use std::alloc::{AllocError, Global};
 use std::marker::Model;
 use std::mem;
+
+/// Where a packet's data lies in a piece.
+#[repr(C)]
+#[derive(Clone, Copy, Debug, PartialEq, Eq, Drop)]
+pub struct Place {
+    /// How many bytes of the piece stand before it.
+    pub start: usize,
+    /// How many bytes it has.
+    pub len: usize,
+}
 
 /// Where what came and was not taken yet lies in some bytes.
 #[derive(Clone, Copy, Drop)]
@@ -224,6 +234,83 @@ impl Marks {
             count += more;
         }
     }
+
+    /// Takes all that is left of what was begun, and returns where it lies.
+    fn take_rest(&mut self, bytes: &[u8]) -> Place
+        requires { LiesIn self.old bytes.now }
+        ensures lies { LiesIn self.new bytes.now }
+        ensures inside { result.start + result.len ≤ length bytes.now }
+        ensures body { stretch bytes.now result ≡ (lying self.old bytes.now).waiting.part }
+        ensures rest { lying self.new bytes.now ≡ parted (lying self.old bytes.now) result.len }
+    {
+        let place = Place {
+            start: self.gone,
+            len: self.next - self.gone,
+        };
+        self.gone = self.next;
+        place
+    }
+
+    /// Takes the data that is next, all that one packet has left, and returns where it lies. There are no bytes of it where a note is next,
+    /// or nothing.
+    fn take_whole(&mut self, bytes: &[u8]) -> Place
+        requires { LiesIn self.old bytes.now }
+        ensures lies { LiesIn self.new bytes.now }
+        ensures inside { result.start + result.len ≤ length bytes.now }
+        ensures body { stretch bytes.now result ≡ (ready (lying self.old bytes.now).waiting).part }
+        ensures rest { lying self.new bytes.now ≡ parted (made_ready (lying self.old bytes.now)) result.len }
+    {
+        self.pass(bytes);
+        self.make_ready(bytes);
+        self.take_rest(bytes)
+    }
+
+    /// Takes the data that is next, one packet after the other, until there is no room in places, or a note is next, or nothing. Returns
+    /// how many places it wrote, which say where the data lies.
+    pub fn take_places(&mut self, bytes: &[u8], places: &mut [Place]) -> usize
+        requires { LiesIn self.old bytes.now }
+        ensures lies { LiesIn self.new bytes.now }
+        ensures inside { result ≤ length places.old }
+        ensures rest { places.new ≡ take result places.new ++ drop result places.old }
+        ensures taken { TakesPlaces bytes.now (lying self.old bytes.now).waiting (take result places.new) (lying self.new bytes.now).waiting }
+        ensures held { (lying self.new bytes.now).held ≡ (lying self.old bytes.now).held }
+        ensures end { (result ≡ length places.old) ⊎ ((ready (lying self.new bytes.now).waiting).part ≡ []) }
+    {
+        let mut count = 0;
+        'packets: loop {
+            if count == places.len() {
+                return count;
+            }
+            let mut behind = *self;
+            let place = behind.take_whole(bytes);
+            if place.len == 0 {
+                return count;
+            }
+            *self = behind;
+            places[count] = place;
+            count += 1;
+        }
+    }
+
+    /// Returns whether nothing waits, and nothing is held.
+    fn is_empty(&self, bytes: &[u8]) -> bool
+        requires { LiesIn self.now bytes.now }
+        ensures empty { result ≡ true → lying self.now bytes.now ≡ nothing }
+        ensures some { result ≡ false → lying self.now bytes.now ≡ nothing → ⊥ }
+    {
+        if self.gone < self.next {
+            return false;
+        }
+        if self.whole < bytes.len() {
+            return false;
+        }
+        let (_, row) = bytes.split_at(self.next);
+        match first_item(row, self.count, self.whole - self.next) {
+            Found::Nothing => true,
+            Found::Data(_) => false,
+            Found::Note(_) => false,
+        }
+    }
 }
 
 impl Inbox {
@@ -313,13 +400,14 @@ impl Inbox {
         self.marks.take_all(self.bytes.as_slice(), into)
     }
 
-    /// Returns whether all is gone that came. Then nothing waits, and nothing is held.
+    /// Returns whether nothing waits, and nothing is held.
     pub fn is_empty(&mut self) -> bool
         ensures same { self.new ≡ self.old }
         ensures empty { result ≡ true → self.old ≡ nothing }
+        ensures some { result ≡ false → self.old ≡ nothing → ⊥ }
     {
         self.pass();
-        self.marks.gone == self.bytes.len()
+        self.marks.is_empty(self.bytes.as_slice())
     }
 
     /// Hands out the memory, and keeps nothing of what came. It takes no memory.

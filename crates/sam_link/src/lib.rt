@@ -20,6 +20,7 @@ mod writing;
 
 pub use fault::{AnswerFault, CallFault, FeedFault, NotOpen, NoteFault, WelcomeFault};
 pub use hello::{HELLO_BYTES, Hello, Id, Refusal, What, read_hello};
+pub use inbox::Place;
 pub use keeping::{Kept, PutFault};
 pub use laws::{carried_is_all, good_line_delivers, honest_meet, links_carry, one_hello};
 pub use link::{Counts, Link};

@@ -5,8 +5,8 @@ ghost use Rattle.std.specs.Prelude.{◌&&◌, ◌==◌, true, if◌then◌else�
 ghost use Rattle.sam_link.specs.End.{Calls, TakesOut, broken, ended, fresh, is_up, may_send, same_id, says};
 ghost use Rattle.sam_link.specs.declared.hello.What.TheVariants as What;
 ghost use Rattle.sam_link.specs.declared.phase.Phase.TheVariants as Phase;
-ghost use Rattle.sam_link.specs.Feeding.{Feeds, FeedsInto, IsFault, IsRefused, MayFeed, PutsNote, TakesSplit, ended_for, has_come};
-ghost use Rattle.sam_link.specs.Feeding.{is_open, read_to, said_to};
+ghost use Rattle.sam_link.specs.Feeding.{Feeds, FeedsInto, FeedsPlaces, IsFault, IsRefused, MayFeed, PutsNote, TakesSplit};
+ghost use Rattle.sam_link.specs.Feeding.{ended_for, has_come, is_open, read_to, said_to};
 ghost use Rattle.sam_link.specs.Inbox.{GivesNote, IsRow, RestStays, note_in, nothing, ready};
 ghost use Rattle.sam_link.specs.Keeping.{MayHave, Puts, begun, may_have};
 ghost use Rattle.sam_mesg.specs.Spelling.{eight, frame};
@@ -16,7 +16,7 @@ ghost use Rattle.sam_link.specs.Putting.{data_stream};
 use crate::fault::{CallFault, FeedFault, NotOpen, NoteFault};
 use crate::feeding::tell;
 use crate::hello::{HELLO_BYTES, Hello, Id, What};
-use crate::inbox::{Inbox, Marks};
+use crate::inbox::{Inbox, Marks, Place};
 use crate::keeping::{Kept, PutFault};
 use crate::packet::MOST_BODY;
 use crate::phase::{Phase, Role};
@@ -412,6 +412,70 @@ impl Link {
         };
         let mut marks = Marks::of_row(split.count, split.len);
         let count = marks.take_all(piece, into);
+        self.inbox = Inbox::of_rest(room, piece, marks);
+        Ok(count)
+    }
+
+    /// Takes the next piece as `feed` does. Where nothing waited before, and nothing was held, it then takes the data that is next, whole
+    /// packets, one after the other, until there is no room in `places`, or a note is next, or nothing; each place says where the data of
+    /// one lies in the piece, in bytes, and has some. Returns how many places it wrote. The others stay as they were. Else it returns 0.
+    /// `take_in` and `next_note` hand out what is left, as after `feed`.
+    ///
+    /// The errors are those of `feed`, and leave what it leaves, and the places as they were.
+    pub fn feed_places(
+        &mut self,
+        attempt: u64,
+        piece: &[u8],
+        places: &mut [Place],
+    ) -> Result<usize, FeedFault>
+        ensures { FeedsPlaces self.old attempt piece.now places.old result places.new self.new }
+    {
+        if !self.inbox.is_empty() {
+            return self.feed_alone(attempt, piece, places);
+        }
+        if let Some(fault) = self.refusal_of_piece(attempt, piece) {
+            return Err(fault);
+        }
+        self.show_places(attempt, piece, places)
+    }
+
+    /// `feed`, where something waits or is held: no place is written.
+    fn feed_alone(
+        &mut self,
+        attempt: u64,
+        piece: &[u8],
+        places: &mut [Place],
+    ) -> Result<usize, FeedFault>
+        requires { has_come self.old ≡ nothing → ⊥ }
+        ensures { FeedsPlaces self.old attempt piece.now places.old result places.new self.new }
+    {
+        match self.feed(attempt, piece) {
+            Ok(()) => Ok(0),
+            Err(fault) => Err(fault),
+        }
+    }
+
+    /// Takes a piece, where nothing waits and nothing is held, and says where its data lies.
+    fn show_places(
+        &mut self,
+        attempt: u64,
+        piece: &[u8],
+        places: &mut [Place],
+    ) -> Result<usize, FeedFault>
+        requires may { MayFeed self.old attempt piece.now }
+        requires empty { has_come self.old ≡ nothing }
+        ensures { FeedsPlaces self.old attempt piece.now places.old result places.new self.new }
+    {
+        let split = split_packets(piece);
+        if let Some(fault) = self.fault_of(&split) {
+            self.end_for(fault);
+            return Err(fault);
+        }
+        let Ok(room) = self.make_room(piece, split.said) else {
+            return Err(FeedFault::OutOfMemory);
+        };
+        let mut marks = Marks::of_row(split.count, split.len);
+        let count = marks.take_places(piece, places);
         self.inbox = Inbox::of_rest(room, piece, marks);
         Ok(count)
     }

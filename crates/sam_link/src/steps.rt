@@ -1,12 +1,13 @@
 //! Each call of an end is a step of a session: what the laws of two ends suppose of a call is what its own clauses say.
 
 ghost use Rattle.std.specs.Prelude.{◌≤◌, length};
-ghost use Rattle.sam_link.specs.Calls.{Does, DoesInto};
+ghost use Rattle.sam_link.specs.Calls.{Does, DoesInto, DoesPlaces};
 ghost use Rattle.sam_link.specs.Calls.Call.{Acknowledge, Answer, Ask, Break, Dial, Feed, NextNote, Put, PutNote, TakeIn, TakeOut, Welcome};
 ghost use Rattle.sam_link.specs.Inbox.{note_in};
 
 use crate::fault::{AnswerFault, CallFault, FeedFault, NotOpen, NoteFault, WelcomeFault};
 use crate::hello::Hello;
+use crate::inbox::Place;
 use crate::keeping::PutFault;
 use crate::link::Link;
 
@@ -91,6 +92,19 @@ pub fn feed_into(
     ensures { DoesInto link.old attempt piece.now result into.new link.new }
 {
     link.feed_into(attempt, piece, into)
+}
+
+/// `Link::feed_places`: it is a feed, and if that is well, calls of `take_in` that move the bytes which lie at the places.
+#[tactic(auto, using(crate::proofs::TakingCalls::places_as_calls))]
+pub fn feed_places(
+    link: &mut Link,
+    attempt: u64,
+    piece: &[u8],
+    places: &mut [Place],
+) -> Result<usize, FeedFault>
+    ensures { DoesPlaces link.old attempt piece.now result places.new link.new }
+{
+    link.feed_places(attempt, piece, places)
 }
 
 /// `Link::take_in`.

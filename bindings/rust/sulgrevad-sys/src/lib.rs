@@ -140,6 +140,14 @@ pub struct sam_file {
     pub is_locked: bool,
 }
 
+/// Where bytes lie in a piece.
+#[derive(Clone, Copy, Debug, Default, PartialEq, Eq)]
+#[repr(C)]
+pub struct sam_place {
+    pub start: usize,
+    pub len: usize,
+}
+
 /// What `sam_term_read` hands out for a rune that is not loaded.
 pub const SAM_GAP: u32 = u32::MAX;
 
@@ -569,6 +577,19 @@ extern "C" {
         len: usize,
         into: *mut u8,
         room: usize,
+        count: *mut usize,
+    ) -> sam_status;
+    /// Takes bytes that came as sam_link_feed does. Where nothing is left of earlier pieces, no note and no part of a packet, it then takes
+    /// in the program's bytes, whole packets, until there is no room for a place (`most` of them), or a note is next, or nothing, and says
+    /// where those of each lie among the bytes that came: no byte is copied. Hands out how many places it wrote, else 0. More may wait for
+    /// sam_link_take_in. Refused as sam_link_feed is.
+    pub fn sam_link_feed_places(
+        link: *mut sam_link,
+        attempt: u64,
+        bytes: *const u8,
+        len: usize,
+        places: *mut sam_place,
+        most: usize,
         count: *mut usize,
     ) -> sam_status;
     /// Moves the next bytes of the other side's program into the buffer, as many as one packet has left and have room, and hands out how

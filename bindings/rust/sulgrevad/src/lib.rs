@@ -44,7 +44,7 @@ mod terminal;
 
 pub use error::{Error, HostFault, LinkFault, Refusal, StreamFault, TermFault};
 pub use host::Host;
-pub use link::{read_hello, write_refusal, Hello, Link, Phase, Role, What, HELLO_BYTES, MOST_NOTE};
+pub use link::{read_hello, write_refusal, Hello, Link, Phase, Place, Role, What, HELLO_BYTES, MOST_NOTE};
 pub use script::replay;
 pub use step::{HostStep, NextFrame, TermStep};
 pub use terminal::{Change, FileState, TermState, Terminal};

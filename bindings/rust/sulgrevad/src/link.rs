@@ -4,6 +4,9 @@ use crate::{done, tells, Error, LinkFault};
 use std::cell::UnsafeCell;
 use sulgrevad_sys::{self as sys, sam_link};
 
+/// Where bytes lie in a piece: `len` of them, behind its first `start`.
+pub use sys::sam_place as Place;
+
 /// How many bytes a hello has.
 pub const HELLO_BYTES: usize = sys::SAM_LINK_HELLO_BYTES;
 
@@ -208,6 +211,17 @@ impl Link {
         let mut count = 0;
         done(unsafe {
             sys::sam_link_feed_into(self.at(), attempt, bytes.as_ptr(), bytes.len(), into.as_mut_ptr(), into.len(), &mut count)
+        })?;
+        Ok(count)
+    }
+
+    /// Takes bytes that came as `feed` does. Where nothing is left of earlier pieces, no note and no part of a packet, it then takes in the
+    /// program's bytes, whole packets, until there is no room in `places`, or a note is next, or nothing, and says where those of each lie
+    /// among the bytes that came. Returns how many places it wrote, else 0. `take_in` has those after them. The errors are those of `feed`.
+    pub fn feed_places(&mut self, attempt: u64, bytes: &[u8], places: &mut [Place]) -> Result<usize, Error> {
+        let mut count = 0;
+        done(unsafe {
+            sys::sam_link_feed_places(self.at(), attempt, bytes.as_ptr(), bytes.len(), places.as_mut_ptr(), places.len(), &mut count)
         })?;
         Ok(count)
     }

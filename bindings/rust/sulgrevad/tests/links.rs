@@ -1,6 +1,6 @@
 //! A link over connections that break, and hellos.
 
-use sulgrevad::{read_hello, write_refusal, Error, Link, LinkFault, Phase, Role, What, HELLO_BYTES, MOST_NOTE};
+use sulgrevad::{read_hello, write_refusal, Error, Link, LinkFault, Phase, Place, Role, What, HELLO_BYTES, MOST_NOTE};
 
 const ID: [u8; 16] = *b"a session's name";
 
@@ -75,6 +75,14 @@ fn bytes_and_notes_survive_a_break() {
     assert_eq!(link.feed_into(first, &bytes[..count], &mut into), Err(Error::Link(LinkFault::NotOpen)));
     assert_eq!(link.feed_into(second, &bytes[..count], &mut into), Ok(2));
     assert_eq!((&into, taken(&mut link)), (b"at", b" once".to_vec()));
+
+    host.put(b"in place").unwrap();
+    let count = host.take_out(second, &mut bytes).unwrap();
+    let mut places = [Place::default(); 2];
+    assert_eq!(link.feed_places(first, &bytes[..count], &mut places), Err(Error::Link(LinkFault::NotOpen)));
+    assert_eq!(link.feed_places(second, &bytes[..count], &mut places), Ok(1));
+    assert_eq!((places, &bytes[3..11]), ([Place { start: 3, len: 8 }, Place::default()], &b"in place"[..]));
+    assert_eq!(link.take_in(&mut into), 0);
 }
 
 #[test]
