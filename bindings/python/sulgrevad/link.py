@@ -233,7 +233,7 @@ class Link(Held):
     def feed_places(self, attempt: int, data: _Bytes, most: int = 32) -> List[Place]:
         """Takes bytes that came as `feed` does. Where nothing is left of earlier pieces, no note and no part of a packet, returns where the
         next bytes of the other side's program lie in `data`, whole packets, at most so many places and none behind a note: of each its
-        `start` and `len`. Else, and of what is left, `take_in` has the bytes. Raises what `feed` raises, ValueError if `most` is below 0."""
+        `start` and `len`. Else, and of what is left, `take_in` has the bytes. Raises what `feed` does, ValueError if `most` is below 0."""
         data = bytes(memoryview(data))
         places, count = (Place * least(most, MOST_PLACES))(), c_size_t(0)
         found = list(places)  # before the piece is taken: if MemoryError were raised behind it, it would be fed again
