@@ -145,7 +145,7 @@ function make(name, ...words) {
     } else {
       orders.number(word);
       if (kind.startsWith("room")) {
-        const length = word * Number(kind[4]);
+        const length = word * Number(kind.slice(4));
         const at = room(length);
         given.push(at, BigInt(word));
         handedOut.push([at, length]);
@@ -334,8 +334,11 @@ function connect() {
 /** What one end has for the connection goes to the other, and what has come is taken in. */
 function carryLink() {
   const from = chance(2);
-  if (chance(2)) make("sam_link_feed", 1 - from, attempt, takeOut(from, 1 + chance(MOST_OF_LINK)));
-  else make("sam_link_feed_into", 1 - from, attempt, takeOut(from, 1 + chance(MOST_OF_LINK)), chance(MOST_OF_LINK));
+  const piece = takeOut(from, 1 + chance(MOST_OF_LINK));
+  const drawn = chance(3);
+  if (drawn === 0) make("sam_link_feed", 1 - from, attempt, piece);
+  else if (drawn === 1) make("sam_link_feed_into", 1 - from, attempt, piece, chance(MOST_OF_LINK));
+  else make("sam_link_feed_places", 1 - from, attempt, piece, chance(8));
   for (let pieces = chance(4); pieces > 0; pieces--) make("sam_link_take_in", 1 - from, chance(MOST_OF_LINK));
   if (chance(2)) make("sam_link_next_note", 1 - from, chance(30) ? 4096 : 4095);
 }

@@ -12,6 +12,7 @@ ARRAYS = {"SAM_LINK_ID_BYTES": 16, "SAM_LINK_HELLO_BYTES": 42}
 # Bytes that are compared of what is handed out: of a struct all but those that fill it up.
 OUT = {"did": 39, "state": 68, "file": 25, "bytes16": 16, "bytes42": 42}
 OUT_ELSE = 8
+ROOMS = {"uint8_t *": 1, "uint32_t *": 4, "sam_place *": 16}  # bytes of each thing that a room is for
 HANDLES = {"sam_host": "host", "sam_term": "term", "sam_link": "link"}
 
 
@@ -26,8 +27,8 @@ def kinds_of(words):
         elif kind == "const uint8_t *":
             kinds.append("lent")
             words.pop(0)
-        elif name in ("into", "out"):
-            kinds.append("room4" if "32" in kind else "room1")
+        elif name in ("into", "out", "places"):
+            kinds.append(f"room{ROOMS[kind]}")
             words.pop(0)
         elif kind.rstrip(" *") in HANDLES:
             kinds.append(HANDLES[kind.rstrip(" *")])
@@ -50,7 +51,7 @@ def signatures(header):
 
 def case(code, name, kinds):
     """The C code of a call: it gets the arguments, makes it, and writes the answer."""
-    makers = {"lent": "lent()", "lent16": "lent()", "room1": "filled(1)", "room4": "filled(4)"}
+    makers = {"lent": "lent()", "lent16": "lent()", **{f"room{size}": f"filled({size})" for size in ROOMS.values()}}
     makers |= {handle: f"{handle}()" for handle in HANDLES.values()}
     types = {**{handle: f"{kind} *" for kind, handle in HANDLES.items()}, **{field: f"{kind} " for kind, field in NUMBERS.items()}}
     makers |= {field: f"({kind})number()" for kind, field in NUMBERS.items()}
@@ -65,9 +66,8 @@ def case(code, name, kinds):
             words.append(f"a{at}")
         else:
             lines.append(f"struct lent a{at} = {makers[kind]};")
-            cast = "(uint32_t *)" if kind == "room4" else ""
-            words += [f"{cast}(void *)a{at}.at", *([] if kind == "lent16" else [f"a{at}.length"])]
-            after += [f"put(a{at}.at, a{at}.length * {kind[-1]});"] if kind.startswith("room") else []
+            words += [f"(void *)a{at}.at", *([] if kind == "lent16" else [f"a{at}.length"])]
+            after += [f"put(a{at}.at, a{at}.length * {kind[4:]});"] if kind.startswith("room") else []
             after.append(f"free(a{at}.at);")
     body = "\n        ".join([*lines, f"put_number({name}({', '.join(words)}));", *after, "break;"])
     return f"    case {code}: {{\n        {body}\n    }}\n"
