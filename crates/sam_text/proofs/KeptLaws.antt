@@ -1,8 +1,9 @@
 -- What holds of all files stays so under each change.
-use Rattle.sam_text.proofs.Common.{◌≡◌, ◌∙◌, refl, ap, false, Range, changed, ℕ, zero, suc, ◌<◌, ◌≤◌, List, [], ◌∷◌, length, true, sym, subst, arith, length-append, unwrap_or, is_some, Result, Ok, Err, OnOk, OnErr, length-drop, length-take-le, ⊤, all_tags, part, Slots, slot, put_slot, free_slot, slot-put_same, slot-put_other, slot-free_same, slot-free_other, slot-map, slot_given, length-put_slot, length-free_slot, length-map_slots, put_slot-push, PlainFile, PlainFiles, blank_file, cut_file, file_at, has_file, put_file, with_new, without_file, announced_file, announce_all, IsFit, HasShortName, AreSoundFiles}
+use Rattle.sam_text.proofs.Common.{◌≡◌, ◌∙◌, refl, ap, false, changed, ℕ, zero, suc, ◌<◌, ◌≤◌, List, [], ◌∷◌, length, set, Option, Some, true, sym, subst, arith, length-append, unwrap_or, is_some, Result, Ok, Err, OnOk, OnErr, length-drop, length-take-le, ⊤, all_tags, part, Slots, slot, put_slot, free_slot, slot-put_same, slot-put_other, slot-free_same, slot-free_other, slot-map, slot_given, length-put_slot, length-free_slot, length-map_slots, put_slot-push, PlainFile, PlainFiles, blank_file, file_at, has_file, put_file, with_new, without_file, announced_file, announce_all, IsFit, HasShortName, AreSoundFiles, RoomyFile, plain_slots}
+use Rattle.sam_text.proofs.ViewLaws.{view-set}
 use Rattle.sam_text.proofs.FitLaws.{all-put, fit-put}
-use Rattle.sam_text.specs.Files.{IsCommandFileClean, IsSoundFile}
-use Rattle.sam_text.specs.Views.{KeepsClean, inserted_file}
+use Rattle.sam_text.specs.Files.{IsCommandFileClean, file_in, is_changed}
+use Rattle.sam_text.specs.Views.{KeepsClean, plain_file}
 use Rattle.sam_text.specs.declared.file.FileChange.{FileChange}
 
 -- a tag that has a file keeps one where a file is put
@@ -56,24 +57,36 @@ clean-announce fs (s ∷ ss) clean = clean
 pub kept_announce : (fs : PlainFiles) → AreSoundFiles fs → AreSoundFiles (record fs { slots = announce_all fs.slots })
 kept_announce fs all = grind (arith, (all-announce IsFit), (all-announce HasShortName), length-map_slots, slot-map, (clean-announce fs fs.slots all.7))
 
--- what is put in the command file leaves it clean
-clean-inserted : (fs : PlainFiles) (g p : ℕ) (s : List ℕ) (dot : Range) → IsCommandFileClean fs → g ≡ 0 → (inserted_file g (file_at fs g) p s dot).dirty ≡ false
-clean-inserted fs zero p s dot clean e = clean
-clean-inserted fs (suc g) p s dot clean e = absurd (omega (arith, e))
+-- an edit of the command file leaves it clean
+clean-edited : (ss : Slots PlainFile) (g : ℕ) → (file_in ss 0).dirty ≡ false → g ≡ 0 → is_changed g (file_in ss g) ≡ false
+clean-edited ss zero clean e = clean
+clean-edited ss (suc g) clean e = absurd (omega (arith, e))
 
--- what is cut from the command file leaves it clean
-pub clean-cut : (fs : PlainFiles) (g p q : ℕ) → IsCommandFileClean fs → g ≡ 0 → (cut_file g (file_at fs g) p q).dirty ≡ false
-clean-cut fs zero p q clean e = clean
-clean-cut fs (suc g) p q clean e = absurd (omega (arith, e))
+-- the file of a slot was lent, and is left as a sound one
+pub kept_lent : (ss : List (Option RoomyFile)) (snarf : List ℕ) (pattern : Option (List ℕ)) (work : Option ℕ) (g : ℕ) (x : RoomyFile)
+    → AreSoundFiles (record { slots = plain_slots ss; snarf = snarf; pattern = pattern; work = work }) → is_some (slot (plain_slots ss) g) ≡ true
+    → IsFit x.plain → HasShortName x.plain → (g ≡ 0 → x.plain.dirty ≡ false)
+    → AreSoundFiles (record { slots = plain_slots (set ss g (Some x)); snarf = snarf; pattern = pattern; work = work })
+kept_lent ss snarf pattern work g x all there fit short clean =
+    let fs : PlainFiles = record { slots = plain_slots ss; snarf = snarf; pattern = pattern; work = work } in
+    let within : g < length ss = subst (λ n. g < n) (length-map_slots plain_file ss) (slot_given (plain_slots ss) g there) in
+    subst (λ (s : Slots PlainFile). AreSoundFiles (record fs { slots = s })) (sym (view-set plain_file ss g x within)) (kept_put fs g x.plain all there fit short clean)
 
--- runes are put in a file, or nothing is changed
-pub kept_insert_or : {E : Type 0} (fs : PlainFiles) (g p : ℕ) (s : List ℕ) (dot : Range) → AreSoundFiles fs → has_file fs g ≡ true
-    → (r : Result ⊤ E) (after : Slots PlainFile) → OnOk r (after ≡ put_slot fs.slots g (inserted_file g (file_at fs g) p s dot))
-    → OnOk r (IsSoundFile (inserted_file g (file_at fs g) p s dot)) → OnErr r (after ≡ fs.slots) → AreSoundFiles (record fs { slots = after })
-kept_insert_or fs g p s dot all there (Ok u) after same kept err =
-    subst (λ ss. AreSoundFiles (record fs { slots = ss })) (sym same)
-    (kept_put fs g (inserted_file g (file_at fs g) p s dot) all there kept.0 kept.1 (clean-inserted fs g p s dot all.7))
-kept_insert_or fs g p s dot all there (Err e) after same kept err = subst (λ ss. AreSoundFiles (record fs { slots = ss })) (sym err) all
+-- the same where the file was changed
+pub kept_changed : (ss : List (Option RoomyFile)) (snarf : List ℕ) (pattern : Option (List ℕ)) (work : Option ℕ) (g : ℕ) (x : RoomyFile) (change : FileChange)
+    → AreSoundFiles (record { slots = plain_slots ss; snarf = snarf; pattern = pattern; work = work }) → is_some (slot (plain_slots ss) g) ≡ true
+    → IsFit x.plain → HasShortName x.plain → (g ≡ 0 → KeepsClean change) → x.plain ≡ changed change (file_in (plain_slots ss) g)
+    → AreSoundFiles (record { slots = plain_slots (set ss g (Some x)); snarf = snarf; pattern = pattern; work = work })
+kept_changed ss snarf pattern work g x change all there fit short keeps is =
+    kept_lent ss snarf pattern work g x all there fit short
+    (λ e. ap (λ (file : PlainFile). file.dirty) is ∙ clean-changed change (file_in (plain_slots ss) g) (keeps e) (subst (λ f. (file_in (plain_slots ss) f).dirty ≡ false) (sym e) all.7))
+
+-- the same where it was edited, which keeps the mark of the command file
+pub kept_edited : (ss : List (Option RoomyFile)) (snarf : List ℕ) (pattern : Option (List ℕ)) (work : Option ℕ) (g : ℕ) (x : RoomyFile)
+    → AreSoundFiles (record { slots = plain_slots ss; snarf = snarf; pattern = pattern; work = work }) → is_some (slot (plain_slots ss) g) ≡ true
+    → IsFit x.plain → HasShortName x.plain → x.plain.dirty ≡ is_changed g (file_in (plain_slots ss) g)
+    → AreSoundFiles (record { slots = plain_slots (set ss g (Some x)); snarf = snarf; pattern = pattern; work = work })
+kept_edited ss snarf pattern work g x all there fit short is = kept_lent ss snarf pattern work g x all there fit short (λ e. is ∙ clean-edited (plain_slots ss) g all.7 e)
 
 -- a file is added, or nothing is changed
 pub kept_new_or : {E : Type 0} (fs : PlainFiles) (x : PlainFile) → AreSoundFiles fs → length fs.slots < all_tags → IsFit x → HasShortName x
