@@ -12,6 +12,15 @@ const PAUSES: u32 = 200;
 /// How often a pause looks at its bell: some 200 nanoseconds in all.
 const LOOKS: u32 = 300;
 
+/// How often a short wait pauses before it sleeps.
+const FEW_PAUSES: u32 = 5;
+
+/// How many more waits than before are short, each time that one which isn't sleeps.
+const MORE_SHORT: u64 = 4;
+
+/// How many waits in a row are short at most.
+const MOST_SHORT: u64 = 16;
+
 /// The first sleep of a wait, in microseconds. Each further one may take twice as long.
 const FIRST_SLEEP: u64 = 100;
 
@@ -29,12 +38,14 @@ const AWAITED: u32 = 1;
 pub struct Backoff {
     /// The tries in vain; once at 2^32-1 they stay there.
     tries: u32,
+    /// How many waits are to be short once this one sleeps; `None` if it is short itself, or that is noted.
+    then_short: Option<u64>,
 }
 
 impl Backoff {
     /// Makes the backoff of a wait that begins.
     pub fn new() -> Backoff {
-        Backoff { tries: 0 }
+        Backoff::default()
     }
 
     /// Returns whether the wait has paused often enough: after one more call, which sets the bell, it sleeps. What is worth doing only
@@ -49,6 +60,10 @@ impl Backoff {
 pub(crate) struct Bell {
     /// `QUIET` or `AWAITED`. Whoever waits sets it to `AWAITED`, tries once more, and sleeps only while it stays so.
     state: AtomicU64,
+    /// How many of the next waits are short: pauses are in vain where the other side has no processor meanwhile.
+    short: AtomicU64,
+    /// How many waits are to be short once one sleeps that isn't: none until two in a row do.
+    then_short: AtomicU64,
 }
 
 impl Bell {
@@ -56,6 +71,8 @@ impl Bell {
     pub(crate) const fn new() -> Bell {
         Bell {
             state: AtomicU64::new(QUIET),
+            short: AtomicU64::new(0),
+            then_short: AtomicU64::new(0),
         }
     }
 
@@ -75,9 +92,34 @@ impl Bell {
         }
     }
 
+    /// Begins a wait, which is short if pauses have been in vain.
+    fn begin(&self, backoff: &mut Backoff) {
+        let short = self.short.load(Ordering::SeqCst);
+        if short > 0 {
+            self.short.store(short - 1, Ordering::SeqCst);
+            backoff.tries = PAUSES - FEW_PAUSES;
+            return;
+        }
+        backoff.then_short = Some(self.then_short.load(Ordering::SeqCst));
+        self.then_short.store(0, Ordering::SeqCst);
+    }
+
+    /// Notes that a wait is about to sleep.
+    fn note_sleep(&self, backoff: &mut Backoff) {
+        if let Some(short) = backoff.then_short {
+            let more = short.saturating_add(MORE_SHORT).min(MOST_SHORT);
+            self.short.store(short, Ordering::SeqCst);
+            self.then_short.store(more, Ordering::SeqCst);
+            backoff.then_short = None;
+        }
+    }
+
     /// Waits after a try in vain. It may return though nothing has changed, so the caller tries again each time. Between the
     /// call that sets `AWAITED` and the one that sleeps lies such a try, so no ring is lost; if one were, a sleep is short.
     pub(crate) fn wait<R: Wait>(&self, rt: &R, backoff: &mut Backoff) {
+        if backoff.tries == 0 {
+            self.begin(backoff);
+        }
         let tries = backoff.tries;
         backoff.tries = tries.saturating_add(1);
         if tries < PAUSES {
@@ -89,6 +131,7 @@ impl Bell {
             self.state
                 .park_timeout(rt, AWAITED, Duration::from_micros(longest));
         }
+        self.note_sleep(backoff);
         self.state.store(AWAITED as u64, Ordering::SeqCst);
     }
 }
