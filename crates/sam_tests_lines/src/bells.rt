@@ -291,14 +291,15 @@ fn what_is_taken_wakes_the_sender(rt: HostRuntime) {
 /// Waits of an end in a row, of which some pause and the others sleep.
 const WAITS: u32 = 400;
 
-// How often an end of an empty line waits before it says that it sleeps next.
+// How often an end of an empty line waits before it says that it sleeps next. One wait more sets its bell.
 fn waits_before_sleep(rt: &impl Wait, take: &Take<'_, u32>) -> Option<u32> {
     let mut backoff = Backoff::new();
     for waits in 0..WAITS {
-        if backoff.sleeps_next() {
+        let sleeps = backoff.sleeps_next();
+        take.wait(rt, &mut backoff);
+        if sleeps {
             return Some(waits);
         }
-        take.wait(rt, &mut backoff);
     }
     None
 }
@@ -307,4 +308,18 @@ fn waits_before_sleep(rt: &impl Wait, take: &Take<'_, u32>) -> Option<u32> {
 fn an_end_pauses_before_it_says_that_it_sleeps(rt: HostRuntime) {
     let waits = tried(rt.alloc(), 1, 1, |_, take| waits_before_sleep(&rt, take));
     assert!(rt; matches!(waits, Ok(Some(100..))), "{waits:?}");
+}
+
+// Whether the first waits of an end before it sleeps are many, and a third time few.
+fn are_short_after_two(rt: &impl Wait, take: &Take<'_, u32>) -> bool {
+    let first = waits_before_sleep(rt, take);
+    let second = waits_before_sleep(rt, take);
+    let third = waits_before_sleep(rt, take);
+    matches!(first, Some(100..)) && matches!(second, Some(100..)) && matches!(third, Some(1..=20))
+}
+
+#[test]
+fn waits_are_short_after_two_that_slept(rt: HostRuntime) {
+    let are_short = tried(rt.alloc(), 1, 1, |_, take| are_short_after_two(&rt, take));
+    assert!(rt; matches!(are_short, Ok(true)), "{are_short:?}");
 }
