@@ -1,12 +1,14 @@
 /* One end of a link, and hellos. */
 import { Held, PREFIX, ifAny, isFreed, make, makeOfBytes, one } from "./held.js";
-import { PIECE, bytesOut, call, least, lend, long, part, result, size, space, u32, u64 } from "./module.js";
+import { PIECE, bytesOut, call, least, lend, long, part, result, size, sizesAt, space, u32, u64 } from "./module.js";
 import { Status, errorOf } from "./status.js";
 
 const ID_BYTES = 16;
 const HELLO_BYTES = 42;
 const MOST_NOTE = 4096;
 const MOST_BODY = 4096; // bytes that one packet has for the program
+const MOST_PLACES = 256; // of bytes in a piece, that are handed out at once
+const PLACE_SIZE = 16; // bytes of a place: two numbers of 64 bits
 
 /** What a hello says: the first three a terminal, the others a host. */
 export const What = Object.freeze({
@@ -116,6 +118,17 @@ export class Link extends Held {
       if (places === null) throw errorOf(isFreed(this) ? Status.NO_HANDLE : Status.NO_MEMORY);
       make(this, "feed_into", size(attempt), places[0], BigInt(bytes.length), places[1], BigInt(room.length), result(0));
       return part(places[1], u64(0)).slice();
+    });
+  }
+
+  feedPlaces(attempt, bytes, most = MOST_PLACES) {
+    const room = new Uint8Array(PLACE_SIZE * least(most, MOST_PLACES));
+    return lend([room, bytesIn(bytes)], (places) => {
+      if (places === null) throw errorOf(isFreed(this) ? Status.NO_HANDLE : Status.NO_MEMORY);
+      const [into, from] = places;
+      make(this, "feed_places", size(attempt), from, BigInt(bytes.length), into, BigInt(room.length / PLACE_SIZE), result(0));
+      const found = sizesAt(into, 2 * u64(0));
+      return Array.from({ length: found.length / 2 }, (_, at) => ({ start: found[2 * at], len: found[2 * at + 1] }));
     });
   }
 

@@ -113,6 +113,12 @@ export function numbersOut(count) {
   return Array.from({ length: count }, (_, at) => memory.getUint32(Number(SPACE) + 4 * at, true));
 }
 
+/** So many sizes of C's that stand there. */
+export function sizesAt(place, count) {
+  const memory = data();
+  return Array.from({ length: count }, (_, at) => Number(memory.getBigUint64(Number(place) + 8 * at, true)));
+}
+
 /** Bytes of a text, or null if it has a surrogate that stands alone, which UTF-8 can't have. */
 export function bytesOf(text) {
   if (text instanceof Uint8Array) return text;

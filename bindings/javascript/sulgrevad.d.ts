@@ -389,6 +389,9 @@ export declare function readHello(bytes: Uint8Array): Hello | null;
  * connection of the hello that came; if `readHello` reads none, all zeros. Throws Missing for any other status. */
 export declare function writeRefusal(status: number, bytes: Uint8Array): Uint8Array;
 
+/** Where bytes of the other side's program lie in a piece. */
+export type Place = { start: number; len: number };
+
 /** One end of a link, which carries bytes and notes over connections that may break at any byte: each comes out at the other side once and
  * in order. It opens no connection and knows no clock. The terminal's side opens a connection and calls, the host's answers:
  *
@@ -399,7 +402,7 @@ export declare function writeRefusal(status: number, bytes: Uint8Array): Uint8Ar
  *     link.takeIn();                        what of it is for the program, until it has no bytes; then nextNote()
  *
  * A put, a note, a piece and a hello are taken whole or not at all: where a call throws nothing has changed, but that after LINK_BAD_KIND,
- * LINK_BAD_LENGTH and LINK_ACK_AHEAD of `feed` and `feedInto` the connection is over. */
+ * LINK_BAD_LENGTH and LINK_ACK_AHEAD of `feed`, `feedInto` and `feedPlaces` the connection is over. */
 export declare class Link extends Held {
   static readonly TERMINAL: 0;
   static readonly HOST: 1;
@@ -447,6 +450,10 @@ export declare class Link extends Held {
   /** Takes bytes that came as `feed` does, and returns the next bytes of the other side's program, at most so many, never more than 65,536,
    * and none behind a note: `takeIn` has those after them. Throws what `feed` throws. */
   feedInto(attempt: number, bytes: Uint8Array, most?: number): Uint8Array;
+  /** Takes bytes that came as `feed` does. Where nothing is left of earlier pieces, no note and no part of a packet, returns where the next
+   * bytes of the other side's program lie in `bytes`, whole packets, at most so many places, never more than 256, and none behind a note:
+   * `bytes.subarray(start, start + len)` has them. Else, and of what is left, `takeIn` has the bytes. Throws what `feed` throws. */
+  feedPlaces(attempt: number, bytes: Uint8Array, most?: number): Place[];
   /** The next bytes of the other side's program, at most so many and of one packet: call it until it returns none, where a note is next, or
    * nothing. */
   takeIn(most?: number): Uint8Array;

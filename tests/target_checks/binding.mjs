@@ -286,6 +286,13 @@ function checkLink() {
   throws("LinkFault", "LINK_NOT_OPEN", () => host.feedInto(first, piece));
   const front = host.feedInto(second, piece, 2);
   same([new TextDecoder().decode(front), new TextDecoder().decode(host.takeIn())], ["at", " once"]);
+  link.put(new TextEncoder().encode("where it lies"));
+  link.put(new TextEncoder().encode("twice"));
+  const lying = link.takeOut(second);
+  throws("LinkFault", "LINK_NOT_OPEN", () => host.feedPlaces(first, lying));
+  const [place, ...others] = host.feedPlaces(second, lying, 1);
+  same([new TextDecoder().decode(lying.subarray(place.start, place.start + place.len)), others.length], ["where it lies", 0]);
+  same([new TextDecoder().decode(host.takeIn()), host.takeIn().length], ["twice", 0]);
   link.free();
   throws("HandleFault", "NO_HANDLE", () => link.ask());
 }

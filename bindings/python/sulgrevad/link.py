@@ -239,9 +239,13 @@ class Link(Held):
         found = list(places)  # before the piece is taken: if MemoryError were raised behind it, it would be fed again
         if self._in:
             places = (Place * 0)()  # what an exception kept back comes first
-        self._call("feed_places", attempt, data, len(data), places, len(places), byref(count))
-        while found and not found[-1].len:
-            found.pop()
+        try:
+            self._call("feed_places", attempt, data, len(data), places, len(places), byref(count))
+            while found and not found[-1].len:
+                found.pop()
+        except BaseException:
+            self._in.extend((data, place.start, c_size_t(place.start + place.len)) for place in found[: count.value])
+            raise
         return found
 
     def take_in(self, most: int = 65_536) -> bytes:
