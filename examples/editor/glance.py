@@ -7,7 +7,7 @@ from sulgrevad import Edits, FileState, Refusal, Step, Terminal, TerminalDid, Te
 from texts import COMMAND, GAP
 
 # What changes something of one file alone, where no event is held that may act then, too.
-OF_ONE = ("type", "edit", "select", "view", "check")
+OF_ONE = ("type", "edit", "select", "view")
 # Each other event, and what takes frames in.
 DEEDS = (
     "dclick", "look", "search", "flush", "cut", "snarf", "paste", "get_snarf", "set_snarf", "load", "scroll", "open", "new_file", "write",
@@ -49,10 +49,11 @@ class Glance(Terminal):
     def take_out(self, most: Optional[int] = None) -> bytes:
         if not self.pending:
             return b""
-        try:
-            return super().take_out(most)
-        finally:
-            self._now = None
+        before, self._now, takes_all = self.state(), None, most is None and not self._left
+        data = super().take_out(most)
+        if takes_all:
+            self._now = before._replace(pending=0)
+        return data
 
     def edits_at_once(self, gap: str = GAP) -> Iterator[Edits]:
         edits, takes = super().edits_at_once(gap), True
@@ -70,6 +71,15 @@ class Glance(Terminal):
     def bring(self, data: Union[bytes, bytearray, memoryview]) -> None:
         self._now = None  # the steps after it change more
         super().bring(data)
+
+    def check(self, tag: int) -> None:
+        """Asks by a file, and changes none, where no event is held that may act then, too."""
+        before, self._now = self._now, None
+        if before is None or before.held or self._is_short:
+            self.forget()
+        self._refuses, self._is_short = True, True  # until it is done
+        super().check(tag)
+        self._is_short = False
 
     def flush_now(self) -> None:
         """What is typed is sent; and what waited for memory goes on, which may be anything."""
@@ -204,9 +214,10 @@ def _of_one(deed: Callable[..., Any], is_typing: bool) -> Callable[..., Any]:
         self._is_short = True  # until it is done
         self._now, self._refuses = None, True
         self.deeds += 1
-        self._known.pop(tag, None)
-        self._gaps.pop(tag, None)
+        file, (place, gap) = self._known.pop(tag, None), self._gaps.pop(tag, (0, 0))
         deed(self, tag, *words)
+        if is_typing and gap is None and file is not None and place <= file.dot[0]:
+            self._gaps[tag] = place, None  # what comes is there, and all behind it was
         self._is_short = False
 
     return done

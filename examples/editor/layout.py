@@ -158,6 +158,7 @@ class Patch(NamedTuple):
     at: int
     rows: Sequence[Row]
     by: int
+    line: str = ""  # without its newline; empty where it was not read yet
 
     @property
     def start(self) -> int:
@@ -209,7 +210,7 @@ class Layout:
     @property
     def rows(self) -> List[Row]:
         if self._all is None:
-            at, rows, by = self._patch
+            at, rows, by, _ = self._patch
             below = self._base[at + len(rows) :]
             moved = (Row(start + by, end + by, stop + by, base + by, strip) for start, end, stop, base, strip in below)
             self._all = [*self._base[:at], *rows, *moved]
@@ -217,19 +218,23 @@ class Layout:
 
     def changed(self, read: Reader, change: Change) -> Optional["Layout"]:
         """The layout after a change inside of one line that is shown whole, if that has as many rows as before; else None."""
-        by, patch = len(change.came) - len(change.gone), self._patch_at(change.place)
-        if patch is None or change.place + len(change.gone) >= patch.end or "\n" in change.came:
+        _, place, gone, came = change
+        by, patch = len(came) - len(gone), self._patch_at(place)
+        if patch is None or place + len(gone) >= patch.end or "\n" in came:
             return None
-        base, end = patch.rows[0].base, patch.end + by
-        line = read(base, end - 1 - base)
+        base, end, line = patch.rows[0].base, patch.end + by, patch.line
+        if line and GAP not in came:
+            line = line[: place - base] + came + line[place - base + len(gone) :]
+        else:
+            line = read(base, end - 1 - base)
         strips = strips_of(line, self.width, True)
         if len(strips) != len(patch.rows) or "\n" in line:
             return None
-        rows = [Row(base + strip.start, base + strip.end, base + strip.end, base, strip) for strip in strips]
-        rows[-1] = rows[-1]._replace(end=end)
+        *rows, last = (Row(base + strip.start, base + strip.end, base + strip.end, base, strip) for strip in strips)
+        rows.append(last._replace(end=end))
         other = Layout.__new__(Layout)
         other.width, other.height, other.is_whole, other.top, other.end = self.width, self.height, self.is_whole, self.top, self.end + by
-        other._base, other._starts, other._all, other._patch = self._base, self._starts, None, Patch(patch.at, rows, patch.by + by)
+        other._base, other._starts, other._all, other._patch = self._base, self._starts, None, Patch(patch.at, rows, patch.by + by, line)
         return other
 
     def _patch_at(self, place: int) -> Optional[Patch]:

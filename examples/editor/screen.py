@@ -271,12 +271,12 @@ def window_rows(editor: Editor, window: Window) -> Dict[int, List[Run]]:
 
 
 def drawn_of(editor: Editor, window: Window) -> Drawn:
-    is_focus, tag = window is editor.shown_focus, window.tag
+    is_focus, tag, (_, dot, _, layout) = window is editor.shown_focus, window.tag, window.look()
     title = f"{'>' if is_focus else ' '}{'*' if editor.is_changed(tag) else ' '} {editor.name(tag)}"
     by: tuple = (title, is_focus, window.y, window.width, window.gutter, window.is_row)
-    if window.is_open:
-        layout, colours = window.layout(), editor.colours
-        by += (first_number(editor, window), colours.attributes, layout, window.dot, colours.of(window))
+    if layout is not None:
+        colours = editor.colours
+        by += (first_number(editor, window), colours.attributes, layout, dot, colours.of(window))
     before = window.drawn
     if before is None or before.by != by:
         window.drawn = (None if before is None else drawn_after(by, before)) or drawn_anew(by, before)
@@ -405,12 +405,11 @@ def menu_rows(menu, rows: int, columns: int) -> Dict[int, List[Run]]:
 def status(editor: Editor, link: Line) -> str:
     """Name, mark of a change, dot, line, locks, held events, runes not sent, and messages on the way."""
     terminal, window, way = editor.terminal, editor.active, editor.way
-    name, state = editor.name(window.tag), terminal.state()
+    name, state, (file, (start, end), caret, _) = editor.name(window.tag), terminal.state(), window.look()
     parts = [("…" + name[-MOST_IN_STATUS:] if len(name) > MOST_IN_STATUS else name) + (" *" if editor.is_changed(window.tag) else "")]
-    if window.is_open:
-        start, end = window.dot
-        line = editor.numbers.line(window.tag, window.caret)
-        parts.append(f"{start},{end} of {window.length}" + (f", line {line}" if line is not None else ""))
+    if file.is_open:
+        line = editor.numbers.line(window.tag, caret)
+        parts.append(f"{start},{end} of {file.len}" + (f", line {line}" if line is not None else ""))
     parts.append("HOST LOST" if editor.is_lost else locks_of(editor))
     is_broken = way.is_broken and not editor.is_lost
     if is_broken:
@@ -439,10 +438,8 @@ def locks_of(editor: Editor) -> str:
 def cursor_of(editor: Editor) -> Optional[Tuple[int, int]]:
     """Where the cursor stands; None where it is not to be seen."""
     window, menu = editor.shown_focus, editor.shown_menu
-    if (menu is not None and menu.is_box) or not window.is_open:
-        return None
-    layout, caret = window.layout(), window.caret
-    if not layout.shows(caret):
+    _, _, caret, layout = window.look()
+    if (menu is not None and menu.is_box) or layout is None or not layout.shows(caret):
         return None
     row, column = layout.position_of(caret)
     return window.y + 1 + row, window.gutter + min(column, window.width - 1)

@@ -52,8 +52,9 @@ class Targets:
 
     def selection(self) -> None:
         """What is selected and shown, so that it can go. What is not shown the host keeps."""
-        (start, end), layout = self.window.dot, self.window.layout()
+        start, end = self.window.dot
         if start < end:
+            layout = self.window.layout()
             self._want_all(max(start, layout.top), min(end, layout.end))
 
     def lacking(self) -> int:

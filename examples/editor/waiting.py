@@ -258,12 +258,15 @@ class Waiting:
 
     def _act_in_order(self) -> None:
         """Does what the keys say, of each window up to the first that has to wait."""
-        self._wants_text = False
+        self._wants_text, self._at = False, 0
         self._look_at_the_line()
-        held, self._at = Held(), 0
+        if not self.deferred:
+            self._foreseen = None
+            return
+        held = Held()
         while self._at < len(self.deferred) and not held.is_all:
             pressed = self.deferred[self._at] = self._with_window(self.deferred[self._at])
-            is_held = self._is_held(pressed, held)
+            is_held = self._at > 0 and self._is_held(pressed, held)
             if not is_held and not self._must_wait_in_window(pressed):
                 del self.deferred[self._at]
                 self._act_in_window(pressed)

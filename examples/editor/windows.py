@@ -2,7 +2,7 @@
 from typing import NamedTuple, Optional, Tuple
 
 from layout import Layout, line_start, row_start, top_above
-from sulgrevad import Terminal
+from sulgrevad import FileState, Terminal
 from targets import Targets
 from texts import GAP, Change, Changes, Texts
 
@@ -44,6 +44,15 @@ class Aim(NamedTuple):
     rows: int
     reached: int  # fewer than `rows` where these lead past the start of the text
     is_asked: bool = False
+
+
+class Look(NamedTuple):
+    """What a window shows, asked for once: what is known of its file; and of an open one the selection, its end that moves, the rows."""
+
+    file: FileState
+    dot: Tuple[int, int] = (0, 0)
+    caret: int = 0
+    layout: Optional[Layout] = None
 
 
 class Window:
@@ -91,7 +100,10 @@ class Window:
     @property
     def caret(self) -> int:
         """The end of the dot that moves."""
-        start, end = self.texts.dot(self.tag)
+        return self._moving_end(self.dot)
+
+    def _moving_end(self, dot: Tuple[int, int]) -> int:
+        start, end = dot
         return start if self.anchor == end else end
 
     @property
@@ -107,9 +119,20 @@ class Window:
     def read(self, place: int, count: int) -> str:
         return self.texts.read(self.tag, place, count)
 
+    def look(self) -> Look:
+        """What it shows now."""
+        file = self.terminal.file(self.tag)
+        if not file.is_open:
+            return Look(file)
+        dot = self.dot
+        return Look(file, dot, self._moving_end(dot), self._layout_at(file.len))
+
     def layout(self) -> Layout:
         """The rows that the window shows."""
-        length = self.terminal.len(self.tag)
+        return self._layout_at(self.terminal.len(self.tag))
+
+    def _layout_at(self, length: int) -> Layout:
+        """The same, of a text of this length."""
         top = min(self._top, length)
         layout_of = (self.texts.versions.get(self.tag, 0), length, top, self.width, self.height)
         if self._layout is None or self._layout_of != layout_of:
@@ -131,16 +154,19 @@ class Window:
         return Layout(self.read, top, self.width, self.height, longest)
 
     def put(self, y: int, height: int, width: int) -> None:
-        """Gives it a place on the screen. A caret that was shown stays so, and the window begins with a row of the new width. Where a screen
-        is narrow it has no numbers of lines."""
+        """Gives it a place on the screen. A caret that was shown stays so, and the window begins with a row of the new width; or above it,
+        where a window that has grown would else end below the text. Where a screen is narrow it has no numbers of lines."""
         self.gutter = HEAD if self.is_row else GUTTER if self.wants_numbers and width >= LEAST_WITH_NUMBERS else 0
         width -= self.gutter
+        grows = height > self.height
         if (height, width) != (self.height, self.width) and self.is_open:
             if self.layout().shows(self.caret):
                 self._followed = None
             if width != self.width:
                 self._top = row_start(self.read, self.top, width)
         self.y, self.height, self.width = y, height, width
+        if grows and self.is_open and self._top > 0 and self._aim is None and len(self.layout().rows) < height:
+            self._show_below(self.length, height - 1)
 
     # ---- What is shown
 
@@ -161,18 +187,23 @@ class Window:
     def update(self, is_busy: bool = False, rests: bool = False, turns: int = 0) -> None:
         """Follows what the host and the user did, and has the terminal load what is shown; while the user is busy only what he needs, and
         while he rests what he may turn to next. `turns` is how many page keys wait, as for `ask`."""
-        if not self.is_open:
+        _, dot, _, layout = self.look()
+        if layout is None:
             return
+        if layout is not self._loaded or dot != self._followed or self._is_shifted or self._aim is not None:
+            self._show(is_busy, turns)
+        if rests and self._turns and not (self.texts.is_final or self.texts.holds_back):
+            self._load_beside()
+
+    def _show(self, is_busy: bool, turns: int) -> None:
+        """The same, without what he may turn to next."""
         if self._is_shifted:
             self._begin_with_a_row()
         if not self.texts.is_final:
             self._reach()
         self._follow_dot()
-        if self.texts.is_final or self.texts.holds_back:
-            return
-        self._load(is_busy, turns)
-        if rests and self._turns:
-            self._load_beside()
+        if not (self.texts.is_final or self.texts.holds_back):
+            self._load(is_busy, turns)
 
     def _begin_with_a_row(self) -> None:
         """Begins with the row of the place where it begins, if the start of its line is known."""
@@ -193,11 +224,10 @@ class Window:
 
     def _follow_dot(self) -> None:
         """Brings a dot that has moved into view."""
-        dot = self.dot
+        _, dot, place, layout = self.look()
         if dot == self._followed:
             return
         self._followed = dot
-        layout, place = self.layout(), self.caret
         is_shown = layout.shows(place)
         if self.anchor is None and dot[0] < dot[1]:
             place = dot[0]

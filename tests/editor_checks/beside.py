@@ -5,6 +5,8 @@ from .pairs import in_a_small_window, opened
 from .questions import kept_texts
 from .support import expect
 
+RESIZING = (54, 187, 497, 623, 886, 1104)  # seeds of random keys among which F8 comes while output is under way, and then a click
+
 
 def go_to(pair, tag):
     """Has keys go to the window of a file."""
@@ -247,8 +249,9 @@ def random_keys(numbers, keys):
 
 
 def check_several_files_as_quick(folder):
-    """However the answers for several files come, each key does what it does over a quick line."""
-    for seed in range(12):
+    """However the answers for several files come, each key does what it does over a quick line; also a click, after the command window has
+    changed its size while output was under way."""
+    for seed in (*range(12), *RESIZING):
         numbers = random.Random(seed)
         texts = ("one two\nlong " + "x" * 90 + "\nend\n", "two one\n\nthree\n", "three\n")
         (quick, *_), (slow, *_) = (opened(*texts, size=(38, 40)) for _ in range(2))

@@ -3,8 +3,10 @@ import os
 import random
 import re
 import time
+from types import SimpleNamespace
 
 from .pairs import Pair, is_loaded_beside, loads_of, opened
+from .redrawn import Paper, screen_on
 from .support import Session, expect, made, stat_of
 
 
@@ -357,6 +359,41 @@ def check_cost_of_a_key(folder):
         slowness = max(1, least_loop() / QUIET_LOOP)  # machines of one kind differ by two times, and from hour to hour
         expect(least < 0.003 * slowness, f"a key costs {least * 1000:.1f} ms of processor time, {slowness:.1f} times slowed")
         session.leave_unwritten()
+
+
+def check_cost_of_a_key_in_the_editor(folder):
+    """A typed key costs the editor, with the library, less than half a millisecond of processor time until it is drawn and is to be sent, or
+    as many times more as the machine is slow. The screen's own time, and that of the line, come to that."""
+    pair, editor, key, text = opened("".join(f"line {at} {'x' * 60}\n" for at in range(500)), size=(38, 80))
+    screen, link = screen_on(pair, Paper(40, 80)), SimpleNamespace(up=1, down=2, waiting=b"")
+    editor.take(key("Down"))
+    pair.finish()
+
+    def typed():
+        editor.take(text("x"))
+        editor.update()
+        editor.pause()
+        sent = pair.terminal.take_out()
+        screen.draw(editor, link)
+        return sent
+
+    def cost():
+        total = 0.0
+        for _ in range(60):
+            before = time.process_time()
+            sent = typed()
+            total += time.process_time() - before
+            pair.up += sent
+            pair.finish()
+        pair.press(*[key("Backspace")] * 60)
+        return total / 60
+
+    typed()
+    pair.finish()
+    least = min(cost() for _ in range(5))
+    slowness = max(1, least_loop() / QUIET_LOOP)
+    expect(pair.host.text(1).startswith("line 0 "), "this test is wrong: the keys went elsewhere")
+    expect(least < 0.0005 * slowness, f"a key costs {least * 1000:.2f} ms of processor time in the editor, {slowness:.1f} times slowed")
 
 
 PIECE = 65_536  # bytes of the host that the loop reads at once; keys are taken between two pieces
