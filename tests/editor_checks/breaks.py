@@ -166,6 +166,7 @@ class BrokenRun(Run):
     """Random keys against the model, while the line breaks again and again."""
 
     HOW = (signal.SIGKILL, signal.SIGTERM, signal.SIGSTOP)
+    REFUSED = "can't act until the line is back"  # what samterm says of a key that asks the host, once the line is lost for seconds
 
     def __init__(self, seed):
         super().__init__(seed, delay=None)
@@ -202,6 +203,7 @@ class BrokenRun(Run):
 
     def check(self, session):
         wait_until(lambda: not session.shows("LINE LOST"), "the line doesn't come back")
+        self.skip_where_refused(session)
         super().check(session)
 
     def arrive(self, session, keys):
@@ -209,6 +211,12 @@ class BrokenRun(Run):
             for key in keys:
                 self.send(session, key)
                 time.sleep(self.numbers.choice((0, 0.05, 0.3, 0.6)))
+                self.skip_where_refused(session)
+
+    def skip_where_refused(self, session):
+        """The model knows of no key that is refused. On a busy machine a break may take so long: from there on nothing is judged."""
+        if session.shows(self.REFUSED):
+            raise Skipped(f"seed {self.seed}: a break took seconds, so a key was refused")
 
 
 def run_breaks(folder, seeds):

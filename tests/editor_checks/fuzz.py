@@ -4,6 +4,7 @@ import os
 import random
 import re
 import signal
+import time
 import unicodedata
 
 from .model import Model, rows_of
@@ -20,6 +21,7 @@ PLAIN = {"first": "\x1b[1;5H", "last": "\x1b[1;5F", "erase_left": "\x7f", "erase
 NEUTRAL = ("\x1b[6~", "\x1b[5~", "\x1bOPx", "\x07 ", "\x1b\x1b", "\x1b[15~")  # the page keys; help and back; Esc and back; drawn anew
 LONG = 1000  # runes of a line, beyond which its rows may begin anywhere: they are shown before all of it is loaded
 UNKNOWN = ("\x1b[98~", "\x1b[99~")  # keys that only say so, once all before them have acted: in turn, since what one says stays
+WHILE_DRAWN = 1  # seconds after which the screen is looked at once more, since a look may come while it is drawn
 AFTER_ESC = "acdegxyz0,#"  # with what a text begins that comes at once with an Esc: others make a key with Alt or a sequence
 
 
@@ -237,4 +239,8 @@ class Run:
         session.wait_for_quiet()
         wait_until(lambda: self.stands(session), lambda: f"the caret is at {session.status()!r}, wanted {self.expected()}")
         wait_until(lambda: not session.shows("░"), "a gap stays on the screen")
+        with contextlib.suppress(Failed):
+            self.expect_screen(session)
+            return
+        time.sleep(WHILE_DRAWN)
         self.expect_screen(session)
