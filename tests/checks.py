@@ -9,7 +9,7 @@ import time
 from collections import Counter
 from pathlib import Path
 
-SECONDS = 20  # how long something may take; on a busy machine `wait_until` waits longer
+SECONDS = 40  # how long something may take
 MOST_TIMES = 5
 GIVEN_UP = 100  # seconds after which what doesn't end counts as hanging, however busy the machine is
 ROOT = Path(__file__).resolve().parent.parent
@@ -75,16 +75,16 @@ def times_slower():
 
 
 def wait_until(holds, told, seconds=None):
-    """Waits until something holds; answers what it was. Where no limit is promised, it waits as much longer as the machine is busy."""
-    until = time.monotonic() + (seconds or SECONDS)
+    """Waits until something holds; answers what it was. On a busy machine it waits as many times longer as work takes there."""
+    limit, is_longer = seconds or SECONDS, False
+    until = time.monotonic() + limit
     while True:
         got = holds()
         if got:
             return got
-        if seconds is None and time.monotonic() >= until:
-            seconds = SECONDS * times_longer()
-            until += seconds
-        expect(time.monotonic() < until, told() if callable(told) else told)
+        if time.monotonic() >= until:
+            expect(not is_longer, told() if callable(told) else told)
+            until, is_longer = until + limit * (times_longer() - 1), True
         time.sleep(0.01)
 
 

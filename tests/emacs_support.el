@@ -24,8 +24,8 @@
   (with-temp-buffer (let ((coding-system-for-read 'utf-8-unix)) (insert-file-contents file)) (buffer-string)))
 
 (defun wait-for (is-there)
-  "Wait until IS-THERE returns non-nil, but no more than 20 seconds.  Return what it does."
-  (let ((end (+ (float-time) 20)) found)
+  "Wait until IS-THERE returns non-nil, but no more than 100 seconds.  Return what it does."
+  (let ((end (+ (float-time) 100)) found)
     (while (and (not (setq found (funcall is-there))) (< (float-time) end)) (accept-process-output nil 0.05))
     found))
 

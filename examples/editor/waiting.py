@@ -7,6 +7,7 @@ from typing import Callable, Deque, Dict, NamedTuple, Optional, Set
 
 from keys import ACTIONS, ALL, ANSWERS, FILE, LINE, NOTHING, PATTERN, PLACE, ROWS, SCREEN, WINDOW, WINDOWS, WRITTEN
 from keys import Binding, Input, Key, Mouse, Paste, Text
+from layout import line_end, line_start
 from notes import REPEAT
 from sulgrevad import SamError
 from targets import Missing
@@ -422,13 +423,17 @@ class Waiting:
         return True
 
     def _is_line_refused(self, key: Input, window: Window) -> bool:
-        """The same of Enter in the command window: the line that it would run stays there."""
+        """The same of Enter in the command window: the line that it would run stays there, selected, so that the next one that is typed
+        takes its place."""
         front, newline, rest = key.runes.partition("\n")
         if window is not self.command or not window.is_settled or isinstance(key, Paste) or not newline or rest:
             return False
         del self.deferred[self._at]
         if front:
             self.texts.replace(COMMAND, front)
+        start, end = window.dot
+        window.select(line_start(window.read, start))
+        window.select(line_end(window.read, end), extends=True)
         self.message = "Enter can't act until the line is back; the command line stays"
         return True
 

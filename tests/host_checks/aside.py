@@ -71,11 +71,7 @@ def check_journal_while_typing(folder):
     made(folder, a="one\n")
     copy = folder / "a.txt.sam-saved"
     with Session(folder, "a.txt") as session:
-        start = time.monotonic()
-        while not copy.exists():
-            expect(time.monotonic() - start < LONGEST_UNSAVED + LATE, "the text is not saved")
-            session.type("x")
-            session.let_pass(0.1)
+        wait_until(lambda: session.type("x") or session.let_pass(0.1) or copy.exists(), "the text is not saved", LONGEST_UNSAVED + LATE)
         session.kill()
     expect(text_of(copy).startswith("one\nxx"), f"the copy has {text_of(copy)!r}")
 
