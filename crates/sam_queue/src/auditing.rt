@@ -101,6 +101,7 @@ pub fn audit_within<'q, T: Drop, R: Wait>(
         mut pass,
         left: _,
         woken: _,
+        unrung: _,
     } = take;
     let AuditRoom {
         entries,

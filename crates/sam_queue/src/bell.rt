@@ -12,6 +12,9 @@ const PAUSES: u32 = 200;
 /// How often a pause looks at its bell: some 200 nanoseconds in all.
 const LOOKS: u32 = 300;
 
+/// How many pauses an end takes together at most, where it waits for several steps of the other.
+const MOST_AT_ONCE: usize = 10;
+
 /// How often a short wait pauses before it sleeps.
 const FEW_PAUSES: u32 = 5;
 
@@ -64,15 +67,19 @@ pub(crate) struct Bell {
     short: AtomicU64,
     /// How many waits are to be short once one sleeps that isn't: none until two in a row do.
     then_short: AtomicU64,
+    /// How many pauses an end takes together.
+    at_once: u32,
 }
 
 impl Bell {
-    /// Makes a bell that nobody waits for.
-    pub(crate) const fn new() -> Bell {
+    /// Makes a bell that nobody waits for. Who waits there pauses for as long as so many steps of the other side take, since each try
+    /// disturbs that.
+    pub(crate) fn new(steps: usize) -> Bell {
         Bell {
             state: AtomicU64::new(QUIET),
             short: AtomicU64::new(0),
             then_short: AtomicU64::new(0),
+            at_once: steps.min(MOST_AT_ONCE) as u32,
         }
     }
 
@@ -87,7 +94,7 @@ impl Bell {
 
     /// Lets a moment pass, and keeps the processor. What it sees says nothing: `hint::spin_loop` would do, but takes no time in this kit.
     fn pause(&self) {
-        for _ in 0..LOOKS {
+        for _ in 0..LOOKS.saturating_mul(self.at_once) {
             self.state.load(Ordering::SeqCst);
         }
     }
@@ -121,11 +128,12 @@ impl Bell {
             self.begin(backoff);
         }
         let tries = backoff.tries;
-        backoff.tries = tries.saturating_add(1);
         if tries < PAUSES {
+            backoff.tries = tries.saturating_add(self.at_once).min(PAUSES);
             self.pause();
             return;
         }
+        backoff.tries = tries.saturating_add(1);
         if tries > PAUSES {
             let longest = FIRST_SLEEP << (tries - PAUSES - 1).min(DOUBLINGS);
             self.state

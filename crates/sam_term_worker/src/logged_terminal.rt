@@ -143,9 +143,9 @@ impl LoggedTerminal {
         if self.log.reserve(1).is_err() {
             return Err(Stop::Memory);
         }
-        match self.end.bring_event(event) {
+        match self.end.bring_event(copy) {
             Ok(()) => {
-                self.log.push_reserved(TermLog::User(copy));
+                self.log.push_reserved(TermLog::User(event));
                 Ok(())
             }
             Err(_) => Err(Stop::Memory),

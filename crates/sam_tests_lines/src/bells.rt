@@ -2,6 +2,8 @@
 //! its wakes came sooner than a sleep ends. The others are left to a machine that has more to do. `tests/bells` runs these tests too, and
 //! looks at the system calls in place of the time.
 
+ghost use Rattle.std.specs.Prelude.{◌<◌};
+
 use crate::lines::tried;
 use sam_queue::{Backoff, Line, OutOfMemory, Post, Take};
 use std::alloc::Global;
@@ -229,25 +231,80 @@ fn what_is_taken_wakes_the_taker_of_another_line(rt: HostRuntime) {
 /// Milliseconds. Longer than an end pauses, and than its first sleeps take.
 const WHILE: u64 = 60;
 
-// Sends one item after another, and counts them. The first finds room.
-fn send_on(rt: &impl Wait, post: &mut Post<'_, u32>, watch: &Watch) {
-    for _ in 0..=WAKES {
+/// How room is made in a line whose sender waits for it.
+#[derive(Clone, Copy)]
+struct Making {
+    /// How many entries the line holds.
+    room: usize,
+    /// How many of these are taken at once each time.
+    taken: u64,
+    /// Whether the take then waits for more.
+    waits: bool,
+}
+
+/// Room for one entry, which is taken.
+const ONE: Making = Making {
+    room: 1,
+    taken: 1,
+    waits: false,
+};
+
+/// Room for some entries, half of which are taken.
+const HALF: Making = Making {
+    room: 8,
+    taken: 4,
+    waits: false,
+};
+
+/// Room for some entries, of which one is taken.
+const ONE_OF_EIGHT: Making = Making {
+    room: 8,
+    taken: 1,
+    waits: false,
+};
+
+/// Room for some entries, of which one is taken, and more are waited for.
+const ONE_BEFORE_A_WAIT: Making = Making {
+    room: 8,
+    taken: 1,
+    waits: true,
+};
+
+// How often the sender has sent once it has filled the room that was made so many times.
+fn sent_after(making: Making, times: u64) -> u64 {
+    (making.room as u64).saturating_add(making.taken.saturating_mul(times))
+}
+
+// Sends one item after another, and counts them. The first find room.
+fn send_on(rt: &impl Wait, post: &mut Post<'_, u32>, watch: &Watch, making: Making) {
+    for _ in 0..sent_after(making, WAKES) {
         let _ = post.send(rt, 7);
         watch.count();
     }
 }
 
-// Leaves the sender waiting for a while each time before it takes an item, and counts how often that woke it soon.
+// Makes room.
+fn make_room<R: Wait>(rt: &R, take: &mut Take<'_, u32>, making: Making) {
+    for _ in 0..making.taken {
+        let _ = take.recv(rt);
+    }
+    if making.waits {
+        take.wait(rt, &mut Backoff::new());
+    }
+}
+
+// Leaves the sender waiting for a while each time before it makes room, and counts how often that woke it soon.
 fn wake_by_room<R: Wait + Clock>(
     rt: &R,
     take: &mut Take<'_, u32>,
     watch: &Watch,
+    making: Making,
 ) -> io::Result<u64> {
     let mut soon = 0u64;
-    for sent in 0..WAKES {
+    for made in 0..WAKES {
         thread::sleep(rt, Duration::from_millis(WHILE));
-        let _ = take.recv(rt);
-        if watch.until(rt, sent.saturating_add(2))? {
+        make_room(rt, take, making);
+        if watch.until(rt, sent_after(making, made.saturating_add(1)))? {
             soon = soon.wrapping_add(1);
         }
     }
@@ -260,23 +317,26 @@ fn join_by_room(
     post: &mut Post<'_, u32>,
     take: &mut Take<'_, u32>,
     watch: &Watch,
+    making: Making,
 ) -> io::Result<u64> {
     let (_, soon) = thread::join(
         rt,
-        || send_on(rt, post, watch),
-        || wake_by_room(rt, take, watch),
+        || send_on(rt, post, watch, making),
+        || wake_by_room(rt, take, watch, making),
     );
     soon
 }
 
-// How often an item that was taken woke the sender of a new line soon, where it has one post.
-fn woken_by_room(rt: &(impl Wait + Threads + Clock + Sync), alloc: Global) -> Round {
+// How often room that was made woke the sender of a new line soon, where it has one post.
+fn woken_by_room(rt: &(impl Wait + Threads + Clock + Sync), alloc: Global, making: Making) -> Round
+    requires { 0 < making.room }
+{
     let watch = Watch::new();
-    tried(alloc, 1, 1, |posts, take| {
+    tried(alloc, making.room, 1, |posts, take| {
         let [post] = posts else {
             return None;
         };
-        Some(join_by_room(rt, post, take, &watch))
+        Some(join_by_room(rt, post, take, &watch, making))
     })
 }
 
@@ -284,7 +344,25 @@ fn woken_by_room(rt: &(impl Wait + Threads + Clock + Sync), alloc: Global) -> Ro
 fn what_is_taken_wakes_the_sender(rt: HostRuntime) {
     // One round: on a busy machine the sender may still pause when room is made, and a round can then pass without a wake. That somebody
     // wakes it `tests/bells` sees.
-    let soon = woken_by_room(&rt, rt.alloc());
+    let soon = woken_by_room(&rt, rt.alloc(), ONE);
+    assert!(rt; are_many(&soon), "{soon:?}");
+}
+
+#[test]
+fn half_of_a_line_that_is_taken_wakes_the_sender(rt: HostRuntime) {
+    let soon = woken_by_room(&rt, rt.alloc(), HALF);
+    assert!(rt; are_many(&soon), "{soon:?}");
+}
+
+#[test]
+fn one_of_many_that_is_taken_wakes_nobody(rt: HostRuntime) {
+    let soon = woken_by_room(&rt, rt.alloc(), ONE_OF_EIGHT);
+    assert!(rt; !are_many(&soon), "{soon:?}");
+}
+
+#[test]
+fn a_take_that_waits_wakes_the_sender(rt: HostRuntime) {
+    let soon = woken_by_room(&rt, rt.alloc(), ONE_BEFORE_A_WAIT);
     assert!(rt; are_many(&soon), "{soon:?}");
 }
 
