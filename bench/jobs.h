@@ -41,7 +41,7 @@ struct bytes {
     size_t len, room;
 };
 
-/* The kinds of frames that the jobs make, by docs/PROTOCOL.md. */
+/* The kinds of frames that the jobs make, by docs/reference/PROTOCOL.md. */
 enum {
     TVERSION = 1,
     TSTARTCMDFILE = 2,

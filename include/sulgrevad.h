@@ -12,8 +12,9 @@
  *
  * Words. A tag is a file's number. Tag 0 is the command file: a line that is typed into it is run as a command. The dot is what is
  * selected. The snarf buffer, which the host holds, has what was cut or copied last. A lock holds events back until the host has
- * answered. A message goes to the host, a frame to the terminal. docs/GLOSSARY.md explains the other words, docs/PROTOCOL.md the
- * messages (Twrite, Texit), docs/COMMANDS.md the command language. An install has these pages in share/doc/sulgrevad.
+ * answered. A message goes to the host, a frame to the terminal. docs/reference/GLOSSARY.md explains the other words,
+ * docs/reference/PROTOCOL.md the messages (Twrite, Texit), docs/reference/COMMANDS.md the command language. An install has these pages in
+ * share/doc/sulgrevad.
  *
  * Units. Places and lengths of texts count runes (Unicode scalar values); a text has at most 1,000,000. Texts go in and out as
  * UTF-8 (RFC 3629), and their lengths in bytes stand beside the pointer. The runes that a terminal draws go out as numbers. Names
@@ -74,7 +75,7 @@ uint32_t sam_library_version(void);
 
 /* ---- Limits ----
  *
- * docs/PROTOCOL.md has all of them. */
+ * docs/reference/PROTOCOL.md has all of them. */
 
 #define SAM_MOST_RUNES 1000000      /* runes of a text */
 #define SAM_MOST_IN_TYPE 512        /* runes of one sam_term_type */
@@ -98,7 +99,7 @@ uint32_t sam_library_version(void);
 #endif
 
 /* Each family of faults has a range. A status is the range's first number plus the fault's number: of a stream, a message, a frame or an
- * event that of docs/PROTOCOL.md. */
+ * event that of docs/reference/PROTOCOL.md. */
 enum sam_status {
     SAM_OK = 0,
     SAM_NO_MEMORY = 1,  /* what the call brought was not taken: make it again */
@@ -236,7 +237,7 @@ struct sam_did {
     uint32_t gone;
     uint32_t came;
     uint16_t tag; /* the file */
-    uint8_t kind; /* the kind of the message or frame, by the numbers of docs/PROTOCOL.md */
+    uint8_t kind; /* the kind of the message or frame, by the numbers of docs/reference/PROTOCOL.md */
 };
 typedef struct sam_did sam_did;
 
@@ -307,8 +308,8 @@ SAM_MUST_USE sam_status sam_host_feed(sam_host *host, const uint8_t *bytes, size
  * until a step has handed out SAM_STEP_IDLE; SAM_COUNT_FULL; SAM_NO_MEMORY. The bytes are then not taken, and the host is as it was. */
 SAM_MUST_USE sam_status sam_host_bring(sam_host *host, const uint8_t *bytes, size_t len);
 
-/* The kind of the oldest message that waits, by the numbers of docs/PROTOCOL.md, and the file that it names, or 0: the next step that
- * takes a message begins with it. SAM_NONE if none waits. */
+/* The kind of the oldest message that waits, by the numbers of docs/reference/PROTOCOL.md, and the file that it names, or 0: the next
+ * step that takes a message begins with it. SAM_NONE if none waits. */
 SAM_MUST_USE sam_status sam_host_next_message(sam_host *host, uint8_t *kind, uint16_t *tag);
 
 /* Does one thing of what waits, and says what: it writes what was answered last, if that is left over; or the host takes edits of one
@@ -452,9 +453,9 @@ SAM_MUST_USE sam_status sam_term_flush_now(sam_term *term);
  * An event acts at once if it can, or is held until the locks that it waits for are free and the events before it have acted; each
  * call also lets events that are held act, in order. What is composed is then pending. SAM_OK says that the event was taken, and not
  * that it acted: sam_term_decided says whether it did, and sam_term_next_refusal reports an event that is refused by its number, now or
- * later; docs/PROTOCOL.md (user events) has the tests of all events in their order. Each returns SAM_OK, SAM_NO_MEMORY, SAM_UNFINISHED,
- * SAM_COUNT_FULL, SAM_NO_HANDLE, or why the terminal has stopped: SAM_STREAM.., SAM_TERM_REFUSED... The three that bring a text return
- * SAM_NOT_TEXT first of all but SAM_NO_HANDLE. */
+ * later; docs/reference/PROTOCOL.md (user events) has the tests of all events in their order. Each returns SAM_OK, SAM_NO_MEMORY,
+ * SAM_UNFINISHED, SAM_COUNT_FULL, SAM_NO_HANDLE, or why the terminal has stopped: SAM_STREAM.., SAM_TERM_REFUSED... The three that bring a
+ * text return SAM_NOT_TEXT first of all but SAM_NO_HANDLE. */
 
 /* ---- Events: texts ---- */
 
@@ -705,9 +706,9 @@ SAM_MUST_USE sam_status sam_term_snarf_len(sam_term *term, uint32_t *runes);
 /* ==== A link ====
  *
  * A link carries the bytes of a session, and notes of the program, over connections that may break at any byte: each byte and each note
- * comes out at the other side once and in order. Each side has an end; docs/LINK.md has what they say to each other, docs/EMBEDDING.md a
- * loop of events. An end opens no connection and knows no clock, as a host and a terminal read and write nothing. The terminal's side
- * opens a connection and calls; the host's side answers:
+ * comes out at the other side once and in order. Each side has an end; docs/reference/LINK.md has what they say to each other,
+ * docs/howto/EMBEDDING.md a loop of events. An end opens no connection and knows no clock, as a host and a terminal read and write nothing.
+ * The terminal's side opens a connection and calls; the host's side answers:
  *
  *     sam_link_call(&link, false, &attempt)           the terminal opened a connection
  *     sam_link_take_out(&link, attempt, ..)           bytes for it: the hello first
@@ -865,8 +866,8 @@ SAM_MUST_USE sam_status sam_link_received(sam_link *link, uint64_t *count);
 
 /* ==== Scripts ==== */
 
-/* Runs a script over a host and a terminal of its own, and hands out what its `show` lines print: docs/SCRIPTS.md explains the language.
- * It takes no handle. All lines are read before the first is done.
+/* Runs a script over a host and a terminal of its own, and hands out what its `show` lines print: docs/reference/SCRIPTS.md explains the
+ * language. It takes no handle. All lines are read before the first is done.
  *
  * SAM_OK: *out_len is the number of all bytes that are printed, and the first of them stand in `out`, as many as have room. The rest of
  * the buffer is as it was. If *out_len is above out_room, call again with so much room: a script prints the same each time.

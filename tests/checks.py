@@ -97,8 +97,8 @@ def mount(source, target, kind, flags):
 
 def cover_tmp(kept):
     """Gives this process, and those that it starts, a /tmp of its own, where the system lets it: what others have there under the bare name
-    of a file shows nowhere. Of the old one these folders stay. Returns whether it is there."""
-    kept = [path for path in map(Path.resolve, kept) if TMP in path.parents]
+    of a file shows nowhere. Of the old one these folders stay, where they are there. Returns whether it is there."""
+    kept = [path for path in map(Path.resolve, kept) if TMP in path.parents and path.exists()]
     if libc.unshare(CLONE_NEWNS) != 0 or not mount("none", "/", None, MS_REC | MS_PRIVATE):
         return False
     places = [(path, os.open(path, os.O_PATH)) for path in kept]

@@ -1,10 +1,10 @@
-"""Frames as docs/PROTOCOL.md has them: the tables of a page, frames made by those of kinds and fields, and bytes read by them."""
+"""Frames as docs/reference/PROTOCOL.md has them: the tables of a page, frames made by those of kinds and fields, and bytes read by them."""
 import functools
 import re
 from pathlib import Path
 
 TOP = Path(__file__).resolve().parent.parent
-PROTOCOL = TOP / "docs" / "PROTOCOL.md"
+PROTOCOL = TOP / "docs/reference/PROTOCOL.md"
 HEAD = 3  # bytes of a frame before its body: the kind and the length
 STAMP = 8  # bytes that a host frame's body begins with
 

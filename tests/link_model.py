@@ -1,4 +1,4 @@
-"""A model of one end of a link, written from docs/LINK.md alone: it shares no line with the library, and has the calls of
+"""A model of one end of a link, written from docs/reference/LINK.md alone: it shares no line with the library, and has the calls of
 `sulgrevad.Link`. Tests compare the library with it, or join both by a line. It is slow, and forgets nothing that was put.
 
 Where memory is short it knows nothing: no call of it raises NoMemory.

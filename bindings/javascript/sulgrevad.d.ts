@@ -166,8 +166,8 @@ export declare class Host extends Side {
    * name. Throws, in this order: NotText; AddRefused for a name above 64 runes or a text above 1,000,000, and if no tag is left; NoMemory.
    * The host is then as it was. */
   addFile(name: Text, text?: Text): number;
-  /** The kind of the oldest message that waits, by the numbers of docs/PROTOCOL.md, and the file that it names, or 0; null if none
-   * waits. The next step that takes a message begins with it. */
+  /** The kind of the oldest message that waits, by the numbers of docs/reference/PROTOCOL.md, and the file that it names, or 0; null if
+   * none waits. The next step that takes a message begins with it. */
   nextMessage(): { kind: number; tag: number } | null;
   /** Does one thing of what waits, and says what: it writes what was answered last, if that is left over; or the host takes edits of one
    * file that follow each other, and the checks (Tcheck) among them, or else answers the oldest message. `feed` makes such steps until

@@ -1,9 +1,9 @@
 #!/usr/bin/env python3
-"""Draws docs/crates.svg (from crates.txt), docs/threads.svg, and docs/film.svg (from docs/film.json, which bench/film writes). Run it after a
+"""Draws, beside itself, crates.svg (from crates.txt), threads.svg, and film.svg (from film.json, which bench/film writes). Run it after a
 crate came, went or stands on others.
 
-docs/pictures.py --check draws nothing: it says whether both are as they would be drawn now, and ends in 'N passed, M failed'. It knows
-nothing of docs/web.png, which `tests/web --picture` takes in a browser: its bytes differ from one browser to the next.
+docs/pictures/pictures.py --check draws nothing: it says whether both are as they would be drawn now, and ends in 'N passed, M failed'. It
+knows nothing of web.png, which `tests/web/web --picture` takes in a browser: its bytes differ from one browser to the next.
 """
 
 import json
@@ -12,8 +12,8 @@ from itertools import zip_longest
 from pathlib import Path
 from xml.sax.saxutils import escape
 
-DOCS = Path(__file__).resolve().parent
-CRATES = DOCS.parent / "crates.txt"
+HERE = Path(__file__).resolve().parent
+CRATES = HERE.parents[1] / "crates.txt"
 
 STYLE = """
 text { font: 12px -apple-system, 'Segoe UI', Helvetica, Arial, 'DejaVu Sans', sans-serif; fill: #1f2328; }
@@ -113,7 +113,7 @@ def crates():
             stands_on[head.split(" ")[0]] = {name for name in below.split() if name.startswith("sam_")}
     missing = (set(stands_on) - LEFT_OUT) ^ set(PLACES)
     if missing:
-        raise SystemExit(f"give a place in docs/pictures.py to, or take out: {', '.join(sorted(missing))}")
+        raise SystemExit(f"give a place in docs/pictures/pictures.py to, or take out: {', '.join(sorted(missing))}")
     return {name: below for name, below in stands_on.items() if name in PLACES}
 
 
@@ -255,7 +255,7 @@ def film_panel(film, panel, x, width, height):
 
 
 def film_picture():
-    taken = json.loads((DOCS / "film.json").read_text(encoding="utf-8"))
+    taken = json.loads((HERE / "film.json").read_text(encoding="utf-8"))
     film = Film(taken["end"])
     width, height = 12 + LETTER_WIDTH * taken["width"], 12 + LETTER_HEIGHT * taken["height"]
     words = f"The same keys at the same time, over a line of {taken['delay']} ms each way."
@@ -282,9 +282,9 @@ PICTURES = {"crates.svg": crates_picture, "threads.svg": threads_picture, "film.
 
 def check():
     """Says of each picture whether it is as it would be drawn now. Returns how many are not."""
-    old = [name for name, draw in PICTURES.items() if (DOCS / name).read_text(encoding="ascii") != draw()]
+    old = [name for name, draw in PICTURES.items() if (HERE / name).read_text(encoding="ascii") != draw()]
     for name in PICTURES:
-        print(f"FAILED docs/{name} is old: run docs/pictures.py" if name in old else f"ok docs/{name}")
+        print(f"FAILED docs/{name} is old: run docs/pictures/pictures.py" if name in old else f"ok docs/{name}")
     print(f"{len(PICTURES) - len(old)} passed, {len(old)} failed")
     return len(old)
 
@@ -293,7 +293,7 @@ def main(words):
     if words == ["--check"]:
         return 1 if check() else 0
     for name, draw in PICTURES.items():
-        (DOCS / name).write_text(draw(), encoding="ascii")
+        (HERE / name).write_text(draw(), encoding="ascii")
     return 0
 
 

@@ -4,9 +4,10 @@
 
 ;;; Commentary:
 
-;; Build the module by examples/emacs/build (which has a word on licences), and begin Emacs with -L examples/emacs -l sulgrevad.  M-x
+;; Build the module by editor/emacs/build (which has a word on licences), and begin Emacs with -L editor/emacs -l sulgrevad.  M-x
 ;; sulgrevad-start begins a session, whose host a command runs, as "ssh box samhost".  It stays at the host when its line breaks: Emacs goes
-;; on with it by itself, and M-x sulgrevad-take takes it up again later, or from another machine.  docs/EDITOR.md says who may do that.
+;; on with it by itself, and M-x sulgrevad-take takes it up again later, or from another machine.  docs/howto/EDITOR.md says who may
+;; do that.
 ;;
 ;; In a session's buffer C-x C-f opens a path at the host (C-u C-x C-f one of this machine), C-x C-s and C-x s have the host write, C-x C-w
 ;; under another path, M-x revert-buffer reads the file anew, and C-c , runs a command line of sam on the buffer.  M-x sulgrevad-find shows

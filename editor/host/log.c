@@ -1,4 +1,4 @@
-/* saying.c: writes lines to standard error, and waits for room there only for a moment; or hands them to a listener.
+/* log.c: writes lines to standard error, and waits for room there only for a moment; or hands them to a listener.
  *
  * Nobody may read them: then a pipe is full at some time, and a write to it would hold up the saving of texts for ever. So an alarm breaks
  * it off. O_NONBLOCK would do so, too, but for each other program that has the same standard error as well.
@@ -8,12 +8,13 @@
 #include <poll.h>
 #include <signal.h>
 #include <stdarg.h>
+#include <stdbool.h>
 #include <stdio.h>
 #include <string.h>
 #include <sys/time.h>
 #include <unistd.h>
 
-#include "samhost.h"
+#include "log.h"
 
 enum {
     LINE_ROOM = 16384,    /* bytes of the longest line */

@@ -14,7 +14,9 @@
  * Exit status: 0; 1 where a file can't be read; 2 where the words are wrong; 3 where the terminal's stream is wrong; 4 where it is out of
  * memory at the start; 5 where a text could not be saved anywhere; 6 where its line broke. What went wrong it says on standard error.
  *
- * samhost.h lists its parts.
+ * Its parts: session has a session and the folders of those that stay, net what carries bytes, disk the files, journal what a session that
+ * stays has done. Each header says what its file is for. Calls that can fail return 0 or an error number of errno.h, unless they say
+ * otherwise.
  */
 #define _XOPEN_SOURCE 700
 #include <fcntl.h>
@@ -24,7 +26,13 @@
 #include <sys/stat.h>
 #include <unistd.h>
 
-#include "samhost.h"
+#include "log.h"
+#include "net/event_loop.h"
+#include "session/daemon.h"
+#include "session/ending.h"
+#include "session/session.h"
+#include "session/session_control.h"
+#include "session/session_directory.h"
 
 #ifndef VERSION
 #define VERSION "of no release"
@@ -42,25 +50,6 @@ enum {
     "       samhost --open [--wait] [--session NAME] [--] FILE [+LINE]\n"                                                                  \
     "       samhost --version\n"
 
-size_t count_tags(struct session *session)
-{
-    size_t tags = 0;
-
-    return sam_host_tags(&session->host, &tags) == SAM_OK ? tags : 0;
-}
-
-int close_session(struct session *session, enum ending ending)
-{
-    bool is_alone = ending != LEFT && !session->due.is_waiting;
-    bool is_saved = save_last(session, is_alone);
-
-    if (ending == LEFT)
-        drop_copy(&session->cut.aside);
-    else
-        is_saved &= save_cut(session, is_alone);
-    return !is_saved ? STATUS_LOST : ending == FAULT ? STATUS_FAULT : ending == LINE_BROKE ? STATUS_BROKEN : STATUS_OK;
-}
-
 /* Serves the files of a session that was opened. Returns the exit status. */
 static int run(struct session *session)
 {
@@ -73,52 +62,6 @@ static int run(struct session *session)
     send_the_rest(session, &mask);
     fcntl(STDOUT_FILENO, F_SETFL, flags);
     return status;
-}
-
-static mode_t mode_of_new_files(void)
-{
-    mode_t mask = umask(0);
-
-    umask(mask);
-    return 0666 & ~mask;
-}
-
-bool make_session(struct session *session)
-{
-    session->wire.carrier = &by_standard_streams;
-    session->documents = calloc(ALL_TAGS, sizeof *session->documents);
-    session->text.bytes = malloc(MOST_BYTES);
-    session->mode_of_new_files = mode_of_new_files();
-    bool has_room = session->documents != NULL && session->text.bytes != NULL && make_cut(&session->cut);
-    return has_room && sam_host_new(&session->host) == SAM_OK;
-}
-
-void free_session(struct session *session)
-{
-    size_t tags = count_tags(session);
-
-    sam_host_free(&session->host);
-    for (size_t tag = 0; tag < tags; tag++)
-        free_document(&session->documents[tag]);
-    free(session->documents);
-    free(session->text.bytes);
-    free_cut(&session->cut);
-    free(session);
-}
-
-int open_session(struct session *session, char **paths, int count, const struct options *options)
-{
-    if (!make_session(session)) {
-        say("out of memory");
-        return STATUS_MEMORY;
-    }
-    int status = add_files(session, paths, count);
-    if (status != STATUS_OK)
-        return status;
-    if (options->tells_times)
-        tell_times(session);
-    report_left(session, options->has_vault);
-    return options->has_vault ? add_vault(session) : STATUS_OK;
 }
 
 /* Opens a session and serves it, over standard input and output. Returns the exit status. */

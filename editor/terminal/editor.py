@@ -1,31 +1,31 @@
-"""The editor: what comes from the host, and the keys that act. Windows stand in desk.py, keys that wait in waiting.py, and what a key does
-in actions.py."""
+"""The editor: what comes from the host, and the keys that act. Windows stand in view/window_layout.py, keys that wait in
+keys/key_queue.py, and what a key does in keys/actions.py."""
 import time
 from collections import deque
 from typing import Callable, Iterable, List, Optional, Sequence, Set, Tuple
 
-from actions import TOO_LONG, Actions
-from colours import Colours
-from desk import Desk
-from joining import Joining
-from keeping import Keeping, shown_name
-from keys import PLACE, Input, Key, Mouse, Paste, Text
-from left import Left
-from lines import Numbers
-from link import SECONDS_TO_END
-from notes import OFFER, REPEAT, Notes, said
-from pointing import Pointer
-from reloading import Reloading
-from slices import Slices
+from .keys.actions import TOO_LONG, Actions
+from .view.colours import Colours
+from .view.window_layout import WindowLayout
+from .files.open_requests import OpenRequests
+from .files.unsaved_texts import UnsavedTexts, shown_name
+from .keys.bindings import PLACE, Input, Key, Mouse, Paste, Text
+from .files.recovery import Recovery
+from .text.lines import Numbers
+from .line.host_process import SECONDS_TO_END
+from .view.status_line import OFFER, REPEAT, Notes, said
+from .keys.mouse import Pointer
+from .files.reload import Reload
+from .text.prefetch import Prefetch
 from sulgrevad import Refusal, SamError, Status, Terminal
-from staying import Note
-from stream import CLEAN, CLOSE, DELNAME, MOVETO, NEWNAME, SETDOT, UNLOCK, UNLOCKFILE, Stream
-from texts import COMMAND, COMMAND_NAME, Texts
-from undo import Undo
-from vault import Vault
-from waiting import BUSY, LEAVING, REST, Pressed, Waiting, action_of, bound, last_of
-from way import Way
-from windows import ask
+from .line.persistent_session import Note
+from .line.stream import CLEAN, CLOSE, DELNAME, MOVETO, NEWNAME, SETDOT, UNLOCK, UNLOCKFILE, Stream
+from .text.texts import COMMAND, COMMAND_NAME, Texts
+from .text.undo import Undo
+from .text.undo_store import UndoStore
+from .keys.key_queue import BUSY, LEAVING, REST, Pressed, KeyQueue, action_of, bound, last_of
+from .line.delivery import Delivery
+from .view.windows import ask
 
 
 def reads(key: Input) -> bool:
@@ -45,7 +45,7 @@ WHY = {
 }
 
 
-class Editor(Desk, Waiting, Actions):
+class Editor(WindowLayout, KeyQueue, Actions):
     """The terminal with its windows. Keys come in by `take`, bytes of the host by `feed`, lines of its standard error by `hear`."""
 
     def __init__(
@@ -58,10 +58,10 @@ class Editor(Desk, Waiting, Actions):
         # The names that the files have whose paths the user gave; None where he goes on with a session.
         self.asked_for = None if asked_for is None else {shown_name(path) for path in asked_for}
         self._early_lines: List[str] = []  # of texts that were not written, told before their names
-        self.way, self.notes = Way(terminal, clock), Notes(clock)
-        self.vault = Vault(terminal, self.texts)
-        self.log, self.numbers, self.keeping = Undo(terminal, self.texts, self.vault), Numbers(self.texts), Keeping(self)
-        self.left, self.slices, self.joining, self.reloading = Left(self), Slices(self), Joining(self), Reloading(self)
+        self.way, self.notes = Delivery(terminal, clock), Notes(clock)
+        self.vault = UndoStore(terminal, self.texts)
+        self.log, self.numbers, self.keeping = Undo(terminal, self.texts, self.vault), Numbers(self.texts), UnsavedTexts(self)
+        self.left, self.slices, self.joining, self.reloading = Recovery(self), Prefetch(self), OpenRequests(self), Reload(self)
         told = {CLEAN: self._meet_clean, CLOSE: self._meet_close, MOVETO: self._meet_move, SETDOT: self._meet_dot}
         told.update({NEWNAME: self._meet_name, DELNAME: self._meet_name})
         settled = {UNLOCK: self._meet_unlock, UNLOCKFILE: self._meet_pasted}

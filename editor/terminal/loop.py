@@ -11,15 +11,15 @@ import time
 from collections import deque
 from typing import Callable, Deque, Dict, List, Optional
 
-from decode import Decoder
-from editor import Editor
-from glance import Glance
-from keys import Input
-from link import poll_of, polled
-from notes import printable
-from staying import Line
+from .keys.decoder import Decoder
+from .editor import Editor
+from .text.cached_terminal import CachedTerminal
+from .keys.bindings import Input
+from .line.host_process import poll_of, polled
+from .view.status_line import printable
+from .line.persistent_session import Line
 from sulgrevad import SamError
-from screen import Screen, sequences
+from .view.screen import Screen, sequences
 
 KEYBOARD = 0
 ENDS = (signal.SIGTERM, signal.SIGHUP, signal.SIGINT, signal.SIGQUIT)
@@ -37,7 +37,7 @@ BROKEN_PASTE = "the end of a paste has not come, so all keys are part of it. Esc
 class Loop:
     """One session at a screen."""
 
-    def __init__(self, terminal: Glance, link: Line, screen: Screen, editor: Editor, hear: Callable[[str], None]):
+    def __init__(self, terminal: CachedTerminal, link: Line, screen: Screen, editor: Editor, hear: Callable[[str], None]):
         self.terminal, self.link, self.screen, self.editor, self.hear = terminal, link, screen, editor, hear
         self.decoder = Decoder(sequences())
         self.keys: Deque[Input] = deque()  # those that the editor has not taken

@@ -7,16 +7,16 @@ import signal
 import sys
 from typing import List, NamedTuple, Optional
 
-import layout
-import rescue
-from editor import Editor
-from glance import Glance
-from link import SECONDS_OF_SILENCE, SECONDS_TO_END, Link
-from loop import KEYBOARD, Loop
-from notes import printable, said
-from screen import FOOT, Screen
-from staying import Line, Staying
-from stream import FIRST
+from .view import layout
+from .files import local_backup
+from .editor import Editor
+from .text.cached_terminal import CachedTerminal
+from .line.host_process import SECONDS_OF_SILENCE, SECONDS_TO_END, HostProcess
+from .loop import KEYBOARD, Loop
+from .view.status_line import printable, said
+from .view.screen import FOOT, Screen
+from .line.persistent_session import Line, PersistentSession
+from .line.stream import FIRST
 from sulgrevad import SamError, Terminal
 
 USAGE = "usage: "  # the words of a samhost that knows of no session that stays: it is run without then
@@ -39,7 +39,7 @@ class Session:
 
     def __init__(self, terminal: Terminal, link: Line, editor: Editor):
         self.terminal, self.link, self.editor = terminal, link, editor
-        if isinstance(link, Staying):
+        if isinstance(link, PersistentSession):
             editor.way.line = link
         self.told: List[str] = []  # what the host told while the screen hid standard error
         self.ended_by = 0
@@ -79,7 +79,7 @@ class Session:
         return True
 
     def _hear_early(self, line: str) -> None:
-        if said(line).what != "written" and not (isinstance(self.link, Staying) and line.startswith(USAGE)):
+        if said(line).what != "written" and not (isinstance(self.link, PersistentSession) and line.startswith(USAGE)):
             say(line)
         self.editor.hear(line)
 
@@ -122,7 +122,7 @@ class Session:
             if self.editor.typed_ahead:
                 say(f"samterm: typed while the host was left, and put in nowhere: {self.editor.typed_ahead!r}")
             self.editor.deferred.clear()
-        elif not self.editor.is_lost and not self.ended_by and not isinstance(self.link, Staying):
+        elif not self.editor.is_lost and not self.ended_by and not isinstance(self.link, PersistentSession):
             say(f"samterm: the host has {self._seconds_to_end} seconds to save what it got; ^C doesn't wait for it")
 
     @property
@@ -135,7 +135,7 @@ class Session:
     @property
     def _stays(self) -> bool:
         """Whether the session goes on at the host without us."""
-        return isinstance(self.link, Staying) and self.link.ended_with is None and not self.link.is_lost
+        return isinstance(self.link, PersistentSession) and self.link.ended_with is None and not self.link.is_lost
 
     def _tell_of_staying(self) -> None:
         """How the user comes back to a session that stays, and what that lacks."""
@@ -177,7 +177,7 @@ class Session:
             try:
                 signal.signal(signal.SIGINT, signal.default_int_handler)
                 self._tell_of_leaving()  # from here on `^C` counts
-                if isinstance(self.link, Staying):
+                if isinstance(self.link, PersistentSession):
                     self.link.ends = self.terminal.exited or self.editor.is_leaving
                 return self.link.close(self._hear, self._take_last, self._seconds_to_end)
             finally:
@@ -214,21 +214,21 @@ class Wish(NamedTuple):
 
     def words(self, stays: bool) -> List[str]:
         """The words for a host after those of the session."""
-        times = ["--times"] if any(rescue.left(self.files).values()) else []  # whether these are newer only the host can tell
+        times = ["--times"] if any(local_backup.left(self.files).values()) else []  # whether these are newer only the host can tell
         hours = ["--stay", self.hours] if stays and self.hours is not None else []
         return ["--undo", *times, *hours, *(["--"] if any(name.startswith("-") for name in self.files) else []), *self.files]
 
     def link(self, stays: bool) -> Line:
         if not stays:
-            return Link([*self.command, *self.words(False)])
+            return HostProcess([*self.command, *self.words(False)])
         if self.takes_over:
-            return Staying(self.command, lambda name: ["--take", *self.files], takes_over=True)
-        return Staying(self.command, lambda name: ["--serve", name, *self.words(True)])
+            return PersistentSession(self.command, lambda name: ["--take", *self.files], takes_over=True)
+        return PersistentSession(self.command, lambda name: ["--serve", name, *self.words(True)])
 
 
 def edit(wish: Wish) -> int:
     """Runs a host, and edits files. Returns the exit status."""
-    rescue.host = (*wish.command, "--undo")
+    local_backup.host = (*wish.command, "--undo")
     status = _edit(wish, wish.stays)
     if status is None:
         say("samterm: that samhost is too old for a session that stays: a line that breaks ends this one")
@@ -239,7 +239,7 @@ def edit(wish: Wish) -> int:
 def _edit(wish: Wish, stays: bool) -> Optional[int]:
     """The same; None where the host knows of no session that stays."""
     files = None if wish.takes_over else wish.files
-    with Glance() as terminal:
+    with CachedTerminal() as terminal:
         layout.TAB = wish.tab
         editor = Editor(terminal, indents=wish.indents, asked_for=files)
         editor.has_numbers = wish.numbers
@@ -251,7 +251,7 @@ def _edit(wish: Wish, stays: bool) -> Optional[int]:
         session = Session(terminal, link, editor)
         session.has_colours = not wish.plain and not os.environ.get("NO_COLOR")
         if not session.begin():
-            if isinstance(link, Staying) and link.refused_words and not wish.takes_over:
+            if isinstance(link, PersistentSession) and link.refused_words and not wish.takes_over:
                 return None
             link.close(say)
             say(f"samterm: {shlex.join(wish.command)}: the host doesn't answer")

@@ -1,4 +1,4 @@
-;;; What tests/emacs has Emacs do: it edits two files over a slow link.  -*- lexical-binding: t -*-
+;;; What tests/emacs/emacs has Emacs do: it edits two files over a slow link.  -*- lexical-binding: t -*-
 ;; The words are the folder of the files, and the host's; or `memory', the file that has requests for memory refused, and the host's. It
 ;; prints a line for each check that fails, and one with the numbers.
 

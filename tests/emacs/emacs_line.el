@@ -1,5 +1,5 @@
-;;; What tests/emacs has Emacs do with lines that break, stall or ask.  -*- lexical-binding: t -*-
-;; The words are a folder, samhost and tools/slow. It prints a line for each check that fails, and one with the numbers.
+;;; What tests/emacs/emacs has Emacs do with lines that break, stall or ask.  -*- lexical-binding: t -*-
+;; The words are a folder, samhost and tools/delay. It prints a line for each check that fails, and one with the numbers.
 
 (load (expand-file-name "emacs_support.el" (file-name-directory load-file-name)) nil t)
 

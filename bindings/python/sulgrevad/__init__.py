@@ -19,9 +19,10 @@ of them reads or writes anything: the program carries the bytes.
 Units: places and lengths count runes (Unicode scalar values, the characters of a `str`), and a text has at most 1,000,000. A text that
 is given may be a `str`, or its UTF-8 as `bytes`.
 
-A `Link` carries the bytes of both, and notes of the program, over connections that may break at any byte: docs/EMBEDDING.md has a loop.
+A `Link` carries the bytes of both, and notes of the program, over connections that may break at any byte: docs/howto/EMBEDDING.md has a
+loop.
 
-`replay` runs a script of docs/SCRIPTS.md over a host and a terminal of its own.
+`replay` runs a script of docs/reference/SCRIPTS.md over a host and a terminal of its own.
 
 Errors: each family of status codes has an exception class below `SamError`, whose `code` is the `Status`; `status_text` explains one.
 Out of memory: `NoMemory` says that what the call brought was not taken: make it again. `Unfinished` says that it was taken: don't bring

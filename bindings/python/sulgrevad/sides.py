@@ -47,8 +47,8 @@ class Change(NamedTuple):
 
 
 class HostDid(NamedTuple):
-    """What a step of a host did: `kind` is that of the message of an ANSWERED step, by the numbers of docs/PROTOCOL.md, `tag` the file of
-    an EDITED or ANSWERED one, or 0, and `messages` how many the host took."""
+    """What a step of a host did: `kind` is that of the message of an ANSWERED step, by the numbers of docs/reference/PROTOCOL.md, `tag` the
+    file of an EDITED or ANSWERED one, or 0, and `messages` how many the host took."""
 
     step: Step
     kind: int = 0
@@ -69,8 +69,8 @@ class TerminalDid(NamedTuple):
 
 
 class NextFrame(NamedTuple):
-    """The frame that a terminal's next step receives: its kind, by the numbers of docs/PROTOCOL.md, the file that it names, or 0, and the
-    place in its text where `gone` runes or gaps will give way."""
+    """The frame that a terminal's next step receives: its kind, by the numbers of docs/reference/PROTOCOL.md, the file that it names, or 0,
+    and the place in its text where `gone` runes or gaps will give way."""
 
     kind: int
     tag: int
@@ -556,9 +556,9 @@ class Terminal(_Side):
         raise error_of(code)
 
     def edits(self, gap: str = "\N{REPLACEMENT CHARACTER}") -> Iterator[Edit]:
-        """Makes the steps that receive the next frames, as long as each edits a text and all of them that of one file, and says of each what
-        went and what came; `gap` stands for a rune that is not loaded. Many may be received before the first of them is told: take all, and
-        make no event between two. Raises what `step` does, once those received before are told."""
+        """Makes the steps that receive the next frames, as long as each edits a text and all of them that of one file, and says of each
+        what went and what came; `gap` stands for a rune that is not loaded. Many may be received before the first of them is told: take
+        all, and make no event between two. Raises what `step` does, once those received before are told."""
         return chain.from_iterable(self.edits_at_once(gap))
 
     def edits_at_once(self, gap: str = "\N{REPLACEMENT CHARACTER}") -> Iterator[Edits]:
@@ -705,8 +705,8 @@ class Terminal(_Side):
         return self._number_if_any("line_before", c_uint32, tag, start, lines)
 
     def lines(self, tag: int, start: int, end: int) -> Tuple[int, int]:
-        """How many of the loaded runes of an open file from a place to a place are line ends, and how many of its runes there are not loaded.
-        Raises Missing."""
+        """How many of the loaded runes of an open file from a place to a place are line ends, and how many of its runes there are not
+        loaded. Raises Missing."""
         count, gaps = c_uint32(), c_uint32()
         self._call("lines", tag, start, end, byref(count), byref(gaps))
         return count.value, gaps.value

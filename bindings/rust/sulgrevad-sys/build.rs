@@ -10,7 +10,7 @@ fn link_archive(folder: &Path) {
     println!("cargo:rerun-if-changed={}", folder.join("libsulgrevad.a").display());
 }
 
-/// The folder of the archive that `./build_c` left, if this crate lies in the repository. If there is none yet, this program runs again
+/// The folder of the archive that `./build` left, if this crate lies in the repository. If there is none yet, this program runs again
 /// at the next build.
 fn folder_of_tree() -> Option<PathBuf> {
     let tree = PathBuf::from(env::var_os("CARGO_MANIFEST_DIR")?).join("../../..");

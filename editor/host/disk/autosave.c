@@ -1,4 +1,4 @@
-/* aside.c: saves texts that are not written.
+/* autosave.c: saves texts that are not written.
  *
  * A changed text goes to NAME.sam-saved beside its file, or to a folder of the user's own where that can't be. It goes there when its
  * file could not be written, when the user pauses, when its file is closed and when the session ends. It is removed once it is written.
@@ -10,7 +10,21 @@
 #include <sys/stat.h>
 #include <unistd.h>
 
-#include "samhost.h"
+#include "disk/autosave.h"
+#include "disk/cut_backup.h"
+#include "disk/file_writer.h"
+#include "disk/paths.h"
+#include "disk/saves.h"
+#include "journal/journal.h"
+#include "journal/journal_records.h"
+#include "journal/replay.h"
+#include "limits.h"
+#include "log.h"
+#include "net/event_loop.h"
+#include "net/handshake.h"
+#include "session/document.h"
+#include "session/session.h"
+#include "sulgrevad.h"
 
 enum {
     MOST_TRIES = 20,  /* attempts where memory is out */

@@ -1,13 +1,23 @@
-/* cut.c: what was cut last and stands nowhere else.
+/* cut_backup.c: what was cut last and stands nowhere else.
  *
- * While a terminal keeps text for undo, what the user has cut stands at the end of the file for undo, and the snarf buffer has another text.
+ * While a terminal keeps text for undo, what the user has cut stands at the end of the file for undo, and the snarf buffer has another
+ * text.
  */
 #define _XOPEN_SOURCE 700
 #include <errno.h>
 #include <stdlib.h>
 #include <string.h>
 
-#include "samhost.h"
+#include "disk/cut_backup.h"
+#include "disk/autosave.h"
+#include "disk/file_writer.h"
+#include "disk/paths.h"
+#include "disk/saves.h"
+#include "limits.h"
+#include "log.h"
+#include "net/event_loop.h"
+#include "session/session.h"
+#include "sulgrevad.h"
 
 #define HASH_FACTOR UINT64_C(0x100000001b3)
 

@@ -1,4 +1,6 @@
-/* places.c: folders for what can't stand beside its file: the user's own, so that no other user reads or names what is there. */
+/* fallback_directories.c: folders for what can't stand beside its file: the user's own, so that no other user reads or names what is
+ * there.
+ */
 #define _XOPEN_SOURCE 700
 #include <errno.h>
 #include <inttypes.h>
@@ -7,7 +9,9 @@
 #include <sys/stat.h>
 #include <unistd.h>
 
-#include "samhost.h"
+#include "disk/fallback_directories.h"
+#include "disk/paths.h"
+#include "limits.h"
 
 #define NAME "sulgrevad"
 

@@ -1,4 +1,4 @@
-/* opening.c: reads files: those of the words at the start, and others that are asked for later. */
+/* file_reader.c: reads files: those of the words at the start, and others that are asked for later. */
 #define _XOPEN_SOURCE 700
 #include <errno.h>
 #include <fcntl.h>
@@ -7,7 +7,17 @@
 #include <sys/stat.h>
 #include <unistd.h>
 
-#include "samhost.h"
+#include "disk/file_reader.h"
+#include "disk/autosave.h"
+#include "disk/folder_reader.h"
+#include "disk/paths.h"
+#include "disk/saves.h"
+#include "limits.h"
+#include "log.h"
+#include "session/document.h"
+#include "session/ending.h"
+#include "session/session.h"
+#include "sulgrevad.h"
 
 /* ---- Reading files ---- */
 

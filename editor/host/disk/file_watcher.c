@@ -1,4 +1,5 @@
-/* watching.c: notices that another program has changed a file which the terminal has open, and reads a file anew where a note asks for it.
+/* file_watcher.c: notices that another program has changed a file which the terminal has open, and reads a file anew where a note asks
+ * for it.
  *
  * Every two seconds the marks of these files are looked at; only a file whose marks have changed is read. The terminal is told once for
  * each text that the session has read or written, so a file that grows all the time is told once.
@@ -13,7 +14,18 @@
 #include <sys/stat.h>
 #include <unistd.h>
 
-#include "samhost.h"
+#include "disk/file_watcher.h"
+#include "disk/autosave.h"
+#include "disk/file_reader.h"
+#include "disk/paths.h"
+#include "disk/saves.h"
+#include "journal/journal_records.h"
+#include "log.h"
+#include "net/event_loop.h"
+#include "session/document.h"
+#include "session/persistent_session.h"
+#include "session/session.h"
+#include "sulgrevad.h"
 
 enum { PERIOD = 2000 }; /* milliseconds between two looks */
 

@@ -1,4 +1,4 @@
-/* disk.c: puts a text into a file.
+/* file_writer.c: puts a text into a file.
  *
  * As a rule a new file takes the place of the old one, so that a crash never leaves half a file. Where that can't be, or would take
  * something from the file (its other names, its owner, its access list), it is written in place. What it was is kept in a file of its
@@ -18,7 +18,11 @@
 #include <sys/xattr.h>
 #endif
 
-#include "samhost.h"
+#include "disk/file_writer.h"
+#include "disk/fallback_directories.h"
+#include "disk/file_reader.h"
+#include "disk/paths.h"
+#include "limits.h"
 
 enum {
     MOST_KEPT = 1000,      /* names that are tried for a copy */

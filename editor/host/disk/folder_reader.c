@@ -1,4 +1,4 @@
-/* folders.c: reads the text files below a folder.
+/* folder_reader.c: reads the text files below a folder.
  *
  * Files of a folder come before those of the folders in it, by their names. None is taken that is hidden or below a link to a folder.
  */
@@ -9,7 +9,14 @@
 #include <string.h>
 #include <sys/stat.h>
 
-#include "samhost.h"
+#include "disk/folder_reader.h"
+#include "disk/file_reader.h"
+#include "disk/paths.h"
+#include "disk/saves.h"
+#include "log.h"
+#include "session/ending.h"
+#include "session/session.h"
+#include "sulgrevad.h"
 
 enum {
     MOST_OFFERED = 200, /* files that are taken of one folder */

@@ -9,7 +9,8 @@
 #include <sys/stat.h>
 #include <unistd.h>
 
-#include "samhost.h"
+#include "disk/paths.h"
+#include "limits.h"
 
 enum {
     MOST_LINKS = 40,   /* symbolic links that are followed */

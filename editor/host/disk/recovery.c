@@ -1,4 +1,4 @@
-/* left.c: reports what earlier sessions left, and offers the texts that they saved to the terminal.
+/* recovery.c: reports what earlier sessions left, and offers the texts that they saved to the terminal.
  *
  * A text is offered as one more file of the session. Its name has the tag of the file that it is of, or 0 for what was cut last; whether it
  * is newer than that file (`+`) or not (`-`); and when it was saved.
@@ -11,7 +11,20 @@
 #include <sys/stat.h>
 #include <unistd.h>
 
-#include "samhost.h"
+#include "disk/recovery.h"
+#include "disk/autosave.h"
+#include "disk/cut_backup.h"
+#include "disk/fallback_directories.h"
+#include "disk/file_reader.h"
+#include "disk/file_writer.h"
+#include "disk/folder_reader.h"
+#include "disk/paths.h"
+#include "disk/saves.h"
+#include "limits.h"
+#include "log.h"
+#include "session/document.h"
+#include "session/session.h"
+#include "sulgrevad.h"
 
 enum {
     TIME_ROOM = 32,   /* bytes of a time in words */

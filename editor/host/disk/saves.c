@@ -1,4 +1,4 @@
-/* writing.c: writes a file when the terminal says so.
+/* saves.c: writes a file when the terminal says so.
  *
  * A file that another program changed is not replaced at once: that is reported, and only the next write replaces it, and keeps what it had
  * beside it. What can't be written is saved aside, since the terminal takes it for written, and closes the file without a question.
@@ -10,7 +10,18 @@
 #include <sys/stat.h>
 #include <unistd.h>
 
-#include "samhost.h"
+#include "disk/saves.h"
+#include "disk/autosave.h"
+#include "disk/file_writer.h"
+#include "disk/paths.h"
+#include "journal/journal.h"
+#include "journal/journal_records.h"
+#include "journal/replay.h"
+#include "limits.h"
+#include "log.h"
+#include "session/document.h"
+#include "session/session.h"
+#include "sulgrevad.h"
 
 #define NO_NAME EDOM           /* the error number of a file that has no name yet, or one that no file can have */
 #define NOT_WRITTEN EOWNERDEAD /* the error number of a file that an earlier terminal has changed */

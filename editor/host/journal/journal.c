@@ -17,7 +17,14 @@
 #include <sys/uio.h>
 #include <unistd.h>
 
-#include "samhost.h"
+#include "journal/journal.h"
+#include "disk/paths.h"
+#include "disk/saves.h"
+#include "log.h"
+#include "session/persistent_session.h"
+#include "session/session.h"
+#include "session/session_directory.h"
+#include "sulgrevad.h"
 
 enum {
     JOURNAL_VERSION = 1,

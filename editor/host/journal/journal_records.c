@@ -1,11 +1,21 @@
-/* steps.c: which steps of a session its journal has, and a document as bytes. */
+/* journal_records.c: which steps of a session its journal has, and a document as bytes. */
 #define _GNU_SOURCE
 #include <errno.h>
 #include <stdlib.h>
 #include <string.h>
 #include <unistd.h>
 
-#include "samhost.h"
+#include "journal/journal_records.h"
+#include "disk/autosave.h"
+#include "disk/cut_backup.h"
+#include "disk/file_writer.h"
+#include "disk/paths.h"
+#include "journal/journal.h"
+#include "limits.h"
+#include "session/document.h"
+#include "session/persistent_session.h"
+#include "session/session.h"
+#include "sulgrevad.h"
 
 /* ---- A document ---- */
 

@@ -1,4 +1,4 @@
-/* replaying.c: makes a session again of its journal.
+/* replay.c: makes a session again of its journal.
  *
  * The files and the terminal's bytes alone decide what a host is, and what a link puts. So a new host and a new link are given the same, in
  * the same order, and have to say the very same: where they don't, that is a fault of this program, and nothing is sent. What was done to
@@ -14,7 +14,18 @@
 #include <sys/stat.h>
 #include <unistd.h>
 
-#include "samhost.h"
+#include "journal/replay.h"
+#include "disk/paths.h"
+#include "disk/saves.h"
+#include "journal/journal.h"
+#include "journal/journal_records.h"
+#include "limits.h"
+#include "log.h"
+#include "net/event_loop.h"
+#include "session/ending.h"
+#include "session/persistent_session.h"
+#include "session/session.h"
+#include "sulgrevad.h"
 
 enum { MOST_AHEAD = 1 << 20 }; /* bytes of the terminal and of the host that may wait until the host catches up */
 

@@ -1,4 +1,5 @@
-/* serving.c: carries bytes between the host and standard input and output, and sleeps. A session that stays has them carried by its link.
+/* event_loop.c: carries bytes between the host and standard input and output, and sleeps. A session that stays has them carried by its
+ * link.
  *
  * The host goes on by single steps, so that a file is written, or saved before it is closed, as it stands at its message. A while after the
  * last message texts are saved aside.
@@ -11,7 +12,16 @@
 #include <sys/select.h>
 #include <unistd.h>
 
-#include "samhost.h"
+#include "net/event_loop.h"
+#include "disk/autosave.h"
+#include "disk/cut_backup.h"
+#include "disk/file_watcher.h"
+#include "disk/saves.h"
+#include "limits.h"
+#include "log.h"
+#include "session/ending.h"
+#include "session/session.h"
+#include "sulgrevad.h"
 
 enum {
     IDLE = 2000,             /* milliseconds of quiet after which changed texts are saved aside */

@@ -1,4 +1,4 @@
-/* calling.c: takes connections, and reads what they say first: the hello of a terminal's link, or what another samhost asks for.
+/* handshake.c: takes connections, and reads what they say first: the hello of a terminal's link, or what another samhost asks for.
  *
  * Who connects has to be the user. The system says so, and the folder lets nobody else in.
  */
@@ -10,7 +10,18 @@
 #include <sys/socket.h>
 #include <unistd.h>
 
-#include "samhost.h"
+#include "net/handshake.h"
+#include "disk/file_reader.h"
+#include "disk/saves.h"
+#include "journal/journal.h"
+#include "log.h"
+#include "net/event_loop.h"
+#include "session/file_requests.h"
+#include "session/persistent_session.h"
+#include "session/session.h"
+#include "session/session_directory.h"
+#include "session/takeover.h"
+#include "sulgrevad.h"
 
 enum { LONGEST_HELLO = 10000 }; /* milliseconds that a connection may take for what it says first */
 

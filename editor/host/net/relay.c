@@ -11,7 +11,11 @@
 #include <sys/socket.h>
 #include <unistd.h>
 
-#include "samhost.h"
+#include "net/relay.h"
+#include "limits.h"
+#include "net/event_loop.h"
+#include "session/ending.h"
+#include "sulgrevad.h"
 
 enum { LONGEST_HELLO = 10000 }; /* milliseconds that the terminal's hello is waited for, to be refused */
 

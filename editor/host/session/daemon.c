@@ -1,4 +1,4 @@
-/* parting.c: begins a session that stays in a process of its own, or finds it again; the present process relays to it.
+/* daemon.c: begins a session that stays in a process of its own, or finds it again; the present process relays to it.
  *
  * The files are read before that process begins, so what is wrong with them is said where samhost was called.
  */
@@ -12,7 +12,21 @@
 #include <time.h>
 #include <unistd.h>
 
-#include "samhost.h"
+#include "session/daemon.h"
+#include "disk/saves.h"
+#include "journal/journal.h"
+#include "journal/journal_records.h"
+#include "journal/replay.h"
+#include "log.h"
+#include "net/event_loop.h"
+#include "net/handshake.h"
+#include "net/relay.h"
+#include "session/ending.h"
+#include "session/persistent_session.h"
+#include "session/session.h"
+#include "session/session_control.h"
+#include "session/session_directory.h"
+#include "sulgrevad.h"
 
 enum {
     LONGEST_START = 10000, /* milliseconds that a session may take until it listens */

@@ -1,4 +1,4 @@
-/* joining.c: adds files to a session that has begun, and finds names that complete a path, as notes of the terminal ask.
+/* file_requests.c: adds files to a session that has begun, and finds names that complete a path, as notes of the terminal ask.
  *
  * All memory is taken before the host gets a file, so nothing is half done where memory is out: then the note is done again later.
  */
@@ -9,7 +9,16 @@
 #include <string.h>
 #include <sys/stat.h>
 
-#include "samhost.h"
+#include "session/file_requests.h"
+#include "disk/file_reader.h"
+#include "disk/file_watcher.h"
+#include "disk/paths.h"
+#include "disk/saves.h"
+#include "journal/journal_records.h"
+#include "limits.h"
+#include "session/persistent_session.h"
+#include "session/session.h"
+#include "sulgrevad.h"
 
 enum {
     MOST_NAMES = 200,                           /* names that complete a path */

@@ -1,4 +1,4 @@
-/* staying.c: serves a session that stays when its line breaks.
+/* persistent_session.c: serves a session that stays when its line breaks.
  *
  * The bytes of the session go through a link, which gives each of them once and in order over connections that may break anywhere. What the
  * plain samhost writes to standard error goes to the terminal as notes, in order with them. It ends when the terminal leaves, at a signal,
@@ -14,7 +14,19 @@
 #include <sys/socket.h>
 #include <unistd.h>
 
-#include "samhost.h"
+#include "session/persistent_session.h"
+#include "disk/file_watcher.h"
+#include "disk/paths.h"
+#include "journal/journal.h"
+#include "journal/journal_records.h"
+#include "limits.h"
+#include "log.h"
+#include "net/event_loop.h"
+#include "net/handshake.h"
+#include "session/ending.h"
+#include "session/file_requests.h"
+#include "session/session.h"
+#include "sulgrevad.h"
 
 enum {
     LONGEST_END = 60000,   /* milliseconds that the last note is kept for a terminal that has left */

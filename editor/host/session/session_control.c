@@ -1,4 +1,4 @@
-/* asking.c: lists the sessions that stay, ends one, and has one show a file. */
+/* session_control.c: lists the sessions that stay, ends one, and has one show a file. */
 #define _GNU_SOURCE
 #include <errno.h>
 #include <fcntl.h>
@@ -12,7 +12,19 @@
 #include <time.h>
 #include <unistd.h>
 
-#include "samhost.h"
+#include "session/session_control.h"
+#include "disk/paths.h"
+#include "disk/saves.h"
+#include "journal/journal.h"
+#include "limits.h"
+#include "log.h"
+#include "net/event_loop.h"
+#include "net/handshake.h"
+#include "session/daemon.h"
+#include "session/ending.h"
+#include "session/persistent_session.h"
+#include "session/session.h"
+#include "session/session_directory.h"
 
 enum {
     LONGEST_ANSWER = 5000, /* milliseconds that an answer is waited for */

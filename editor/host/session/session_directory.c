@@ -1,4 +1,4 @@
-/* homes.c: the folders of sessions that stay: one for each, with its socket, its lock and its journal.
+/* session_directory.c: the folders of sessions that stay: one for each, with its socket, its lock and its journal.
  *
  * They lie in the user's own folder. Nobody else may read or write them, whatever the umask; one that is a symbolic link, another user's or
  * open to others is refused. The lock is held by the samhost that lives, as long as it lives.
@@ -16,7 +16,9 @@
 #include <sys/un.h>
 #include <unistd.h>
 
-#include "samhost.h"
+#include "session/session_directory.h"
+#include "disk/fallback_directories.h"
+#include "log.h"
 
 enum { MOST_WAITING = 16 }; /* connections that wait to be accepted */
 

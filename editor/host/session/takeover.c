@@ -1,4 +1,4 @@
-/* taking.c: another terminal takes a session over.
+/* takeover.c: another terminal takes a session over.
  *
  * It gets a new host with the names and texts of the old one, and a link of its own, so the session is named anew, too. What was not
  * written stays so. Undo, dots, the command window and what the host has cut are the old terminal's: what was cut last is saved aside. All
@@ -13,7 +13,25 @@
 #include <sys/socket.h>
 #include <unistd.h>
 
-#include "samhost.h"
+#include "session/takeover.h"
+#include "disk/autosave.h"
+#include "disk/cut_backup.h"
+#include "disk/file_reader.h"
+#include "disk/file_watcher.h"
+#include "disk/saves.h"
+#include "journal/journal.h"
+#include "journal/journal_records.h"
+#include "limits.h"
+#include "log.h"
+#include "net/handshake.h"
+#include "session/daemon.h"
+#include "session/document.h"
+#include "session/ending.h"
+#include "session/persistent_session.h"
+#include "session/session.h"
+#include "session/session_control.h"
+#include "session/session_directory.h"
+#include "sulgrevad.h"
 
 /* ---- What is handed on ---- */
 

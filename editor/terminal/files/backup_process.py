@@ -7,13 +7,13 @@ import select
 import signal
 from typing import Callable, Dict, List, Optional, Tuple
 
-import rescue
+from . import local_backup
 
 Which = Tuple[Optional[int], str]  # a file's tag, None for what is no file, and a name
 MOST_READ = 65_536  # bytes of what it tells that are read at once
 
 
-class Copies:
+class BackupProcess:
     """The paths of what was written, by tag and name."""
 
     def __init__(self) -> None:
@@ -58,8 +58,8 @@ class Copies:
             with contextlib.suppress(Exception):  # it is tried again, and at the end it is told
                 text, path = text_of(), self.paths.get(which)
                 if path is not None:
-                    rescue.write_again(path, text)
-                elif text and (path := rescue.keep(which[1], text)) is not None:
+                    local_backup.write_again(path, text)
+                elif text and (path := local_backup.keep(which[1], text)) is not None:
                     self.paths[which] = path
 
     def finish(self) -> None:

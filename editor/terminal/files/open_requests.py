@@ -2,9 +2,9 @@
 from collections import deque
 from typing import Deque, List, NamedTuple, Optional, Tuple
 
-from keys import Input, Key, Text
-from menus import Menu
-from staying import Note
+from ..keys.bindings import Input, Key, Text
+from ..view.menus import Menu
+from ..line.persistent_session import Note
 
 QUIET = 1.0  # seconds after the last key from which on a file may come up that the user did not ask for
 VERSION = 2  # of the protocol; with its offer come the names of files that have joined
@@ -17,7 +17,7 @@ class Wished(NamedTuple):
     line: int
 
 
-class Joining:
+class OpenRequests:
     """What was asked of the host, and what it has answered."""
 
     def __init__(self, editor):
@@ -115,7 +115,7 @@ def names_of(names: str) -> List[str]:
 class Files(Menu):
     """The menu of files: those of the session, and what the host has whose path begins as it is typed."""
 
-    def __init__(self, joining: Joining, entries: List[Tuple[str, str]], chosen: int, choose):
+    def __init__(self, joining: OpenRequests, entries: List[Tuple[str, str]], chosen: int, choose):
         self.joining, self.names, self.has_more, self.is_answered = joining, [], False, False
         super().__init__("Files; a path opens another", entries, chosen, choose)
 

@@ -6,13 +6,13 @@ import re
 import time
 from typing import Dict, List, NamedTuple, Optional, Tuple, Union
 
-import rescue
-from keeping import shown_name
-from keys import Input, Key, Mouse, Paste, Text
-from notes import printable
-from texts import COMMAND, MOST_RUNES, Change, Changes
-from undo import Step
-from windows import end_of_load
+from . import local_backup
+from .unsaved_texts import shown_name
+from ..keys.bindings import Input, Key, Mouse, Paste, Text
+from ..view.status_line import printable
+from ..text.texts import COMMAND, MOST_RUNES, Change, Changes
+from ..text.undo import Step
+from ..view.windows import end_of_load
 
 # The name in the session of a text that the host saved: the tag of its file, 0 for what was cut last; whether it is newer; and when it
 # was saved.
@@ -39,7 +39,7 @@ class Changed(NamedTuple):
     when: str = ""
 
 
-class Left:
+class Recovery:
     """The texts that are left, and what the user does with them."""
 
     def __init__(self, editor):
@@ -63,7 +63,7 @@ class Left:
             if found := NAMED.fullmatch(self.terminal.name(tag)):
                 self.tags[tag] = Old(int(found[1]), found[3], found[2] == "+", tag=tag)
         names = {tag: self.terminal.name(tag) for tag in self.editor.tags}
-        here = rescue.left(names.values())
+        here = local_backup.left(names.values())
         for tag, name in names.items():
             for path in here[name]:
                 self._note_here(tag, name, path)
@@ -120,7 +120,7 @@ class Left:
         if not editor.window_of(tag).is_settled:
             editor.act_again("waits for the file")
             return False
-        text = rescue.read(old.path) if old.path else ""
+        text = local_backup.read(old.path) if old.path else ""
         if text is None:
             editor.message = f"{old.path} can't be read"
             return True
@@ -137,16 +137,17 @@ class Left:
     def _filled(self, old: Old, text: str) -> Optional[str]:
         """A text with what it lacks, from what the host saved of its file, else from the file itself, once the user was told. None where
         the key acts again, or asks."""
-        lacks, self._whole = rescue.lacking(text), None
+        lacks, self._whole = local_backup.lacking(text), None
         if not lacks:
             return text
         whole = self._newest_of(old.of)
         tag = old.of if whole is None else whole.tag
         if (whole is not None and not self._is_opened(whole)) or not self._is_loaded(tag):
             return None
-        text = rescue.filled(text, self.editor.texts.read(tag, 0, self.terminal.len(tag)))
-        self._whole = None if rescue.lacking(text) else whole
-        if self._warned != old and not self._is_warned(lacks, rescue.lacking(text), "the file" if whole is None else "what the host saved"):
+        text = local_backup.filled(text, self.editor.texts.read(tag, 0, self.terminal.len(tag)))
+        self._whole = None if local_backup.lacking(text) else whole
+        source = "the file" if whole is None else "what the host saved"
+        if self._warned != old and not self._is_warned(lacks, local_backup.lacking(text), source):
             return None
         self._warned = old
         return text
@@ -257,7 +258,7 @@ class Left:
             return False
         if not (self._is_loaded(old.of) and (old.path or self._is_loaded(old.tag))):
             return False
-        text = rescue.read(old.path) if old.path else editor.texts.read(old.tag, 0, self.terminal.len(old.tag))
+        text = local_backup.read(old.path) if old.path else editor.texts.read(old.tag, 0, self.terminal.len(old.tag))
         lines = differences(editor.texts.read(old.of, 0, self.terminal.len(old.of)), text or "")
         editor.menu = Differences(f"- {editor.name(old.of)}   + {self.line(old)}", lines)
         return True
@@ -297,7 +298,7 @@ class Choice:
 
     title, is_box, goes_by_place = "Left of earlier sessions: Enter takes the text, c compares it, d drops it", True, False
 
-    def __init__(self, left: Left):
+    def __init__(self, left: Recovery):
         self.left, self.is_over, self.chosen = left, False, 0
 
     def lines(self, height: int) -> List[Tuple[str, bool]]:

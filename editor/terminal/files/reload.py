@@ -5,14 +5,14 @@ line, `^Z` takes it back, and the file counts as written then.
 """
 from typing import Dict, Iterable, List, Optional, Set
 
-from joining import VERSION
-from staying import Note
+from .open_requests import VERSION
+from ..line.persistent_session import Note
 
 NAME = "~~anew~~ "  # what names of the hidden files begin with
 OFFER = "; ^U reloads it"
 
 
-class Reloading:
+class Reload:
     """What was changed by others, and what is read anew."""
 
     def __init__(self, editor):

@@ -2,10 +2,10 @@
 from collections import Counter
 from typing import Dict, List, Optional, Set, Tuple
 
-import rescue
-from copies import Copies
-from notes import Said, printable
-from texts import GAP, Changes
+from . import local_backup
+from .backup_process import BackupProcess
+from ..view.status_line import Said, printable
+from ..text.texts import GAP, Changes
 
 HERE_AFTER = 10.0  # seconds without a line after which changed texts are also written here, and then again
 # To begin that takes some milliseconds, so it comes between two keys: right after one, or once none has come for a while.
@@ -20,7 +20,7 @@ def shown_name(path: str) -> str:
     return path if len(path) <= MOST_RUNES_IN_NAME else "…" + path[1 - MOST_RUNES_IN_NAME :]
 
 
-class Keeping:
+class UnsavedTexts:
     """The texts of an editor, as far as they are not written."""
 
     def __init__(self, editor):
@@ -38,7 +38,7 @@ class Keeping:
         self._saved: Dict[int, int] = {}  # how many of them are in what the host has saved aside
         self._dropped: Dict[int, Tuple[str, str]] = {}  # names and texts of files that were dropped with open eyes, until they are saved
         self.put_off: List[int] = []  # files that are written when the line is back
-        self._copies = Copies()  # what was written here while the line was lost
+        self._copies = BackupProcess()  # what was written here while the line was lost
         self._here_at: Optional[float] = None  # when
 
     def name(self, tag: int) -> str:
@@ -111,7 +111,7 @@ class Keeping:
     def let_go(self, tag: int) -> None:
         """The user closes a file that was not written. Its text is kept until the host says that it has it."""
         if self.terminal.is_open(tag):
-            self._dropped[tag] = (self.name(tag), rescue.loaded(self.terminal, tag))
+            self._dropped[tag] = (self.name(tag), local_backup.loaded(self.terminal, tag))
 
     def keep_here(self, has_all: bool, has_ended_well: bool = False) -> List[str]:
         """Writes to files of this machine what nobody has saved, as far as it is loaded: texts, what was typed and still waits, the command
@@ -131,7 +131,7 @@ class Keeping:
             is_saved = has_all and (has_ended_well or self._saved.get(tag) == self._changes[tag])
             if more or (self.editor.is_changed(tag) and not is_saved):
                 try:
-                    text = rescue.loaded(self.terminal, tag, self.editor.vault.going)
+                    text = local_backup.loaded(self.terminal, tag, self.editor.vault.going)
                     lines.append(self._kept(self.name(tag), text + more, tag))
                 except Exception as error:  # whatever it is, the other texts are written
                     self.is_hopeless = True
@@ -197,10 +197,10 @@ class Keeping:
 
     def _keep_all_here(self) -> None:
         editor = self.editor
-        texts = [(tag, self.name(tag), lambda tag=tag: rescue.loaded(self.terminal, tag, editor.vault.going))
+        texts = [(tag, self.name(tag), lambda tag=tag: local_backup.loaded(self.terminal, tag, editor.vault.going))
                  for tag in filter(self.terminal.is_open, editor.tags) if editor.is_changed(tag)]  # fmt: skip
         texts += [(None, "typed", lambda: editor.typed_ahead), (None, "command", editor.begun_line)]
-        texts.append((None, "cut", lambda: rescue.told(editor.cut_text)))
+        texts.append((None, "cut", lambda: local_backup.told(editor.cut_text)))
         self._copies.write([((tag, name), text_of) for tag, name, text_of in texts])
 
     def _kept_cut(self, is_saved: bool) -> List[str]:
@@ -209,7 +209,7 @@ class Keeping:
         if not text or is_saved:
             return []
         lacks = text.count(GAP)
-        lines = [self._kept("cut", rescue.told(text))]
+        lines = [self._kept("cut", local_backup.told(text))]
         if lacks:
             lines.append(f"of what was cut {lacks} characters were not loaded: samhost saves all of it, unless it was killed before")
         return lines
@@ -226,7 +226,7 @@ class Keeping:
     def _kept(self, name: str, text: str, tag: Optional[int] = None) -> str:
         path = self._copies.take((tag, name))
         try:
-            path = rescue.keep(name, text) if path is None else rescue.write_again(path, text)
+            path = local_backup.keep(name, text) if path is None else local_backup.write_again(path, text)
         except Exception:  # out of memory, say: the other texts are written
             path = None
         self.is_hopeless = self.is_hopeless or path is None

@@ -1,12 +1,12 @@
-"""What each key does. A method `do_NAME` stands for each action of the table of keys, here or in moving.py."""
-from commands import Commands, line_at
-from find import Find
-from joining import Files
-from keys import Paste, Text
-from menus import Help, Menu
-from moving import Moves
-from texts import COMMAND, GAP, MOST_RUNES
-from windows import Window
+"""What each key does. A method `do_NAME` stands for each action of the table of keys, here or in movement.py."""
+from .command_lines import Commands, line_at
+from .search import Find
+from ..files.open_requests import Files
+from .bindings import Paste, Text
+from ..view.menus import Help, Menu
+from .movement import Moves
+from ..text.texts import COMMAND, GAP, MOST_RUNES
+from ..view.windows import Window
 
 MOST_PASTED_HERE = 4_096  # runes that `^V` types where the session stays: so no break can lock the file meanwhile
 LEAST_ROWS = 4  # rows of the least window, with its title

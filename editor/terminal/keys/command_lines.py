@@ -3,11 +3,11 @@ from itertools import accumulate
 from operator import add, sub
 from typing import Dict, Optional, Tuple
 
-from keys import Input, Paste, Text
-from layout import line_end, line_start
-from lines import is_address, line_number, removes
-from texts import COMMAND, GAP, Changes
-from windows import Window
+from .bindings import Input, Paste, Text
+from ..view.layout import line_end, line_start
+from ..text.lines import is_address, line_number, removes
+from ..text.texts import COMMAND, GAP, Changes
+from ..view.windows import Window
 
 
 TOO_LONG = "? long\n"  # what the host prints of a line that it didn't run

@@ -5,7 +5,7 @@ import locale
 import re
 from typing import Dict, List, Optional
 
-from keys import Input, Key, Mouse, Paste, Text
+from .bindings import Input, Key, Mouse, Paste, Text
 
 ESCAPE_DELAY = 0.025  # seconds after which an Esc was a key, and no sequence's begin
 REST_DELAY = 0.5  # the same for a sequence whose rest is missing

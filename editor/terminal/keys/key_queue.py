@@ -5,14 +5,14 @@ from collections import deque
 from itertools import chain, islice
 from typing import Callable, Deque, Dict, NamedTuple, Optional, Set
 
-from keys import ACTIONS, ALL, ANSWERS, FILE, LINE, NOTHING, PATTERN, PLACE, ROWS, SCREEN, WINDOW, WINDOWS, WRITTEN
-from keys import Binding, Input, Key, Mouse, Paste, Text
-from layout import line_end, line_start
-from notes import REPEAT
+from .bindings import ACTIONS, ALL, ANSWERS, FILE, LINE, NOTHING, PATTERN, PLACE, ROWS, SCREEN, WINDOW, WINDOWS, WRITTEN
+from .bindings import Binding, Input, Key, Mouse, Paste, Text
+from ..view.layout import line_end, line_start
+from ..view.status_line import REPEAT
 from sulgrevad import SamError
-from targets import Missing
-from texts import COMMAND
-from windows import Window, end_of_load
+from .motions import Missing
+from ..text.texts import COMMAND
+from ..view.windows import Window, end_of_load
 
 BUSY = 0.25  # seconds after an edit or a move in which nothing more is asked for, so that the keys after it need not wait
 REST = 0.25  # seconds after the last key from which on it is asked for what the user may turn to next
@@ -101,7 +101,7 @@ class Held:
         return self.goes_by_screen and binding.order in (SCREEN, WINDOW)
 
 
-class Waiting:
+class KeyQueue:
     """The part of the editor that takes keys."""
 
     def _begin_waiting(self) -> None:

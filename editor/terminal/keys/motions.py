@@ -2,9 +2,9 @@
 import re
 from typing import List, Tuple
 
-import layout
-from layout import Layout, line_end, line_start, looks, row_start
-from texts import COMMAND, GAP
+from ..view import layout
+from ..view.layout import Layout, line_end, line_start, looks, row_start
+from ..text.texts import COMMAND, GAP
 
 PIECE = 4096  # runes that are looked at at once for the end of a word
 LONGEST_LOOK = 512  # runes of the line before that a new line takes its indentation from

@@ -1,8 +1,8 @@
 """What the mouse does."""
 from typing import Optional, Tuple
 
-from keys import Mouse
-from windows import Window
+from .bindings import Mouse
+from ..view.windows import Window
 
 DOUBLE_CLICK = 0.4  # seconds between the two clicks
 WHEEL_ROWS = 3

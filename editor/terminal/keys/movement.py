@@ -1,4 +1,4 @@
-"""Keys that move the caret, or what a window shows. Where they lead stands in targets.py."""
+"""Keys that move the caret, or what a window shows. Where they lead stands in motions.py."""
 
 
 class Moves:

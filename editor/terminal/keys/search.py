@@ -1,10 +1,10 @@
 """Finding as the user types: on what is loaded at once, and by the host at Enter."""
 from typing import Optional, Tuple
 
-from keys import Input, Key, Paste, Text
-from lines import escaped
-from texts import GAP
-from windows import end_of_load
+from .bindings import Input, Key, Paste, Text
+from ..text.lines import escaped
+from ..text.texts import GAP
+from ..view.windows import end_of_load
 
 PIECE = 16_384  # runes that are searched at once
 FIRST_REACH, LONGEST_REACH = 4_096, 32_768  # runes that are loaded for a search above, in one round trip, twice as many each time

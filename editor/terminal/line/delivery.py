@@ -1,23 +1,23 @@
 """The way to the host: how many messages to tell of, when to ask whether they have arrived, and whether its answers are late."""
 from typing import Callable, Optional
 
-from staying import Staying
-from glance import Glance
-from texts import COMMAND
+from .persistent_session import PersistentSession
+from ..text.cached_terminal import CachedTerminal
+from ..text.texts import COMMAND
 
 TOLD_AFTER = 0.15  # seconds on the way before messages are told of, so that with a quick host nothing flickers
 SILENT_AFTER = 3  # seconds without a word of the host, though an answer is due, that are told of
 KNOWN_AFTER = 3.0  # seconds for which answers are late until the user has to know: up to then keys wait, as over a slow line
 
 
-class Way:
+class Delivery:
     """The messages that the host has not taken, as far as it has told.
 
     The host answers no typing and no cutting, so nobody would learn that these arrived. `send` therefore asks it a question that changes
     nothing, where the answer to the last one has come.
     """
 
-    def __init__(self, terminal: Glance, clock: Callable[[], float]):
+    def __init__(self, terminal: CachedTerminal, clock: Callable[[], float]):
         self.terminal, self.clock = terminal, clock
         self._sent_at = -1  # after which deed all was sent
         self._asked = 0  # the number of the message that asked last
@@ -26,7 +26,7 @@ class Way:
         self._since: Optional[float] = None  # since when messages are on the way
         self._last: Optional[int] = None  # at the end of the session, how many messages the user has made
         self._heard_at = 0.0  # when bytes of the host came last
-        self.line: Optional[Staying] = None  # to a session that stays; its notes come in order with the stream
+        self.line: Optional[PersistentSession] = None  # to a session that stays; its notes come in order with the stream
         self._late_since: Optional[float] = None
 
     @property

@@ -34,7 +34,7 @@ def wait_for(wanted: Dict[int, int], seconds: Optional[float]) -> Dict[int, int]
     return polled(poll_of(wanted), seconds)
 
 
-class Link:
+class HostProcess:
     """A host's process. Nothing here waits, but for `wait_for_stream` and `close`."""
 
     why = "the host is gone"  # where it is lost

@@ -9,8 +9,8 @@ import time
 from typing import Callable, Dict, List, NamedTuple, Optional, Sequence, Union
 
 import sulgrevad
-from link import SECONDS_TO_END, Link, wait_for
-from network import Network
+from .host_process import SECONDS_TO_END, HostProcess, wait_for
+from .network import Network
 from sulgrevad import SamError
 
 MARK = bytes.fromhex("8973616d6c696e6b")  # with which a hello begins
@@ -48,7 +48,7 @@ class Note(NamedTuple):
 Item = Union[bytes, str, Note]  # bytes of the stream, a line that the host tells, another note
 
 
-class Staying:
+class PersistentSession:
     """The terminal's end. Nothing here waits, but for `wait_for_stream`, `connect_in_front` and `close`."""
 
     def __init__(self, command: List[str], begin: Callable[[str], List[str]], takes_over: bool = False, clock=time.monotonic):
@@ -58,8 +58,8 @@ class Staying:
         identity = os.urandom(ID_BYTES)
         self.name, self.machine = identity[:NAME_BYTES].hex(), ""
         self._end = sulgrevad.Link(sulgrevad.Link.TERMINAL, identity)
-        self.relay: Optional[Link] = None  # the newest connection; None between two
-        self._old: List[Link] = []  # those that are ended, until their processes are gone
+        self.relay: Optional[HostProcess] = None  # the newest connection; None between two
+        self._old: List[HostProcess] = []  # those that are ended, until their processes are gone
         self._gone = (0, 0)  # bytes that older connections have carried each way
         self.is_lost, self.why = False, ""  # no connection comes any more
         self._network, self._gone_at = Network(), 0.0  # when an address of this machine went
@@ -88,7 +88,7 @@ class Staying:
         self._begun.clear()
         self._called_at = self._heard_at = self.clock()
         try:
-            self.relay = Link([*self.command, *words], own_session=attempt > 1 and not in_front)
+            self.relay = HostProcess([*self.command, *words], own_session=attempt > 1 and not in_front)
         except OSError:
             self._end.broken(attempt)
             self._note_phase()
@@ -286,7 +286,7 @@ class Staying:
         self.send()
         return items
 
-    def _new_lines(self, relay: Link) -> List[str]:
+    def _new_lines(self, relay: HostProcess) -> List[str]:
         """What a connection's programs write to standard error; each line once, however many connections fail by the same."""
         lines = [line for line in relay.listen() if line != self._last_line]
         self._last_line = lines[-1] if lines else self._last_line
@@ -486,4 +486,4 @@ class Staying:
     ends = False  # whether the user has left, so that the session ends
 
 
-Line = Union[Link, Staying]  # the way to the host, whichever it is
+Line = Union[HostProcess, PersistentSession]  # the way to the host, whichever it is

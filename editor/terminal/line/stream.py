@@ -3,7 +3,7 @@ from collections import deque
 from typing import Callable, Deque, Dict, List, Optional
 
 from sulgrevad import Edits, Step, Terminal, TerminalDid
-from texts import GAP, Change, Changes, Texts, received
+from ..text.texts import GAP, Change, Changes, Texts, received
 
 # Kinds of frames.
 BINDNAME, NEWNAME, GROW, UNLOCK, DATA, UNLOCKFILE, SETDOT, GROWDATA, MOVETO, CLEAN = 66, 68, 70, 72, 73, 75, 76, 77, 78, 79
@@ -14,8 +14,8 @@ Told = Dict[int, Callable[[int], None]]
 
 
 class Stream:
-    """Bytes come in by `feed`. `told` has what to call with the file of a frame of a kind that edits nothing, once the terminal has received
-    it: it makes no event, since frames still wait. `settled` has the same for after all of them."""
+    """Bytes come in by `feed`. `told` has what to call with the file of a frame of a kind that edits nothing, once the terminal has
+    received it: it makes no event, since frames still wait. `settled` has the same for after all of them."""
 
     def __init__(self, terminal: Terminal, texts: Texts, told: Told, settled: Told):
         self.terminal, self.texts, self.told, self.settled = terminal, texts, told, settled

@@ -1,10 +1,11 @@
-"""The terminal as the editor reads it: what it holds, and what it knows of a file, is asked of the library once, until something is done."""
+"""The terminal as the editor reads it: what it holds, and what it knows of a file, is asked of the library once, until something is
+done."""
 from functools import wraps
 from operator import itemgetter
 from typing import Any, Callable, Dict, Iterator, Optional, Tuple, Union
 
 from sulgrevad import Edits, FileState, Refusal, Step, Terminal, TerminalDid, TerminalState
-from texts import COMMAND, GAP
+from .texts import COMMAND, GAP
 
 # What changes something of one file alone, where no event is held that may act then, too.
 OF_ONE = ("type", "edit", "select", "view")
@@ -24,7 +25,7 @@ COUNTS = (
 LEAST_PIECE, MORE, MOST_PIECE = 1025, 4_096, 65_536  # runes of a read that is kept; that are read behind it; and that are kept of a file
 
 
-class Glance(Terminal):
+class CachedTerminal(Terminal):
     """A terminal of which the readers below ask once for all. Of each file one piece of the text is kept, and follows its changes."""
 
     def __init__(self) -> None:
@@ -189,7 +190,7 @@ class Glance(Terminal):
 
 def _forgetting(deed: Callable[..., Any]) -> Callable[..., Any]:
     @wraps(deed)
-    def done(self: Glance, *words: Any, **more: Any) -> Any:
+    def done(self: CachedTerminal, *words: Any, **more: Any) -> Any:
         try:
             return deed(self, *words, **more)
         except MemoryError:
@@ -208,7 +209,7 @@ def _of_one(deed: Callable[..., Any], is_typing: bool) -> Callable[..., Any]:
     forgets = _forgetting(deed)
 
     @wraps(deed)
-    def done(self: Glance, tag: int, *words: Any) -> Any:
+    def done(self: CachedTerminal, tag: int, *words: Any) -> Any:
         if self._now is None or self._now.held or self._is_short or (is_typing and tag == COMMAND):
             return forgets(self, tag, *words)
         self._is_short = True  # until it is done
@@ -223,7 +224,7 @@ def _of_one(deed: Callable[..., Any], is_typing: bool) -> Callable[..., Any]:
     return done
 
 
-def _step(self: Glance) -> TerminalDid:
+def _step(self: CachedTerminal) -> TerminalDid:
     """The same, without what costs time: there may be thousands of steps."""
     self._now, is_done = None, True
     try:
@@ -246,9 +247,9 @@ def _count_of(name: str) -> property:
 
 
 for _deed in DEEDS:
-    setattr(Glance, _deed, _forgetting(getattr(Terminal, _deed)))
+    setattr(CachedTerminal, _deed, _forgetting(getattr(Terminal, _deed)))
 for _deed in OF_ONE:
-    setattr(Glance, _deed, _of_one(getattr(Terminal, _deed), _deed == "type"))
-Glance.step = _step  # type: ignore[method-assign]
+    setattr(CachedTerminal, _deed, _of_one(getattr(Terminal, _deed), _deed == "type"))
+CachedTerminal.step = _step  # type: ignore[method-assign]
 for _count in COUNTS:
-    setattr(Glance, _count, _count_of(_count))
+    setattr(CachedTerminal, _count, _count_of(_count))

@@ -2,7 +2,7 @@
 import re
 from typing import Dict, Optional, Tuple
 
-from texts import GAP, Changes, Texts
+from .texts import GAP, Changes, Texts
 
 MOST_COUNTED = 65_536  # runes between a place whose line is known and another, over which lines are counted
 MOST_DIGITS = 7  # of the number of a line that a text may have

@@ -2,13 +2,13 @@
 lost."""
 from typing import Iterator, Optional, Tuple
 
-from windows import MOST_IN_LOAD, Window, end_of_load
+from ..view.windows import MOST_IN_LOAD, Window, end_of_load
 
 FIRST_SLICE, LEAST_SLICE = 2_048, 512  # runes
 QUICK, LONG = 0.05, 0.15  # seconds more than a round trip: a slice that takes less may grow, one that takes more is too long
 
 
-class Slices:
+class Prefetch:
     """Loads a slice after the other, each as long as one round trip carries: a key that comes meanwhile waits no longer."""
 
     def __init__(self, editor):

@@ -3,8 +3,8 @@ from itertools import chain
 from typing import Dict, Iterable, Iterator, List, Optional
 
 from sulgrevad import Terminal, Unfinished
-from texts import GAP, Change, Changes, Texts, runs
-from vault import Kept, Part, Vault
+from .texts import GAP, Change, Changes, Texts, runs
+from .undo_store import Kept, Part, UndoStore
 
 MOST_STEPS = 10_000  # steps that are kept of a file
 MOST_TYPED = 80  # runes that are taken back at once, of those typed one after the other
@@ -107,7 +107,7 @@ class Known:
 class Undo:
     """What was done to each file, and what was taken back."""
 
-    def __init__(self, terminal: Terminal, texts: Texts, vault: Vault):
+    def __init__(self, terminal: Terminal, texts: Texts, vault: UndoStore):
         self.terminal, self.texts, self.vault = terminal, texts, vault
         vault.live = self.parts
         self.past: Steps = {}

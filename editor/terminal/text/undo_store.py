@@ -6,7 +6,7 @@ from collections import deque
 from typing import Callable, Deque, List, NamedTuple, Optional
 
 from sulgrevad import Terminal, Unfinished
-from texts import MOST_RUNES, Change, Texts
+from .texts import MOST_RUNES, Change, Texts
 
 NAME = "~~undo~~"  # the vault's name in the session
 
@@ -32,7 +32,7 @@ class Kept(NamedTuple):
     part: Part
 
 
-class Vault:
+class UndoStore:
     """Keeps texts and puts them back, in steps: each waits until the host has answered the one before, and the user's keys wait for all."""
 
     def __init__(self, terminal: Terminal, texts: Texts):

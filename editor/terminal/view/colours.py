@@ -9,8 +9,8 @@ from itertools import accumulate
 from operator import itemgetter
 from typing import Any, Callable, Dict, Iterator, List, NamedTuple, Optional, Sequence, Set, Tuple
 
-from layout import Reader, Strip
-from texts import GAP, Changes
+from .layout import Reader, Strip
+from ..text.texts import GAP, Changes
 
 # What is told apart: 0 is for text without a colour.
 KEYWORD, STRING, COMMENT, NUMBER, NAME, SPECIAL, GONE, CAME = range(1, 9)

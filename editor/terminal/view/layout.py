@@ -9,7 +9,7 @@ from bisect import bisect_right
 from functools import lru_cache
 from typing import Callable, List, NamedTuple, Optional, Sequence, Tuple
 
-from texts import GAP, Change
+from ..text.texts import GAP, Change
 
 Reader = Callable[[int, int], str]
 

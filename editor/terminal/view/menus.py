@@ -1,7 +1,7 @@
 """What lies over the windows: the menu of files and the help. Each has rows to draw, and takes keys until it is over."""
 from typing import Callable, List, Tuple
 
-from keys import Input, Key, Mouse, Paste, Text, table
+from ..keys.bindings import Input, Key, Mouse, Paste, Text, table
 
 Line = Tuple[str, bool]  # a text, and whether it is the chosen one
 

@@ -10,11 +10,11 @@ from functools import lru_cache
 from itertools import chain, count, repeat
 from typing import Dict, Iterable, List, NamedTuple, Optional, Sequence, Tuple
 
-from colours import Spans, painted
-from editor import Editor
-from layout import Row, Strip, fitted, has_wide
-from staying import Line
-from windows import Window
+from .colours import Spans, painted
+from ..editor import Editor
+from .layout import Row, Strip, fitted, has_wide
+from ..line.persistent_session import Line
+from .windows import Window
 
 Run = Tuple[str, int]  # a text and its curses attributes
 NO_RUNS: List[Run] = []

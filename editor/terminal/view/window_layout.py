@@ -1,14 +1,14 @@
 """The desk: the windows on the screen, and the one to which the keys go."""
 from typing import Dict, List, Optional
 
-from texts import COMMAND, Changes, Texts
-from windows import LEAST_WITH_NUMBERS, Window
+from ..text.texts import COMMAND, Changes, Texts
+from .windows import LEAST_WITH_NUMBERS, Window
 
 SMALL = 2  # the fewest rows of a window with its title
 LEAST_LARGE = 5  # rows that a large one has at least, where the screen has them
 
 
-class Desk:
+class WindowLayout:
     """The command window at the top, the windows of files below it."""
 
     def __init__(self, texts: Texts):

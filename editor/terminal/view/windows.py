@@ -1,10 +1,10 @@
 """Windows: what of a file is shown, and how it follows the user and the host. No text is kept here, each look reads the terminal."""
 from typing import NamedTuple, Optional, Tuple
 
-from layout import Layout, line_start, row_start, top_above
+from .layout import Layout, line_start, row_start, top_above
 from sulgrevad import FileState, Terminal
-from targets import Targets
-from texts import GAP, Change, Changes, Texts
+from ..keys.motions import Targets
+from ..text.texts import GAP, Change, Changes, Texts
 
 MOST_STRETCHES, MOST_IN_STRETCH = 64, 512  # that are asked for at once, so that no key waits long, and the runes of each
 MOST_IN_LOAD = MOST_STRETCHES * MOST_IN_STRETCH

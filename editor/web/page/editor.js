@@ -1,12 +1,12 @@
 /* The editor: the terminal, what CodeMirror shows of its files, and what the user does. */
 import { SamError, Status, Unfinished, NoMemory } from "./sulgrevad/sulgrevad.js";
 import { Input } from "./input.js";
-import { Loading } from "./loading.js";
-import { runesOf } from "./shown.js";
+import { Loading } from "./prefetch.js";
+import { runesOf } from "./shown_text.js";
 import { Undo } from "./undo.js";
-import { Unwritten } from "./unwritten.js";
+import { Unwritten } from "./unsaved_texts.js";
 import { View } from "./view.js";
-import { AGAIN, Waiting } from "./waiting.js";
+import { AGAIN, Waiting } from "./key_queue.js";
 
 const COMMAND = 0; // the tag of the command file
 const GROW = 70; // the kind of the frame by which text comes in that isn't loaded

@@ -1,6 +1,6 @@
 /* A line that goes on through breaks: the stream and the notes of a session that stays at the host, over one WebSocket after another. What
  * the host has not acknowledged is kept, and goes out again over the next one. */
-import { Connection, first, nameOf, newId } from "./connecting.js";
+import { Connection, first, nameOf, newId } from "./connection.js";
 import { Link, SamError, What, readHello } from "./sulgrevad/sulgrevad.js";
 
 const MARK = [0x89, 0x73, 0x61, 0x6d, 0x6c, 0x69, 0x6e, 0x6b]; // with which a hello begins

@@ -1,6 +1,6 @@
 /* Copies of changed texts in this browser, as long as the host may lack some of what was done here: so that not even a browser that ends
  * loses them. */
-import { SHADE } from "./shown.js";
+import { SHADE } from "./shown_text.js";
 
 const SHADE_OF_COPY = "\u2591"; // marks a gap in a copy
 const FRONT = "sulgrevad ";

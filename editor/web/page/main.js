@@ -1,10 +1,10 @@
 /* The page: its parts, its keys, and the session that its address has. */
-import { line, terminal } from "./beginning.js";
-import { PLACE, keepNames } from "./connecting.js";
-import { Copies } from "./copies.js";
+import { line, terminal } from "./start.js";
+import { PLACE, keepNames } from "./connection.js";
+import { Copies } from "./local_backup.js";
 import { Editor } from "./editor.js";
-import { Find } from "./find.js";
-import { Opening } from "./opening.js";
+import { Find } from "./search.js";
+import { Opening } from "./open_requests.js";
 import { statusOf } from "./status.js";
 
 const { CodeMirror } = globalThis;

@@ -1,7 +1,7 @@
 /* The menu of files: those of the session, and what the host has whose path begins as it is typed. */
-import { VERSION } from "./beginning.js";
+import { VERSION } from "./start.js";
 import { replayIn } from "./input.js";
-import { AGAIN } from "./waiting.js";
+import { AGAIN } from "./key_queue.js";
 
 /** The names of a note, which stand between slashes; those of folders end in a slash. */
 function namesOf(names) {

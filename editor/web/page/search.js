@@ -1,6 +1,6 @@
 /* Finding: as the user types, in what is loaded; and where that doesn't have it, by the host. */
-import { runesOf } from "./shown.js";
-import { AGAIN } from "./waiting.js";
+import { runesOf } from "./shown_text.js";
+import { AGAIN } from "./key_queue.js";
 
 const COMMAND = 0; // the tag of the command file
 const SIGNS = /[!-/:-@[-`{-~]/g; // what a pattern of a command line has a backslash before

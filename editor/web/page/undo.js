@@ -1,5 +1,5 @@
 /* Undo: the changes of one file, oldest first. Nothing is kept of its text but what came and what went. */
-import { runesOf } from "./shown.js";
+import { runesOf } from "./shown_text.js";
 
 const MOST_STEPS = 10000;
 const MOST_TYPED = 80; // units that are taken back at once, of those typed one after the other

@@ -1,5 +1,5 @@
 /* A file as CodeMirror shows it: its document is made to say what the terminal holds, change by change. */
-import { Gap, SHADE, Shown, piecesOf, runesOf } from "./shown.js";
+import { Gap, SHADE, Shown, piecesOf, runesOf } from "./shown_text.js";
 
 export const OURS = "terminal"; // the origin of changes that say what the terminal holds already
 const RUNES_IN_LINE = 40; // of a line that isn't loaded, as long as no other number is known

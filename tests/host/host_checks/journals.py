@@ -66,7 +66,8 @@ def check_journal_goes_on(folder):
 
 
 def check_journal_knows_copies(folder):
-    """A copy that a killed samhost has saved is the next one's own: it is replaced, and goes once the file is written. So is what was cut."""
+    """A copy that a killed samhost has saved is the next one's own: it is replaced, and goes once the file is written. So is what was
+    cut."""
     made(folder, a="one two\n")
     with Staying(folder, "a.txt", options=("--undo",)) as session:
         session.terminal.select(1, 0, 4)

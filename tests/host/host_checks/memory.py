@@ -62,12 +62,12 @@ def scene_of_many():
 
 
 def build_refusing(folder):
-    """The library that refuses requests for memory (tests/refuse.c)."""
+    """The library that refuses requests for memory (tests/core/refuse.c)."""
     compiler = (os.environ.get("CC") or "cc").split()
     if shutil.which(compiler[0]) is None:
         raise Skipped(f"no {compiler[0]}")
     library = folder / "refuse.so"
-    subprocess.run([*compiler, "-O2", "-shared", "-fPIC", "-o", library, ROOT / "tests" / "refuse.c", "-ldl"], check=True)
+    subprocess.run([*compiler, "-O2", "-shared", "-fPIC", "-o", library, ROOT / "tests/core/refuse.c", "-ldl"], check=True)
     return library
 
 

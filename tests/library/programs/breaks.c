@@ -1,7 +1,7 @@
 /*
- * breaks SEED STEPS: a random session of two ends of a link over connections that break, are replaced, or go on half-open. What comes out at
- * each side is what was put at the other, each byte and note once and in order. A call that finds no memory is made again, and has changed
- * nothing that the readers say. It prints what it met, the same whether memory is refused or not.
+ * breaks SEED STEPS: a random session of two ends of a link over connections that break, are replaced, or go on half-open. What comes out
+ * at each side is what was put at the other, each byte and note once and in order. A call that finds no memory is made again, and has
+ * changed nothing that the readers say. It prints what it met, the same whether memory is refused or not.
  */
 #include "sulgrevad.h"
 

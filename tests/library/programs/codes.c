@@ -1,7 +1,7 @@
 /*
  * With texts.c each call of sulgrevad.h once where it does its work, and once for each status that it can return, but for full counts, and
- * for SAM_NO_MEMORY and SAM_UNFINISHED, which random.c and each.c meet. The bytes and texts that are expected stand in docs/PROTOCOL.md and
- * RFC 3629. It prints a line for each group, and ends with status 0, or 1 and the line that failed.
+ * for SAM_NO_MEMORY and SAM_UNFINISHED, which random.c and each.c meet. The bytes and texts that are expected stand in
+ * docs/reference/PROTOCOL.md and RFC 3629. It prints a line for each group, and ends with status 0, or 1 and the line that failed.
  */
 #include "wanting.h"
 

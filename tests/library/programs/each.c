@@ -93,7 +93,7 @@ static uint64_t do_thing(size_t i, uint64_t before)
     return after;
 }
 
-/* Whether each kind of docs/PROTOCOL.md from the first to the last was sent. */
+/* Whether each kind of docs/reference/PROTOCOL.md from the first to the last was sent. */
 static void want_kinds(const struct way *way, unsigned first, unsigned last)
 {
     for (unsigned kind = first; kind <= last; kind++)

@@ -1,4 +1,4 @@
-/* frames.h: messages and frames as docs/PROTOCOL.md writes them down, made without the library. */
+/* frames.h: messages and frames as docs/reference/PROTOCOL.md writes them down, made without the library. */
 #ifndef FRAMES_H
 #define FRAMES_H
 

@@ -1,7 +1,7 @@
 /*
  * linking: each call of a link where it does its work, and each status that it can return but for full counts and SAM_NO_MEMORY, which
- * breaks.c meets. The bytes stand in docs/LINK.md. Calls that are said to take no memory ask for none (counted.h). It ends with status 0, or
- * 1 and the line that failed.
+ * breaks.c meets. The bytes stand in docs/reference/LINK.md. Calls that are said to take no memory ask for none (counted.h). It ends with
+ * status 0, or 1 and the line that failed.
  */
 #include "counted.h"
 

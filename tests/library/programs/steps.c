@@ -1,7 +1,7 @@
 /*
- * A session that goes on by single steps, and in which memory may be refused at any request: tests/c_library refuses each in turn. A call
- * that was refused has changed nothing, and is made again. It prints what the steps did, which is the same whatever was refused, and ends
- * with status 0, or 1 and the line that failed.
+ * A session that goes on by single steps, and in which memory may be refused at any request: tests/library/c_library refuses each in turn.
+ * A call that was refused has changed nothing, and is made again. It prints what the steps did, which is the same whatever was refused, and
+ * ends with status 0, or 1 and the line that failed.
  */
 #include "wanting.h"
 

@@ -1,7 +1,7 @@
 /*
  * Texts by the calls of sulgrevad.h: edits of any length, what is too long, tags without a file, runes and bytes and lines of a text, and
- * what of it changed. The texts that are expected stand in docs/PROTOCOL.md, docs/COMMANDS.md and RFC 3629. It prints a line for each
- * group, and ends with status 0, or 1 and the line that failed.
+ * what of it changed. The texts that are expected stand in docs/reference/PROTOCOL.md, docs/reference/COMMANDS.md and RFC 3629. It prints a
+ * line for each group, and ends with status 0, or 1 and the line that failed.
  */
 #include "wanting.h"
 

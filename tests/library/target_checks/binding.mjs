@@ -1,5 +1,5 @@
 /* What bindings/javascript promises: results, errors by code, texts, ends, numbers. Node and a page of a browser run it. */
-import * as sulgrevad from "../../bindings/javascript/sulgrevad.js";
+import * as sulgrevad from "../../../bindings/javascript/sulgrevad.js";
 
 const { Host, Link, Terminal, Status, What, memory, readHello, replay, statusText, libraryVersion, writeRefusal } = sulgrevad;
 const KEYS = 20000;

@@ -1,6 +1,6 @@
 /* Where the engine breaks a call off, no other call is made after it: each throws, and says why. */
-import { call } from "../../bindings/javascript/module.js";
-import { Host, Terminal } from "../../bindings/javascript/sulgrevad.js";
+import { call } from "../../../bindings/javascript/module.js";
+import { Host, Terminal } from "../../../bindings/javascript/sulgrevad.js";
 
 const OUTSIDE = 2n ** 60n; // a place that no memory has
 const host = new Host();

@@ -3,7 +3,7 @@
  * sessions in turn, in both. CALLS is what signatures.py knows, SCRIPTS a folder of scripts to replay. It prints what was compared. */
 import { spawnSync } from "node:child_process";
 import { readFileSync } from "node:fs";
-import { library } from "../../bindings/javascript/module.js";
+import { library } from "../../../bindings/javascript/module.js";
 
 const [callsFile, native, scriptsFile, countWord, seedWord] = process.argv.slice(2);
 const CALLS = JSON.parse(readFileSync(callsFile, "utf8"));

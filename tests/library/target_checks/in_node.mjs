@@ -2,7 +2,7 @@
 import { setTimeout } from "node:timers/promises";
 import { setFlagsFromString } from "node:v8";
 import { runInNewContext } from "node:vm";
-import { Host, memory } from "../../bindings/javascript/sulgrevad.js";
+import { Host, memory } from "../../../bindings/javascript/sulgrevad.js";
 import { checkAll } from "./binding.mjs";
 
 const SECONDS = 60;

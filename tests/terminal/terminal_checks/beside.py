@@ -279,7 +279,7 @@ def check_several_files_as_quick(folder):
 def check_tab_over_what_is_not_loaded(folder):
     """Tab and Shift-Tab over lines that are not loaded indent them once they are, and replace nothing; where that is too much they say
     so."""
-    from targets import MOST_TO_INDENT
+    from terminal.keys.motions import MOST_TO_INDENT
 
     pair, editor, key, text = in_a_small_window(False)
     lines = pair.host.text(1)

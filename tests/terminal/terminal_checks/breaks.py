@@ -231,7 +231,7 @@ def run_breaks(folder, seeds):
 
 
 def check_random_breaks(folder):
-    """Over a line that breaks at random the text, the caret and the screen are as over one that holds. tests/editor_breaks tries more."""
+    """Over a line that breaks at random the text, the caret and the screen are as over one that holds. tests/terminal/breaks tries more."""
     breaks = run_breaks(folder, range(3))
     expect(breaks > 3, f"this test is wrong: the line broke {breaks} times")
 

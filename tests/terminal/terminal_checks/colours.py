@@ -78,7 +78,7 @@ def check_colours_on_the_screen(folder):
 
 
 def looked_at(language, text):
-    from colours import Coloured
+    from terminal.view.colours import Coloured
 
     file = Coloured(language)
     file.look(lambda place, count: text[place : place + count], 0, len(text), len(text), lambda: False)
@@ -97,7 +97,7 @@ def colour_of_each(file, text):
 def check_colours_are_those_of_pygments(folder):
     """Of a whole text each rune has the colour that Pygments gives it."""
     expect_pygments()
-    from colours import Language
+    from terminal.view.colours import Language
     from pygments import lexers
     from pygments.lexer import RegexLexer
 
@@ -117,8 +117,8 @@ def check_colours_follow(folder):
     """After any change the colours are those of the text looked at anew: at once, unless it ends what was begun above it, and else once
     the user rests."""
     expect_pygments()
-    from colours import Language
-    from texts import Change
+    from terminal.view.colours import Language
+    from terminal.text.texts import Change
 
     for name, text in SAMPLES.items():
         language, numbers = Language(name), random.Random(1)
@@ -142,7 +142,7 @@ def check_colours_follow(folder):
 def check_colours_in_pieces(folder):
     """Where the time of a key is over the lines that were not looked at are plain, and they come later; so they do in the end."""
     expect_pygments()
-    from colours import Coloured, Language
+    from terminal.view.colours import Coloured, Language
 
     language, text = Language("python.PythonLexer"), PYTHON * 90
     for top in (0, PYTHON.index("    return") + 50 * len(PYTHON)):

@@ -8,11 +8,11 @@ import sys
 import time
 from pathlib import Path
 
-ROOT = Path(__file__).resolve().parents[2]
-sys.path[:0] = [str(ROOT / "examples/editor"), str(ROOT / "bindings/python")]
+ROOT = Path(__file__).resolve().parents[3]
+sys.path[:0] = [str(ROOT / "editor"), str(ROOT / "bindings/python")]
 
-from link import wait_for  # noqa: E402
-from staying import Staying  # noqa: E402
+from terminal.line.host_process import wait_for  # noqa: E402
+from terminal.line.persistent_session import PersistentSession  # noqa: E402
 
 ADDRESS = "192.0.2.1/32"  # of those that documents use
 LONGEST = 30  # seconds
@@ -30,7 +30,7 @@ def turn_until(line, is_there):
 
 def main():
     samhost = sys.argv[1]
-    line = Staying([samhost], lambda name: ["--serve", name, "a.txt"])
+    line = PersistentSession([samhost], lambda name: ["--serve", name, "a.txt"])
     turn_until(line, lambda: line.is_open)
     os.kill(line.relay.process.pid, signal.SIGSTOP)
     for words in ("add", "del"):

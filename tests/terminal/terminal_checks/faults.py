@@ -85,8 +85,8 @@ def texts_beside(path):
 
 
 def check_hangup_while_suspended(folder):
-    """The user's screen is gone while the program is stopped: it ends as by a hangup, and what came of a paste is saved, by the host if that
-    is still there."""
+    """The user's screen is gone while the program is stopped: it ends as by a hangup, and what came of a paste is saved, by the host if
+    that is still there."""
     made(folder, a="one\n")
     line = f"{SAMTERM} --host {SAMHOST} a.txt; echo back in the shell; read x; fg"
     with Session(folder, "a.txt", program=f"bash --norc -ic 'set -m; {line}' --") as session:
@@ -109,7 +109,7 @@ def check_exception(folder):
     made(folder, a="one\n")
     broken = folder / "broken.py"
     broken.write_text(
-        f"import runpy, sys\nsys.path[:0] = [{str(SAMTERM.parent)!r}, {str(ROOT / 'bindings' / 'python')!r}]\n"
+        f"import runpy, sys\nsys.path[:0] = [{str(SAMTERM.parents[1])!r}, {str(ROOT / 'bindings' / 'python')!r}]\n"
         "sys.dont_write_bytecode = True\n"
         "import actions\n\ndef broken(self):\n    raise RuntimeError('broken on purpose')\n\nactions.Actions.do_help = broken\n"
         f"sys.argv[0] = {str(SAMTERM)!r}\nrunpy.run_path({str(SAMTERM)!r}, run_name='__main__')\n"
@@ -164,8 +164,8 @@ class Fed:
 
     def __init__(self, numbers):
         import sulgrevad
-        from editor import Editor
-        from texts import GAP
+        from terminal.editor import Editor
+        from terminal.text.texts import GAP
 
         self.terminal = sulgrevad.Terminal()
         self.editor = Editor(self.terminal)
@@ -201,7 +201,7 @@ def pieces_of(numbers, data, most):
 
 def check_stream_in_pieces(folder):
     """However the host's stream is cut, the same is told of each edit, and the same is known for undo: what went and what came."""
-    from texts import GAP, Change
+    from terminal.text.texts import GAP, Change
 
     for seed in range(40):
         one_by_one = Fed(random.Random(seed))

@@ -1,7 +1,7 @@
 #!/usr/bin/env python3
 """A line that a test may stop: gate.py BLOCK LOG MS COMMAND [WORD ..]
 
-While the file BLOCK is there no connection is made. Then the time stands in LOG, and this goes on as tools/slow MS COMMAND. Who stops this
+While the file BLOCK is there no connection is made. Then the time stands in LOG, and this goes on as tools/delay MS COMMAND. Who stops this
 process stops a connection that is there.
 """
 import os
@@ -10,7 +10,7 @@ import sys
 import time
 from pathlib import Path
 
-SLOW = Path(__file__).resolve().parent.parent.parent / "tools" / "slow"
+SLOW = Path(__file__).resolve().parents[3] / "tools/delay"
 NAP = 0.002  # seconds between two looks
 
 

@@ -289,7 +289,7 @@ def check_split_runes(folder):
     """The bytes of a rune may come one after the other; wrong bytes cost no rune and end nothing."""
     import locale
 
-    from decode import Decoder
+    from terminal.keys.decoder import Decoder
 
     locale.setlocale(locale.LC_CTYPE, "C.UTF-8")
     decoder = Decoder()

@@ -9,7 +9,7 @@ from .support import Session, expect, made, wait_for_text, wait_until
 
 def check_sequences(folder):
     """What terminals send for keys is taken as one, and what nobody knows types nothing."""
-    from decode import Decoder
+    from terminal.keys.decoder import Decoder
 
     known = {
         "^Left": ("[1;5D", "Od"), "^Right": ("[1;5C", "Oc"), "Shift-Left": ("[1;2D", "[d"), "Shift-Home": ("[1;2H", "[7$"),
@@ -44,7 +44,7 @@ def check_key_after_esc(folder):
     it. A text there waits for no end of a sequence, a character of several bytes may come in parts, and a wrong byte goes alone."""
     import locale
 
-    from decode import Decoder
+    from terminal.keys.decoder import Decoder
 
     locale.setlocale(locale.LC_CTYPE, "C.UTF-8")
     for data, wanted in (
@@ -120,7 +120,7 @@ def check_paste_of_the_screen(folder):
 
 def check_paste_that_stops(folder):
     """What comes after a pause of a paste is part of it, whatever it is. Esc twice ends one whose end is lost, once it has stopped."""
-    from decode import Decoder
+    from terminal.keys.decoder import Decoder
 
     def taken(*pieces):
         """What comes of pieces of bytes, with ten seconds after each."""
@@ -229,7 +229,7 @@ def check_indents(folder):
 def check_selected_lines(folder):
     """Tab puts a tab before each selected line, Shift-Tab takes one or as many blanks; both are one step of undo, and a Tab over part of a
     line is typed."""
-    import layout
+    from terminal.view import layout
 
     before = "one\n  two\n\tthree\n\nfive"
     pair, editor, key, text = opened(before)
@@ -523,7 +523,7 @@ def check_no_room_for_a_paste_of_the_screen(folder):
 
 def check_words(folder):
     """The keys by words, with Shift too, and that which selects the word, as xterm sends them."""
-    from decode import Decoder
+    from terminal.keys.decoder import Decoder
 
     pair, editor, key, _ = opened("one two_3 x")
     for name, sent, dot in (

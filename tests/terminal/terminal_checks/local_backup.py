@@ -15,10 +15,10 @@ class Kept:
     """Names and texts that are written here, in place of files."""
 
     def __enter__(self):
-        import rescue
+        from terminal.files import local_backup
 
-        self.rescue, self.before, self.texts = rescue, rescue.keep, []
-        rescue.keep = lambda name, text: self.texts.append((name, text)) or "/somewhere"
+        self.rescue, self.before, self.texts = rescue, local_backup.keep, []
+        local_backup.keep = lambda name, text: self.texts.append((name, text)) or "/somewhere"
         return self
 
     def __exit__(self, *_):
@@ -230,39 +230,39 @@ def check_typed_before_it_opens(folder):
 
 def check_long_names_here(folder):
     """Of a name that is too long for a file the front is taken, in whole characters. A thousand names are tried."""
-    import rescue
+    from terminal.files import local_backup
 
     os.chdir(folder)
     wide = "\U0001f600" * 62
     for name in (wide, f"place/x{wide}", "x" * 64):
-        path = rescue.keep(name, f"text of {name}")
+        path = local_backup.keep(name, f"text of {name}")
         expect(path is not None and Path(path).parent == folder.resolve(), f"{name}: it is written as {path}")
         front = Path(path).name.removesuffix(".sam-here")
         expect(len(front) > 40 and Path(name).name.startswith(front), f"{name}: it is written as {path}")
         expect(Path(path).read_text() == f"text of {name}", f"{name}: it has another text")
     for at in range(1, 1000):
         (folder / ("many.sam-here" + (f".{at}" if at > 1 else ""))).write_text("")
-    path = rescue.keep("many", "text")
+    path = local_backup.keep("many", "text")
     expect(path == str(folder.resolve() / "many.sam-here.1000"), f"the thousandth is written as {path}")
 
 
 def check_no_own_folder(folder):
     """Without a folder of the user's own a text is written in this one; where that can't be, that is told."""
-    import rescue
+    from terminal.files import local_backup
 
-    before, rescue._named_folders = rescue._named_folders, lambda: iter((str(folder / "full" / "own"),))
+    before, local_backup._named_folders = local_backup._named_folders, lambda: iter((str(folder / "full" / "own"),))
     (folder / "full").write_text("no folder")
     try:
         os.chdir(folder)
-        path = rescue.keep("a", "text")
+        path = local_backup.keep("a", "text")
         expect(path == str(folder.resolve() / "a.sam-here"), f"it is written as {path}")
         place = folder / "gone"
         place.mkdir()
         os.chdir(place)
         place.rmdir()
-        expect(rescue.keep("a", "text") is None, "it is written nowhere, and that isn't told")
+        expect(local_backup.keep("a", "text") is None, "it is written nowhere, and that isn't told")
     finally:
-        rescue._named_folders = before
+        local_backup._named_folders = before
         os.chdir(folder)
 
 
@@ -291,7 +291,7 @@ class Ending:
 
 def edited(pair, link):
     """A session that has ended but for its link."""
-    from session import Session as Edited
+    from terminal.session import Session as Edited
 
     return Edited(pair.terminal, link, pair.editor)
 
@@ -323,7 +323,7 @@ def check_end_without_the_last_bytes(folder):
 
 def check_interrupts_at_the_end(folder):
     """`^C` at the end doesn't wait for the host any longer. A second one doesn't stop what is written here."""
-    import rescue
+    from terminal.files import local_backup
 
     class Hanging(Ending):
         def close(self, hear, take=lambda data: None, seconds=10):
@@ -337,14 +337,14 @@ def check_interrupts_at_the_end(folder):
     pair, editor, _, text = opened("a\n")
     pair.press(text("x"))
     os.chdir(folder)
-    kept, rescue.keep, before = rescue.keep, keep, signal.getsignal(signal.SIGINT)
+    kept, local_backup.keep, before = local_backup.keep, keep, signal.getsignal(signal.SIGINT)
     try:
         with contextlib.redirect_stderr(io.StringIO()):
             edited(pair, Hanging(pair, 0, (), 0))._end()
     except KeyboardInterrupt as why:
         raise Failed("the second stops it") from why
     finally:
-        rescue.keep = kept
+        local_backup.keep = kept
         signal.signal(signal.SIGINT, before)
     wait_for_text(folder / "file0.sam-here", "xa\n")
 
@@ -402,10 +402,10 @@ def check_paste_broken_off(folder):
 
 def check_last_answers(folder):
     """What the host answers at the end is heard, also once it tells nothing more; and all that waited is sent before."""
-    from link import Link
+    from terminal.line.host_process import HostProcess
 
     code = "import os, sys; os.write(2, b'last line\\n'); os.close(2); os.write(1, b'%d bytes' % len(sys.stdin.buffer.read())); sys.exit(7)"
-    lines, answers, link = [], [], Link([sys.executable, "-c", code])
+    lines, answers, link = [], [], HostProcess([sys.executable, "-c", code])
     link.send(bytes(300_000))
     expect(len(link.waiting) > 0, "this test is wrong: the pipe takes all at once")
     got = link.close(lines.append, answers.append, seconds=SECONDS), lines, b"".join(answers), len(link.waiting)
@@ -496,7 +496,7 @@ def check_change_without_memory(folder):
 def check_long_numbers(folder):
     """A number of any length, in the command window and in what a terminal sends, ends nothing. A long one is the wrong address that it
     is, or with zeros before it the right one."""
-    from decode import Decoder
+    from terminal.keys.decoder import Decoder
 
     lines = "".join(f"line {at}\n" for at in range(1, 30_001))
     long = "9" * 5000
@@ -520,7 +520,7 @@ def check_long_numbers(folder):
 
 def check_control_characters(folder):
     """A line on standard error does nothing to the screen. A file whose name the host tells with question marks is known by it."""
-    import session
+    from terminal import session
 
     with contextlib.redirect_stderr(io.StringIO()) as told:
         session.say("a\x1b[31mb\x7fc\x9bd\x80é豆")

@@ -4,7 +4,7 @@ import signal
 import time
 
 from .pairs import in_a_small_window, opened
-from .rescuing import Kept
+from .local_backup import Kept
 from .support import LINK, SAMHOST, STATE, Session, expect, made, stat_of, wait_for_text, wait_until
 
 LINES = [f"line {number} {'x' * 60}\n" for number in range(1, 2001)]
@@ -400,18 +400,18 @@ def check_left_is_compared(folder):
 
 def check_left_of_another_host(folder):
     """What was written here of one host's file is not offered for another's that has the same name; and for its own also from elsewhere."""
-    import rescue
+    from terminal.files import local_backup
 
     (folder / "one").mkdir()
     (folder / "two").mkdir()
     os.environ["XDG_STATE_HOME"] = str(folder / STATE)
     os.chdir(folder / "one")
-    rescue.host = ("ssh", "first", "samhost", "--undo")
+    local_backup.host = ("ssh", "first", "samhost", "--undo")
 
     def left(*names):
-        return list(rescue.left(names).values())
+        return list(local_backup.left(names).values())
 
-    relative, whole = rescue.keep("a.txt", "text"), rescue.keep("/there/b.txt", "other")
+    relative, whole = local_backup.keep("a.txt", "text"), local_backup.keep("/there/b.txt", "other")
     expect(left("a.txt", "/there/b.txt") == [[relative], [whole]], "it is not found again")
     expect(left("./c/a.txt", "/else/b.txt") == [[], []], "it is taken for another file's")
     (folder / "one" / "c.txt.sam-here").write_text("of nobody knows whom")
@@ -419,9 +419,9 @@ def check_left_of_another_host(folder):
     os.chdir(folder / "two")
     expect(left("a.txt", "/there/b.txt") == [[], [whole]], "it is not found from elsewhere, or another a.txt's is")
     os.chdir(folder / "one")
-    rescue.host = ("ssh", "second", "samhost", "--undo")
+    local_backup.host = ("ssh", "second", "samhost", "--undo")
     expect(left("a.txt", "/there/b.txt") == [[], []], "it is taken for another host's")
-    rescue.host = ("ssh", "first", "samhost", "--undo")
+    local_backup.host = ("ssh", "first", "samhost", "--undo")
     for path in (relative, whole):
         os.unlink(path)
     expect(left("a.txt", "/there/b.txt") == [[], []], "it is found though it is gone")
@@ -463,7 +463,7 @@ def check_left_with_gaps(folder):
 
 def check_gaps_are_filled(folder):
     """What a text that was written here lacks comes from the text that the host saved, where one place fits; the user is told of it."""
-    import rescue
+    from terminal.files import local_backup
 
     old = "".join(LINES)
     new = "typed " + old[:1200] + "more" + old[1200:3000] + old[60_000:63_000]
@@ -475,7 +475,7 @@ def check_gaps_are_filled(folder):
         ("[2 characters that were not loaded]cd", "abcd", "abcd"), ("x[1 characters that were not loaded]y", "x1y x2y", None),
         ("x[1 characters that were not loaded]y", "x1y x1y", "x1y"), ("x[3 characters that were not loaded]y", "xy", None),
     ):  # fmt: skip
-        got = rescue.filled(text, whole)
+        got = local_backup.filled(text, whole)
         expect(got == (text if filled is None else filled), f"{text[:40]}..: it is filled as {got[:100]!r}..")
     (path,) = made(folder, a=old)
     for earlier, source in (("earlier ", "what the host saved"), ("", "the file")):

@@ -1,4 +1,5 @@
-"""What docs/EDITOR.md and docs/COMMANDS.md say that keys do to one text, in plain words of Python: no line here comes from the editor."""
+"""What docs/howto/EDITOR.md and docs/reference/COMMANDS.md say that keys do to one text, in plain words of Python: no line here comes from
+the editor."""
 import re
 import unicodedata
 

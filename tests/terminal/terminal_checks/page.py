@@ -1,4 +1,4 @@
-"""docs/EDITOR.md."""
+"""docs/howto/EDITOR.md."""
 import re
 import subprocess
 import time
@@ -31,14 +31,14 @@ def check_page(folder):
     """The keys, the picture and the form of the table are those that the programs print."""
     keys = subprocess.run([SAMTERM, "--keys"], capture_output=True, check=True).stdout.decode()
     page = PAGE.read_text()
-    expect(keys in page, "the keys of docs/EDITOR.md are not those of `samterm --keys`")
+    expect(keys in page, "the keys of docs/howto/EDITOR.md are not those of `samterm --keys`")
     drawn, kept = (re.sub(r"up \d+ down \d+", "up N down N", text) for text in (picture(folder), page))
-    expect(drawn in kept, "the picture of docs/EDITOR.md is not what `tests/editor --draw` prints")
+    expect(drawn in kept, "the picture of docs/howto/EDITOR.md is not what `tests/terminal/terminal --draw` prints")
     bench = loaded_script(ROOT / "bench" / "editor")
     found = {what: 1.0 for what in bench.ROWS}
     table = bench.table_of({delay: {"samterm": found, "vim": {what: 1.0 for what in bench.ROWS_OF_VIM}} for delay in bench.DELAYS})
     form, kept = (re.sub(r"(?<=\| )[\d,]+(?= \|)", "N", text) for text in ("\n".join(table), page))
-    expect(form in kept, f"the table of docs/EDITOR.md has not the form that bench/editor prints:\n{form}")
+    expect(form in kept, f"the table of docs/howto/EDITOR.md has not the form that bench/editor prints:\n{form}")
 
 
 def loaded_script(path):

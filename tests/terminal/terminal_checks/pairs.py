@@ -11,15 +11,15 @@ class Pair:
     SIZES = ((22, 80), (8, 20), (5, 7), (60, 200))
 
     def __init__(self, random_numbers, texts, has_vault=False, names=None):
-        import keys
+        from terminal.keys import bindings
         import sulgrevad
-        import screen
-        from editor import Editor
-        from glance import Glance
-        from texts import GAP
+        from terminal.view import screen
+        from terminal.editor import Editor
+        from terminal.text.cached_terminal import CachedTerminal
+        from terminal.text.texts import GAP
 
         self.random, self.keys, self.screen, self.gap = random_numbers, keys, screen, GAP
-        self.host, self.terminal, self.now = sulgrevad.Host(), Glance(), 0.0
+        self.host, self.terminal, self.now = sulgrevad.Host(), CachedTerminal(), 0.0
         names = names or [f"file{at}" for at in range(len(texts))]
         for name, text in zip(names, texts):
             self.host.add_file(name, text)
@@ -29,22 +29,22 @@ class Pair:
         self.editor.begin()
         self.editor.arrange(*self.random.choice(self.SIZES))
         self.up, self.down = bytearray(self.terminal.take_out()), bytearray()
-        self.names = [key for binding in keys.BINDINGS for key in binding.keys if key != "^Q"]
+        self.names = [key for binding in bindings.BINDINGS for key in binding.keys if key != "^Q"]
         self.names += [f"Shift-{name}" for name in ("Left", "Right", "Up", "Down", "Home", "End")]
 
     def key(self):
         """One key, mouse button or command line."""
         keys, choose, draw = self.keys, self.random.choice, self.random.random()
         if draw < 0.4:
-            self.editor.take(keys.Text(choose(("x", "yy\n", "日", "e\u0301"))))
+            self.editor.take(bindings.Text(choose(("x", "yy\n", "日", "e\u0301"))))
         elif draw < 0.88:
-            self.editor.take(keys.Key(choose(self.names)))
+            self.editor.take(bindings.Key(choose(self.names)))
         elif draw < 0.97:
             what = choose(("press", "release", "move", "wheel up", "wheel down"))
-            self.editor.take(keys.Mouse(what, self.random.randrange(24), self.random.randrange(80), self.random.random()))
+            self.editor.take(bindings.Mouse(what, self.random.randrange(24), self.random.randrange(80), self.random.random()))
         else:
             self.editor.go_to(self.editor.command)
-            for key in (keys.Key("^End"), keys.Text(f"\n{choose(self.LINES)}\n")):
+            for key in (bindings.Key("^End"), bindings.Text(f"\n{choose(self.LINES)}\n")):
                 self.editor.take(key)
 
     def carry(self):
@@ -127,10 +127,10 @@ class Pair:
 
 def some_keys(numbers, keys):
     """A key, or some that belong together; none that asks, and none that goes by how much is loaded."""
-    key, text, choose = keys.Key, keys.Text, numbers.choice
+    key, text, choose = bindings.Key, bindings.Text, numbers.choice
     aside = ("page_up", "page_down", "close", "leave", "send")
-    names = [name for binding in keys.BINDINGS for name in binding.keys if binding.action not in aside]
-    mouse = [keys.Mouse(what, numbers.randrange(60), numbers.randrange(9), numbers.random() * 1e6) for what in ("press", "release")]
+    names = [name for binding in bindings.BINDINGS for name in binding.keys if binding.action not in aside]
+    mouse = [bindings.Mouse(what, numbers.randrange(60), numbers.randrange(9), numbers.random() * 1e6) for what in ("press", "release")]
     return choose(
         (
             [text(choose(("z", "uv", "w\n", "日")))],

@@ -303,14 +303,14 @@ class Killed:
 
 
 def check_one_session_through_breaks(folder):
-    """One session of several files goes through breaks with undo, writing and opening. tests/editor_breaks --one tries 1,000."""
+    """One session of several files goes through breaks with undo, writing and opening. tests/terminal/breaks --one tries 1,000."""
     run = OneSession(3, 25)
     run.go(folder)
     expect(run.opened > 3 and run.undos > 3, f"this test is wrong: it opens {run.opened} files, and takes back {run.undos} times")
 
 
 def check_killed_at_random(folder):
-    """Relay, samhost and samterm are killed at random moments, and nothing is lost. tests/editor_breaks --kills kills 300 times."""
+    """Relay, samhost and samterm are killed at random moments, and nothing is lost. tests/terminal/breaks --kills kills 300 times."""
     run = Killed(folder, 4, 12)
     run.go()
     expect(run.takeovers > 0 and run.words > 10, f"this test is wrong: {run.takeovers} takeovers, {run.words} words")

@@ -285,14 +285,14 @@ def check_host_lost_with_a_text(folder):
 @contextlib.contextmanager
 def kept_texts():
     """The texts that are written here meanwhile, with their names; no file is made."""
-    import rescue
+    from terminal.files import local_backup
 
     kept = []
-    before, rescue.keep = rescue.keep, lambda name, text: kept.append((name, text)) or name
+    before, local_backup.keep = local_backup.keep, lambda name, text: kept.append((name, text)) or name
     try:
         yield kept
     finally:
-        rescue.keep = before
+        local_backup.keep = before
 
 
 def check_typed_ahead_is_kept(folder):

@@ -11,8 +11,8 @@ SEEDS, KEYS = 8, 200
 SIZES = ((24, 80), (50, 120), (9, 30), (4, 12), (24, 41))
 TYPED = (*"abcdef", '"""', "y z", "é", "日", '"', "#", "\t", "\n", "q\nr", "x" * 90)
 MORE_KEYS = (
-    "Left", "Right", "Up", "Down", "Shift-Right", "Shift-Down", "Backspace", "Delete", "Page Down", "Page Up", "Home", "End", "^X", "^V", "^Z",
-    "^R", "^S", "Esc", "F10", "F8", "^T", "^Y", "^P", "^D",
+    "Left", "Right", "Up", "Down", "Shift-Right", "Shift-Down", "Backspace", "Delete", "Page Down", "Page Up", "Home", "End", "^X", "^V",
+    "^Z", "^R", "^S", "Esc", "F10", "F8", "^T", "^Y", "^P", "^D",
 )  # fmt: skip
 
 

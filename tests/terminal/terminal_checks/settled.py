@@ -274,7 +274,7 @@ FREE = {"help", "switch", "next_window", "menu", "split", "unsplit", "small", "n
 
 def check_all_actions_wait(folder):
     """Each action waits while its file is locked, but for those that need no settled place."""
-    import keys as table
+    from terminal.keys import bindings as table
 
     for binding in table.BINDINGS:
         for name in binding.keys:

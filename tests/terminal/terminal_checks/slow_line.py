@@ -192,12 +192,12 @@ def check_one_load(folder):
 
 def rescue_of(pair, tag, most):
     """What is written of a text when the host is lost, for which no more than so many runes are read."""
-    import rescue
+    from terminal.files import local_backup
 
     counts, read = [], pair.terminal.read
     pair.terminal.read = lambda *words: counts.append(len(found := read(*words))) or found
     try:
-        kept = rescue.loaded(pair.terminal, tag)
+        kept = local_backup.loaded(pair.terminal, tag)
     finally:
         del pair.terminal.read
     expect(sum(counts) <= most, f"it reads {sum(counts)} runes")
@@ -296,8 +296,8 @@ def check_first_file_first(folder):
 
 def check_layouts(folder):
     """A key that changes a row has the screen laid out once; a move not at all."""
-    import layout
-    import windows
+    from terminal.view import layout
+    from terminal.view import windows
 
     pair, editor, key, text = opened("".join(f"line {at} {'x' * 50}\n" for at in range(500)))
     editor.arrange(40, 80)
@@ -362,8 +362,8 @@ def check_cost_of_a_key(folder):
 
 
 def check_cost_of_a_key_in_the_editor(folder):
-    """A typed key costs the editor, with the library, less than half a millisecond of processor time until it is drawn and is to be sent, or
-    as many times more as the machine is slow. The screen's own time, and that of the line, come to that."""
+    """A typed key costs the editor, with the library, less than half a millisecond of processor time until it is drawn and is to be sent,
+    or as many times more as the machine is slow. The screen's own time, and that of the line, come to that."""
     pair, editor, key, text = opened("".join(f"line {at} {'x' * 60}\n" for at in range(500)), size=(38, 80))
     screen, link = screen_on(pair, Paper(40, 80)), SimpleNamespace(up=1, down=2, waiting=b"")
     editor.take(key("Down"))

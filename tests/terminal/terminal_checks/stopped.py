@@ -181,11 +181,11 @@ class Measured:
 def check_writes_here_between_keys(folder):
     """Changed texts begin to be written here right after a key, or once none has come for a while; where keys leave no such moment, a
     second later all the same."""
-    import keeping
+    from terminal.files import unsaved_texts
 
     way = SimpleNamespace(is_late=True, silence=0.0)
     editor = SimpleNamespace(terminal=None, way=way, is_lost=False, quiet_for=0.0, clock=lambda: 0.0)
-    kept, after = keeping.Keeping(editor), keeping.HERE_AFTER
+    kept, after = unsaved_texts.UnsavedTexts(editor), unsaved_texts.HERE_AFTER
     for silence, quiet, wanted in (
         (after - 1, 0.1, 1.0), (after, 0.1, 0.15), (after + 0.97, 0.1, 0.03), (after, 0.005, 0.0), (after, 0.3, 0.0), (after + 1, 0.1, 0.0),
     ):  # fmt: skip
@@ -199,7 +199,7 @@ def check_writes_here_between_keys(folder):
 
 def check_draws_a_long_answer(folder):
     """An answer that comes without a pause is drawn while it comes, but no more often than each 50 milliseconds."""
-    import loop
+    from terminal import loop
 
     drawn, turns = [], loop.Loop.__new__(loop.Loop)
     turns.editor, turns.link, turns.drawn_at = None, None, time.monotonic()
@@ -214,7 +214,7 @@ def check_draws_a_long_answer(folder):
 
 
 def check_keys_while_the_line_stands_still(folder):
-    """Each key on loaded text shows at once while the line stands still, and the host has all soon after it is back. tests/editor_breaks
+    """Each key on loaded text shows at once while the line stands still, and the host has all soon after it is back. tests/terminal/breaks
     --stopped measures a minute of it."""
     late = times_longer()
     found = Measured(folder, 4, 50)

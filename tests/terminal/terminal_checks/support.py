@@ -10,10 +10,10 @@ from pathlib import Path
 
 from checks import LIBRARY, ROOT, SAMHOST, SECONDS, Failed, expect, wait_until
 
-SAMTERM = ROOT / "examples" / "editor" / "samterm"
-SLOW = ROOT / "tools" / "slow"
-PAGE = ROOT / "docs" / "EDITOR.md"
-sys.path[:0] = [str(SAMTERM.parent), str(ROOT / "bindings" / "python")]
+SAMTERM = ROOT / "editor/terminal/samterm"
+SLOW = ROOT / "tools/delay"
+PAGE = ROOT / "docs/howto/EDITOR.md"
+sys.path[:0] = [str(SAMTERM.parents[1]), str(ROOT / "bindings" / "python")]
 
 LINK = 300  # milliseconds each way
 COMMAND_WINDOW = "~~sam~~"  # its title

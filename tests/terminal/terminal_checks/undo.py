@@ -204,7 +204,7 @@ class Noted:
 
 def check_runs(folder):
     """Changes that touch are one run, and runs come to the same text as their changes one by one. What is not known stays alone."""
-    from texts import GAP, Change, runs
+    from terminal.text.texts import GAP, Change, runs
 
     numbers = random.Random(1)
     for _ in range(2000):
@@ -230,7 +230,7 @@ def check_received_changes(folder):
     """Changes that came in a few calls are those that came one by one: the same changes, and they move each place as these do. The caret
     goes to the end of the one that stands farthest down then."""
     from sulgrevad import Edits, Pieces
-    from texts import Change, received
+    from terminal.text.texts import Change, received
 
     def pieces(texts):
         return Pieces("".join(texts), [sum(map(len, texts[:at])) for at in range(len(texts))], [*map(len, texts)])

@@ -147,7 +147,7 @@ def check_folder(folder):
 def check_tab_after_a_full_row(folder):
     """A tab for which a row has no column left begins the next row, and goes to the first stop of that."""
     opened("")  # so that the editor's modules are found
-    import layout
+    from terminal.view import layout
 
     widths = [strip.width for strip in layout.strips_of("a" * 101 + "\tb", 101, False)]
     expect(widths == [101, 9], f"the rows have {widths} columns")

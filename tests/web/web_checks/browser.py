@@ -16,7 +16,7 @@ from selenium.webdriver.common.by import By
 
 from web_checks.proxy import Proxy
 
-ROOT = Path(__file__).resolve().parent.parent.parent
+ROOT = Path(__file__).resolve().parents[3]
 SAMHOST = ROOT / "out/samhost"
 SECONDS = 60  # that something may take, on a busy machine, too
 
@@ -92,7 +92,7 @@ class Site:
 
     def start(self):
         """Begins the server, at the address that it had before."""
-        host = [str(SAMHOST)] if self.delay is None else [str(ROOT / "tools/slow"), str(self.delay), str(SAMHOST)]
+        host = [str(SAMHOST)] if self.delay is None else [str(ROOT / "tools/delay"), str(self.delay), str(SAMHOST)]
         kept = self.room / "address"
         port = json.loads(kept.read_text())["port"] if kept.exists() else 0
         if self.proxy is None:
@@ -101,7 +101,7 @@ class Site:
         words = ["--host", shlex.join(host), "--address", str(kept), "--origin", origin]
         with open(self.room / "server.log", "a") as log:
             self.server = subprocess.Popen(
-                [sys.executable, str(ROOT / "examples/web/samweb"), *words, *self.files],
+                [sys.executable, str(ROOT / "editor/web/server/samweb"), *words, *self.files],
                 cwd=self.folder, env=self.environment, stdout=subprocess.PIPE, stderr=log, text=True,
             )  # fmt: skip
         self.address = self.server.stdout.readline().strip()

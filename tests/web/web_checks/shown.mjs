@@ -1,6 +1,6 @@
-/* shown.mjs COUNT SEED: places and positions of examples/web/page/shown.js, beside a plain list of runes: after each of COUNT changes at
+/* shown.mjs COUNT SEED: places and positions of editor/web/page/shown_text.js, beside a plain list of runes: after each of COUNT changes at
  * random every place has the position, and every position the place, that the list says. */
-import { Gap, SHADE, Shown, piecesOf } from "../../examples/web/page/shown.js";
+import { Gap, SHADE, Shown, piecesOf } from "../../../editor/web/page/shown_text.js";
 
 const [count, seed] = process.argv.slice(2).map(Number);
 const RUNES = ["a", "b", "\n", "é", "𝄞", "\r", SHADE];

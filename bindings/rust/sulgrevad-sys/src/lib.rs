@@ -236,8 +236,8 @@ extern "C" {
     /// sam_host_step. Refused, in this order: SAM_NO_HANDLE; why the host has stopped before, SAM_STREAM.., SAM_HOST_REFUSED..; SAM_WAITING
     /// until a step has handed out SAM_STEP_IDLE; SAM_COUNT_FULL; SAM_NO_MEMORY. The bytes are then not taken, and the host is as it was.
     pub fn sam_host_bring(host: *mut sam_host, bytes: *const u8, len: usize) -> sam_status;
-    /// The kind of the oldest message that waits, by the numbers of docs/PROTOCOL.md, and the file that it names, or 0: the next step that
-    /// takes a message begins with it. SAM_NONE if none waits.
+    /// The kind of the oldest message that waits, by the numbers of docs/reference/PROTOCOL.md, and the file that it names, or 0: the next
+    /// step that takes a message begins with it. SAM_NONE if none waits.
     pub fn sam_host_next_message(host: *mut sam_host, kind: *mut u8, tag: *mut u16) -> sam_status;
     /// Does one thing of what waits, and says what: it writes what was answered last, if that is left over; or the host takes edits of one
     /// file that follow each other, and the checks (Tcheck) among them, or else answers the oldest message. sam_host_feed makes such steps
@@ -613,8 +613,8 @@ extern "C" {
     /// How many bytes of the other side's stream have come.
     pub fn sam_link_received(link: *mut sam_link, count: *mut u64) -> sam_status;
 
-    /// Runs a script over a host and a terminal of its own, and hands out what its `show` lines print: docs/SCRIPTS.md explains the
-    /// language. It takes no handle. All lines are read before the first is done. SAM_OK: *out_len is the number of all bytes that are
+    /// Runs a script over a host and a terminal of its own, and hands out what its `show` lines print: docs/reference/SCRIPTS.md explains
+    /// the language. It takes no handle. All lines are read before the first is done. SAM_OK: *out_len is the number of all bytes that are
     /// printed, and the first of them stand in `out`, as many as have room. The rest of the buffer is as it was. If *out_len is above
     /// out_room, call again with so much room: a script prints the same each time. SAM_SCRIPT_LINE: *line, counted from 1, is the first
     /// wrong line. If no line is wrong, the first that can't be done decides: SAM_SCRIPT_LINE reports a `host` or `term` at which nothing

@@ -58,8 +58,8 @@ impl Host {
         done(unsafe { sys::sam_host_bring(self.at(), bytes.as_ptr(), bytes.len()) })
     }
 
-    /// The kind of the oldest message that waits, by the numbers of docs/PROTOCOL.md, and the file that it names, or 0; `None` if none
-    /// waits. The next step that takes a message begins with it.
+    /// The kind of the oldest message that waits, by the numbers of docs/reference/PROTOCOL.md, and the file that it names, or 0; `None` if
+    /// none waits. The next step that takes a message begins with it.
     pub fn next_message(&self) -> Option<(u8, u16)> {
         let mut tag = 0;
         told(|kind| unsafe { sys::sam_host_next_message(self.at(), kind, &mut tag) }).map(|kind| (kind, tag))

@@ -226,8 +226,8 @@ impl Link {
         Ok(count)
     }
 
-    /// Moves the next bytes of the other side's program into the buffer, those of one packet at most, and returns how many: 0 where a note is
-    /// next, or nothing.
+    /// Moves the next bytes of the other side's program into the buffer, those of one packet at most, and returns how many: 0 where a note
+    /// is next, or nothing.
     pub fn take_in(&mut self, into: &mut [u8]) -> usize {
         tells(|count| unsafe { sys::sam_link_take_in(self.at(), into.as_mut_ptr(), into.len(), count) })
     }

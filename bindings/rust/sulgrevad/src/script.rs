@@ -3,7 +3,8 @@
 use crate::{done, Error, PIECE};
 use sulgrevad_sys as sys;
 
-/// What the `show` lines of a script print; docs/SCRIPTS.md explains the language. Errors: `ScriptLine`, `ScriptCountFull`, `NoMemory`.
+/// What the `show` lines of a script print; docs/reference/SCRIPTS.md explains the language. Errors: `ScriptLine`, `ScriptCountFull`,
+/// `NoMemory`.
 ///
 /// ```
 /// let shown = sulgrevad::replay(b"file notes hello\nshow\n")?;

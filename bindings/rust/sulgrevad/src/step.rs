@@ -6,7 +6,7 @@ use sulgrevad_sys::{self as sys, sam_did};
 /// The frame that a terminal's next step receives. Places and counts are of runes and gaps.
 #[derive(Clone, Copy, Debug, PartialEq, Eq)]
 pub struct NextFrame {
-    /// The number of its kind, as docs/PROTOCOL.md has it.
+    /// The number of its kind, as docs/reference/PROTOCOL.md has it.
     pub kind: u8,
     /// The file that it names, or 0.
     pub tag: u16,
@@ -26,7 +26,7 @@ pub enum HostStep {
     Wrote,
     /// The host took so many messages at once: edits of one file, and the checks (Tcheck) among them.
     Edited { tag: u16, count: usize },
-    /// The host answered one message of this kind, by the numbers of docs/PROTOCOL.md; `tag` is the file that it names, or 0.
+    /// The host answered one message of this kind, by the numbers of docs/reference/PROTOCOL.md; `tag` is the file that it names, or 0.
     Answered { kind: u8, tag: u16 },
 }
 
@@ -40,8 +40,8 @@ pub enum TermStep {
     Locked,
     /// What was composed last is pending now.
     Wrote,
-    /// The terminal received one frame of this kind, by the numbers of docs/PROTOCOL.md; `tag` is the file that it names, or 0, and `change`
-    /// what changed in its text.
+    /// The terminal received one frame of this kind, by the numbers of docs/reference/PROTOCOL.md; `tag` is the file that it names, or 0,
+    /// and `change` what changed in its text.
     Received { kind: u8, tag: u16, change: Change },
     /// The event of this number, counted from 1, acted; `tag` is the file that it names, or 0, and `change` what changed in its text.
     Acted { event: u64, tag: u16, change: Change },

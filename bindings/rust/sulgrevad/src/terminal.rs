@@ -206,8 +206,8 @@ impl Terminal {
         done(unsafe { sys::sam_term_view(self.at(), tag, place, len) })
     }
 
-    /// Shows the same as `view`, and asks for all that is not loaded at once, in at most 1,954 stretches of 512 runes: so a page comes in one
-    /// round trip.
+    /// Shows the same as `view`, and asks for all that is not loaded at once, in at most 1,954 stretches of 512 runes: so a page comes in
+    /// one round trip.
     pub fn load(&mut self, tag: u16, place: u32, len: u32) -> Result<(), Error> {
         done(unsafe { sys::sam_term_load(self.at(), tag, place, len) })
     }
@@ -245,9 +245,9 @@ impl Terminal {
         Ok(term_step(&did))
     }
 
-    /// Makes steps as long as the next frame edits a text, at most `most`, and says what they did: `Received`. All edit the text of one file,
-    /// none begins before the place `first`, and each is at the place of the one before it or above. So what goes can be read before the
-    /// call, and what came after it. Errors, where no edit was received, as of `step`; else the next step has them.
+    /// Makes steps as long as the next frame edits a text, at most `most`, and says what they did: `Received`. All edit the text of one
+    /// file, none begins before the place `first`, and each is at the place of the one before it or above. So what goes can be read before
+    /// the call, and what came after it. Errors, where no edit was received, as of `step`; else the next step has them.
     pub fn step_edits(&mut self, first: u32, most: usize) -> Result<Vec<TermStep>, Error> {
         let (mut did, mut got) = (vec![sam_did::default(); most], 0);
         let made = done(unsafe { sys::sam_term_step_edits(self.at(), first, did.as_mut_ptr(), most, &mut got) });

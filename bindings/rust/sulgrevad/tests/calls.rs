@@ -1,4 +1,4 @@
-//! Calls where they do their work. What is expected follows from sulgrevad.h, docs/PROTOCOL.md and docs/COMMANDS.md.
+//! Calls where they do their work. What is expected follows from sulgrevad.h, docs/reference/PROTOCOL.md and docs/reference/COMMANDS.md.
 
 mod both;
 

@@ -1,5 +1,5 @@
-//! Each fault that a stream can have and each refusal of an event, by its own name. The bytes follow docs/PROTOCOL.md, the limits are those
-//! of sulgrevad.h.
+//! Each fault that a stream can have and each refusal of an event, by its own name. The bytes follow docs/reference/PROTOCOL.md, the limits
+//! are those of sulgrevad.h.
 
 mod both;
 

@@ -1,6 +1,6 @@
-//! Each script of tests/scripts that `sam_play replay` reads prints the output that is stored of it; the head of tests/run_scripts
-//! says what the files of a pair are. `cargo test -- --include-ignored` runs it in the repository. It fails where the scripts are not
-//! there.
+//! Each script of tests/core/scripts that `sam_play replay` reads prints the output that is stored of it; the head of
+//! tests/core/run_scripts says what the files of a pair are. `cargo test -- --include-ignored` runs it in the repository. It fails where
+//! the scripts are not there.
 
 use std::collections::BTreeSet;
 use std::fs;
@@ -11,7 +11,7 @@ use sulgrevad::{replay, Error};
 const TOLD_BY_SCRIPT: [&str; 2] = ["0", "1"];
 
 fn scripts() -> PathBuf {
-    Path::new(env!("CARGO_MANIFEST_DIR")).join("../../../tests/scripts")
+    Path::new(env!("CARGO_MANIFEST_DIR")).join("../../../tests/core/scripts")
 }
 
 fn read(name: &str, kind: &str) -> Option<Vec<u8>> {
@@ -80,7 +80,7 @@ fn printed(script: &[u8]) -> Result<Vec<u8>, Error> {
 }
 
 #[test]
-#[ignore = "it reads tests/scripts of the repository"]
+#[ignore = "it reads tests/core/scripts of the repository"]
 fn each_script_prints_what_is_stored() {
     let names = names();
     assert!(names.len() > 60, "only {} scripts", names.len());

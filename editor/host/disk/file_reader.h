@@ -1,0 +1,41 @@
+/* file_reader.h: reads files: those of the words at the start, and others that are asked for later. */
+#ifndef SAMHOST_DISK_FILE_READER_H
+#define SAMHOST_DISK_FILE_READER_H
+
+#include <stdbool.h>
+#include <stdint.h>
+#include <sys/types.h>
+
+struct session;
+struct text;
+
+/* Reads the files, and those below the folders, into the host. Returns the exit status: 0, or why the session can't begin. */
+int add_files(struct session *session, char **paths, int count);
+
+/* Says when the files were written last. */
+void tell_times(struct session *session);
+
+/* Adds the file for undo, which is never written or saved. Returns the exit status. */
+int add_vault(struct session *session);
+
+/* Reads a whole file into memory of the caller's; a file that isn't there is empty. */
+int read_whole(const char *path, struct text *text);
+
+/* Adds a file that was read to the host, whose status it hands out, and its tag. After an error nothing is added. */
+int add_text(struct session *session, const char *path, const struct text *text, uint32_t *code, uint16_t *tag);
+
+/* Why the host doesn't take a file, by its status. */
+const char *why_not_added(uint32_t code);
+
+/* What two names of one file have in common: its device and inode, or where it isn't there those of its folder, and its name there. */
+struct identity {
+    dev_t device;
+    ino_t inode;
+    char *name; /* the caller's */
+};
+
+bool is_folder(const char *path);
+int identify(const char *path, struct identity *identity);
+bool is_one_file(const struct identity *one, const struct identity *other);
+
+#endif

@@ -1,0 +1,40 @@
+/* file_watcher.h: notices that another program has changed a file which the terminal has open, and reads a file anew where a note asks
+ * for it. */
+#ifndef SAMHOST_DISK_FILE_WATCHER_H
+#define SAMHOST_DISK_FILE_WATCHER_H
+
+#include <stdbool.h>
+#include <stdint.h>
+#include <sys/types.h>
+#include <time.h>
+
+#include "disk/paths.h"
+
+struct session;
+
+/* The marks of a file at the last look, and what it was known to have when it was told that another program changed it. */
+struct watch {
+    dev_t device;
+    ino_t inode;
+    off_t size;
+    struct timespec written, marked;
+    bool is_told;
+    struct content told;
+};
+
+/* Notes that the terminal has opened a file: it is watched from then on. */
+void note_opened(struct session *session, uint16_t tag);
+
+/* In how many milliseconds files are to be looked at; -1 where none is watched, or nobody is there to be told. */
+int64_t watch_is_due_in(const struct session *session);
+
+/* If that is due, looks at the files, and tells of those that another program has changed. */
+void watch_files(struct session *session);
+
+/* Adds what the file of a tag has on disk now as a file of its own, and answers by a note. Returns whether there was memory for it. */
+bool reload_file(struct session *session, const char *id, const char *words);
+
+/* The terminal has put such a file, the second tag, in the place of the first one's text. Returns whether there was memory for it. */
+bool note_reloaded(struct session *session, const char *words);
+
+#endif

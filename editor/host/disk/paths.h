@@ -1,0 +1,45 @@
+/* paths.h: names of files, and what stands in them. */
+#ifndef SAMHOST_DISK_PATHS_H
+#define SAMHOST_DISK_PATHS_H
+
+#include <stdbool.h>
+#include <stddef.h>
+#include <stdint.h>
+
+#include "limits.h"
+
+#define NOT_REGULAR EINVAL   /* the error number of what is there and is no regular file */
+#define IS_CHANGED ECANCELED /* the error number of a file that another program changed */
+
+struct text {
+    uint8_t *bytes;
+    size_t len;
+};
+
+/* What a file has, by which a change is found: the hash of its bytes, or where they can't be read that of its marks (device, inode,
+ * time of change). */
+struct content {
+    enum { NOT_THERE, READ, NOT_READ } kind;
+    uint64_t hash, len;
+};
+
+/* Words put together, in memory of their own; NULL where there is no memory. */
+char *formatted(const char *format, ...);
+
+/* The folder of a path, with the slash at its end, in memory of its own: "" for a name alone. */
+char *folder_of(const char *path);
+
+/* The last part of a path, cut to whole runes where it is too long. */
+void base_of(const char *path, char base[BASE_ROOM]);
+
+/* The path that symbolic links at the end of a path lead to, in memory of the caller's. Nothing needs to be there. */
+int end_of_links(const char *path, char **end);
+
+struct content content_of(const struct text *text);
+struct content content_at(const char *path);
+bool is_same(struct content one, struct content other);
+
+/* Reads all of an open file, of at most `most` bytes, into memory of the caller's. EFBIG where it has more. */
+int read_all(int file, size_t most, struct text *text);
+
+#endif

@@ -1,0 +1,13 @@
+/* recovery.h: reports what earlier sessions left, and offers the texts that they saved to the terminal. */
+#ifndef SAMHOST_DISK_RECOVERY_H
+#define SAMHOST_DISK_RECOVERY_H
+
+#include <stdbool.h>
+
+struct session;
+
+/* Reports what stands beside the files, and in the user's own folders, of sessions and writes that were broken off. A terminal with a file
+ * for undo is offered the texts that were not written (`offers`). */
+void report_left(struct session *session, bool offers);
+
+#endif

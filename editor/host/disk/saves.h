@@ -1,0 +1,31 @@
+/* saves.h: writes a file when the terminal says so. */
+#ifndef SAMHOST_DISK_SAVES_H
+#define SAMHOST_DISK_SAVES_H
+
+#include <stdint.h>
+
+#include "disk/paths.h"
+
+struct document;
+struct known;
+struct session;
+
+/* Writes the files that the terminal has said to write since it was asked last. */
+void write_files(struct session *session);
+
+/* Saves the texts aside that an earlier terminal has not written, and reports them. */
+void report_taken(struct session *session);
+
+/* Notes what a document has read from a path or written to it. */
+int note_known(struct document *document, const char *path, struct content content);
+
+/* The path of a file as it is named now, in memory of its own. NULL where it has none, with the reason in `error`. */
+char *path_of(struct session *session, uint16_t tag, int *error);
+
+/* What is known of a path; NULL where nothing is. */
+struct known *find_known(const struct document *document, const char *path);
+
+/* What is wrong, by its error number. */
+const char *cause(int error);
+
+#endif

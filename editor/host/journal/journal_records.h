@@ -1,0 +1,31 @@
+/* journal_records.h: which steps of a session its journal has, and a document as bytes. */
+#ifndef SAMHOST_JOURNAL_JOURNAL_RECORDS_H
+#define SAMHOST_JOURNAL_JOURNAL_RECORDS_H
+
+#include <stdbool.h>
+#include <stdint.h>
+
+#include "journal/journal.h"
+
+struct session;
+
+/* Notes how a session began, and its files. */
+void note_start(struct session *session);
+
+/* Notes a file that the host was given. */
+void note_file(struct session *session, uint16_t tag);
+
+/* Notes what is known of a file. */
+void note_document(struct session *session, uint16_t tag);
+
+/* Notes what was done to a file; or that a text which could not be saved is held in memory. */
+void note_done(struct session *session, enum doing doing, uint16_t tag, bool is_held);
+
+/* Notes the copies of texts that are new. */
+void note_copies(struct session *session);
+
+/* Takes what a record says of a document, and of the copy of what was cut last. */
+void take_document(struct session *session, struct record *record);
+void take_cut_copy(struct session *session, struct record *record);
+
+#endif

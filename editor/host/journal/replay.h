@@ -1,0 +1,39 @@
+/* replay.h: makes a session again of its journal. */
+#ifndef SAMHOST_JOURNAL_REPLAY_H
+#define SAMHOST_JOURNAL_REPLAY_H
+
+#include <stdbool.h>
+#include <stddef.h>
+#include <stdint.h>
+
+#include "journal/journal.h"
+
+struct session;
+
+/* Why a session can't be made again of its journal. */
+enum replay_fault {
+    REPLAY_OK,
+    REPLAY_NOTHING, /* it had not begun */
+    REPLAY_UNREADABLE,
+    REPLAY_OTHER,     /* the journal is of another version */
+    REPLAY_SHORT,     /* memory is out */
+    REPLAY_NO_FOLDER, /* the folder in which it began is gone */
+    REPLAY_DIFFERS
+};
+
+/* A session that is being made again. */
+struct replay {
+    struct record *done; /* what was done to files, in order */
+    size_t count, next;
+    struct body said; /* what the host said before, and has not said again */
+    size_t came;      /* how many bytes came for the host since it caught up */
+    enum replay_fault fault;
+};
+
+/* Makes a session again of its journal. */
+enum replay_fault begin_again(struct session *session);
+
+/* Whether something was done to a file before, so that it is not to be done again. */
+bool is_done_already(struct session *session, enum doing doing, uint16_t tag);
+
+#endif

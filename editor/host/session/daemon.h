@@ -1,0 +1,29 @@
+/* daemon.h: begins a session that stays in a process of its own, or finds it again; the present process relays to it. */
+#ifndef SAMHOST_SESSION_DAEMON_H
+#define SAMHOST_SESSION_DAEMON_H
+
+#include <stdint.h>
+
+struct home;
+struct options;
+struct session;
+
+/* Makes a session that stays, without files, in a folder that is its own from now on. NULL where memory is out. */
+struct session *make_staying(const struct home *home, int64_t longest_alone);
+
+/* Frees a session, and closes what it has open. Its folder stays. */
+void free_staying(struct session *session);
+
+/* Relays to a session for a terminal that takes it over: to the only one where no name is given. Returns the exit status. */
+int take(const char *name);
+
+/* Begins a session that stays, in a process of its own, and relays. Returns the exit status, also in that process. */
+int begin_to_stay(char **paths, int count, const struct options *options);
+
+/* Relays to a session that stays. Returns the exit status. */
+int attach(const char *name);
+
+/* Ends a session whose samhost is gone: saves its texts aside. Its folder is locked. Returns the exit status. */
+int end_without_samhost(struct home *home);
+
+#endif

@@ -1,0 +1,76 @@
+/* persistent_session.h: serves a session that stays when its line breaks. */
+#ifndef SAMHOST_SESSION_PERSISTENT_SESSION_H
+#define SAMHOST_SESSION_PERSISTENT_SESSION_H
+
+#include <stdbool.h>
+#include <stddef.h>
+#include <stdint.h>
+
+#include "journal/journal.h"
+#include "limits.h"
+#include "log.h"
+#include "net/handshake.h"
+#include "session/ending.h"
+#include "session/session_directory.h"
+#include "sulgrevad.h"
+
+struct replay;
+struct session;
+
+/* Bytes between a connection and the link. */
+struct piece {
+    size_t sent, len;
+    uint8_t bytes[PIECE];
+};
+
+/* A note for the terminal that is not put yet. */
+struct note {
+    struct note *next;
+    char *words;
+};
+
+/* What a session that stays has beside its files. Times are those of now(). */
+struct stay {
+    struct home home;
+    sam_link link; /* empty before the first hello */
+    uint8_t id[SAM_LINK_ID_BYTES];
+    int listener;
+    struct caller callers[MOST_CALLERS];
+    struct waiter waiters[MOST_WAITERS];
+    int line; /* the newest connection; -1 where it is over */
+    uint64_t attempt;
+    struct piece in, out;
+    struct note *notes; /* that wait */
+    unsigned missing;   /* lines that there was no memory for */
+    struct journal journal;
+    struct replay *replay; /* NULL but while it is made again */
+    enum ending ending;
+    struct session *heir;                 /* what another terminal has made of the session; else NULL */
+    uint8_t note[SAM_LINK_MOST_NOTE + 1]; /* of the terminal, that is to be done, and a zero after it */
+    size_t note_len;
+    bool has_note;
+    bool is_answering; /* that is being done, and notes wait for it */
+    bool has_ended;    /* the last note is put */
+    bool is_again;     /* it was made again of its journal */
+    int64_t begun, alone_since, longest_alone;
+};
+
+/* Has lines for standard error become notes, from now on. */
+void listen_for_notes(struct session *session);
+
+/* Puts a note behind those that wait. Returns whether there is memory for it. */
+bool say_note(struct session *session, const char *format, ...);
+
+/* Tells the terminal that another one, on this machine, has the session now, as far as its line takes that without waiting. */
+void say_the_last(struct session *session, const char *machine);
+
+/* Says how many lines there was no memory for, if there are some. */
+void say_missing(struct stay *stay);
+
+/* Puts the notes that wait, as soon as there is a link. */
+void put_notes(struct session *session);
+
+/* Serves a session that stays, over its link, until it ends. Returns the exit status. */
+int stay_and_serve(struct session *session);
+
+#endif

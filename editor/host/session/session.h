@@ -1,0 +1,58 @@
+/* session.h: the files of a session, from its begin to its end. */
+#ifndef SAMHOST_SESSION_SESSION_H
+#define SAMHOST_SESSION_SESSION_H
+
+#include <stdbool.h>
+#include <stddef.h>
+#include <stdint.h>
+#include <sys/types.h>
+
+#include "disk/autosave.h"
+#include "disk/cut_backup.h"
+#include "disk/paths.h"
+#include "net/event_loop.h"
+#include "session/ending.h"
+#include "sulgrevad.h"
+
+struct document;
+struct stay;
+
+struct session {
+    sam_host host;
+    uint16_t vault;             /* the tag of the file for undo; 0 where there is none */
+    struct document *documents; /* ALL_TAGS of them */
+    struct text text;           /* room for one text (MOST_BYTES) */
+    struct closed *closed;
+    struct cut cut;
+    bool has_open;      /* the terminal has opened a file */
+    bool is_met;        /* a terminal has said more than its first words, so it has heard something; or has taken over what another had */
+    int64_t watched_at; /* when files were looked at last */
+    bool is_lost;       /* a text of a closed file could neither be saved nor held in memory, or what came last could not be taken */
+    struct wire wire;
+    struct due due;
+    mode_t mode_of_new_files;
+    struct stay *stay; /* NULL where the session ends with its line */
+};
+
+/* What the words say beside the files. */
+struct options {
+    bool has_vault, tells_times;
+    int64_t longest_alone; /* milliseconds that a session stays alone */
+    const char *name;      /* of a session that stays */
+    bool waits;            /* until a file is closed */
+};
+
+/* Makes a session without files. Returns whether there is memory for it. */
+bool make_session(struct session *session);
+void free_session(struct session *session);
+
+/* Reads the files into a session, and says what is to be known of them. Returns the exit status: 0, or why the session can't begin. */
+int open_session(struct session *session, char **paths, int count, const struct options *options);
+
+/* At the end of a session: saves what is not written, and says where it is. Returns the exit status. */
+int close_session(struct session *session, enum ending ending);
+
+/* How many tags the host has given; 0 where there is no host. */
+size_t count_tags(struct session *session);
+
+#endif

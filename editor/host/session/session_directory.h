@@ -1,0 +1,65 @@
+/* session_directory.h: the folders of sessions that stay: one for each, with its socket, its lock and its journal. */
+#ifndef SAMHOST_SESSION_SESSION_DIRECTORY_H
+#define SAMHOST_SESSION_SESSION_DIRECTORY_H
+
+#include <stdbool.h>
+#include <sys/types.h>
+
+#include "log.h"
+
+enum { NAME_DIGITS = 16 }; /* digits of the name of a session that stays: the first half of its link's id */
+
+#define JOURNAL "journal" /* names of files in the folder of a session that stays */
+#define NEW_JOURNAL "journal.new"
+#define ABOUT "name"
+#define BEFORE "before" /* the names that the session had before other terminals took it over */
+
+/* The folder of a session that stays, and that of all of them; the lock, where this process holds it. Open files, or -1. */
+struct home {
+    char name[NAME_DIGITS + 1];
+    int all, folder, lock;
+};
+
+/* Whether a word is the name of a session that stays. */
+bool is_home_name(const char *word);
+
+/* Opens the folder of a session; makes it where `makes` says so. EPERM where one of that name is not the user's alone. */
+int open_home(const char *name, bool makes, struct home *home);
+void close_home(struct home *home);
+
+/* Opens a file in the folder, which is made where it isn't there, for the user alone whatever the umask. */
+int make_in_home(const struct home *home, const char *name, int flags, int *file);
+
+/* Has the folder be on the disk, with the names of what it has. */
+void sync_home(const struct home *home);
+
+/* Removes the folder and what a session has in it. */
+void remove_home(struct home *home);
+
+/* Takes the lock, which is kept until the file of it is closed. EWOULDBLOCK where a living samhost has it. */
+int lock_home(struct home *home);
+
+/* Notes in the lock which process has it. */
+void note_owner(const struct home *home);
+
+/* Makes the socket, which nobody but the user may connect to. Connections come once it listens; who has it listen is who is found at its
+ * other end. */
+int bind_home(const struct home *home, int *listener);
+int listen_at(int listener);
+
+/* Connects to the samhost of a session. */
+int connect_home(const struct home *home, int *line);
+
+/* Whether the other end of a connection is the user's own; hands out its process, unless the pointer is NULL. */
+bool is_ours(int socket, pid_t *process);
+
+/* Visits the folder of each session, until a visit returns an error number. */
+int each_home(int (*visit)(struct home *home, void *at), void *at);
+
+/* Notes a name that the session had before another terminal took it over; it goes with the folder. */
+void note_before(const struct home *home, const char name[NAME_DIGITS + 1]);
+
+/* Finds the session that had a name before another terminal took it over, and hands out its name. Returns whether there is one. */
+bool find_heir(const char *name, char heir[NAME_DIGITS + 1]);
+
+#endif

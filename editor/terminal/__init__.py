@@ -1,0 +1,1 @@
+"""The editor's terminal: samterm starts `session.edit`."""

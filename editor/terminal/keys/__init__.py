@@ -1,0 +1,1 @@
+"""Keys: what the user's terminal sends, what waits, and what each does."""

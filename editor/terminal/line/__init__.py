@@ -1,0 +1,1 @@
+"""What carries bytes and notes between terminal and host."""

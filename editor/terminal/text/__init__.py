@@ -1,0 +1,1 @@
+"""Texts as the terminal has them, and what undo keeps."""

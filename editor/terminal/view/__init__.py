@@ -1,0 +1,1 @@
+"""What is on the screen: windows, rows, colours, the status line."""
