@@ -18,7 +18,7 @@ from .pairs import LONG as MANY_LINES
 from .pairs import in_a_small_window, loads_of, opened
 from .slow_line import QUIET_LOOP, least_loop
 from .stopped import MOST_FOR_A_KEY
-from .support import COMMAND_WINDOW, READ_AFTER, SAMHOST, STATE, Session, expect, made, wait_for_text, wait_until
+from .support import COMMAND_WINDOW, READ_AFTER, SAMHOST, SAMHOST_WORD, STATE, Session, expect, made, wait_for_text, wait_until
 
 MOST_LOADED = 30_000  # runes at once
 LINES = [f"line {number} {'x' * (number * 7 % 60)}\n" for number in range(1, 1501)]
@@ -298,7 +298,7 @@ def check_lost_line(folder):
     (path,) = made(folder, a="one\ntwo\n")
     block = folder / "block"
     host = folder / "host"
-    host.write_text(f"#!/bin/sh\n[ -e {block} ] && exit 1\nexec {SAMHOST} \"$@\"\n")
+    host.write_text(f"#!/bin/sh\n[ -e {block} ] && exit 1\nexec {SAMHOST_WORD} \"$@\"\n")
     host.chmod(0o755)
     with Session(folder, "a.txt", host=str(host), stays=True, width=120) as session:
         session.wait_for("two")
@@ -352,7 +352,7 @@ if [ -e {asks} ]; then
     read -r word <&3
     [ "$word" = secret ] || exit 1
 fi 2> /dev/null
-exec {SAMHOST} "$@"
+exec {SAMHOST_WORD} "$@"
 """)
     host.chmod(0o755)
     with Session(folder, "a.txt", host=str(host), stays=True, width=120, settings="trap : INT;") as session:
@@ -601,7 +601,7 @@ def check_old_host(folder):
     (path,) = made(folder, a="one\n")
     host = folder / "host"
     usage = "usage: samhost [--undo] [--times] [--] [FILE ..]"
-    host.write_text(f'#!/bin/sh\n[ "$1" = --serve ] && echo "{usage}" >&2 && exit 2\nexec {SAMHOST} "$@"\n')
+    host.write_text(f'#!/bin/sh\n[ "$1" = --serve ] && echo "{usage}" >&2 && exit 2\nexec {SAMHOST_WORD} "$@"\n')
     host.chmod(0o755)
     with Session(folder, "a.txt", host=str(host), stays=True) as session:
         session.wait_for("one")

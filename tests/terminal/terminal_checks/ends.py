@@ -5,7 +5,7 @@ import signal
 import sys
 import time
 
-from .support import SAMHOST, SAMTERM, Session, expect, expect_sleep, host_that, made, wait_for_text, wait_until
+from .support import SAMHOST, SAMHOST_WORD, SAMTERM, SAMTERM_WORD, Session, expect, expect_sleep, host_that, made, wait_for_text, wait_until
 
 
 def check_kill_host(folder):
@@ -35,11 +35,11 @@ def check_saved_here(folder):
     nothing can be written here. The status says that something is left."""
     gone = "sh -c 'mkdir gone; cd gone; rmdir ../gone; exec \"$0\" \"$@\"'"  # a folder that is gone takes no file, of nobody
     own = r"\.state/sulgrevad/[0-9a-f]{16}-a\.txt\.sam-here"
-    for at, (program, kept) in enumerate(((SAMTERM, r"a\.txt\.sam-here"), (f"{gone} {sys.executable} {SAMTERM}", own))):
+    for at, (program, kept) in enumerate(((SAMTERM, r"a\.txt\.sam-here"), (f"{gone} {sys.executable} {SAMTERM_WORD}", own))):
         place = folder / str(at)
         place.mkdir()
         (path,) = made(place, a="one\n")
-        host = host_that(place, f"{SAMHOST} \"$@\" 2> /dev/null", "exit 255")  # it saves the text, and says nothing
+        host = host_that(place, f"{SAMHOST_WORD} \"$@\" 2> /dev/null", "exit 255")  # it saves the text, and says nothing
         with Session(place, str(path), host=host, program=program) as session:
             session.wait_for("one")
             session.type("typed ")

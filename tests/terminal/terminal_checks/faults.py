@@ -2,13 +2,14 @@
 import contextlib
 import os
 import random
+import shlex
 import signal
 import struct
 import subprocess
 import sys
 from pathlib import Path
 
-from .support import ROOT, SAMHOST, SAMTERM, Failed, Session, expect, made, stat_of, wait_for_text, wait_until
+from .support import ROOT, SAMHOST_WORD, SAMTERM, SAMTERM_WORD, Failed, Session, expect, made, stat_of, wait_for_text, wait_until
 
 
 def check_signals(folder):
@@ -58,7 +59,7 @@ def check_suspend(folder):
         place = folder / str(at)
         place.mkdir()
         made(place, a="one\n")
-        line = f"{SAMTERM} --host {SAMHOST} a.txt; echo back in the shell; read x; fg"
+        line = f"{SAMTERM_WORD} --host {shlex.quote(SAMHOST_WORD)} a.txt; echo back in the shell; read x; fg"
         with Session(place, "a.txt", program=f"bash --norc -ic 'set -m; {line}' --") as session:
             session.wait_for("one")
             if key:
@@ -88,7 +89,7 @@ def check_hangup_while_suspended(folder):
     """The user's screen is gone while the program is stopped: it ends as by a hangup, and what came of a paste is saved, by the host if
     that is still there."""
     made(folder, a="one\n")
-    line = f"{SAMTERM} --host {SAMHOST} a.txt; echo back in the shell; read x; fg"
+    line = f"{SAMTERM_WORD} --host {shlex.quote(SAMHOST_WORD)} a.txt; echo back in the shell; read x; fg"
     with Session(folder, "a.txt", program=f"bash --norc -ic 'set -m; {line}' --") as session:
         session.wait_for("one")
         session.tmux("send-keys", "-H", *(f"{byte:x}" for byte in b"\x1b[200~pasted "))

@@ -5,7 +5,7 @@ import signal
 import time
 from pathlib import Path
 
-from .support import SAMHOST, STATE, Session, expect, made, not_of_root, wait_for_text, wait_until
+from .support import SAMHOST, SAMHOST_WORD, STATE, Session, expect, made, not_of_root, wait_for_text, wait_until
 
 UNREAD = 0.5  # seconds that a line stands there until a key counts as pressed by someone who has read it
 
@@ -95,7 +95,7 @@ def check_written_in_place(folder):
     path.chmod(0o666)
     closed.chmod(0o555)
     before = path.stat().st_ino
-    with Session(folder, "link", "closed/a.txt", host=not_of_root(folder, SAMHOST)) as session:
+    with Session(folder, "link", "closed/a.txt", host=not_of_root(folder, SAMHOST_WORD)) as session:
         session.wait_for("0,0 of 0")
         session.type("text")
         session.keys("C-w")

@@ -7,7 +7,7 @@ import signal
 import time
 
 from .pairs import Pair, opened
-from .support import READ_AFTER, SAMHOST, Session, change_two, expect, host_that, made, wait_for_text, wait_until
+from .support import READ_AFTER, SAMHOST, SAMHOST_WORD, Session, change_two, expect, host_that, made, wait_for_text, wait_until
 
 
 def check_quit_by_selection(folder):
@@ -253,7 +253,7 @@ def check_worst_line_of_many(folder):
 def check_text_lost(folder):
     """The exit status tells that a text could not be saved anywhere."""
     made(folder, a="one\n")
-    host = host_that(folder, f"{SAMHOST} \"$@\"", "echo 'samhost: the text of a.txt is lost: no room' >&2", "exit 5")
+    host = host_that(folder, f"{SAMHOST_WORD} \"$@\"", "echo 'samhost: the text of a.txt is lost: no room' >&2", "exit 5")
     with Session(folder, "a.txt", host=host) as session:
         session.wait_for("one")
         session.wait_for_quiet()
@@ -390,7 +390,7 @@ def check_saved_by_the_host(folder):
 def check_words_at_the_start(folder):
     """What the host tells at the start stands on the screen. A line before the stream is shown as what it is, and harms nothing."""
     (path,) = made(folder, a="one\n")
-    host = host_that(folder, "echo Welcome to A box", "echo 'samhost: a.txt.sam-saved is there' >&2", f"exec {SAMHOST} \"$@\"")
+    host = host_that(folder, "echo Welcome to A box", "echo 'samhost: a.txt.sam-saved is there' >&2", f"exec {SAMHOST_WORD} \"$@\"")
     with Session(folder, "a.txt", host=host) as session:
         session.wait_for("one")
         session.read("samhost: a.txt.sam-saved is there", "printed: Welcome to A box")

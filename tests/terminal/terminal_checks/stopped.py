@@ -5,6 +5,7 @@ import fcntl
 import os
 import pty
 import select
+import shlex
 import signal
 import struct
 import subprocess
@@ -32,7 +33,7 @@ class OnTerminal:
 
     def __init__(self, folder, *files, delay=0):
         self.folder, self.block, self.log = folder, folder / "block", folder / "connected"
-        host = f"{sys.executable} {GATE} {self.block} {self.log} {delay} {SAMHOST}"
+        host = shlex.join(map(str, (sys.executable, GATE, self.block, self.log, delay, SAMHOST)))
         environment = {**os.environ, "SAM_LIBRARY": str(LIBRARY), "LC_ALL": "C.UTF-8", "TERM": "xterm-256color", "TMPDIR": str(folder)}
         environment["XDG_STATE_HOME"] = str(folder / STATE)
         self.end, inner = pty.openpty()

@@ -2,6 +2,7 @@
 import contextlib
 import os
 import re
+import shlex
 import signal
 import subprocess
 import sys
@@ -12,6 +13,7 @@ from checks import LIBRARY, ROOT, SAMHOST, SECONDS, Failed, expect, wait_until
 
 SAMTERM = ROOT / "editor/terminal/samterm"
 SLOW = ROOT / "tools/delay"
+SAMTERM_WORD, SAMHOST_WORD, SLOW_WORD = (shlex.quote(str(path)) for path in (SAMTERM, SAMHOST, SLOW))  # for a shell
 PAGE = ROOT / "docs/howto/EDITOR.md"
 sys.path[:0] = [str(SAMTERM.parents[1]), str(ROOT / "bindings" / "python")]
 
@@ -73,13 +75,14 @@ class Session:
         self.folder, self.status_file = folder, folder / "status"
         self.ends_staying = True  # else the session is left at the host, for another
         self.tmux_words = ["tmux", "-S", str(folder / ".tmux"), "-f", "/dev/null", "-u"]
-        words = host or (f"{SLOW} {slow} {SAMHOST}" if slow is not None else str(SAMHOST))
-        host = f"--host '{words}'"
-        host = "" if words == str(ROOT / "out" / "samhost") else host  # it is what samterm takes by itself
+        words = host or (f"{SLOW_WORD} {slow} {SAMHOST_WORD}" if slow is not None else SAMHOST_WORD)
+        host = f"--host {shlex.quote(words)}"
+        host = "" if words == shlex.quote(str(ROOT / "out" / "samhost")) else host  # it is what samterm takes by itself
         host += "" if stays else " --stay 0"
         if take is not None:
-            host = f"--take '{words}' {take}"
-        command = f"cd {folder}; {settings} {program} {host} {' '.join(files)} 2> stderr; echo $? > status; exec sleep 1000"
+            host = f"--take {shlex.quote(words)} {take}"
+        program = shlex.quote(str(program)) if isinstance(program, Path) else program
+        command = f"cd {shlex.quote(str(folder))}; {settings} {program} {host} {' '.join(files)} 2> stderr; echo $? > status; exec sleep 1000"
         own = {"TMPDIR": str(folder), "XDG_STATE_HOME": str(folder / STATE)}
         environment = {**os.environ, "SAM_LIBRARY": str(LIBRARY), "LC_ALL": "C.UTF-8", "SHELL": "/bin/sh", **own}
         words = [*self.tmux_words, "new-session", "-d", "-x", str(width), "-y", str(height), command]
@@ -311,4 +314,4 @@ def host_that(folder, *lines):
     path = folder / "host"
     path.write_text("\n".join(("#!/bin/sh", *lines, "")))
     path.chmod(0o755)
-    return str(path)
+    return shlex.quote(str(path))
