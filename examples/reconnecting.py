@@ -1,20 +1,34 @@
-"""A terminal's and a host's end of a link in two threads, over lines that break: what is put comes out once and in order."""
+"""A terminal and a host in two threads, over a link whose connections break: what is typed comes to the host once and in order."""
 import os
 import socket
 import threading
 
-from sulgrevad import Link, LinkFault, read_hello, write_refusal
+from sulgrevad import Host, Link, LinkFault, Terminal, read_hello, write_refusal
 
-SECONDS = 15  # without a byte: ask, and after as long again give the line up
+SECONDS = 15  # without a byte: ask, and after as long again give the connection up
 ID = os.urandom(16)  # a name and no secret: in earnest the transport says who is there
+LINES = "".join(f"line {number}\n" for number in range(100))
 
 
-def carries(link, line, attempt, comes):
-    """Carries bytes over a line until it breaks, or until all that was put here is acknowledged."""
+def take_in(link, endpoint, told):
+    """Gives an endpoint all that has come, and puts what it answers. Bytes and notes come in the order in which they were put, so both are
+    asked for until there is neither."""
+    while True:
+        if data := link.take_in():
+            endpoint.feed(data)
+            link.put(endpoint.take_out())
+        elif (note := link.next_note()) is not None:
+            told.append(note)
+        else:
+            return
+
+
+def carry(link, endpoint, line, attempt, told):
+    """Carries a session over one connection, until that breaks or all that was put here is acknowledged."""
     owed, has_asked = link.put_count, False
     line.settimeout(SECONDS)
     try:
-        while not owed or link.acknowledged < owed:
+        while link.acknowledged < owed:
             while data := link.take_out(attempt):
                 line.sendall(data)
             try:
@@ -29,11 +43,9 @@ def carries(link, line, attempt, comes):
                 break
             has_asked = False
             link.feed(attempt, data)
-            while data := link.take_in():
-                comes(data)
-            while (note := link.next_note()) is not None:
-                comes(b"note: " + note)
-    except (OSError, LinkFault):  # a broken line, a newer connection, or a wrong packet
+            take_in(link, endpoint, told)
+            owed = link.put_count
+    except (OSError, LinkFault):  # a broken connection, a newer one, or a wrong packet
         pass
     link.broken(attempt)
 
@@ -44,13 +56,13 @@ def hello_from(line):
     while read_hello(came) is None:
         more = line.recv(42 - len(came))
         if not more:
-            raise ConnectionError("the line ended in the hello")
+            raise ConnectionError("the connection ended in the hello")
         came += more
     return came
 
 
-def serve(listener, comes):
-    """The host: the session's end stays, whatever becomes of lines."""
+def serve(listener, host, told):
+    """The host: its end of the link stays, whatever becomes of connections."""
     with Link(Link.HOST, ID) as link:
         while True:
             line, _ = listener.accept()
@@ -64,33 +76,46 @@ def serve(listener, comes):
                 except OSError:
                     pass
                 else:
-                    carries(link, line, link.attempt, comes)
+                    link.ask()  # something is owed, so it goes on until the connection ends
+                    carry(link, host, line, link.attempt, told)
+
+
+def connect(link, address, attempt, breaks_after):
+    """Opens a connection, and says hello on it. It breaks after so many bytes, unless that is None. Returns it; None if it broke."""
+    line = socket.create_connection(address)
+    line.sendall(link.take_out(attempt))
+    link.welcomed(hello_from(line))
+    # What was put since the connection before goes out only after the welcome.
+    line.sendall(link.take_out(attempt, breaks_after or 65_536))
+    if breaks_after is None:
+        return line
+    line.close()
+    link.broken(attempt)
+    return None
 
 
 def main():
-    came = []
-    listener = socket.create_server(("127.0.0.1", 0))
-    threading.Thread(target=serve, args=(listener, came.append), daemon=True).start()
-    with Link(Link.TERMINAL, ID) as link:
-        for number in range(100):
-            link.put(b"line %d\n" % number)
-        link.put_note(b"the last line stands before this")
-        link.ask()
-        while not link.put_count or link.acknowledged < link.put_count:
+    told, notes = [], []
+    with Host() as host, Terminal() as terminal, Link(Link.TERMINAL, ID) as link, socket.create_server(("127.0.0.1", 0)) as listener:
+        tag = host.add_file("notes")
+        threading.Thread(target=serve, args=(listener, host, told), daemon=True).start()
+        terminal.offer_version(2)
+        terminal.open(tag)  # it acts once the version is agreed on, and what follows once the file is open
+        for line in LINES.splitlines(keepends=True):
+            terminal.type(tag, line)
+        terminal.write(tag)
+        link.put(terminal.take_out())
+        link.put_note(b"a note stands behind what was put before it")
+        while terminal.held or link.acknowledged < link.put_count:
             attempt = link.call()
-            with socket.create_connection(listener.getsockname()) as line:
-                if attempt < 4:  # a bad line: it breaks after some bytes
-                    line.sendall(link.take_out(attempt, 42 + 100 * attempt))
-                    if attempt > 1:
-                        link.welcomed(hello_from(line))
-                        line.sendall(link.take_out(attempt, 100 * attempt))
-                    link.broken(attempt)
-                    continue
-                line.sendall(link.take_out(attempt))
-                link.welcomed(hello_from(line))
-                carries(link, line, attempt, came.append)
-        print(f"{link.attempt} connections, {link.acknowledged} bytes acknowledged")
-    print(b"".join(came).decode()[-60:])
+            line = connect(link, listener.getsockname(), attempt, 100 * attempt if attempt < 4 else None)
+            if line is not None:
+                with line:
+                    carry(link, terminal, line, attempt, notes)
+            terminal.flush_now()
+            link.put(terminal.take_out())
+        print(f"{link.attempt} connections")
+        print(host.text(tag) == LINES, host.is_dirty(tag), told)
 
 
 main()
