@@ -58,6 +58,10 @@ Each time after that they are twice as many.")
 (defconst sulgrevad-line--most-noise 65536 "Bytes that may come before a hello.")
 (defconst sulgrevad-line--mark (concat (string #x89) "samlink") "With which a hello begins.")
 (defconst sulgrevad-line--hello-bytes 42 "Bytes of a hello.")
+(defconst sulgrevad-line--most-told 4096 "Characters of a line that a program has written to standard error.")
+(defconst sulgrevad-line--name-form "\\`[0-9a-f]\\{16\\}\\'"
+  "What the name of a session is like.
+The host says it, and it becomes a word of a command.")
 (defconst sulgrevad-line--open 2 "The phase in which both sides have said hello.")
 (defconst sulgrevad-line--refused
   '((18 . "the host knows another version of the link")
@@ -351,7 +355,9 @@ Other programs may have written something before its hello."
 (defun sulgrevad-line--meet (line note)
   "A NOTE has come on LINE."
   (pcase (split-string note " ")
-    (`("session" ,name . ,_) (setf (sulgrevad-line-name line) name))
+    (`("session" ,name . ,_)
+     (if (string-match-p sulgrevad-line--name-form name) (setf (sulgrevad-line-name line) name)
+       (funcall (sulgrevad-line-receive line) 'told "the host's name for the session is none, and is not taken")))
     (`("ended" ,status . ,_)
      (setf (sulgrevad-line-ended-with line) (string-to-number status))
      (ignore-errors (sulgrevad--link-acknowledge (sulgrevad-line-link line))) ; so that the host need not wait
@@ -413,7 +419,8 @@ It is 0 where there is a line, and no answer is due."
 (defun sulgrevad-line--tell (line text)
   "Programs of LINE have written TEXT to standard error.
 A line is told once, however many connections fail by the same."
-  (let ((lines (split-string (concat (sulgrevad-line-told line) text) "\r?\n")))
+  (let ((lines (mapcar (lambda (told) (substring told 0 (min sulgrevad-line--most-told (length told))))
+                       (split-string (concat (sulgrevad-line-told line) text) "\r?\n"))))
     (setf (sulgrevad-line-told line) (car (last lines)))
     (dolist (told (butlast lines))
       (unless (or (string-empty-p told) (equal told (sulgrevad-line-last-told line)) (sulgrevad-line-why line))

@@ -806,7 +806,9 @@ Return whether there was any."
 (defun sulgrevad--hear (told)
   "Show what the host has TOLD, and note what it has not written."
   (sulgrevad--note-told told)
-  (cond ((not (string-prefix-p "? write " told)) (message "samhost: %s" told))
+  (cond ((and (string-prefix-p "the text of " told) (string-search " is lost: " told))
+         (display-warning 'sulgrevad (concat "samhost: " told) :error)) ; in a buffer that stays
+        ((not (string-prefix-p "? write " told)) (message "samhost: %s" told))
         (sulgrevad--writing (setq sulgrevad--complaint told))
         (t (push (cons nil told) sulgrevad--unwritten)
            (message "samhost: %s" told))))
@@ -984,10 +986,12 @@ files were not written; undo doesn't."
            :key (lambda (buffer) (buffer-local-value 'sulgrevad--tag buffer))))
 
 (defun sulgrevad--names ()
-  "The names of the host's files, with their tags."
+  "The names of the user's files in the session, with their tags.
+A name that begins with `~~' is of a file that a terminal keeps for
+itself, as undo of samterm: saved, it would be written nowhere."
   (cl-loop for tag from 1 below (sulgrevad--tags sulgrevad--term)
            for name = (sulgrevad--name sulgrevad--term tag)
-           when name collect (cons name tag)))
+           when (and name (not (string-prefix-p "~~" name))) collect (cons name tag)))
 
 (defun sulgrevad--left-buffer (name)
   "The buffer of the file NAME that is left of an earlier session, or nil.

@@ -359,6 +359,26 @@
                text new changes (buffer-string)))))
   (asked t (sulgrevad-quit)))
 
+(defun check-hostile ()
+  "What a host says is believed no more than it has to be."
+  (sulgrevad-start (list samhost "--undo") (made "hostile.txt" "text\n"))
+  (let ((line sulgrevad--line) (name (sulgrevad-line-name sulgrevad--line)) (told nil))
+    (dolist (word '("$(touch${IFS}OWNED)" "0123456789abcdeg" "0123456789abcdef0" ""))
+      (setq told (said (lambda () (sulgrevad-line--meet line (concat "session " word " box")))))
+      (check (format "a name of a session that is none is not taken, %s" word) (equal name (sulgrevad-line-name line)) told)
+      (check "that is said" (cl-some (lambda (one) (string-search "name for the session" one)) told) told))
+    (sulgrevad-line--tell line (make-string 1000000 ?x))
+    (check "a line without an end is cut" (<= (length (sulgrevad-line-told line)) 4096))
+    (setq told (said (lambda () (sulgrevad-line--tell line "\n"))))
+    (check "and told, cut" (and told (cl-every (lambda (one) (<= (length one) 4096)) told)) (mapcar #'length told)))
+  (check "a file that a terminal keeps for itself is not offered" (equal (mapcar #'car (sulgrevad--names)) '("hostile.txt"))
+         (sulgrevad--names))
+  (sulgrevad--meet "told the text of hostile.txt is lost: No space left on device")
+  (message "another message")
+  (check "a text that is lost is told in a buffer that stays"
+         (with-current-buffer "*Warnings*" (string-search "the text of hostile.txt is lost: No space" (buffer-string))))
+  (asked t (sulgrevad-quit)))
+
 (defun check-passwords ()
   "What asks on its terminal asks the user, but only where he waits for it."
   (let* ((file (made "p.txt" "p\n")) (sulgrevad-line-pauses '(0.1)) (asked nil)
@@ -421,7 +441,7 @@ exec \"$@\"" "sh") (relayed))))
     (setq command-line-args-left nil)
     (if (equal what "long") (check-long (append words (list samhost)))
       (dolist (one '(check-breaks check-many-breaks check-random check-stalled check-take check-one-buffer check-paths check-wishes
-                                  check-keys check-steps check-passwords check-sources))
+                                  check-keys check-steps check-hostile check-passwords check-sources))
         (when (memq one (or (bound-and-true-p only) (list one)))
           (funcall one))))
     (princ (format "%d passed, %d failed\n" passed failed))))
