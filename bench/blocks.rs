@@ -110,13 +110,6 @@ impl Section {
         Section::Loaded(runes.to_vec())
     }
 
-    fn get(&self, at: u32) -> Option<char> {
-        match self {
-            Section::Loaded(runes) => Some(runes[at as usize]),
-            Section::Hole(_) => None,
-        }
-    }
-
     /// Puts runes in if it is loaded and has room for them. Returns whether it did.
     fn insert(&mut self, at: u32, more: &[char]) -> bool {
         match self {
@@ -212,14 +205,6 @@ impl Blocks {
 
     fn sections_mut(&mut self, spot: &Spot) -> &mut Vec<Section> {
         &mut self.groups.parts[spot.group].parts[spot.block].parts
-    }
-
-    pub fn get(&self, p: u32) -> Option<Option<char>> {
-        if p >= self.len() {
-            return None;
-        }
-        let spot = self.find(p);
-        Some(self.sections(&spot)[spot.section].get(spot.at))
     }
 
     /// The sections from a place on.

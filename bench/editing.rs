@@ -78,9 +78,3 @@ fn run(text: Vec<char>, line: &str) -> Option<Report> {
 pub fn each(size: usize) -> Report {
     run(vec!['a'; size], ",x/a/c/b/").expect("a command")
 }
-
-/// Edits that put two runes in before each second one.
-pub fn grown(size: usize) -> Report {
-    let text = ['a', 'b'].into_iter().cycle().take(size).collect();
-    run(text, ",x/b/i/cd/").expect("a command")
-}

@@ -1,6 +1,6 @@
 //! A host and a terminal with their bytes: frames in, in whatever pieces they come, and frames out.
 
-use crate::codec::{HFrame, Hmesg, Tmesg, decode_h, decode_t, encode_h, encode_t, fits_h, fits_t, split};
+use crate::codec::{Tmesg, decode_h, decode_t, encode_h, encode_t, fits_t, split};
 use crate::host::Host;
 use crate::sample::{check_bytes, mix};
 use crate::terminal::{Event, Terminal};
@@ -150,8 +150,3 @@ pub fn push_t(out: &mut Vec<u8>, message: Tmesg) {
     encode_t(out, &message);
 }
 
-/// Adds the frame of a message of the host, whose stamp no terminal refuses.
-pub fn push_h(out: &mut Vec<u8>, msg: Hmesg) {
-    assert!(fits_h(&msg));
-    encode_h(out, &HFrame { seen: 0, msg });
-}

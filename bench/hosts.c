@@ -5,30 +5,6 @@
 
 enum { PIECE = 4096 };
 
-/* A host tells its text in stretches of 512 runes, over and over, up to `size` bytes. */
-struct report encode(uint32_t size)
-{
-    enum { LENGTH = 100000, REQUESTS = 64 };
-    sam_host host = SAM_HOST_INIT;
-    struct bytes asked = {0};
-    struct report found;
-    size_t round;
-    int64_t begin;
-    open_host(&host, mixed(LENGTH), 1);
-    for (unsigned i = 0; i < REQUESTS; i++)
-        put(&asked, TREQUEST, "hih", 1, i * 1500, 512);
-    feed_host(&host, asked);
-    WANT(sam_host_pending(&host, &round));
-    found.check = take_host(&host);
-    begin = nanoseconds();
-    for (size_t i = 0; i < size / round; i++) {
-        feed_host(&host, asked);
-        found.check = mix(found.check, take_host(&host));
-    }
-    found.took = nanoseconds() - begin;
-    return found;
-}
-
 /* Looks 100 times for three runes that stand at the end of a text; the first of them is one of its letters. */
 struct report find(uint32_t size)
 {
@@ -75,37 +51,6 @@ struct report x(uint32_t size)
     return run_line(repeated("a", size), ",x/a/c/b/\n");
 }
 
-/* Edits that put two runes in before each second one. */
-struct report x_grows(uint32_t size)
-{
-    return run_line(repeated("ab", size), ",x/b/i/cd/\n");
-}
-
-/* Adds the frames of one message of each of sixteen kinds or lengths, for one file, which is as long behind them as before. The line of the
- * round is typed where the command file ends, at `end`. Returns where it ends then. */
-static unsigned put_round(struct bytes *out, const struct bytes *text, unsigned tag, unsigned p, unsigned end)
-{
-    char line[64];
-    int len = snprintf(line, sizeof line, "#%u,#%uc/lazy dogs/\n", p, p + 9);
-    put(out, TWORKFILE, "hii", tag, p, p + 9);
-    put(out, TTYPE, "hit", tag, p, text[0]);
-    put(out, TTYPE, "hit", tag, p + 40, text[1]);
-    put(out, TCHECK, "h", tag);
-    put(out, TREQUEST, "hih", tag, p, 512);
-    put(out, TORIGIN, "hii", tag, p, 3);
-    put(out, TCUT, "hii", tag, p, p + 552);
-    put(out, TSNARF, "hii", tag, p, p + 300);
-    put(out, TPASTE, "hi", tag, p);
-    put(out, TCUT, "hii", tag, p, p + 300);
-    put(out, TDCLICK, "hi", tag, p);
-    put(out, TLOOK, "hii", tag, p, p + 5);
-    put(out, TSEARCH, "hii", tag, p, p + 5);
-    put(out, TSETSNARF, "t", text[2]);
-    put(out, TTYPE, "hit", 0, end, text_of(line));
-    put(out, TACK, "");
-    return end + (unsigned)len;
-}
-
 /* Feeds a stream piece by piece, and takes the answers out. Returns their check value. */
 static uint64_t feed_pieces(sam_host *host, struct bytes stream, size_t piece)
 {
@@ -115,26 +60,6 @@ static uint64_t feed_pieces(sam_host *host, struct bytes stream, size_t piece)
         check = mix(check, take_host(host));
     }
     return check;
-}
-
-/* Has a host of sixteen files answer about `size` messages. */
-struct report handle(uint32_t size)
-{
-    enum { FILES = 16, LENGTH = 5000, ROUND = 16 };
-    sam_host host = SAM_HOST_INIT;
-    struct bytes stream = {0}, text[] = {mixed(40), mixed(512), mixed(100)};
-    struct report found;
-    unsigned end = 0;
-    int64_t begin;
-    open_host(&host, repeated("the quick brown fox jumps over the lazy dog and runs away\n", LENGTH), FILES);
-    for (unsigned turn = 0; turn < size / ROUND; turn++)
-        end = put_round(&stream, text, turn % FILES + 1, turn * 37 % 4000, end);
-    begin = nanoseconds();
-    found.check = feed_pieces(&host, stream, PIECE);
-    found.took = nanoseconds() - begin;
-    for (uint16_t tag = 1; tag <= FILES; tag++)
-        found.check = check_host(&host, tag, found.check);
-    return found;
 }
 
 /* Has a host take back a replace-all at `size` places of a long text, the last in the text first, each with a cut and with what is typed

@@ -11,26 +11,7 @@ static const struct {
     const char *name;
     struct report (*job)(uint32_t size);
 } JOBS[] = {
-    {"encode", encode},
-    {"decode", decode},
-    {"find", find},
-    {"x", x},
-    {"x_grows", x_grows},
-    {"rasp_load", rasp_load},
-    {"rasp_type", rasp_type},
-    {"rasp_edits", rasp_edits},
-    {"rasp_scattered", rasp_scattered},
-    {"rasp_keys", rasp_keys},
-    {"rasp_asks", rasp_asks},
-    {"rasp_cut", rasp_cut},
-    {"terminal", terminal},
-    {"receive", receive},
-    {"handle", handle},
-    {"undo", undo},
-    {"both_ends", both_ends},
-    {"files", files},
-    {"linked", linked},
-    {"unlinked", unlinked},
+    {"find", find}, {"x", x}, {"undo", undo}, {"both_ends", both_ends}, {"files", files}, {"linked", linked}, {"unlinked", unlinked},
 };
 
 int main(int words, char **word)

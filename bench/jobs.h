@@ -12,21 +12,8 @@ struct report {
     uint64_t check;
 };
 
-struct report encode(uint32_t size);
-struct report decode(uint32_t size);
 struct report find(uint32_t size);
 struct report x(uint32_t size);
-struct report x_grows(uint32_t size);
-struct report rasp_load(uint32_t size);
-struct report rasp_type(uint32_t size);
-struct report rasp_edits(uint32_t size);
-struct report rasp_scattered(uint32_t size);
-struct report rasp_keys(uint32_t size);
-struct report rasp_asks(uint32_t size);
-struct report rasp_cut(uint32_t size);
-struct report terminal(uint32_t size);
-struct report receive(uint32_t size);
-struct report handle(uint32_t size);
 struct report undo(uint32_t size);
 struct report both_ends(uint32_t size);
 struct report files(uint32_t size);
@@ -42,43 +29,7 @@ struct bytes {
 };
 
 /* The kinds of frames that the jobs make, by docs/reference/PROTOCOL.md. */
-enum {
-    TVERSION = 1,
-    TSTARTCMDFILE = 2,
-    TCHECK = 3,
-    TREQUEST = 4,
-    TORIGIN = 5,
-    TSTARTFILE = 6,
-    TWORKFILE = 7,
-    TTYPE = 8,
-    TCUT = 9,
-    TPASTE = 10,
-    TSNARF = 11,
-    TLOOK = 15,
-    TSEARCH = 16,
-    TDCLICK = 18,
-    TSETSNARF = 20,
-    TACK = 21,
-    HVERSION = 65,
-    HBINDNAME = 66,
-    HCURRENT = 67,
-    HNEWNAME = 68,
-    HMOVNAME = 69,
-    HGROW = 70,
-    HCHECK = 71,
-    HDATA = 73,
-    HUNLOCKFILE = 75,
-    HSETDOT = 76,
-    HGROWDATA = 77,
-    HMOVETO = 78,
-    HCLEAN = 79,
-    HDIRTY = 80,
-    HCUT = 81,
-    HSETPAT = 82,
-    HSETSNARF = 85,
-    HSNARFLEN = 86,
-    HACK = 87
-};
+enum { TVERSION = 1, TSTARTCMDFILE = 2, TSTARTFILE = 6, TTYPE = 8, TCUT = 9, TLOOK = 15, TSEARCH = 16, HVERSION = 65 };
 
 /* WANT(CALL) ends the program where a call is not answered by SAM_OK. */
 void want(sam_status status, const char *call);
@@ -98,10 +49,9 @@ uint64_t next_state(uint64_t state);
 
 void add(struct bytes *to, const void *bytes, size_t len);
 
-/* Pseudo-random letters and spaces; the same, with each eighth rune outside ASCII; one text again and again, up to so many runes, all
+/* Pseudo-random letters and spaces; one text again and again, up to so many runes, all
  * of them ASCII; the text of a string, until the next call. */
 struct bytes letters(size_t count);
-struct bytes mixed(size_t count);
 struct bytes repeated(const char *text, size_t count);
 struct bytes text_of(const char *string);
 struct bytes part_of(struct bytes text, size_t start, size_t len);

@@ -21,21 +21,6 @@ pub fn letters(count: usize) -> Vec<char> {
         .collect()
 }
 
-pub fn mixed(count: usize) -> Vec<char> {
-    let mut state = 1;
-    (0..count)
-        .map(|i| {
-            state = next_state(state);
-            match i % 24 {
-                7 => 'é',
-                15 => '界',
-                23 => '𝄞',
-                _ => letter(state),
-            }
-        })
-        .collect()
-}
-
 pub fn mix(check: u64, more: u64) -> u64 {
     check.wrapping_mul(31).wrapping_add(more)
 }

@@ -83,12 +83,6 @@ struct bytes letters(size_t count)
     return random_runes(count, NULL);
 }
 
-struct bytes mixed(size_t count)
-{
-    static const char *const others[] = {"\xC3\xA9", "\xE7\x95\x8C", "\xF0\x9D\x84\x9E"};
-    return random_runes(count, others);
-}
-
 struct bytes repeated(const char *text, size_t count)
 {
     struct bytes whole = {0};

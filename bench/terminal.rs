@@ -119,28 +119,6 @@ impl Terminal {
         self.held.push_back(event);
     }
 
-    pub fn sent(&self) -> u64 {
-        self.sent
-    }
-
-    pub fn is_idle(&self) -> bool {
-        self.held.is_empty()
-    }
-
-    pub fn has_unsent(&self) -> bool {
-        self.unsent.is_some()
-    }
-
-    /// The snarfed text that the host sent last.
-    pub fn snarfed(&self) -> &[char] {
-        &self.snarf
-    }
-
-    /// The partial text of an open file.
-    pub fn text(&self, tag: u16) -> Option<&Blocks> {
-        self.files.get(tag as usize)?.as_ref()?.window.as_ref().map(|window| &window.text)
-    }
-
     fn known(&mut self, tag: u16) -> Option<&mut Known> {
         self.files.get_mut(tag as usize)?.as_mut()
     }
@@ -180,12 +158,6 @@ impl Terminal {
         let mut out = Vec::new();
         self.compose_unsent(&mut out);
         self.compose(message, &mut out);
-        out
-    }
-
-    pub fn flush(&mut self) -> Vec<Tmesg> {
-        let mut out = Vec::new();
-        self.compose_unsent(&mut out);
         out
     }
 
