@@ -4,8 +4,23 @@
 const ID_BYTES = 16; // of a session
 const NAME_BYTES = 8; // of the id, whose digits name the session
 
-/** Where this browser keeps what the session of this address may be named. */
-export const PLACE = new URL(".", location.href).pathname;
+const NONCE_BYTES = 32;
+const TOKEN = location.hash.slice(1); // which never leaves the page: who listens at this address may be another program than samweb
+const ENCODER = new TextEncoder();
+
+function digits(bytes) {
+  return [...new Uint8Array(bytes)].map((byte) => byte.toString(16).padStart(2, "0")).join("");
+}
+
+const KEY = await crypto.subtle.importKey("raw", ENCODER.encode(TOKEN || " "), { name: "HMAC", hash: "SHA-256" }, false, ["sign"]);
+
+/** What nobody can say of these words who doesn't have the token. */
+async function proof(...words) {
+  return digits(await crypto.subtle.sign("HMAC", KEY, ENCODER.encode(words.join(" "))));
+}
+
+/** Where this browser keeps what the session of this address may be named: a word that doesn't tell the token. */
+export const PLACE = (await proof("place")).slice(0, 32);
 const NAMES_KEY = `session ${PLACE}`;
 
 /** The names that the session of this address may have, the likeliest first; none where there is none. */
@@ -23,12 +38,20 @@ export function newId() {
 }
 
 export function nameOf(id) {
-  return [...id.subarray(0, NAME_BYTES)].map((byte) => byte.toString(16).padStart(2, "0")).join("");
+  return digits(id.subarray(0, NAME_BYTES));
 }
 
-/** One connection, whose messages are kept until somebody hears them. */
+/** The code with which samweb closes a socket whose page doesn't have its token. */
+export const UNKNOWN = 1008;
+
+/** One connection, whose messages are kept until somebody hears them. It is open once samweb and the page have proved to each other that they
+ * have the token. */
 export class Connection {
   #socket;
+  #isKnown = false;
+  #theirs = ""; // samweb's nonce
+  #behind = null; // what came behind its proof, while that is looked at
+  #nonce = digits(crypto.getRandomValues(new Uint8Array(NONCE_BYTES)));
   #heard = { open() {}, message: (data) => this.#early.push(["message", data]), close: (code) => this.#early.push(["close", code]) };
   #early = [];
 
@@ -36,12 +59,36 @@ export class Connection {
   constructor(verb, name) {
     const address = new URL("line", location.href);
     address.protocol = address.protocol.replace("http", "ws");
-    address.search = new URLSearchParams({ verb, name });
+    address.hash = "";
     this.#socket = new WebSocket(address);
     this.#socket.binaryType = "arraybuffer";
-    this.#socket.onopen = () => this.#heard.open();
-    this.#socket.onmessage = ({ data }) => this.#heard.message(data);
+    this.#socket.onmessage = ({ data }) => {
+      if (this.#isKnown) this.#heard.message(data);
+      else if (this.#theirs === "") this.#prove(String(data), verb, name);
+      else if (this.#behind === null) this.#meetProof(data);
+      else this.#behind.push(data);
+    };
     this.#socket.onclose = ({ code }) => this.#heard.close(code);
+  }
+
+  /** The first message is a nonce of samweb: the page's proof goes back, with what it asks for. */
+  async #prove(theirs, verb, name) {
+    this.#theirs = theirs;
+    const own = await proof("page", theirs, this.#nonce, verb, name);
+    if (this.#socket.readyState === WebSocket.OPEN) this.#socket.send(`${this.#nonce} ${own} ${verb} ${name}`);
+  }
+
+  /** The second one is samweb's proof: nothing of a text goes out before it. */
+  async #meetProof(theirs) {
+    this.#behind = [];
+    if (theirs !== (await proof("server", this.#nonce, this.#theirs))) {
+      this.#heard.message("another program than samweb answers at this address; it gets no text");
+      this.#socket.close();
+      return;
+    }
+    this.#isKnown = true;
+    this.#heard.open();
+    for (const data of this.#behind) this.#heard.message(data);
   }
 
   /** From now on has `open`, `message` and `close` of this called; `message` and `close` also with what has come before. */
@@ -51,7 +98,7 @@ export class Connection {
   }
 
   get isOpen() {
-    return this.#socket.readyState === WebSocket.OPEN;
+    return this.#isKnown && this.#socket.readyState === WebSocket.OPEN;
   }
 
   /** Bytes that it was given and that are not sent. */

@@ -1,7 +1,7 @@
 /* A line that goes on through breaks: the stream and the notes of a session that stays at the host, over one WebSocket after another. What
  * the host has not acknowledged is kept, and goes out again over the next one. */
-import { Connection, first, nameOf, newId } from "./connection.js";
-import { Link, SamError, What, readHello } from "./sulgrevad/sulgrevad.js";
+import { Connection, UNKNOWN, first, nameOf, newId } from "./connection.js";
+import { Link, NoMemory, SamError, What, readHello } from "./sulgrevad/sulgrevad.js";
 
 const MARK = [0x89, 0x73, 0x61, 0x6d, 0x6c, 0x69, 0x6e, 0x6b]; // with which a hello begins
 const HELLO_BYTES = 42;
@@ -18,6 +18,7 @@ const PAUSES = [0, 1000, 2000, 4000, 8000, 16000, 30000]; // until another conne
 const LATE_AFTER = 1000; // and two round trips, after which an answer counts as late
 
 const STATUS_NO_SESSION = 7; // of samhost
+const SESSION_NAME = /^[0-9a-f]{16}$/; // what the host says becomes a word of a command
 const CLOSED_WITH = 4000; // the code with which samweb closes a socket: this, and the status of the host
 
 /** Refusals of the host after which no connection comes any more. */
@@ -54,6 +55,8 @@ export class Line {
   #ways; // how a session is sought, the likeliest first, until a connection is welcomed
   #takesOver;
   #early = []; // what was put before a connection was welcomed, as what puts it into an end
+  #unput = []; // what the end had no memory for yet, in order, likewise
+  #lastTold = "";
   #connection = null; // the newest connection; null between two
   #attempt = 0;
   #begun = new Uint8Array(0); // what has come of a connection before it was welcomed
@@ -95,6 +98,11 @@ export class Line {
     else this.#heard[event](...words);
   }
 
+  #tellOnce(words) {
+    if (words !== this.#lastTold) this.#tell("told", words);
+    this.#lastTold = words;
+  }
+
   #makeEnd(id, taken) {
     this.#end = new Link(Link.TERMINAL, id);
     this.name = nameOf(id);
@@ -134,6 +142,7 @@ export class Line {
 
   #closed(code) {
     const status = code - CLOSED_WITH;
+    if (code === UNKNOWN) this.#tellOnce("samweb: it has another address by now: open the one that it prints");
     if (!this.#hasBegun && status === STATUS_NO_SESSION) this.#seek();
     else if (!this.#hasBegun && status > 0 && status < 128) this.#lose("the host can't begin");
     else this.#break();
@@ -147,9 +156,9 @@ export class Line {
       const old = this.#end;
       this.#makeEnd(newId(), []);
       old.free();
-      for (const put of this.#early) put(this.#end);
-      this.#due = this.#end.putCount;
-      this.#asked = 0;
+      this.#unput.unshift(...this.#early.splice(0));
+      this.#due = this.#asked = 0;
+      this.#putAll();
       this.#tell("told", "samweb: the session is not there any more; another one begins");
     }
     this.#call();
@@ -194,7 +203,7 @@ export class Line {
       this.#connecting = Math.min(2 * this.#connecting, MOST_TO_CONNECT);
       this.#break();
     }
-    this.#push();
+    this.#goOnPutting();
     this.#wait();
   }
 
@@ -208,6 +217,7 @@ export class Line {
   #delay() {
     const now = performance.now();
     if (this.isLost) return null;
+    if (this.#unput.length > 0) return LOOK_AGAIN;
     if (this.#connection === null) return this.#againAt - now;
     if (this.#connection.waiting >= MOST_BUFFERED) return LOOK_AGAIN;
     if (!this.isOpen) return this.#calledAt + this.#connecting - now;
@@ -219,22 +229,45 @@ export class Line {
   /** Sends bytes of the terminal's stream, as many as go; the others wait in the end. */
   send(bytes) {
     if (bytes.length > 0) this.#put((end) => end.put(bytes));
-    this.#ask();
-    this.#push();
+    this.#goOnPutting();
   }
 
+  /** Puts something behind all that was put before: where memory is out it waits, and nothing overtakes it. */
   #put(put) {
-    put(this.#end);
-    this.#due = this.#end.putCount;
-    if (!this.#hasBegun) this.#early.push(put);
+    this.#unput.push(put);
+    this.#putAll();
+  }
+
+  #putAll() {
+    while (this.#unput.length > 0) {
+      const [put] = this.#unput;
+      try {
+        put(this.#end);
+      } catch (error) {
+        if (!(error instanceof NoMemory)) throw error;
+        return;
+      }
+      this.#unput.shift();
+      this.#due = this.#end.putCount;
+      if (!this.#hasBegun) this.#early.push(put);
+    }
+  }
+
+  #goOnPutting() {
+    try {
+      this.#putAll();
+      this.#ask();
+    } catch (error) {
+      if (!(error instanceof NoMemory)) throw error;
+    }
+    this.#push();
   }
 
   /** Sends a note, in its order with the stream. */
   putNote(...words) {
     const note = ENCODER.encode(words.join(" "));
     this.#put((end) => end.putNote(note));
-    this.#ask();
-    this.#push();
+    this.#goOnPutting();
   }
 
   /** Asks whether all has come, unless such a question is under way. */
@@ -261,17 +294,17 @@ export class Line {
 
   #take(data) {
     if (typeof data === "string") {
-      this.#tell("told", data);
+      this.#tellOnce(data);
       return;
     }
+    this.#lastTold = "";
     const bytes = new Uint8Array(data);
     this.down += bytes.length;
     this.#heardAt = performance.now();
     if (this.isOpen) this.#feed(bytes);
     else this.#greet(bytes);
     this.#handOn();
-    this.#ask();
-    this.#push();
+    this.#goOnPutting();
     this.#tell("changed");
   }
 
@@ -337,8 +370,11 @@ export class Line {
     if (verb === "told") {
       this.#tell("told", `samhost: ${rest}`);
     } else if (verb === "session") {
-      [this.name] = rest.split(" ", 1);
-      this.#tell("note", verb, rest);
+      const [name] = rest.split(" ", 1);
+      if (SESSION_NAME.test(name)) {
+        this.name = name;
+        this.#tell("note", verb, rest);
+      }
     } else if (verb === "ended") {
       this.endedWith = Number(rest);
       this.#end.acknowledge();
@@ -363,7 +399,7 @@ export class Line {
 
   /** Whether the host is known to have all that was sent. */
   get hasAll() {
-    return this.#end.acknowledged >= this.#due;
+    return this.#unput.length === 0 && this.#end.acknowledged >= this.#due;
   }
 
   /** Bytes that the socket has not taken. */

@@ -8,6 +8,7 @@ const TYPED = "typed.txt"; // the name of a copy of what was typed and still wai
 
 export class Copies {
   #kept = new Set(); // keys of copies that were made by this page
+  #isLast = false; // the copies of now stay
 
   /** `place` is what the address of the session has: copies of other sessions are not seen. */
   constructor(editor, place) {
@@ -17,11 +18,19 @@ export class Copies {
 
   /** Makes copies where the host may lack something, and drops them once it has all. */
   keep() {
+    if (this.#isLast) return;
+    if (this.editor.line === null || !this.editor.lacksChanges) this.#dropKept();
+    else this.#putAll();
+  }
+
+  /** Makes copies of all changed texts, which stay: the host could save some of them nowhere. */
+  keepAll() {
+    this.#isLast = true;
+    this.#putAll();
+  }
+
+  #putAll() {
     const { editor } = this;
-    if (editor.line === null || !editor.lacksChanges) {
-      this.#dropKept();
-      return;
-    }
     for (const [tag, view] of editor.views) {
       if (editor.isChanged(tag)) this.#put(editor.nameOf(tag), view.shown.text(0, view.shown.runes).replaceAll(SHADE, SHADE_OF_COPY));
     }

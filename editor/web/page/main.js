@@ -9,7 +9,9 @@ import { statusOf } from "./status.js";
 
 const { CodeMirror } = globalThis;
 const MOST_TOLD = 20; // lines of the host that stand in the page
+const MOST_IN_LINE = 4096; // characters of one
 const MOST_UNOPENED = 8; // files of which all have a button
+const STATUS_LOST = 5; // of samhost, which could save a text nowhere
 const COPY_AFTER = 2000; // milliseconds between two looks whether copies are due
 const ASKING = ["open", "find"]; // actions that go on with a field of their own
 const IN_FIELDS = /-[ZY]$|^Esc$/; // keys that a field has a meaning of its own for
@@ -102,6 +104,7 @@ class Page {
       return;
     }
     if (line.endedWith !== null) keepNames();
+    if (line.endedWith === STATUS_LOST) this.copies.keepAll();
     editor.lose(line.why);
   }
 
@@ -224,7 +227,7 @@ class Page {
   tell(line, ...buttons) {
     const item = document.createElement("li");
     const words = document.createElement("span");
-    words.textContent = line;
+    words.textContent = line.slice(0, MOST_IN_LINE);
     item.append(words, ...buttons, this.#button("Dismiss", () => item.remove()));
     part("told").append(item);
     while (part("told").children.length > MOST_TOLD) part("told").firstChild.remove();

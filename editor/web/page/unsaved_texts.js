@@ -2,6 +2,8 @@
  * this one has not written. */
 
 const FAILED = /^samhost: \? write (?:file (\d{1,5}): )?(.*)/s;
+const MOST_TOLD = 4096; // characters of such a line
+const MOST_ENDS = 8; // colons at which a name is looked for
 const MOST_RUNES_IN_NAME = 64; // in the session; of a longer path the host shows the end
 
 /** The name in the session of a path that the host tells. */
@@ -12,7 +14,7 @@ function shownName(path) {
 
 /** What the name may be of the file that words are about: it ends at a colon, and others may stand in it. The longest comes first. */
 function namesIn(words) {
-  const ends = [...words.matchAll(/: /g)].map(({ index }) => index).reverse();
+  const ends = [...words.matchAll(/: /g)].map(({ index }) => index).slice(0, MOST_ENDS).reverse();
   return ends.map((end) => shownName(words.slice(0, end)));
 }
 
@@ -36,7 +38,7 @@ export class Unwritten {
   /** A line that the host tells. It comes before the answer to the write that it is about. */
   hear(line) {
     if (!FAILED.test(line)) return;
-    this.#early.push(line);
+    this.#early.push(line.slice(0, MOST_TOLD));
     this.goOn();
   }
 

@@ -5,7 +5,7 @@ import socket
 import threading
 
 PIECE = 65_536
-LINE = b"/line?"  # stands in the request for a WebSocket
+LINE = b"/line "  # stands in the request for a WebSocket
 
 
 class Carried:
