@@ -1,6 +1,8 @@
-"""Builds the package. Where SAM_BUNDLE names a library, a wheel has it inside, and needs none that is installed."""
+"""Builds the package. It has the library inside that SAM_BUNDLE names, else the one that the repository has built, and then needs none that
+is installed. With an empty SAM_BUNDLE it has none inside."""
 import os
 import shutil
+from pathlib import Path
 
 from setuptools import Distribution, setup
 from setuptools.command.build_py import build_py
@@ -10,7 +12,8 @@ try:
 except ImportError:  # of setuptools before 70.1
     from wheel.bdist_wheel import bdist_wheel
 
-BUNDLED = os.environ.get("SAM_BUNDLE")
+BUILT = Path(__file__).resolve().parents[2] / "out" / "libsulgrevad.so"
+BUNDLED = os.environ.get("SAM_BUNDLE", str(BUILT) if BUILT.exists() else "")
 
 
 class BuildPackage(build_py):
