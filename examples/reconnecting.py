@@ -5,49 +5,65 @@ import threading
 
 from sulgrevad import Host, Link, LinkFault, Terminal, read_hello, write_refusal
 
-SECONDS = 15  # without a byte: ask, and after as long again give the connection up
+SECONDS = 15  # without a byte, where an answer is due: then the connection is given up
 ID = os.urandom(16)  # a name and no secret: in earnest the transport says who is there
 LINES = "".join(f"line {number}\n" for number in range(100))
 
 
-def take_in(link, endpoint, told):
-    """Gives an endpoint all that has come, and puts what it answers. Bytes and notes come in the order in which they were put, so both are
-    asked for until there is neither."""
-    while True:
-        if data := link.take_in():
-            endpoint.feed(data)
-            link.put(endpoint.take_out())
-        elif (note := link.next_note()) is not None:
-            told.append(note)
-        else:
-            return
+class End:
+    """One side: an endpoint, and its end of the link, which stays whatever becomes of connections."""
 
+    def __init__(self, role, endpoint):
+        self.link, self.endpoint = Link(role, ID), endpoint
+        self.owed = 0  # where the stream ended when something was put last: all of it has come once so much is acknowledged
+        self.notes = []
 
-def carry(link, endpoint, line, attempt, told):
-    """Carries a session over one connection, until that breaks or all that was put here is acknowledged."""
-    owed, has_asked = link.put_count, False
-    line.settimeout(SECONDS)
-    try:
-        while link.acknowledged < owed:
-            while data := link.take_out(attempt):
-                line.sendall(data)
-            try:
-                data = line.recv(65_536)
-            except TimeoutError:
-                if has_asked:
-                    break  # half-open: nothing comes any more
-                link.ask()
-                has_asked = True
-                continue
-            if not data:
-                break
-            has_asked = False
-            link.feed(attempt, data)
-            take_in(link, endpoint, told)
-            owed = link.put_count
-    except (OSError, LinkFault):  # a broken connection, a newer one, or a wrong packet
-        pass
-    link.broken(attempt)
+    @property
+    def has_all(self):
+        return self.link.acknowledged >= self.owed
+
+    def put(self):
+        """Puts what the endpoint has to say, and asks whether it has come."""
+        if isinstance(self.endpoint, Terminal):
+            self.endpoint.flush_now()
+        if data := self.endpoint.take_out():
+            self.link.put(data)
+            self.link.ask()
+            self.owed = self.link.put_count
+
+    def take_in(self):
+        """Gives the endpoint all that has come, and puts what it answers. Bytes and notes come in the order in which they were put, so both
+        are asked for until there is neither."""
+        while True:
+            if data := self.link.take_in():
+                self.endpoint.feed(data)
+                self.put()
+            elif (note := self.link.next_note()) is not None:
+                self.notes.append(note)
+            else:
+                return
+
+    def carry(self, line, is_done):
+        """Carries the session over the newest connection, until that breaks, or all is done."""
+        attempt = self.link.attempt
+        line.settimeout(SECONDS)
+        try:
+            while not is_done():
+                while data := self.link.take_out(attempt):
+                    line.sendall(data)
+                try:
+                    data = line.recv(65_536)
+                except TimeoutError:
+                    if not self.has_all:
+                        break  # half-open: no answer comes any more
+                    continue
+                if not data:
+                    break
+                self.link.feed(attempt, data)
+                self.take_in()
+        except (OSError, LinkFault):  # a broken connection, a newer one, or a wrong packet
+            pass
+        self.link.broken(attempt)
 
 
 def hello_from(line):
@@ -61,61 +77,57 @@ def hello_from(line):
     return came
 
 
-def serve(listener, host, told):
-    """The host: its end of the link stays, whatever becomes of connections."""
-    with Link(Link.HOST, ID) as link:
-        while True:
-            line, _ = listener.accept()
-            with line:
-                hello = b""
-                try:
-                    hello = hello_from(line)
-                    link.answer(hello)
-                except LinkFault as why:
-                    line.sendall(write_refusal(why.code, hello))
-                except OSError:
-                    pass
-                else:
-                    link.ask()  # something is owed, so it goes on until the connection ends
-                    carry(link, host, line, link.attempt, told)
+def serve(listener, end):
+    """The host takes one connection after another."""
+    while True:
+        line, _ = listener.accept()
+        with line:
+            hello = b""
+            try:
+                hello = hello_from(line)
+                end.link.answer(hello)
+            except LinkFault as why:
+                line.sendall(write_refusal(why.code, hello))
+            except OSError:
+                pass
+            else:
+                end.carry(line, lambda: False)
 
 
-def connect(link, address, attempt, breaks_after):
-    """Opens a connection, and says hello on it. It breaks after so many bytes, unless that is None. Returns it; None if it broke."""
+def connect(link, address):
+    """Opens a connection, and says hello on it."""
     line = socket.create_connection(address)
-    line.sendall(link.take_out(attempt))
-    link.welcomed(hello_from(line))
-    # What was put since the connection before goes out only after the welcome.
-    line.sendall(link.take_out(attempt, breaks_after or 65_536))
-    if breaks_after is None:
-        return line
-    line.close()
-    link.broken(attempt)
-    return None
+    line.sendall(link.take_out(link.call()))
+    link.welcomed(hello_from(line))  # only after this goes out what was put since the connection before
+    return line
 
 
 def main():
-    told, notes = [], []
-    with Host() as host, Terminal() as terminal, Link(Link.TERMINAL, ID) as link, socket.create_server(("127.0.0.1", 0)) as listener:
-        tag = host.add_file("notes")
-        threading.Thread(target=serve, args=(listener, host, told), daemon=True).start()
-        terminal.offer_version(2)
-        terminal.open(tag)  # it acts once the version is agreed on, and what follows once the file is open
-        for line in LINES.splitlines(keepends=True):
-            terminal.type(tag, line)
-        terminal.write(tag)
-        link.put(terminal.take_out())
-        link.put_note(b"a note stands behind what was put before it")
-        while terminal.held or link.acknowledged < link.put_count:
-            attempt = link.call()
-            line = connect(link, listener.getsockname(), attempt, 100 * attempt if attempt < 4 else None)
-            if line is not None:
-                with line:
-                    carry(link, terminal, line, attempt, notes)
-            terminal.flush_now()
-            link.put(terminal.take_out())
-        print(f"{link.attempt} connections")
-        print(host.text(tag) == LINES, host.is_dirty(tag), told)
+    host, terminal = Host(), Terminal()
+    far, near = End(Link.HOST, host), End(Link.TERMINAL, terminal)
+    listener = socket.create_server(("127.0.0.1", 0))
+    tag = host.add_file("notes")
+    threading.Thread(target=serve, args=(listener, far), daemon=True).start()
+    terminal.offer_version(2)
+    terminal.open(tag)  # it acts once the version is agreed on, and what follows once the file is open
+    for line in LINES.splitlines(keepends=True):
+        terminal.type(tag, line)
+    terminal.write(tag)
+    near.put()
+    near.link.put_note(b"a note stands behind what was put before it")
+
+    def is_done():
+        return not terminal.held and near.has_all
+
+    while not is_done():
+        with connect(near.link, listener.getsockname()) as line:
+            if near.link.attempt < 4:  # a bad line: it breaks after some bytes
+                line.sendall(near.link.take_out(near.link.attempt, 10 * near.link.attempt))
+                near.link.broken(near.link.attempt)
+            else:
+                near.carry(line, is_done)
+    print(f"{near.link.attempt} connections")
+    print(host.text(tag) == LINES, host.is_dirty(tag), far.notes)
 
 
 main()
