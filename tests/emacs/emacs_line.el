@@ -371,7 +371,8 @@
     (check "a line without an end is cut" (<= (length (sulgrevad-line-told line)) 4096))
     (setq told (said (lambda () (sulgrevad-line--tell line "\n"))))
     (check "and told, cut" (and told (cl-every (lambda (one) (<= (length one) 4096)) told)) (mapcar #'length told)))
-  (check "a file that a terminal keeps for itself is not offered" (equal (mapcar #'car (sulgrevad--names)) '("hostile.txt"))
+  (check "a file that a terminal keeps for itself is not offered"
+         (equal (mapcar (lambda (one) (file-name-nondirectory (car one))) (sulgrevad--names)) '("hostile.txt"))
          (sulgrevad--names))
   (sulgrevad--meet "told the text of hostile.txt is lost: No space left on device")
   (message "another message")

@@ -112,7 +112,7 @@ def check_exception(folder):
     broken.write_text(
         f"import runpy, sys\nsys.path[:0] = [{str(SAMTERM.parents[1])!r}, {str(ROOT / 'bindings' / 'python')!r}]\n"
         "sys.dont_write_bytecode = True\n"
-        "import actions\n\ndef broken(self):\n    raise RuntimeError('broken on purpose')\n\nactions.Actions.do_help = broken\n"
+        "from terminal.keys.actions import Actions\n\ndef broken(self):\n    raise RuntimeError('broken on purpose')\n\nActions.do_help = broken\n"
         f"sys.argv[0] = {str(SAMTERM)!r}\nrunpy.run_path({str(SAMTERM)!r}, run_name='__main__')\n"
     )
     with Session(folder, "a.txt", program=f"{sys.executable} {broken}") as session:

@@ -17,12 +17,12 @@ class Kept:
     def __enter__(self):
         from terminal.files import local_backup
 
-        self.rescue, self.before, self.texts = rescue, local_backup.keep, []
+        self.local_backup, self.before, self.texts = local_backup, local_backup.keep, []
         local_backup.keep = lambda name, text: self.texts.append((name, text)) or "/somewhere"
         return self
 
     def __exit__(self, *_):
-        self.rescue.keep = self.before
+        self.local_backup.keep = self.before
 
     def expect(self, wanted, told):
         expect(sorted(self.texts) == sorted(wanted), f"{told}: it keeps {self.texts}, wanted {wanted}")

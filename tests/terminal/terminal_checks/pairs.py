@@ -11,14 +11,14 @@ class Pair:
     SIZES = ((22, 80), (8, 20), (5, 7), (60, 200))
 
     def __init__(self, random_numbers, texts, has_vault=False, names=None):
-        from terminal.keys import bindings
         import sulgrevad
-        from terminal.view import screen
         from terminal.editor import Editor
+        from terminal.keys import bindings
         from terminal.text.cached_terminal import CachedTerminal
         from terminal.text.texts import GAP
+        from terminal.view import screen
 
-        self.random, self.keys, self.screen, self.gap = random_numbers, keys, screen, GAP
+        self.random, self.keys, self.screen, self.gap = random_numbers, bindings, screen, GAP
         self.host, self.terminal, self.now = sulgrevad.Host(), CachedTerminal(), 0.0
         names = names or [f"file{at}" for at in range(len(texts))]
         for name, text in zip(names, texts):
@@ -36,15 +36,15 @@ class Pair:
         """One key, mouse button or command line."""
         keys, choose, draw = self.keys, self.random.choice, self.random.random()
         if draw < 0.4:
-            self.editor.take(bindings.Text(choose(("x", "yy\n", "日", "e\u0301"))))
+            self.editor.take(keys.Text(choose(("x", "yy\n", "日", "e\u0301"))))
         elif draw < 0.88:
-            self.editor.take(bindings.Key(choose(self.names)))
+            self.editor.take(keys.Key(choose(self.names)))
         elif draw < 0.97:
             what = choose(("press", "release", "move", "wheel up", "wheel down"))
-            self.editor.take(bindings.Mouse(what, self.random.randrange(24), self.random.randrange(80), self.random.random()))
+            self.editor.take(keys.Mouse(what, self.random.randrange(24), self.random.randrange(80), self.random.random()))
         else:
             self.editor.go_to(self.editor.command)
-            for key in (bindings.Key("^End"), bindings.Text(f"\n{choose(self.LINES)}\n")):
+            for key in (keys.Key("^End"), keys.Text(f"\n{choose(self.LINES)}\n")):
                 self.editor.take(key)
 
     def carry(self):
@@ -127,10 +127,10 @@ class Pair:
 
 def some_keys(numbers, keys):
     """A key, or some that belong together; none that asks, and none that goes by how much is loaded."""
-    key, text, choose = bindings.Key, bindings.Text, numbers.choice
+    key, text, choose = keys.Key, keys.Text, numbers.choice
     aside = ("page_up", "page_down", "close", "leave", "send")
-    names = [name for binding in bindings.BINDINGS for name in binding.keys if binding.action not in aside]
-    mouse = [bindings.Mouse(what, numbers.randrange(60), numbers.randrange(9), numbers.random() * 1e6) for what in ("press", "release")]
+    names = [name for binding in keys.BINDINGS for name in binding.keys if binding.action not in aside]
+    mouse = [keys.Mouse(what, numbers.randrange(60), numbers.randrange(9), numbers.random() * 1e6) for what in ("press", "release")]
     return choose(
         (
             [text(choose(("z", "uv", "w\n", "日")))],
