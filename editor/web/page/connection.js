@@ -8,6 +8,8 @@ const NONCE_BYTES = 32;
 const TOKEN = location.hash.slice(1); // which never leaves the page: who listens at this address may be another program than samweb
 const ENCODER = new TextEncoder();
 
+addEventListener("hashchange", () => location.reload()); // another address was opened here
+
 function digits(bytes) {
   return [...new Uint8Array(bytes)].map((byte) => byte.toString(16).padStart(2, "0")).join("");
 }

@@ -30,13 +30,14 @@ let isAsked = false;
 window.WebSocket = class extends WebSocket {
   constructor(...words) {
     super(...words);
-    this.addEventListener("message", () => {
+    this.addEventListener("message", ({ data }) => {
+      if (typeof data === "string") return; // of samweb itself, which is near
       if (isAsked && window.firstText === null) window.roundTrips += 1;
       isAsked = false;
     });
   }
   send(data) {
-    isAsked = true;
+    isAsked ||= typeof data !== "string";
     super.send(data);
   }
 };
