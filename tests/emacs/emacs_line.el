@@ -190,7 +190,8 @@
 (defun check-take ()
   "A session that was left is taken over, with its texts, and so is one from a terminal that is still there."
   (let ((file (made "t.txt" "text\n")) (name nil) (before nil))
-    (check "the sessions before it have ended" (wait-for (lambda () (string-empty-p (shell-command-to-string (concat samhost " --list"))))))
+    (check "the sessions before it have ended"
+           (wait-for (lambda () (string-empty-p (shell-command-to-string (concat (shell-quote-argument samhost) " --list"))))))
     (sulgrevad-start (list samhost) file)
     (insert "unwritten ")
     (sulgrevad--wait (lambda () (sulgrevad-line-has-all sulgrevad--line)))

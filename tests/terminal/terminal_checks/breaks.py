@@ -146,7 +146,7 @@ def check_long_text_beside_keys(folder):
         expect(cost < MOST_FOR_A_KEY * slowness, f"it costs {cost * 1000:.1f} ms, {slowness:.1f} times slowed")
         line.is_broken, line.silence = False, 0.0
         pair.finish()
-        expect(not path.exists(), "it stays though the line is back")
+        wait_until(lambda: not path.exists(), "it stays though the line is back")
     finally:
         os.chdir(before)
 
@@ -397,7 +397,7 @@ def check_leave_and_take(folder):
             session.answer("^Q again leaves", "C-q")
             session.wait_for_end(3)
     told = (folder / "stderr").read_text()
-    name = re.search(r"--take \S+ ([0-9a-f]{16})", told)
+    name = re.search(r"--take .+ ([0-9a-f]{16})$", told, re.MULTILINE)
     expect(name is not None and "session stays" in told, f"it tells {told!r}")
     expect((folder / "a.txt.sam-here").read_text() == "xyone\ntwo\n", "the text is not written here")
     (folder / "status").unlink()

@@ -60,7 +60,7 @@ def check_suspend(folder):
         place.mkdir()
         made(place, a="one\n")
         line = f"{SAMTERM_WORD} --host {shlex.quote(SAMHOST_WORD)} a.txt; echo back in the shell; read x; fg"
-        with Session(place, "a.txt", program=f"bash --norc -ic 'set -m; {line}' --") as session:
+        with Session(place, "a.txt", program=f"bash --norc -ic {shlex.quote('set -m; ' + line)} --") as session:
             session.wait_for("one")
             if key:
                 session.keys(key)
@@ -90,7 +90,7 @@ def check_hangup_while_suspended(folder):
     that is still there."""
     made(folder, a="one\n")
     line = f"{SAMTERM_WORD} --host {shlex.quote(SAMHOST_WORD)} a.txt; echo back in the shell; read x; fg"
-    with Session(folder, "a.txt", program=f"bash --norc -ic 'set -m; {line}' --") as session:
+    with Session(folder, "a.txt", program=f"bash --norc -ic {shlex.quote('set -m; ' + line)} --") as session:
         session.wait_for("one")
         session.tmux("send-keys", "-H", *(f"{byte:x}" for byte in b"\x1b[200~pasted "))
         session.wait_for("Esc twice")
