@@ -7,6 +7,7 @@ use Rattle.sam_link.specs.Feeding.{Feeds, FeedsInto, FeedsPlaces, PutsNote}
 use Rattle.sam_link.specs.Hellos.{ReadsHello, spelled, what_number}
 use Rattle.sam_link.specs.Inbox.{GivesNote, ready}
 use Rattle.sam_link.specs.Keeping.{Keeps, Puts}
+use Rattle.sam_link.specs.Sessions.{IsId}
 use Rattle.sam_link.specs.declared.fault.AnswerFault.{AnswerFault}
 use Rattle.sam_link.specs.declared.fault.CallFault.{CallFault}
 use Rattle.sam_link.specs.declared.fault.FeedFault.{FeedFault}
@@ -33,7 +34,7 @@ id_bytes id = eight id.first ++ eight id.last
 abbrev pub MakesLink : Option Role → List ℕ → ℕ → Option End → Type 0
 MakesLink None bytes status after = (status ≡ wrong_role) × (after ≡ None)
 MakesLink (Some role) bytes status after =
-    ((id : Id) × (id_bytes id ≡ bytes) × (status ≡ ok) × (after ≡ Some (fresh role id))) ⊎ ((status ≡ no_memory) × (after ≡ None))
+    ((id : Id) × IsId id × (id_bytes id ≡ bytes) × (status ≡ ok) × (after ≡ Some (fresh role id))) ⊎ ((status ≡ no_memory) × (after ≡ None))
 
 abbrev pub LinkMade : Option End → ℕ → List ℕ → ℕ → Option End → Type 0
 LinkMade None role bytes status after = MakesLink (role_of role) bytes status after

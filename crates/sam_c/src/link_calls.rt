@@ -4,6 +4,7 @@
 ghost use Rattle.std.specs.Prelude.{◌≡◌, ◌≤◌, ◌+◌, ◌-◌, [], false, length};
 ghost use Rattle.sam_mesg.specs.Spelling.{eight, frame};
 ghost use Rattle.sam_link.specs.Putting.{data_stream};
+ghost use Rattle.sam_link.specs.Sessions.{IsId};
 ghost use Rattle.sam_c.specs.Calls.{Reports};
 ghost use Rattle.sam_c.specs.Hosts.{Freed};
 ghost use Rattle.sam_c.specs.LinkStatus.{phase_number};
@@ -47,7 +48,8 @@ fn number_of(bytes: &[u8]) -> u64
 impl SamLinkId {
     /// Returns the id that the bytes spell.
     fn to_id(&self) -> Id
-        ensures { id_bytes result ≡ self.now.bytes }
+        ensures bytes { id_bytes result ≡ self.now.bytes }
+        ensures numbers { IsId result }
     {
         Id {
             first: number_of(&self.bytes[..8]),

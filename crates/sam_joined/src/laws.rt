@@ -3,7 +3,8 @@
 //! Each but the first speaks of two endpoints between which bytes were carried (`AreCarried`), and of all files that joined the host
 //! endpoint, whenever they did. The first says that all calls come to this.
 ghost use Rattle.sam_joined.specs.Calls.{CallsAreCarried, NoCallStopsTheHost, NoCallStopsTheTerminal};
-ghost use Rattle.sam_joined.specs.Linked.{LinkedAreOneRun, LinksAreOneLine, MovedIsCarried};
+ghost use Rattle.sam_joined.specs.Linked.{GoodLineCarries, LinkedAreOneRun, LinksAreOneLine, MovedIsCarried, TypedIsInTheText};
+ghost use Rattle.sam_joined.specs.Linked.{NoCallStopsTheLinkedHost, NoCallStopsTheLinkedTerminal};
 ghost use Rattle.sam_joined.specs.Joined.{CarriedAgree, EndpointsJoin, JoinedAreAsIfLocal, NeitherStops, NeverStuck};
 
 /// States that whatever calls two endpoints get, steps among them, in whatever pieces and whenever memory is refused, bytes were carried
@@ -52,9 +53,24 @@ pub fn endpoints_are_never_stuck()
 /// States that two endpoints over a link, whose connections may break anywhere, are two endpoints over one unbroken line: so every law here
 /// holds of them. What each took in is the first of what the other handed out or has pending; it is all of that once a connection has
 /// carried all and both programs have moved all. So they are where one run of a world leaves them, neither stops but for a full count, and
-/// an unlocked open file shows what the editor without a network shows.
+/// an unlocked open file shows what the editor without a network shows. Where a last call stops one of them, a count is full, and of what
+/// it brought all was taken or nothing.
 pub fn endpoints_are_linked()
     ensures line { LinksAreOneLine }
     ensures all { MovedIsCarried }
     ensures one_run { LinkedAreOneRun }
+    ensures host { NoCallStopsTheLinkedHost }
+    ensures terminal { NoCallStopsTheLinkedTerminal }
+{}
+
+/// States that what was typed is in the host's text once a line is good. After any calls of two endpoints over a link, whatever broke, both
+/// ends have met on a connection, as any new one leads to (`connections_are_made` of sam_link); each takes a turn, and each program moves
+/// all between its endpoint and the link. Then nothing is on its way. Where neither endpoint has anything left to do, and no count is full,
+/// all that the user did was done, in its order, and the host's files are those of the editor without a network after that; nothing is
+/// held, locked or awaited.
+///
+/// How many turns this takes is not said: each answer of the host may let held events act, whose messages want another turn.
+pub fn typed_is_in_the_text()
+    ensures carries { GoodLineCarries }
+    ensures typed { TypedIsInTheText }
 {}

@@ -72,6 +72,7 @@ feed_failed e n m attempt piece s count AckAhead may split taken is = (
   s.len,
   may,
   split.0.front,
+  subst (λ f. EndsIn (drop s.len (e.held ++ piece)) f) taken.0 split.1,
   subst (λ t. e.keeps.base + e.keeps.sent < t) split.0.top_is taken.1,
   is ∙ ap ended (back e n piece taken.2),
 )

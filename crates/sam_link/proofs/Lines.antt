@@ -95,7 +95,7 @@ drop_grows n went bytes = elim (at_most n (length went) (nat_le n (length went))
   | inr short ↦ rw (drop_of_length-le went {i = n} (omega (arith, short))) (none (drop n (went ++ bytes)))
 ]
 
-pub starts_on : (whole middle front : List ℕ) → StartsWith whole middle → StartsWith middle front → StartsWith whole front
+pub starts_on : {A : Type 0} (whole middle front : List A) → StartsWith whole middle → StartsWith middle front → StartsWith whole front
 starts_on whole middle front s r = record { rest = r.rest ++ s.rest; is = s.is ∙ ap (λ b. b ++ s.rest) r.is ∙ append_assoc front r.rest s.rest }
 
 -- what is read lies behind what went

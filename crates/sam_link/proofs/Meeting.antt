@@ -1,5 +1,5 @@
 -- Two ends of one session find no fault in each other, and keep what the other lacks.
-use Rattle.std.proofs.Common.{◌≡◌, ℕ, ◌+◌, ◌-◌, ◌<◌, ◌≤◌, List, [], ◌∷◌, ◌++◌, length, drop, Bool, true, false, None, Some, Ok, Err, Result, refl, sym, ap, ◌∙◌, subst, append_assoc, append-nil, arith, true≢false, length-append, length-drop, nat_le, ◌&&◌, ◌⊎◌, inl, inr, ◌≢◌}
+use Rattle.std.proofs.Common.{◌≡◌, ℕ, ◌+◌, ◌-◌, ◌<◌, ◌≤◌, List, [], ◌∷◌, ◌++◌, length, drop, Bool, true, false, None, Some, Ok, Err, Result, IsOk, refl, sym, ap, ◌∙◌, subst, append_assoc, append-nil, arith, true≢false, length-append, length-drop, nat_le, ◌&&◌, ◌⊎◌, inl, inr, ◌≢◌}
 use Rattle.std.proofs.Math.Seq.{drop-length}
 use Rattle.std.proofs.lemmas.Bool.Decides.{eqb_tells}
 use Rattle.std.specs.List.{flat_map}
@@ -13,11 +13,11 @@ use Rattle.sam_frame.proofs.Fronts.{stream_of-append}
 use Rattle.sam_frame.proofs.Unique.{one_reading}
 use Rattle.sam_link.specs.Calls.{Call, Does, fed, handed, items_in, out, put, waits}
 use Rattle.sam_link.specs.Calls.Call.{Answer, Feed, TakeOut, Welcome}
-use Rattle.sam_link.specs.End.{AnswersBy, End, TakesOut, WelcomesBy, fault_by_word, is_asking, is_call, is_resume, is_up, may_send, refusal_of, same_id, welcome_count, welcome_refusal}
+use Rattle.sam_link.specs.End.{AnswersBy, End, TakesOut, WelcomesBy, fault_by_word, is_asking, is_call, is_old, is_resume, is_up, may_send, refusal_of, same_id, welcome_count, welcome_refusal}
 use Rattle.sam_link.specs.Feeding.{Feeds, has_room, is_open}
 use Rattle.sam_link.specs.Hellos.{IsHello, spelled}
 use Rattle.sam_link.specs.Keeping.{MayHave, may_have}
-use Rattle.sam_link.specs.Meeting.{CarriedIsAll, FindsNoFault, GoodLineDelivers, HaveMet, HonestMeet, IsSpent, LacksAreKept, Sends, TakesIn, to_go}
+use Rattle.sam_link.specs.Meeting.{CarriedIsAll, ConnectionsAreMade, FindsNoFault, GoodLineDelivers, HaveMet, HonestMeet, IsSpent, LacksAreKept, Sends, TakesIn, to_go}
 use Rattle.sam_link.specs.Packets.{Packet, mesg_fault, packets, top_of}
 use Rattle.sam_link.specs.Sessions.{ByHost, ByTerminal, IsFrom, IsId, Leads, Session, StartsWith, WasCarried}
 use Rattle.sam_link.specs.declared.fault.AnswerFault.{AnswerFault}
@@ -96,8 +96,8 @@ pub lacks_are_kept : LacksAreKept
 lacks_are_kept id steps s fine leads =
     let x = session_holds id steps s fine leads in
     record {
-      terminal_keeps = record { all = x.up_put; put_are = x.own_t.puts; kept_is = x.own_t.kept };
-      host_keeps = record { all = x.down_put; put_are = x.own_h.puts; kept_is = x.own_h.kept };
+      terminal_keeps = record { all = x.up_put; fit = x.own_t.fit; put_are = x.own_t.puts; kept_is = x.own_t.kept };
+      host_keeps = record { all = x.down_put; fit = x.own_h.fit; put_are = x.own_h.puts; kept_is = x.own_h.kept };
       up = lacks_one s.terminal s.host s.terminal_calls s.host_calls x.up_put x.down_taken x.down_put x.up_taken x.own_t x.own_h x.joint.came_h x.joint.base_t;
       down = lacks_one s.host s.terminal s.host_calls s.terminal_calls x.down_put x.up_taken x.up_put x.down_taken x.own_h x.own_t x.joint.came_t x.joint.base_h;
     }
@@ -231,7 +231,7 @@ checks true false false d f why one two three four e = absurd (true≢false (sym
 only_old : (id : Id) (t h : View) (e : End) (g : Hello) (why : Refusal) → e.id ≡ id → e.attempt ≡ h.attempt → IsCall id e.is_known e.attempt t.received g.attempt g
     → MayHave e.keeps t.received → refusal_of e g ≡ Some why → why ≡ OldAttempt
 only_old id t h e g why named here c counted is =
-    checks (is_call g.what) (is_resume g.what && not e.is_known) (same_id e.id g.id) (nat_le g.attempt e.attempt) (may_have e.keeps g.received) why
+    checks (is_call g.what) (is_resume g.what && not e.is_known) (same_id e.id g.id) (is_old e g) (may_have e.keeps g.received) why
     c.word (goes_on_so (is_resume g.what) e.is_known c.goes_on) (same e.id g.id (named ∙ sym c.id_is))
     (λ later. let all : g.received ≡ t.received = c.recent (grind (arith, later)) in
     within e.keeps.base g.received (e.keeps.base + length e.keeps.kept) (omega (arith, all, counted.0)) (omega (arith, all, counted.1)))
@@ -311,7 +311,7 @@ module _ (id : Id) (s : Session) (x : Holds id s) (next : End) where
       let here : attempt ≡ s.host.attempt = grind (arith, opened.1) in
       not_wrong s.host s.terminal s.host_calls s.terminal_calls x.down_put x.up_taken x.up_put x.down_taken new piece len (mesg_fault fault) x.own_h x.own_t
       (host.came_front id t h piece sound_h x.joint (subst (λ n. StartsWith (drop 42 (out n s.terminal_calls)) (fed n s.host_calls ++ piece)) here carried)) front shows
-  feed_host attempt piece (Err feeds.AckAhead) (new, len, may, front, ahead, is) carried =
+  feed_host attempt piece (Err feeds.AckAhead) (new, len, may, front, unread, ahead, is) carried =
       let opened : (is_open s.host.phase ≡ true) × ((attempt == s.host.attempt) ≡ true) = both (is_open s.host.phase) (attempt == s.host.attempt) may.0 in
       let here : attempt ≡ s.host.attempt = grind (arith, opened.1) in
       not_ahead s.host s.terminal s.host_calls s.terminal_calls x.down_put x.up_taken x.up_put x.down_taken new piece len x.own_h x.own_t
@@ -364,7 +364,7 @@ module _ (id : Id) (s : Session) (x : Holds id s) (next : End) where
       let here : attempt ≡ s.terminal.attempt = grind (arith, opened.1) in
       not_wrong s.terminal s.host s.terminal_calls s.host_calls x.up_put x.down_taken x.down_put x.up_taken new piece len (mesg_fault fault) x.own_t x.own_h
       (terminal.came_front id t h piece sound_t x.joint opened.0 (subst (λ n. StartsWith (drop 42 (out n s.host_calls)) (fed n s.terminal_calls ++ piece)) here carried)) front shows
-  feed_term attempt piece (Err feeds.AckAhead) (new, len, may, front, ahead, is) carried =
+  feed_term attempt piece (Err feeds.AckAhead) (new, len, may, front, unread, ahead, is) carried =
       let opened : (is_open s.terminal.phase ≡ true) × ((attempt == s.terminal.attempt) ≡ true) = both (is_open s.terminal.phase) (attempt == s.terminal.attempt) may.0 in
       let here : attempt ≡ s.terminal.attempt = grind (arith, opened.1) in
       not_ahead s.terminal s.host s.terminal_calls s.host_calls x.up_put x.down_taken x.down_put x.up_taken new piece len x.own_t x.own_h
@@ -465,3 +465,65 @@ good_line_delivers id steps s fine leads met =
         all_comes = λ z old new piece count fits turn all. comes_down id s z old new piece count fine x met fits turn all;
       },
     )
+
+-- ## Connections are made
+
+not_old : (a b c d f : Bool) → d ≡ false
+    → (if not a then Some BadHello else if b then Some NoSession else if not c then Some OtherSession else if d then Some OldAttempt else if not f then Some WrongCount else None)
+    ≡ Some OldAttempt → ⊥
+not_old true false true false true newer e = cc
+not_old true false true false false newer e = cc
+not_old true false true true f newer e = absurd (true≢false newer)
+not_old false b c d f newer e = cc
+not_old true true c d f newer e = cc
+not_old true false false d f newer e = cc
+
+none_here : (c d f : Bool) (fault : WelcomeFault) → c ≡ true → d ≡ true → f ≡ true
+    → (if not c then Some (welcomes.Here OtherSession) else if not d then Some (welcomes.Here OldAttempt) else if not f then Some (welcomes.Here WrongCount) else None) ≡ Some fault
+    → ⊥
+none_here true true true fault one two three e = cc
+none_here false d f fault one two three e = absurd (true≢false (sym one))
+none_here true false f fault one two three e = absurd (true≢false (sym two))
+none_here true true false fault one two three e = absurd (true≢false (sym three))
+
+asked_so : (b : Bool) (e : End) (x : Hello) (fault : WelcomeFault) → b ≡ true → x.what ≡ word.Welcome → (if b then fault_by_word e x x.what else Some welcomes.NotOpen) ≡ Some fault
+    → welcome_refusal e x ≡ Some fault
+asked_so true e x fault asking word is = subst (λ w. fault_by_word e x w ≡ Some fault) word is
+asked_so false e x fault asking word is = absurd (true≢false (sym asking))
+
+is_newer : (e : End) (g : Hello) → e.attempt < g.attempt → is_old e g ≡ false
+is_newer e g l = grind (arith, l)
+
+self_numbered : (a b : ℕ) → a ≡ b → (a == b) ≡ true
+self_numbered a b e = grind (arith, e)
+
+module _ (id : Id) (s : Session) (x : Holds id s) (next : End) where
+  pub newer_taken : (role : Role) (g : Hello) (answer : Result (Unit {0}) AnswerFault) → s.host.role ≡ role → s.host.attempt < g.attempt → AnswersBy role s.host g answer next
+      → IsFrom s.terminal_calls g → IsOk answer
+  newer_taken Host g (Ok done) r newer d from = refl
+  newer_taken Host g (Err answers.WrongRole) r newer d from = absurd d
+  newer_taken Host g (Err (answers.Refused why)) r newer d from =
+      let old : why ≡ OldAttempt = answer_met id s x next Host g (Err (answers.Refused why)) r d from in
+      absurd (not_old (is_call g.what) (is_resume g.what && not s.host.is_known) (same_id s.host.id g.id) (is_old s.host g) (may_have s.host.keeps g.received)
+      (is_newer s.host g newer) (d.0 ∙ ap (λ (k : Refusal). Some k) old))
+  newer_taken Terminal g answer r newer d from = absurd (two_roles (sym r ∙ x.role_h))
+
+  pub waited_for : (role : Role) (y : Hello) (answer : Result (Unit {0}) WelcomeFault) → s.terminal.role ≡ role → is_asking s.terminal.phase ≡ true → y.attempt ≡ s.terminal.attempt
+      → WelcomesBy role s.terminal y answer next → IsFrom s.host_calls y → IsOk answer
+  waited_for Terminal y (Ok done) r asking numbered d from = refl
+  waited_for Terminal y (Err fault) r asking numbered d from =
+      let said = x.joint.hellos_h y.attempt y from.0 from.1 in
+      absurd (none_here (same_id s.terminal.id y.id) (y.attempt == s.terminal.attempt) (welcome_count s.terminal y.received) fault
+      (same s.terminal.id y.id (x.id_t ∙ sym said.id_is)) (self_numbered y.attempt s.terminal.attempt numbered)
+      (now_counts id s x next y asking from.0 (subst (λ n. StartsWith (out n s.host_calls) (spelled y)) numbered from.1) numbered)
+      (asked_so (is_asking s.terminal.phase) s.terminal y fault asking said.word d.0))
+  waited_for Host y answer r asking numbered d from = absurd (two_roles (sym x.role_t ∙ r))
+
+pub connections_are_made : ConnectionsAreMade
+connections_are_made id steps s fine leads =
+    let x = session_holds id steps s fine leads in
+    record {
+      newer = x.joint.order;
+      taken = λ hello answer n newer does from. newer_taken id s x n s.host.role hello answer refl newer does from;
+      welcome = λ hello answer n asking numbered does from. waited_for id s x n s.terminal.role hello answer refl asking numbered does from;
+    }

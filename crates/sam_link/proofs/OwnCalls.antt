@@ -173,7 +173,7 @@ feed_by_answer e n cs ps qs attempt piece (Err feeds.CountFull) o d = refused e 
 feed_by_answer e n cs ps qs attempt piece (Err feeds.OutOfMemory) o d = refused e n cs (Feed attempt piece (Err feeds.OutOfMemory)) ps qs o (λ m. refl) (λ m. refl) refl refl d.1
 feed_by_answer e n cs ps qs attempt piece (Err (feeds.Wrong fault)) o (new, len, may, front, shows, is) =
     over e n cs (Feed attempt piece (Err (feeds.Wrong fault))) ps qs o (λ m. refl) (λ m. refl) refl refl is
-feed_by_answer e n cs ps qs attempt piece (Err feeds.AckAhead) o (new, len, may, front, ahead, is) =
+feed_by_answer e n cs ps qs attempt piece (Err feeds.AckAhead) o (new, len, may, front, unread, ahead, is) =
     over e n cs (Feed attempt piece (Err feeds.AckAhead)) ps qs o (λ m. refl) (λ m. refl) refl refl is
 
 -- ## What is handed on

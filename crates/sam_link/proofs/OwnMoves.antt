@@ -22,7 +22,7 @@ use Rattle.sam_link.specs.declared.phase.Phase.TheVariants.{Open}
 use Rattle.sam_link.specs.declared.phase.Role.TheVariants.{Terminal, Host}
 use Rattle.sam_link.specs.declared.hello.What.TheVariants as word
 use Rattle.sam_link.proofs.Joint.{Sound}
-use Rattle.sam_link.proofs.Lines.{at_most, drop_more}
+use Rattle.sam_link.proofs.Lines.{all, at_most, drop_more}
 use Rattle.sam_link.proofs.Packing.{ack_fit, ack_if, ack_items, ack_long, ack_top, fit_more, items_are, items_more, told_keeps, top_more}
 use Rattle.sam_link.proofs.Views.{Adds, Answers, Breaks, Dials, Goes, IsWelcomed, Move, Own, Stays, Takes, View, at, goes_on, moved, view}
 
@@ -106,6 +106,7 @@ pub record Stepped (e n : End) (cs : List Call) (c : Call) (ps qs : List Packet)
   pub taken_now : List Packet
   pub move : Move
   pub own : Own n (cs ++ c ∷ []) put_now taken_now
+  pub extends : StartsWith taken_now qs
   pub is : view n (cs ++ c ∷ []) put_now taken_now ≡ moved (view e cs ps qs) move
   pub may : May e cs c taken_now move
   pub told : ToldBy (view e cs ps qs) move
@@ -119,6 +120,7 @@ pub stays : (e : End) (cs : List Call) (c : Call) (ps qs : List Packet) (w : Wai
 stays e cs c ps qs w o no_out no_feed no_put same = record {
   put_now = ps;
   taken_now = qs;
+  extends = all qs;
   move = Stays;
   own = record {
     fit = o.fit;
@@ -177,6 +179,7 @@ adds e n cs c ps qs more told o no_out no_feed puts no_hand fit top before told_
     subst (λ k. Stepped e k cs c ps qs) (sym is) (record {
       put_now = ps ++ more;
       taken_now = qs;
+      extends = all qs;
       move = Adds (stream_of packets more) told (top_of (ps ++ more));
       own = record {
         fit = fit_more ps more o.fit fit;
@@ -230,6 +233,7 @@ pub over : (e n : End) (cs : List Call) (c : Call) (ps qs : List Packet) → Own
 over e n cs c ps qs o no_out no_feed no_put no_hand is = subst (λ k. Stepped e k cs c ps qs) (sym is) (record {
   put_now = ps;
   taken_now = qs;
+  extends = all qs;
   move = Breaks;
   own = record {
     fit = o.fit;
@@ -287,6 +291,7 @@ pub dials : (e n : End) (cs : List Call) (c : Call) (ps qs : List Packet) (take_
 dials e n cs c ps qs take_over o no_out no_feed no_put no_hand terminal fits is = subst (λ k. Stepped e k cs c ps qs) (sym is) (record {
   put_now = ps;
   taken_now = qs;
+  extends = all qs;
   move = Dials (record { what = first_word e.is_known take_over; id = e.id; attempt = e.attempt + 1; received = e.received });
   own = record {
     fit = o.fit;
@@ -337,6 +342,7 @@ pub answers : (e n : End) (cs : List Call) (c : Call) (ps qs : List Packet) (g :
 answers e n cs c ps qs g o no_out no_feed no_put no_hand host later least most taken carried is = subst (λ k. Stepped e k cs c ps qs) (sym is) (record {
   put_now = ps;
   taken_now = qs;
+  extends = all qs;
   move = Answers g (record { what = word.Welcome; id = e.id; attempt = g.attempt; received = e.received });
   own = record {
     fit = o.fit;
@@ -386,6 +392,7 @@ pub welcomed_first : (e n : End) (cs : List Call) (c : Call) (ps qs : List Packe
 welcomed_first e n cs c ps qs x o no_out no_feed no_put no_hand terminal asking same one zero taken carried is = subst (λ k. Stepped e k cs c ps qs) (sym is) (record {
   put_now = ps;
   taken_now = qs;
+  extends = all qs;
   move = IsWelcomed x;
   own = record {
     fit = o.fit;
@@ -433,6 +440,7 @@ pub welcomed_later : (e n : End) (cs : List Call) (c : Call) (ps qs : List Packe
 welcomed_later e n cs c ps qs x o no_out no_feed no_put no_hand terminal asking same one least most taken carried is = subst (λ k. Stepped e k cs c ps qs) (sym is) (record {
   put_now = ps;
   taken_now = qs;
+  extends = all qs;
   move = IsWelcomed x;
   own = record {
     fit = o.fit;
@@ -515,6 +523,7 @@ takes_out e n cs ps qs attempt count old new o up same long are is =
     subst (λ k. Stepped e k cs c ps qs) (sym is) (record {
       put_now = ps;
       taken_now = qs;
+      extends = all qs;
       move = Goes a b;
       own = record {
         fit = o.fit;
@@ -632,6 +641,7 @@ takes e n cs ps qs new attempt len piece o open_now same fits front unread top i
     subst (λ k. Stepped e k cs c ps qs) (sym became) (record {
       put_now = ps ++ more;
       taken_now = qs ++ new;
+      extends = record { rest = new; is = refl };
       move = Takes piece bytes (top_of new) (if b then count else e.told) (top_of (ps ++ more));
       own = record {
         fit = fit_more ps more o.fit (ack_fit b count fits);

@@ -69,7 +69,7 @@ module _ (id : Id) (fine : IsId id) (s : Session) (x : Holds id s) (c : Call) (n
   sound_h : Sound h
   sound_h = sound_of s.host s.host_calls x.down_put x.up_taken x.own_h
 
-  up_moves : (m : Move) → m ≡ st.move → May s.terminal s.terminal_calls c st.taken_now m → ToldBy t m → Joint id t h → Joint id (moved t m) h
+  pub up_moves : (m : Move) → m ≡ st.move → May s.terminal s.terminal_calls c st.taken_now m → ToldBy t m → Joint id t h → Joint id (moved t m) h
   up_moves Stays is may says j = j
   up_moves (Adds more told top) is may says j = terminal.adds id t h more told top sound_t says.0 says.1 j
   up_moves Breaks is may says j = terminal.breaks id t h j
@@ -95,7 +95,7 @@ module _ (id : Id) (fine : IsId id) (s : Session) (x : Holds id s) (c : Call) (n
       let hello = may.5 s.host_calls (carried may.4) in
       terminal.welcomed id t h w sound_t j may.1 hello.0 may.2 (subst (λ k. StartsWith (h.went k) (spelled w)) may.2 hello.1) may.3
 
-  pub terminal_keeps : Holds id (terminal_did s c n)
+  unfoldable pub terminal_keeps : Holds id (terminal_did s c n)
   terminal_keeps = record {
     up_put = st.put_now;
     up_taken = x.up_taken;
@@ -126,7 +126,7 @@ module _ (id : Id) (fine : IsId id) (s : Session) (x : Holds id s) (c : Call) (n
   sound_down : Sound down_view
   sound_down = sound_of s.host s.host_calls x.down_put x.up_taken x.own_h
 
-  down_moves : (m : Move) → m ≡ st.move → May s.host s.host_calls c st.taken_now m → ToldBy down_view m → Joint id up_view down_view → Joint id up_view (moved down_view m)
+  pub down_moves : (m : Move) → m ≡ st.move → May s.host s.host_calls c st.taken_now m → ToldBy down_view m → Joint id up_view down_view → Joint id up_view (moved down_view m)
   down_moves Stays is may says j = j
   down_moves (Adds more told top) is may says j = host.adds id up_view down_view more told top sound_down says.0 says.1 j
   down_moves Breaks is may says j = host.breaks id up_view down_view j
@@ -154,7 +154,7 @@ module _ (id : Id) (fine : IsId id) (s : Session) (x : Holds id s) (c : Call) (n
       (record { id_is = named; attempt_is = numbered; word = ap (λ (k : Hello). k.what) may.2; recent = λ same. counted })
   down_moves (IsWelcomed w) is may says j = absurd (two_roles (sym may.0 ∙ x.role_h))
 
-  pub host_keeps : Holds id (host_did s c n)
+  unfoldable pub host_keeps : Holds id (host_did s c n)
   host_keeps = record {
     up_put = x.up_put;
     up_taken = st.taken_now;

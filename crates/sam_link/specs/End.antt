@@ -97,13 +97,17 @@ is_resume TakeOver = false
 is_resume Welcome = false
 is_resume (Refused why) = false
 
+-- the connection is not newer than the newest that was taken
+abbrev pub is_old : End → Hello → Bool
+is_old e h = nat_le h.attempt e.attempt
+
 -- why a host refuses a terminal's hello, in this order
 abbrev pub refusal_of : End → Hello → Option Refusal
 refusal_of e h =
     if not (is_call h.what) then Some BadHello
     else if is_resume h.what && not e.is_known then Some NoSession
     else if not (same_id e.id h.id) then Some OtherSession
-    else if nat_le h.attempt e.attempt then Some OldAttempt
+    else if is_old e h then Some OldAttempt
     else if not (may_have e.keeps h.received) then Some WrongCount
     else None
 

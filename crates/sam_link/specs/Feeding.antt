@@ -1,5 +1,5 @@
 -- What feeding a piece of the other side's stream does.
-use Rattle.std.specs.Prelude.{◌≡◌, ℕ, ◌+◌, ◌-◌, ◌^◌, ◌<◌, ◌≤◌, ◌⊎◌, List, [], ◌++◌, length, take, drop, Bool, true, false, ◌&&◌, ◌||◌, ◌==◌, nat_le, nat_lt, if◌then◌else◌, Option, None, Some, Result, Ok, Err}
+use Rattle.std.specs.Prelude.{◌≡◌, ◌≢◌, ℕ, ◌+◌, ◌-◌, ◌^◌, ◌<◌, ◌≤◌, ◌⊎◌, List, [], ◌++◌, length, take, drop, Bool, true, false, ◌&&◌, ◌||◌, ◌==◌, nat_le, nat_lt, if◌then◌else◌, Option, None, Some, Result, Ok, Err}
 use Rattle.sam_mesg.specs.Spelling.{eight, frame}
 use Rattle.sam_frame.specs.Splitting.{Front}
 use Rattle.sam_frame.specs.Stream.{IsOpen, Shows}
@@ -120,7 +120,14 @@ Feeds e attempt piece (Err (Wrong fault)) n =
     × Shows packets 1 (drop len (e.held ++ piece)) (mesg_fault fault) × (n ≡ ended e)
 Feeds e attempt piece (Err AckAhead) n =
     (ps : List Packet) × (len : ℕ) × MayFeed e attempt piece × Front packets 1 (e.held ++ piece) ps 1 len
-    × (e.keeps.base + e.keeps.sent < top_of ps) × (n ≡ ended e)
+    × IsOpen packets 1 (drop len (e.held ++ piece)) × (e.keeps.base + e.keeps.sent < top_of ps) × (n ≡ ended e)
+
+-- but for memory there is one answer to a piece, and it leaves one end
+abbrev pub OneFeed : Type 0
+OneFeed =
+    (e : End) (attempt : ℕ) (piece : List ℕ) (a b : Result (Unit {0}) FeedFault) (n m : End)
+    → Feeds e attempt piece a n → Feeds e attempt piece b m
+    → a ≢ Err OutOfMemory → b ≢ Err OutOfMemory → (a ≡ b) × (n ≡ m)
 
 -- why no piece of this length is taken
 abbrev pub IsRefused : End → ℕ → List ℕ → Option FeedFault → Type 0

@@ -57,7 +57,7 @@ Begins bytes = HasVersion bytes × (9 < length bytes → what_of (slice_index by
 
 -- what reading a hello may answer
 abbrev pub ReadsHello : List ℕ → Result (Option Hello) Refusal → Type 0
-ReadsHello bytes (Ok (Some hello)) = (42 ≤ length bytes) × (take 42 bytes ≡ spelled hello)
+ReadsHello bytes (Ok (Some hello)) = IsHello hello × (42 ≤ length bytes) × (take 42 bytes ≡ spelled hello)
 ReadsHello bytes (Ok None) = (length bytes < 42) × Begins bytes
 ReadsHello bytes (Err NotALink) = HasMark bytes → ⊥
 ReadsHello bytes (Err OtherVersion) = HasMark bytes × (8 < length bytes) × (slice_index bytes 8 ≢ 1)

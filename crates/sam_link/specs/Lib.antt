@@ -8,3 +8,4 @@ pub mod Meeting
 pub mod Packets
 pub mod Putting
 pub mod Sessions
+pub mod Turns

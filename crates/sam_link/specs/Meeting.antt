@@ -1,14 +1,17 @@
 -- What two ends of one session may answer each other, what is there once all was carried, and what a good line delivers.
 use Rattle.std.specs.Prelude.{◌≡◌, ℕ, ◌+◌, ◌-◌, ◌^◌, ◌<◌, ◌≤◌, List, [], ◌∷◌, ◌++◌, length, drop, true, IsOk, Result, Ok, Err}
 use Rattle.std.specs.List.{flat_map}
-use Rattle.sam_frame.specs.Stream.{stream_of}
+use Rattle.sam_frame.specs.Stream.{FitInTurn, stream_of}
 use Rattle.sam_link.specs.Calls.{Call, Does, fed, handed, items_in, out, put, waits}
 use Rattle.sam_link.specs.Calls.Call.{Acknowledge, Answer, Ask, Break, Dial, Feed, NextNote, Put, PutNote, TakeIn, TakeOut, Welcome}
-use Rattle.sam_link.specs.End.{End}
+use Rattle.sam_link.specs.End.{End, is_asking}
 use Rattle.sam_link.specs.Feeding.{has_room, is_open}
 use Rattle.sam_link.specs.Keeping.{MayHave}
 use Rattle.sam_link.specs.Packets.{Packet, packets}
-use Rattle.sam_link.specs.Sessions.{ByHost, ByTerminal, IsId, Leads, Session, Step, WasCarried, new_session}
+use Rattle.sam_link.specs.Sessions.{ByHost, ByTerminal, IsFrom, IsId, Leads, Session, Step, WasCarried, new_session}
+use Rattle.sam_link.specs.declared.fault.AnswerFault.{AnswerFault}
+use Rattle.sam_link.specs.declared.fault.WelcomeFault.{WelcomeFault}
+use Rattle.sam_link.specs.declared.hello.Hello.{Hello}
 use Rattle.sam_link.specs.declared.fault.AnswerFault.TheVariants as answers
 use Rattle.sam_link.specs.declared.fault.FeedFault.{FeedFault}
 use Rattle.sam_link.specs.declared.fault.FeedFault.TheVariants as feeds
@@ -58,6 +61,7 @@ HonestMeet =
 -- what an end keeps is the stream of packets whose data and notes are what was put, from the acknowledged count on
 pub record KeepsTheRest (e : End) (calls : List Call) : Type 0 where
   pub all : List Packet
+  pub fit : FitInTurn packets 1 all
   pub put_are : put calls ≡ flat_map items_in all
   pub kept_is : e.keeps.kept ≡ drop e.keeps.base (stream_of packets all)
 
@@ -84,11 +88,18 @@ pub record IsAllCarried (s : Session) : Type 0 where
   pub up : fed s.host.attempt s.host_calls ≡ drop 42 (out s.host.attempt s.terminal_calls)
   pub down : fed s.terminal.attempt s.terminal_calls ≡ drop 42 (out s.terminal.attempt s.host_calls)
 
+-- all that was put at the terminal came out at the host, or waits there in its order; and likewise down
+abbrev pub IsAllUp : Session → Type 0
+IsAllUp s = put s.terminal_calls ≡ handed s.host_calls ++ waits s.host.waiting
+
+abbrev pub IsAllDown : Session → Type 0
+IsAllDown s = put s.host_calls ≡ handed s.terminal_calls ++ waits s.terminal.waiting
+
 -- All that was put came out, or waits there in its order. And each end keeps less than what is acknowledged unasked, unless the other's
 -- stream has no room for an acknowledgement
 pub record AllCame (s : Session) : Type 0 where
-  pub up : put s.terminal_calls ≡ handed s.host_calls ++ waits s.host.waiting
-  pub down : put s.host_calls ≡ handed s.terminal_calls ++ waits s.terminal.waiting
+  pub up : IsAllUp s
+  pub down : IsAllDown s
   pub kept_up : has_room s.host.keeps 11 ≡ true → length s.terminal.keeps.kept < 16384
   pub kept_down : has_room s.terminal.keeps 11 ≡ true → length s.host.keeps.kept < 16384
 
@@ -133,7 +144,7 @@ pub record DeliversUp (s : Session) : Type 0 where
   pub all_comes : (z : Session) (old new piece : List ℕ) (count : ℕ) → to_go s.terminal ≤ length old
       → Leads s (ByTerminal (TakeOut s.terminal.attempt old (Ok count) new) ∷ ByHost (Feed s.host.attempt piece (Ok tt)) ∷ []) z
       → fed s.host.attempt z.host_calls ≡ drop 42 (out s.host.attempt z.terminal_calls)
-      → put z.terminal_calls ≡ handed z.host_calls ++ waits z.host.waiting
+      → IsAllUp z
 
 pub record DeliversDown (s : Session) : Type 0 where
   pub sends : Sends s.host
@@ -141,8 +152,22 @@ pub record DeliversDown (s : Session) : Type 0 where
   pub all_comes : (z : Session) (old new piece : List ℕ) (count : ℕ) → to_go s.host ≤ length old
       → Leads s (ByHost (TakeOut s.host.attempt old (Ok count) new) ∷ ByTerminal (Feed s.terminal.attempt piece (Ok tt)) ∷ []) z
       → fed s.terminal.attempt z.terminal_calls ≡ drop 42 (out s.terminal.attempt z.host_calls)
-      → put z.host_calls ≡ handed z.terminal_calls ++ waits z.terminal.waiting
+      → IsAllDown z
 
 abbrev pub GoodLineDelivers : Type 0
 GoodLineDelivers =
     (id : Id) (steps : List Step) (s : Session) → IsId id → Leads (new_session id) steps s → HaveMet s → DeliversUp s × DeliversDown s
+
+-- ## Connections are made
+
+-- The terminal's next connection is newer than any that the host has taken. A hello of a newer one, which was carried, is taken; and where
+-- the terminal waits for a welcome, the host's hello on that connection, which was carried, is taken
+pub record Connects (s : Session) : Type 0 where
+  pub newer : s.host.attempt ≤ s.terminal.attempt
+  pub taken : (hello : Hello) (answer : Result (Unit {0}) AnswerFault) (n : End) → s.host.attempt < hello.attempt
+      → Does s.host (Answer hello answer) n → IsFrom s.terminal_calls hello → IsOk answer
+  pub welcome : (hello : Hello) (answer : Result (Unit {0}) WelcomeFault) (n : End) → is_asking s.terminal.phase ≡ true
+      → hello.attempt ≡ s.terminal.attempt → Does s.terminal (Welcome hello answer) n → IsFrom s.host_calls hello → IsOk answer
+
+abbrev pub ConnectionsAreMade : Type 0
+ConnectionsAreMade = (id : Id) (steps : List Step) (s : Session) → IsId id → Leads (new_session id) steps s → Connects s

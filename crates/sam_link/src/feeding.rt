@@ -4,6 +4,7 @@ ghost use Rattle.std.specs.Prelude.{◌≡◌, IfOk, OnOk, OnErr};
 ghost use Rattle.sam_link.specs.Feeding.{tells, told};
 
 use crate::keeping::{Kept, PutFault};
+use crate::packet::ACKNOWLEDGEMENT;
 use std::alloc::AllocError;
 
 /// Puts an acknowledgement of this count, where one is owed and can be counted, and returns whether it did. The only error is out of
@@ -16,7 +17,7 @@ pub fn tell(kept: &mut Kept, owes: bool, count: u64) -> Result<bool, AllocError>
     if !owes {
         return Ok(false);
     }
-    match kept.put_packet(3, &count.to_be_bytes()) {
+    match kept.put_packet(ACKNOWLEDGEMENT, &count.to_be_bytes()) {
         Ok(()) => Ok(true),
         Err(PutFault::CountFull) => Ok(false),
         Err(PutFault::OutOfMemory) => Err(AllocError),

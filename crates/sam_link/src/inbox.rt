@@ -5,6 +5,7 @@ ghost use Rattle.std.specs.Prelude.{◌⊎◌, true, false, vec_capacity};
 ghost use Rattle.sam_link.specs.Inbox.{GivesNote, Finds, IsRow, LiesIn, RestStays, TakesAll, TakesIn, TakesPlaces, items_among, lying};
 ghost use Rattle.sam_link.specs.Inbox.{made_ready, note_in, nothing, parted, ready, stretch};
 
+use crate::packet::{DATA, NOTE};
 use crate::reading::head_of;
 use std::alloc::{AllocError, Global};
 use std::marker::Model;
@@ -68,7 +69,7 @@ fn pass_others(row: &[u8], count: usize, len: usize) -> (usize, usize)
     while left > 0 {
         let (_, rest) = row.split_at(at);
         let head = head_of(rest);
-        if head.kind <= 2 {
+        if head.kind <= NOTE {
             break;
         }
         at += 3 + head.len;
@@ -112,7 +113,7 @@ fn first_item(row: &[u8], count: usize, len: usize) -> Found
         len: head.len,
         left: left - 1,
     };
-    if head.kind == 1 {
+    if head.kind == DATA {
         Found::Data(body)
     } else {
         Found::Note(body)

@@ -22,7 +22,10 @@ pub use fault::{AnswerFault, CallFault, FeedFault, NotOpen, NoteFault, WelcomeFa
 pub use hello::{HELLO_BYTES, Hello, Id, Refusal, What, read_hello};
 pub use inbox::Place;
 pub use keeping::{Kept, PutFault};
-pub use laws::{carried_is_all, good_line_delivers, honest_meet, links_carry, one_hello};
+pub use laws::{
+    carried_is_all, connections_are_made, good_line_delivers, honest_meet, links_carry, one_feed,
+    one_hello, one_reading, turns_deliver,
+};
 pub use link::{Counts, Link};
 pub use packet::MOST_BODY;
 pub use phase::{Phase, Role};

@@ -18,7 +18,7 @@ use crate::feeding::tell;
 use crate::hello::{HELLO_BYTES, Hello, Id, What};
 use crate::inbox::{Inbox, Marks, Place};
 use crate::keeping::{Kept, PutFault};
-use crate::packet::MOST_BODY;
+use crate::packet::{ACKNOWLEDGEMENT, ASK, MOST_BODY, NOTE};
 use crate::phase::{Phase, Role};
 use crate::reading::{Said, Split, split_packets};
 use std::alloc::{AllocError, Global};
@@ -199,7 +199,7 @@ impl Link {
         if bytes.len() > MOST_BODY {
             return Err(NoteFault::TooLong);
         }
-        match self.kept.put_packet(2, bytes) {
+        match self.kept.put_packet(NOTE, bytes) {
             Ok(()) => Ok(()),
             Err(PutFault::CountFull) => Err(NoteFault::CountFull),
             Err(PutFault::OutOfMemory) => Err(NoteFault::OutOfMemory),
@@ -211,7 +211,7 @@ impl Link {
         ensures asked { Puts self.old.keeps (frame 4 []) result self.new.keeps }
         ensures others { self.new ≡ record self.old { keeps = self.new.keeps } }
     {
-        self.kept.put_packet(4, &[])
+        self.kept.put_packet(ASK, &[])
     }
 
     /// Tells the other side how many of its bytes have come. Errors, in this order: `CountFull`, `OutOfMemory`.
@@ -234,7 +234,8 @@ impl Link {
         ensures put { Puts self.old.keeps (frame 3 (eight self.old.received)) result self.new.keeps }
         ensures others { self.new ≡ record self.old { keeps = self.new.keeps } }
     {
-        self.kept.put_packet(3, &self.received.to_be_bytes())
+        self.kept
+            .put_packet(ACKNOWLEDGEMENT, &self.received.to_be_bytes())
     }
 
     /// Returns whether connection `attempt` is the newest, and both sides have said hello.

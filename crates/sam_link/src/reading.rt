@@ -6,7 +6,7 @@ ghost use Rattle.sam_mesg.specs.Spelling.{eight};
 ghost use Rattle.sam_link.specs.Inbox.{body_len};
 ghost use Rattle.sam_link.specs.Packets.{FirstIs, IsSplit, Says, bounds};
 
-use crate::packet::bounds;
+use crate::packet::{ACKNOWLEDGEMENT, DATA, NOTE, bounds};
 use thiserror::Error;
 
 /// Why bytes are no packet.
@@ -73,9 +73,9 @@ fn said_in(kind: u8, body: &[u8]) -> Said
         asked: false,
     };
     match kind {
-        1 => nothing,
-        2 => nothing,
-        3 => Said {
+        DATA => nothing,
+        NOTE => nothing,
+        ACKNOWLEDGEMENT => Said {
             top: number_of(body),
             asked: false,
         },

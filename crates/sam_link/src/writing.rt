@@ -4,7 +4,7 @@ ghost use Rattle.std.specs.Prelude.{◌≡◌, ◌<◌, ◌^◌, ◌++◌, lengt
 ghost use Rattle.sam_mesg.specs.Spelling.{frame};
 ghost use Rattle.sam_link.specs.Putting.{data_stream, packets_needed};
 
-use crate::packet::MOST_BODY;
+use crate::packet::{DATA, MOST_BODY};
 use std::alloc::AllocError;
 
 /// Puts a packet at the end of `out`, whole or not at all. The only error is out of memory.
@@ -39,7 +39,7 @@ pub fn write_data(out: &mut Vec<u8>, bytes: &[u8]) -> Result<(), AllocError>
     for number in 0..packets_needed(bytes.len()) {
         let (_, rest) = bytes.split_at(number * MOST_BODY);
         let len = MOST_BODY.min(rest.len());
-        if write_packet(out, 1, &rest[..len]).is_err() {
+        if write_packet(out, DATA, &rest[..len]).is_err() {
             out.truncate(before);
             return Err(AllocError);
         }

@@ -23,6 +23,11 @@ static sam_status status_of(const char *call, sam_status status)
 #define ID "a session's name"
 #define EIGHT(byte) "\0\0\0\0\0\0\0" byte
 #define HELLO(what, attempt, received) MARK what ID EIGHT(attempt) EIGHT(received)
+/* The kinds of packets. */
+#define DATA "\1"
+#define NOTE "\2"
+#define ACKNOWLEDGEMENT "\3"
+#define ASK "\4"
 #define NO_BYTES "\0\0\0\0\0\0\0\0\0\0\0\0\0\0\0\0"
 
 static const uint8_t *const id = (const uint8_t *)ID;
@@ -116,7 +121,7 @@ static void refused_hellos(sam_link *terminal, sam_link *host)
 /* What the terminal puts goes out byte for byte as the page has it, comes in at the host, and is acknowledged. */
 static void bytes_go(sam_link *terminal, sam_link *host)
 {
-    static const char out[] = HELLO("\3", "\1", "\0") "\1\0\2hi\2\0\4note\1\0\1!\4\0\0";
+    static const char out[] = HELLO("\3", "\1", "\0") DATA "\0\2hi" NOTE "\0\4note" DATA "\0\1!" ASK "\0\0";
     static uint8_t bytes[SAM_LINK_MOST_NOTE];
     uint64_t number = 0;
     uint32_t phase = 9;
@@ -142,7 +147,7 @@ static void bytes_go(sam_link *terminal, sam_link *host)
     WANT(READ(sam_link_next_note(host, bytes, sizeof bytes, &count)), SAM_OK);
     WANT(count == 4 && memcmp(bytes, "note", 4) == 0, 1);
     WANT(sam_link_take_out(host, 1, bytes, sizeof bytes, &count), SAM_OK);
-    WANT(count == 53 && memcmp(bytes, HELLO("\4", "\1", "\0") "\3\0\x08" EIGHT("\x13"), count) == 0, 1);
+    WANT(count == 53 && memcmp(bytes, HELLO("\4", "\1", "\0") ACKNOWLEDGEMENT "\0\x08" EIGHT("\x13"), count) == 0, 1);
     WANT(READ(sam_link_welcomed(terminal, bytes, SAM_LINK_HELLO_BYTES)), SAM_OK);
     WANT(sam_link_feed(terminal, 1, bytes + SAM_LINK_HELLO_BYTES, 11), SAM_OK);
     WANT(READ(sam_link_put_count(terminal, &number)), SAM_OK);
@@ -162,7 +167,7 @@ static void bytes_go(sam_link *terminal, sam_link *host)
 /* A piece goes into the buffer at once, as far as there is room and up to a note; what is left is taken in later. */
 static void at_once(sam_link *terminal, sam_link *host)
 {
-    static const char out[] = "\1\0\5hello\2\0\1n\1\0\1!";
+    static const char out[] = DATA "\0\5hello" NOTE "\0\1n" DATA "\0\1!";
     uint8_t bytes[64], into[8] = "unused!", note[SAM_LINK_MOST_NOTE];
     size_t count = 0, came = 9;
     WANT(sam_link_take_in(host, bytes, sizeof bytes, &count), SAM_OK);
@@ -239,11 +244,11 @@ static void wrong_packets(sam_link *host)
         sam_status status;
     } wrong[] = {
         {"\0", 1, SAM_LINK_BAD_KIND},
-        {"\4\0\0\5", 4, SAM_LINK_BAD_KIND},
-        {"\1\0\0", 3, SAM_LINK_BAD_LENGTH},
-        {"\2\x10\1", 3, SAM_LINK_BAD_LENGTH},
-        {"\3\0\x08\0\0\0\0\0\0\0\x63", 11, SAM_LINK_ACK_AHEAD},
-        {"\3\0\x08\0\0\0\0\0\0\0\x63\5", 12, SAM_LINK_BAD_KIND},
+        {ASK "\0\0\5", 4, SAM_LINK_BAD_KIND},
+        {DATA "\0\0", 3, SAM_LINK_BAD_LENGTH},
+        {NOTE "\x10\1", 3, SAM_LINK_BAD_LENGTH},
+        {ACKNOWLEDGEMENT "\0\x08" EIGHT("\x63"), 11, SAM_LINK_ACK_AHEAD},
+        {ACKNOWLEDGEMENT "\0\x08" EIGHT("\x63") "\5", 12, SAM_LINK_BAD_KIND},
     };
     uint64_t received = 0, put = 0, number = 0;
     uint32_t phase = 9;
