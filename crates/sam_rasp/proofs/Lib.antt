@@ -4,7 +4,9 @@ pub mod Changes
 pub mod Runs
 pub mod RaspLaws
 pub mod Agreeing
+pub mod Tallies
 pub mod Rows
 pub mod SectionLists
 pub mod Fewest
 pub mod Readings
+pub mod Measuring

@@ -1,14 +1,18 @@
 -- Lists of parts: what one of them stands for, between those before it and those after it.
-use Rattle.sam_rasp.proofs.Common.{◌≡◌, refl, sym, ap, ◌∙◌, subst, ℕ, zero, suc, ◌+◌, ◌-◌, ◌≤◌, ◌<◌, List, [], ◌∷◌, ◌++◌, take, drop, length, get_or, set, insert, arith, take-append-drop, drop_all, length-take, length-drop, append-nil, append_assoc, length-append, flat_map-append, Bool, ◌↔◌, Agrees, PartialText, gaps_of, del, ins, size, cells, Section, drop-drop, is_sort, prefix_len, max, min, length-replicate, Option, None, ◌⊎◌, inl, inr, true, false, drop-append-le, take-append-le}
+use Rattle.sam_rasp.proofs.Common.{◌≡◌, refl, sym, ap, ◌∙◌, subst, ℕ, zero, suc, ◌+◌, ◌-◌, ◌≤◌, ◌<◌, List, [], ◌∷◌, ◌++◌, take, drop, length, get_or, set, insert, arith, take-append-drop, drop_all, length-take, length-drop, append-nil, append_assoc, length-append, flat_map-append, Bool, ◌↔◌, Agrees, PartialText, most_kept, part, del, ins, size, cells, Section, drop-drop, is_sort, prefix_len, max, min, length-replicate, Option, None, ◌⊎◌, inl, inr, true, false, drop-append-le, take-append-le}
 use Rattle.std.specs.Prelude.{remove}
 use Rattle.std.proofs.lemmas.List.{take_all, take_rest, take_more, take_more_set, set_split}
 use Rattle.sam_rasp.specs.Rasp.{put_cells, sort_from, sort_before}
-use Rattle.sam_rasp.specs.Rows.{incoming_cells, CanComeIn}
+use Rattle.sam_rasp.specs.Rows.{incoming_cells}
+use Rattle.sam_rasp.specs.Counting.{CanComeIn, Fits, plus}
+use Rattle.sam_rasp.specs.Tallies.{tally_of}
+use Rattle.sam_rasp.specs.declared.tally.Tally.{Tally}
 use Rattle.sam_rasp.specs.Rows.{members_of, NoneEmpty}
 use Rattle.sam_rasp.specs.declared.section.Incoming.{Incoming}
 use Rattle.sam_rasp.specs.declared.section.Incoming.TheVariants.{Runes, Gaps}
 use Rattle.std.proofs.lemmas.Bool.{cases_lt}
-use Rattle.sam_rasp.proofs.SectionLaws.{gaps-append, gaps-most, length-cells}
+use Rattle.sam_rasp.proofs.SectionLaws.{length-cells}
+use Rattle.sam_rasp.proofs.Tallies.{part-middle, sum-tally}
 use Rattle.sam_rasp.proofs.Agreeing.{stretch}
 use Rattle.sam_rasp.proofs.RaspLaws.{length_agrees}
 use Rattle.sam_rasp.proofs.Runs.{before-ends, before-goes-on, before-most, before-runes, from-end, from-ends, from-goes-on, from-most, from-runes}
@@ -19,9 +23,6 @@ members_append f xs ys = flat_map-append f xs ys
 
 pub length-first : {P : Type 0} (f : P → PartialText) (a : P) (xs : List P) → length (members_of f (a ∷ xs)) ≡ length (f a) + length (members_of f xs)
 length-first f a xs = length-append (f a) (members_of f xs)
-
-pub gaps-first : {P : Type 0} (f : P → PartialText) (a : P) (xs : List P) → gaps_of (members_of f (a ∷ xs)) ≡ gaps_of (f a) + gaps_of (members_of f xs)
-gaps-first f a xs = gaps-append (f a) (members_of f xs)
 
 pub take-first : {X : Type 0} (a b : List X) (n : ℕ) → length a ≡ n → take n (a ++ b) ≡ a
 take-first a b n e = grind (arith, (take-past a b 0 n), append-nil, e)
@@ -81,11 +82,16 @@ taken-short f xs zero = omega arith
 taken-short f [] (suc n) = omega arith
 taken-short f (a ∷ xs) (suc n) = omega (arith, length-first f a xs, length-first f a (take n xs), taken-short f xs n)
 
+-- the tally of the first part and the others
+pub members-sum : {P : Type 0} (f : P → PartialText) (a : P) (xs : List P) (t u : Tally) → t ≡ tally_of (f a) → u ≡ tally_of (members_of f xs)
+    → length (members_of f (a ∷ xs)) ≤ most_kept → Fits (plus t u) × (plus t u ≡ tally_of (members_of f (a ∷ xs)))
+members-sum f a xs t u e g l = sum-tally (members_of f (a ∷ xs)) (f a) (members_of f xs) t u refl e g l
+
 -- what `find` rests on
 pub ruleset find_facts = (at-index, taken-short, take_all)
 
 -- what `counts` rests on
-pub ruleset count_facts = (length-first, gaps-first, gaps-most)
+pub ruleset count_facts = (length-first, members-sum)
 
 -- ## A change of one part
 
@@ -117,45 +123,26 @@ set-put f xs i x y at end m l e o w c =
     (length (members_of f (take i xs)) + at) (length (members_of f (take i xs)) + end) at end refl refl o w c
     ∙ ap (λ z. put_cells z (length (members_of f (take i xs)) + at) (length (members_of f (take i xs)) + end) m) (sym (at-index f xs i x l e).0))
 
--- gaps before and after
-pub gaps-three : (a b c : PartialText) → gaps_of (a ++ (b ++ c)) ≡ gaps_of a + (gaps_of b + gaps_of c)
-gaps-three a b c = omega (arith, gaps-append a (b ++ c), gaps-append b c)
-
-pub set-gaps : {P : Type 0} (f : P → PartialText) (xs : List P) (i : ℕ) (x y : P) → i < length xs → x ≡ get_or xs i x
-    → (gaps_of (members_of f (set xs i y)) + gaps_of (f x) ≡ gaps_of (members_of f xs) + gaps_of (f y)) × (gaps_of (f x) ≤ gaps_of (members_of f xs))
-set-gaps f xs i x y l e =
+-- what stands in one part
+pub part-at : {P : Type 0} (f : P → PartialText) (xs : List P) (i : ℕ) (x : P) (at end : ℕ) → i < length xs → x ≡ get_or xs i x → at ≤ end → end ≤ length (f x)
+    → part (members_of f xs) (length (members_of f (take i xs)) + at) (length (members_of f (take i xs)) + end) ≡ part (f x) at end
+part-at f xs i x at end l e o w =
     let a = members_of f (take i xs) in
-    let c = members_of f (drop (i + 1) xs) in
-    let new = ap gaps_of (set-members f xs i y l) ∙ gaps-three a (f y) c in
-    let old = ap gaps_of (at-index f xs i x l e).0 ∙ gaps-three a (f x) c in (omega (arith, new, old), omega (arith, old))
+    ap (λ z. part z (length a + at) (length a + end)) (at-index f xs i x l e).0
+    ∙ part-middle a (f x) (members_of f (drop (i + 1) xs)) at end o w
 
-dropped : (r : PartialText) (p : ℕ) → gaps_of (drop p r) ≤ gaps_of r
-dropped r p = omega (arith, ap gaps_of (take-append-drop p r), gaps-append (take p r) (drop p r))
-
-pub gaps-del : (r : PartialText) (p q : ℕ) → p ≤ q → gaps_of (del r p q) ≤ gaps_of r
-gaps-del r p q o =
-    let there : p + (q - p) ≡ q = omega (arith, o) in
-    omega (
-      arith,
-      gaps-append (take p r) (drop q r),
-      ap gaps_of (take-append-drop p r),
-      gaps-append (take p r) (drop p r),
-      dropped (drop p r) (q - p),
-      ap gaps_of (drop-drop (q - p) p r ∙ ap (λ k. drop k r) there),
-    )
-
--- what comes in has gaps of its own, and what goes takes its gaps with it
-pub gaps-put : (r m : PartialText) (p q : ℕ) → p ≤ q → (gaps_of (put_cells r p q m) ≤ gaps_of r + gaps_of m) × (gaps_of m ≤ gaps_of (put_cells r p q m))
-gaps-put r m p q o =
-    let whole = gaps-append (take p r ++ m) (drop q r) in
-    let front = gaps-append (take p r) m in
-    let rest = gaps-append (take p r) (drop q r) in (
-      omega (arith, whole, front, rest, gaps-del r p q o),
-      omega (arith, whole, front),
-    )
+-- a whole part that goes, by its tally
+pub part-whole : {P : Type 0} (f : P → PartialText) (xs : List P) (i : ℕ) (x : P) (t : Tally) (at end : ℕ) → i < length xs → x ≡ get_or xs i x → end - at ≡ length (f x)
+    → at ≤ end → end ≤ length (f x) → t ≡ tally_of (f x)
+    → t ≡ tally_of (part (members_of f xs) (length (members_of f (take i xs)) + at) (length (members_of f (take i xs)) + end))
+part-whole f xs i x t at end l e n o w h =
+    let first : at ≡ 0 = omega (arith, n, o, w) in
+    let last : end ≡ length (f x) = omega (arith, n, o, w) in
+    let whole : part (f x) at end ≡ f x = grind (arith, first, last, (take_all (length (f x)) (f x))) in
+    h ∙ (ap tally_of (sym whole) ∙ ap tally_of (sym (part-at f xs i x at end l e o w)))
 
 pub incoming-some : (i : Incoming) → CanComeIn i → 0 < length (incoming_cells i)
-incoming-some (Runes s) h = omega (arith, length-some s.now, h.0)
+incoming-some (Runes s tally) h = omega (arith, length-some s.now, h.0)
 incoming-some (Gaps n) h = omega (arith, length-replicate {A = Option ℕ} n None, h.0)
 
 -- ## A part more or less
@@ -186,15 +173,6 @@ remove-del f xs i x at end l e z w =
     (grind (arith, z, w, (drop_all end (f x))))
     ∙ ap (λ y. del y (length a + at) (length a + end)) (sym (at-index f xs i x l e).0)))
 
-pub remove-gaps : {P : Type 0} (f : P → PartialText) (xs : List P) (i : ℕ) (x : P) → i < length xs → x ≡ get_or xs i x
-    → gaps_of (members_of f (remove xs i)) + gaps_of (f x) ≡ gaps_of (members_of f xs)
-remove-gaps f xs i x l e =
-    let a = members_of f (take i xs) in
-    let c = members_of f (drop (i + 1) xs) in
-    let step : suc i ≡ i + 1 = omega arith in
-    let new = ap gaps_of (members_append f (take i xs) (drop (suc i) xs) ∙ ap (λ k. a ++ members_of f (drop k xs)) step) ∙ gaps-append a c in
-    let old = ap gaps_of (at-index f xs i x l e).0 ∙ gaps-three a (f x) c in omega (arith, new, old)
-
 -- one part in two
 pub halved : {P : Type 0} (f : P → PartialText) (xs : List P) (i : ℕ) (x a b : P) → i < length xs → x ≡ get_or xs i x → f a ++ f b ≡ f x
     → ins (members_of f (set xs i a)) (length (members_of f (take (i + 1) (set xs i a)))) (f b) ≡ members_of f xs
@@ -216,10 +194,6 @@ half-members f xs h = sym (members_append f (take h xs) (drop h xs)) ∙ ap (mem
 
 pub half-length : {P : Type 0} (f : P → PartialText) (xs : List P) (h : ℕ) → length (members_of f (take h xs)) + length (members_of f (drop h xs)) ≡ length (members_of f xs)
 half-length f xs h = sym (length-append (members_of f (take h xs)) (members_of f (drop h xs))) ∙ ap length (half-members f xs h)
-
-pub half-gaps : {P : Type 0} (f : P → PartialText) (xs : List P) (h : ℕ)
-    → gaps_of (members_of f (take h xs)) + gaps_of (members_of f (drop h xs)) ≡ gaps_of (members_of f xs)
-half-gaps f xs h = sym (gaps-append (members_of f (take h xs)) (members_of f (drop h xs))) ∙ ap gaps_of (half-members f xs h)
 
 -- parts that stand for something are some
 pub some-length : {P : Type 0} (f : P → PartialText) (xs : List P) → 0 < length xs → NoneEmpty f xs → 0 < length (members_of f xs)
@@ -365,7 +339,7 @@ pub ruleset cut_in_facts = (some-at, at-index)
 pub ruleset one_facts = (members_append, append-nil)
 
 -- what `split_off` rests on
-pub ruleset half_facts = (half-members, half-length, half-gaps, some-take, some-drop, some-length)
+pub ruleset half_facts = (half-members, half-length, some-take, some-drop, some-length)
 
 -- what the row's `put` rests on
 pub ruleset row_put_facts = (length-put, put-alone)

@@ -1,12 +1,11 @@
 -- Lists of sections: what changes of one of them, or of two neighbours, make of what they stand for.
-use Rattle.sam_rasp.proofs.Common.{◌≡◌, refl, sym, ap, ◌∙◌, subst, ℕ, zero, suc, ◌+◌, ◌≤◌, ◌<◌, List, [], ◌∷◌, ◌++◌, take, drop, length, get_or, set, insert, arith, take-append-drop, take-take, drop_all, length-set, length-take, length-drop, append-nil, append_assoc, length-append, PartialText, NoneEmpty, cells, cells_of, gaps_of, size, del, ins, Section}
+use Rattle.sam_rasp.proofs.Common.{◌≡◌, sym, ap, ◌∙◌, subst, ℕ, zero, suc, ◌+◌, ◌≤◌, ◌<◌, List, [], ◌∷◌, ◌++◌, take, drop, length, get_or, set, insert, arith, take-append-drop, take-take, drop_all, length-set, length-take, length-drop, append-nil, append_assoc, length-append, PartialText, NoneEmpty, cells, cells_of, size, part, ins, Section}
 use Rattle.std.specs.Prelude.{remove}
 use Rattle.std.proofs.lemmas.List.{take_all, take-set, take_more, take_more_set}
 use Rattle.std.proofs.Common.{get_or-take, length-take-le}
 use Rattle.sam_rasp.specs.Rasp.{put_cells}
-use Rattle.sam_rasp.proofs.SectionLaws.{cells-push, length-cells, gaps-append}
+use Rattle.sam_rasp.proofs.SectionLaws.{cells-push, length-cells}
 use Rattle.sam_rasp.proofs.Rows as rows
-use Rattle.sam_rasp.proofs.Changes.{del-middle}
 
 pub at-index : (xs : List Section) (i : ℕ) (x : Section) → i < length xs → x ≡ get_or xs i x
     → (cells_of xs ≡ cells_of (take i xs) ++ (cells x ++ cells_of (drop (i + 1) xs)))
@@ -24,6 +23,11 @@ pub set-put : (xs : List Section) (i : ℕ) (x y : Section) (at end : ℕ) (m : 
     → cells y ≡ put_cells (cells x) at end m
     → cells_of (set xs i y) ≡ put_cells (cells_of xs) (length (cells_of (take i xs)) + at) (length (cells_of (take i xs)) + end) m
 set-put xs i x y at end m l e o w c = rows.set-put cells xs i x y at end m l e o (omega (arith, w, length-cells x)) c
+
+-- what stands in one section
+pub part-at : (xs : List Section) (i : ℕ) (x : Section) (at end : ℕ) → i < length xs → x ≡ get_or xs i x → at ≤ end → end ≤ size x
+    → part (cells_of xs) (length (cells_of (take i xs)) + at) (length (cells_of (take i xs)) + end) ≡ part (cells x) at end
+part-at xs i x at end l e o w = rows.part-at cells xs i x at end l e o (omega (arith, w, length-cells x))
 
 pub set-whole : (xs : List Section) (i : ℕ) (x y : Section) (at end : ℕ) (m : PartialText) → i < length xs → x ≡ get_or xs i x → at ≡ 0 → end ≡ size x
     → cells y ≡ m → cells_of (set xs i y) ≡ put_cells (cells_of xs) (length (cells_of (take i xs)) + at) (length (cells_of (take i xs)) + end) m
@@ -45,35 +49,6 @@ split-cells xs i x a b at l e u w = rows.halved cells xs i x a b l e (grind (ari
 pub before-split : (xs zs : List Section) (i : ℕ) (y : Section) → take (i + 1) zs ≡ take (i + 1) (set xs i y) → take i zs ≡ take i xs
 before-split xs zs i y e =
     sym (take-take i (i + 1) zs (omega arith)) ∙ (ap (take i) e ∙ (take-take i (i + 1) (set xs i y) (omega arith) ∙ take-set xs i y))
-
--- ## Gaps
-
-del-three : (a b c : PartialText) (i j : ℕ) → i ≤ j → j ≤ length b → del (a ++ (b ++ c)) (length a + i) (length a + j) ≡ a ++ (del b i j ++ c)
-del-three a b c i j o l = sym (del-middle a b c (del b i j) (length a + i) (length a + j) i j refl refl o l refl)
-
-pub del-gaps : (xs : List Section) (i : ℕ) (x : Section) (at end g : ℕ) → i < length xs → x ≡ get_or xs i x → at ≤ end → end ≤ size x
-    → gaps_of (del (cells x) at end) + g ≡ gaps_of (cells x)
-    → gaps_of (del (cells_of xs) (length (cells_of (take i xs)) + at) (length (cells_of (take i xs)) + end)) + g ≡ gaps_of (cells_of xs)
-del-gaps xs i x at end g l e o w h =
-    let a = cells_of (take i xs) in
-    let c = cells_of (drop (i + 1) xs) in
-    let whole = (at-index xs i x l e).0 in
-    let left : del (cells_of xs) (length a + at) (length a + end) ≡ a ++ (del (cells x) at end ++ c) =
-    ap (λ z. del z (length a + at) (length a + end)) whole ∙ del-three a (cells x) c at end o (omega (arith, w, length-cells x)) in
-    omega (arith, ap gaps_of left, rows.gaps-three a (del (cells x) at end) c, ap gaps_of whole, rows.gaps-three a (cells x) c, h)
-
--- what comes in has gaps of its own
-gaps-put : (r m : PartialText) (p q : ℕ) → gaps_of (put_cells r p q m) ≡ gaps_of (del r p q) + gaps_of m
-gaps-put r m p q = omega (arith, gaps-append (take p r ++ m) (drop q r), gaps-append (take p r) m, gaps-append (take p r) (drop q r))
-
-pub put-gaps : (xs : List Section) (i : ℕ) (x : Section) (at end g : ℕ) (new m : PartialText) → i < length xs → x ≡ get_or xs i x → at ≤ end → end ≤ size x
-    → gaps_of (del (cells x) at end) + g ≡ gaps_of (cells x)
-    → new ≡ put_cells (cells_of xs) (length (cells_of (take i xs)) + at) (length (cells_of (take i xs)) + end) m
-    → (gaps_of new + g ≡ gaps_of (cells_of xs) + gaps_of m) × (g ≤ gaps_of (cells_of xs))
-put-gaps xs i x at end g new m l e o w h n =
-    let p = length (cells_of (take i xs)) + at in
-    let q = length (cells_of (take i xs)) + end in
-    let gone = del-gaps xs i x at end g l e o w h in (omega (arith, ap gaps_of n, gaps-put (cells_of xs) m p q, gone), omega (arith, gone))
 
 -- ## Two sections that become one
 

@@ -1,7 +1,7 @@
 -- Words of this crate's private calls alone: what rows keep, and what comes into them.
-use Rattle.std.specs.Prelude.{ℕ, ◌+◌, ◌<◌, ◌≤◌, List, [], ◌∷◌, map, replicate, length, Some, None, ⊤}
+use Rattle.std.specs.Prelude.{ℕ, ◌+◌, ◌<◌, List, [], ◌∷◌, map, replicate, length, Some, None, ⊤}
 use Rattle.std.specs.List.{flat_map}
-use Rattle.sam_runes.specs.Texts.{max_runes, most_in_message}
+use Rattle.sam_runes.specs.Texts.{max_runes}
 use Rattle.sam_rasp.specs.Rasp.{PartialText}
 use Rattle.sam_rasp.specs.declared.section.Incoming.{Incoming}
 use Rattle.sam_rasp.specs.declared.section.Incoming.TheVariants.{Runes, Gaps}
@@ -27,10 +27,5 @@ gaps_of (Some c ∷ r) = gaps_of r
 
 -- what stands for what comes in
 abbrev pub incoming_cells : Incoming → PartialText
-incoming_cells (Runes s) = map Some s.now
+incoming_cells (Runes s tally) = map Some s.now
 incoming_cells (Gaps n) = replicate n None
-
--- what comes in is not empty; runes are at most most_in_message, and gaps at most max_runes
-abbrev pub CanComeIn : Incoming → Type 0
-CanComeIn (Runes s) = (0 < length s.now) × (length s.now ≤ most_in_message)
-CanComeIn (Gaps n) = (0 < n) × (n ≤ max_runes)

@@ -1,12 +1,15 @@
 //! `Part`: what a row is made of.
 
 ghost use Rattle.std.specs.Prelude.{◌≡◌, ◌≢◌, ◌<◌, ◌≤◌, ◌+◌, ◌++◌, ◌↔◌, IsTrue, IfOk, OnErr, MatchOption, length, take, drop, vec_len, true, false};
-ghost use Rattle.sam_runes.specs.Texts.{del};
+ghost use Rattle.sam_runes.specs.Texts.{del, part};
+ghost use Rattle.sam_rasp.specs.Counting.{reached, CanComeIn};
 ghost use Rattle.sam_rasp.specs.Rasp.{Agrees, PartialText, put_cells, sort_before, sort_from};
-ghost use Rattle.sam_rasp.specs.Rows.{gaps_of, incoming_cells, members_of, most_kept, CanComeIn, NoneEmpty};
+ghost use Rattle.sam_rasp.specs.Rows.{incoming_cells, members_of, most_kept, NoneEmpty};
 ghost use Rattle.sam_rasp.specs.Sections.{cells, size};
+ghost use Rattle.sam_rasp.specs.Tallies.{tally_of};
 
 use crate::section::{Incoming, Section};
+use crate::tally::{Measure, Tally};
 use std::alloc::{AllocError, Global};
 
 /// A section, or a row of parts, which stands for a part of a partial text.
@@ -26,9 +29,9 @@ pub trait Part: Drop {
     fn len(&self) -> u32
         ensures { result ≡ length (members self.now) };
 
-    /// Returns how many gaps it has.
-    fn gaps(&self) -> u32
-        ensures { result ≡ gaps_of (members self.now) };
+    /// Returns its tally.
+    fn tally(&self) -> Tally
+        ensures { result ≡ tally_of (members self.now) };
 
     /// Returns whether it has so many parts that it is to be cut in two.
     fn is_full(&self) -> bool;
@@ -43,8 +46,8 @@ pub trait Part: Drop {
         ensures err { OnErr result (members self.new ≡ members self.old) };
 
     /// Puts what comes in in the place of what stands from place `at` to place `end` of the part of this index: there, where it can be, or
-    /// in parts next to it. Returns how many gaps went, or `None` if it put nothing in, as it may only where something was to go. The only
-    /// error is out of memory. If it put nothing in, what the parts stand for is unchanged.
+    /// in parts next to it. Returns the tally of what went, or `None` if it put nothing in, as it may only where something was to go. The
+    /// only error is out of memory. If it put nothing in, what the parts stand for is unchanged.
     fn put_in(
         alloc: Global,
         parts: &mut Vec<Self>,
@@ -52,7 +55,7 @@ pub trait Part: Drop {
         at: u32,
         end: u32,
         incoming: Incoming<'_>,
-    ) -> Result<Option<u32>, AllocError>
+    ) -> Result<Option<Tally>, AllocError>
         requires index { index < vec_len parts.old }
         requires ascending { at ≤ end }
         requires within { length (members_of members (take index parts.old.items)) + end
@@ -61,13 +64,13 @@ pub trait Part: Drop {
         requires some { NoneEmpty members parts.old.items }
         requires limit { length (members_of members parts.old.items) + length (incoming_cells incoming) ≤ most_kept }
         ensures ok { IfOk result (λ r. MatchOption r (members_of members parts.new.items ≡ members_of members parts.old.items)
-            (λ gaps. (members_of members parts.new.items ≡ put_cells (members_of members parts.old.items)
+            (λ went. (members_of members parts.new.items ≡ put_cells (members_of members parts.old.items)
             (length (members_of members (take index parts.old.items)) + at)
             (length (members_of members (take index parts.old.items)) + end)
             (incoming_cells incoming.entry))
-            × (gaps_of (members_of members parts.new.items) + gaps
-            ≡ gaps_of (members_of members parts.old.items) + gaps_of (incoming_cells incoming.entry))
-            × (gaps ≤ gaps_of (members_of members parts.old.items)))) }
+            × (went ≡ tally_of (part (members_of members parts.old.items)
+            (length (members_of members (take index parts.old.items)) + at)
+            (length (members_of members (take index parts.old.items)) + end))))) }
         ensures always { at ≡ end → IfOk result (λ r. r ≢ None) }
         ensures err { OnErr result (members_of members parts.new.items ≡ members_of members parts.old.items) }
         ensures some { NoneEmpty members parts.new.items };
@@ -111,4 +114,13 @@ pub trait Part: Drop {
         requires { p ≤ length (members self.now) }
         ensures count { result ≡ sort_before loaded (members self.now) p }
         ensures limit { result ≤ p };
+
+    /// Returns the tally of what stands before place `p`: of all of it from the end on.
+    fn tally_before(&self, p: u32) -> Tally
+        ensures { result ≡ tally_of (take p (members self.now)) };
+
+    /// Returns how many of its first runes and gaps take at most `count`.
+    fn reached(&self, measure: Measure, count: u32) -> u32
+        ensures count { result ≡ reached measure (members self.now) count }
+        ensures limit { result ≤ length (members self.now) };
 }

@@ -1,9 +1,12 @@
 //! `Piece`: the text of a loaded section.
 
-ghost use Rattle.std.specs.Prelude.{◌≡◌, ◌≤◌, ◌+◌, ◌-◌, ◌++◌, ◌↔◌, length, IsTrue, IsOk, IfOk, OnOk, OnErr, slice_get, take, drop, vec_capacity, vec_len, true, false};
-ghost use Rattle.sam_runes.specs.Texts.{del, most_in_message};
-ghost use Rattle.sam_rasp.specs.Pieces.{most_inside, runes_of, IsCounted};
+ghost use Rattle.std.specs.Prelude.{◌≡◌, ◌≤◌, ◌+◌, ◌-◌, ◌++◌, ◌↔◌, length, map, Some, IsTrue, IsOk, IfOk, OnOk, OnErr, slice_get, take, drop, vec_capacity, vec_len, true, false};
+ghost use Rattle.sam_runes.specs.Texts.{del, most_in_message, part};
+ghost use Rattle.sam_rasp.specs.Counting.{reached};
+ghost use Rattle.sam_rasp.specs.Pieces.{most_inside, runes_of, IsCounted, IsTallied};
+ghost use Rattle.sam_rasp.specs.Tallies.{tally_of};
 
+use crate::tally::{Measure, Tally};
 use sam_runes::{MOST_IN_MESSAGE, insert_runes, remove_runes};
 use std::alloc::{AllocError, Global};
 use std::marker::Model;
@@ -14,13 +17,20 @@ const MOST_INSIDE: usize = 3;
 /// How many runes a new block has room for at least, so that the next keys find some.
 const LEAST_ROOM: usize = 10;
 
+/// Runes in memory of their own, and their tally.
+#[derive(Drop)]
+struct Block {
+    runes: Vec<char>,
+    tally: Tally,
+}
+
 /// Where the runes of a piece stand. Each has their count first, so that it is read without a look into memory.
 #[derive(Drop)]
 enum Store {
     /// In the piece: so many, at the front of the array.
     Inside(u16, [char; MOST_INSIDE]),
     /// In a block of memory: so many, all that the block has.
-    Outside(u16, Box<Vec<char>>),
+    Outside(u16, Box<Block>),
 }
 
 /// The text of a loaded section: at most `MOST_IN_MESSAGE` runes. Up to three of them take no block of memory.
@@ -68,6 +78,17 @@ fn inside(front: &[char], middle: &[char], back: &[char]) -> Store
     Store::Inside((q + back.len()) as u16, runes)
 }
 
+/// Returns these runes, of this tally, in a block of memory. The only error is out of memory.
+fn in_block(alloc: Global, runes: Vec<char>, tally: Tally) -> Result<Store, AllocError>
+    requires limit { vec_len runes ≤ most_in_message }
+    requires tally { tally ≡ tally_of (map Some runes.items) }
+    ensures { IfOk result (λ a. IsCounted a × (runes_of a ≡ runes.items)) }
+{
+    let count = runes.len() as u16;
+    let block = Box::new(alloc, Block { runes, tally })?;
+    Ok(Store::Outside(count, block))
+}
+
 /// Returns the runes of three texts, one after another, in a block of memory. The only error is out of memory.
 fn outside(
     alloc: Global,
@@ -83,7 +104,8 @@ fn outside(
     own.extend_from_slice(front)?;
     own.extend_from_slice(middle)?;
     own.extend_from_slice(back)?;
-    Ok(Store::Outside(count as u16, Box::new(alloc, own)?))
+    let tally = Tally::of(own.as_slice());
+    in_block(alloc, own, tally)
 }
 
 /// Returns the runes of three texts, one after another, in a block of memory if they are more than `MOST_INSIDE`. The only error is out of
@@ -114,6 +136,50 @@ fn put_within(runes: &mut Vec<char>, more: &[char])
     }
 }
 
+impl Block {
+    /// Puts `more` at the end. There is room for it, so no memory is asked for.
+    fn append(&mut self, more: &[char])
+        requires tallied { IsTallied self.old }
+        requires limit { vec_len self.old.runes + length more.now ≤ most_in_message }
+        requires room { vec_len self.old.runes + length more.now ≤ vec_capacity self.old.runes }
+        ensures runes { self.new.runes.items ≡ self.old.runes.items ++ more.now }
+        ensures tallied { IsTallied self.new }
+    {
+        put_within(&mut self.runes, more);
+        self.tally = self.tally.plus(Tally::of(more));
+    }
+
+    /// As `Piece::replace`.
+    fn replace(&mut self, p: usize, q: usize, runes: &[char]) -> Result<(), AllocError>
+        requires tallied { IsTallied self.old }
+        requires ascending { p ≤ q }
+        requires within { q ≤ vec_len self.old.runes }
+        requires most { vec_len self.old.runes + length runes.now ≤ most_in_message + (q - p) }
+        ensures ok { OnOk result (self.new.runes.items ≡ take p self.old.runes.items ++ runes.now ++ drop q self.old.runes.items) }
+        ensures err { OnErr result (self.new.runes.items ≡ self.old.runes.items) }
+        ensures tallied { IsTallied self.new }
+    {
+        let gone = Tally::of(&self.runes[p..q]);
+        insert_runes(&mut self.runes, q, runes)?;
+        remove_runes(&mut self.runes, p, q);
+        self.tally = self.tally.minus(gone).plus(Tally::of(runes));
+        Ok(())
+    }
+
+    /// As `Piece::cut`.
+    fn cut(&mut self, p: usize, q: usize)
+        requires tallied { IsTallied self.old }
+        requires ascending { p ≤ q }
+        requires within { q ≤ vec_len self.old.runes }
+        ensures cut { self.new.runes.items ≡ del self.old.runes.items p q }
+        ensures tallied { IsTallied self.new }
+    {
+        let gone = Tally::of(&self.runes[p..q]);
+        remove_runes(&mut self.runes, p, q);
+        self.tally = self.tally.minus(gone);
+    }
+}
+
 impl Store {
     /// As `Piece::len`.
     fn len(&self) -> usize
@@ -134,7 +200,7 @@ impl Store {
     {
         match self {
             Store::Inside(count, runes) => &runes[..*count as usize],
-            Store::Outside(_, block) => block.as_slice(),
+            Store::Outside(_, block) => block.runes.as_slice(),
         }
     }
 
@@ -157,11 +223,11 @@ impl Store {
             }
             Store::Outside(count, block) => {
                 let len = *count as usize;
-                if more.len() > MOST_IN_MESSAGE - len || more.len() > block.capacity() - len {
+                if more.len() > MOST_IN_MESSAGE - len || more.len() > block.runes.capacity() - len {
                     return false;
                 }
-                put_within(block, more);
-                *count = (len + more.len()) as u16;
+                block.append(more);
+                *count = block.runes.len() as u16;
                 true
             }
         }
@@ -190,9 +256,8 @@ impl Store {
                 *self = new;
             }
             Store::Outside(count, block) => {
-                insert_runes(block, q, runes)?;
-                remove_runes(block, p, q);
-                *count = block.len() as u16;
+                block.replace(p, q, runes)?;
+                *count = block.runes.len() as u16;
             }
         }
         Ok(())
@@ -213,9 +278,20 @@ impl Store {
                 *self = new;
             }
             Store::Outside(count, block) => {
-                remove_runes(block, p, q);
-                *count = block.len() as u16;
+                block.cut(p, q);
+                *count = block.runes.len() as u16;
             }
+        }
+    }
+
+    /// As `Piece::tally`.
+    fn tally(&self) -> Tally
+        requires { IsCounted self.now }
+        ensures { result ≡ tally_of (map Some (runes_of self.now)) }
+    {
+        match self {
+            Store::Inside(_, _) => Tally::of(self.as_slice()),
+            Store::Outside(_, block) => block.tally,
         }
     }
 }
@@ -233,6 +309,27 @@ impl Piece {
         })
     }
 
+    /// As `of`, where the tally of the runes is known.
+    pub(crate) fn with_tally(
+        alloc: Global,
+        runes: &[char],
+        tally: Tally,
+    ) -> Result<Piece, AllocError>
+        requires limit { length runes.now ≤ most_in_message }
+        requires tally { tally ≡ tally_of (map Some runes.now) }
+        ensures { IfOk result (λ a. a ≡ runes.now) }
+    {
+        if runes.len() <= MOST_INSIDE {
+            return Piece::of(alloc, runes);
+        }
+        let mut own = Vec::with_capacity(alloc, runes.len().max(LEAST_ROOM))?;
+        own.extend_from_slice(runes)?;
+        Ok(Piece {
+            alloc,
+            runes: in_block(alloc, own, tally)?,
+        })
+    }
+
     /// Returns how many runes it has: at most `MOST_IN_MESSAGE`.
     pub fn len(&self) -> usize
         ensures len { result ≡ length self.now }
@@ -246,6 +343,48 @@ impl Piece {
         ensures { result.now ≡ self.now }
     {
         self.runes.as_slice()
+    }
+
+    /// Returns its tally. The cost is constant.
+    pub fn tally(&self) -> Tally
+        ensures { result ≡ tally_of (map Some self.now) }
+    {
+        self.runes.tally()
+    }
+
+    /// Returns the tally of its runes from place `p` to place `q`. The cost is linear in these, or constant for all of them.
+    #[tactic(auto, using(crate::proofs::Tallies::within_facts))]
+    pub(crate) fn tally_within(&self, p: usize, q: usize) -> Tally
+        requires ascending { p ≤ q }
+        requires within { q ≤ length self.now }
+        ensures { result ≡ tally_of (map Some (part self.now p q)) }
+    {
+        if q - p == self.len() {
+            return self.tally();
+        }
+        Tally::of(&self.as_slice()[p..q])
+    }
+
+    /// Returns how many of its first runes take at most `count`. The cost is linear in these.
+    #[tactic(auto, using(crate::proofs::Tallies::reached_facts))]
+    pub(crate) fn reached(&self, measure: Measure, count: u32) -> usize
+        ensures count { result ≡ reached measure (map Some self.now) count }
+        ensures limit { result ≤ length self.now }
+        ensures most { result ≤ most_in_message }
+    {
+        let runes = self.runes.as_slice();
+        let len = self.runes.len();
+        let mut left = count;
+        let mut place = 0;
+        while place < len {
+            let taken = measure.of(runes[place]);
+            if taken > left {
+                return place;
+            }
+            left -= taken;
+            place += 1;
+        }
+        place
     }
 
     /// Returns the rune at `place`, or `None` from the end on.

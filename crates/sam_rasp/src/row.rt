@@ -1,16 +1,19 @@
 //! `Row`: parts in order, next to each other in memory.
 
-ghost use Rattle.std.specs.Prelude.{◌≡◌, ◌≢◌, ◌<◌, ◌≤◌, ◌+◌, MatchOption, Ok, length, take, drop, true, false};
-ghost use Rattle.sam_runes.specs.Texts.{del};
+ghost use Rattle.std.specs.Prelude.{◌≡◌, ◌≢◌, ◌<◌, ◌≤◌, ◌+◌, IfOk, MatchOption, OnErr, Ok, None, length, take, drop, true, false};
+ghost use Rattle.sam_runes.specs.Texts.{del, part};
+ghost use Rattle.sam_rasp.specs.Counting.{CanComeIn};
 ghost use Rattle.sam_rasp.specs.Rasp.{put_cells};
-ghost use Rattle.sam_rasp.specs.Rows.{incoming_cells, most_kept, CanComeIn};
+ghost use Rattle.sam_rasp.specs.Rows.{incoming_cells, most_kept};
 ghost use Rattle.sam_rasp.specs.Sections.{cells, size};
+ghost use Rattle.sam_rasp.specs.Tallies.{tally_of};
 
 mod list;
 mod reading;
 
 use crate::part::Part;
 use crate::section::{Incoming, Section};
+use crate::tally::{Measure, Tally};
 use std::alloc::{AllocError, Global};
 use std::marker::Model;
 
@@ -21,21 +24,22 @@ pub struct Row<P: Part> {
     parts: Vec<P>,
     /// How many runes and gaps they have together.
     len: u32,
-    /// How many gaps they have together.
-    gaps: u32,
+    /// Their tally together.
+    tally: Tally,
 }
 
 impl<P: Part> Model for Row<P> {
     ghost use Rattle.std.specs.Prelude.{◌≡◌, ◌≤◌, length};
     ghost use Rattle.sam_rasp.specs.Rasp.{PartialText};
-    ghost use Rattle.sam_rasp.specs.Rows.{gaps_of, members_of, most_kept, NoneEmpty};
+    ghost use Rattle.sam_rasp.specs.Rows.{members_of, most_kept, NoneEmpty};
+    ghost use Rattle.sam_rasp.specs.Tallies.{tally_of};
 
     ghost Value = { PartialText };
 
     ghost view = { λ r. members_of P.members r.parts.items };
 
     ghost invariant = { λ r. NoneEmpty P.members r.parts.items × (r.len ≡ length (members_of P.members r.parts.items))
-        × (r.len ≤ most_kept) × (r.gaps ≡ gaps_of (members_of P.members r.parts.items)) };
+        × (r.len ≤ most_kept) × (r.tally ≡ tally_of (members_of P.members r.parts.items)) };
 }
 
 /// Returns how many of `count` parts stay where they are cut in two, and the next change comes in the part of this index: half of them, but
@@ -59,7 +63,7 @@ impl<P: Part> Row<P> {
         Row {
             parts: Vec::new(alloc),
             len: 0,
-            gaps: 0,
+            tally: Tally::NONE,
         }
     }
 
@@ -72,7 +76,8 @@ impl<P: Part> Row<P> {
     }
 
     /// Puts what comes in in the place of `n` runes or gaps from place `p` on, if they stand in one section, and that is a hole or has
-    /// room. Returns whether it did, which it always does where `n` is 0; if not, nothing is changed. The only error is out of memory.
+    /// room. Returns the tally of what went, or `None` if it put nothing in, as it may only where `n` is not 0; then nothing is changed.
+    /// The only error is out of memory.
     #[tactic(auto, using(crate::proofs::Rows::row_put_facts))]
     pub fn put(
         &mut self,
@@ -80,29 +85,31 @@ impl<P: Part> Row<P> {
         p: u32,
         n: u32,
         incoming: Incoming<'_>,
-    ) -> Result<bool, AllocError>
+    ) -> Result<Option<Tally>, AllocError>
         requires within { p + n ≤ length self.old }
         requires incoming { CanComeIn incoming }
         requires limit { length self.old + length (incoming_cells incoming) ≤ most_kept }
-        ensures done { result ≡ Ok true → self.new ≡ put_cells self.old p (p + n) (incoming_cells incoming.entry) }
-        ensures refused { result ≢ Ok true → self.new ≡ self.old }
-        ensures always { n ≡ 0 → result ≢ Ok false }
+        ensures ok { IfOk result (λ r. MatchOption r (self.new ≡ self.old)
+            (λ went. (self.new ≡ put_cells self.old p (p + n) (incoming_cells incoming.entry))
+            × (went ≡ tally_of (part self.old p (p + n))))) }
+        ensures err { OnErr result (self.new ≡ self.old) }
+        ensures always { n ≡ 0 → result ≢ Ok None }
     {
         if self.len == 0 {
             *self = Row::of(alloc, incoming)?;
-            return Ok(true);
+            return Ok(Some(Tally::NONE));
         }
         let (index, start) = list::find_room(&mut self.parts, self.len, p + n)?;
         if p < start {
-            return Ok(false);
+            return Ok(None);
         }
         let at = p - start;
-        let Some(gaps) = P::put_in(alloc, &mut self.parts, index, at, at + n, incoming)? else {
-            return Ok(false);
+        let Some(went) = P::put_in(alloc, &mut self.parts, index, at, at + n, incoming)? else {
+            return Ok(None);
         };
         self.len = self.len - n + incoming.len();
-        self.gaps = self.gaps - gaps + incoming.gaps();
-        Ok(true)
+        self.tally = self.tally.minus(went).plus(incoming.tally());
+        Ok(Some(went))
     }
 
     /// Takes `n` runes and gaps out from place `p` on. No memory is asked for.
@@ -117,7 +124,7 @@ impl<P: Part> Row<P> {
         }
         self.parts.clear();
         self.len = 0;
-        self.gaps = 0;
+        self.tally = Tally::NONE;
     }
 
     /// Returns the section in which place `p` stands, and the place at which it begins, or `None` from the end on.
@@ -146,7 +153,7 @@ impl<P: Part> Part for Row<P> {
         Ok(Row {
             parts,
             len: incoming.len(),
-            gaps: incoming.gaps(),
+            tally: incoming.tally(),
         })
     }
 
@@ -154,8 +161,8 @@ impl<P: Part> Part for Row<P> {
         self.len
     }
 
-    fn gaps(&self) -> u32 {
-        self.gaps
+    fn tally(&self) -> Tally {
+        self.tally
     }
 
     fn is_full(&self) -> bool {
@@ -170,10 +177,10 @@ impl<P: Part> Part for Row<P> {
         }
         let (index, _) = list::find(self.parts.as_slice(), self.len, p);
         let parts = self.parts.split_off(kept_of(count, index))?;
-        let (len, gaps) = list::counts(parts.as_slice());
+        let (len, tally) = list::counts(parts.as_slice());
         self.len -= len;
-        self.gaps -= gaps;
-        Ok(Some(Row { parts, len, gaps }))
+        self.tally = self.tally.minus(tally);
+        Ok(Some(Row { parts, len, tally }))
     }
 
     #[tactic(auto, using(crate::proofs::Rows::put_facts))]
@@ -184,13 +191,8 @@ impl<P: Part> Part for Row<P> {
         at: u32,
         end: u32,
         incoming: Incoming<'_>,
-    ) -> Result<Option<u32>, AllocError> {
-        let part = &mut parts[index];
-        let gaps = part.gaps();
-        if !part.put(alloc, at, end - at, incoming)? {
-            return Ok(None);
-        }
-        Ok(Some(gaps + incoming.gaps() - part.gaps()))
+    ) -> Result<Option<Tally>, AllocError> {
+        parts[index].put(alloc, at, end - at, incoming)
     }
 
     #[tactic(auto, using(crate::proofs::Rows::row_cut_facts))]
@@ -202,9 +204,9 @@ impl<P: Part> Part for Row<P> {
         let at = p - start;
         let len = self.parts[index].len();
         let count = n.min(len - at);
-        let gaps = list::take_out(&mut self.parts, index, at, at + count);
+        let went = list::take_out(&mut self.parts, index, at, at + count);
         self.len -= count;
-        self.gaps -= gaps;
+        self.tally = self.tally.minus(went);
         if at == 0 || at + count == len {
             P::join(&mut self.parts, index);
         }
@@ -230,7 +232,7 @@ impl<P: Part> Part for Row<P> {
         if p >= self.len {
             return 0;
         }
-        if loaded && self.gaps == 0 {
+        if loaded && self.tally.gaps == 0 {
             return self.len - p;
         }
         reading::sort_from(self.parts.as_slice(), loaded, p)
@@ -241,7 +243,7 @@ impl<P: Part> Part for Row<P> {
         if p >= self.len {
             return (0, 0);
         }
-        if self.gaps == 0 {
+        if self.tally.gaps == 0 {
             return (self.len - p, 0);
         }
         let (index, start) = list::find(self.parts.as_slice(), self.len, p + 1);
@@ -250,9 +252,21 @@ impl<P: Part> Part for Row<P> {
 
     #[tactic(auto, using(crate::proofs::Rows::row_before_facts))]
     fn sort_before(&self, loaded: bool, p: u32) -> u32 {
-        if p == 0 || loaded && self.gaps == 0 {
+        if p == 0 || loaded && self.tally.gaps == 0 {
             return p;
         }
         reading::sort_before(self.parts.as_slice(), self.len, loaded, p)
+    }
+
+    #[tactic(auto, using(crate::proofs::Tallies::before_facts))]
+    fn tally_before(&self, p: u32) -> Tally {
+        if p >= self.len {
+            return self.tally;
+        }
+        reading::tally_before(self.parts.as_slice(), p)
+    }
+
+    fn reached(&self, measure: Measure, count: u32) -> u32 {
+        reading::reached(self.parts.as_slice(), measure, count)
     }
 }

@@ -1,15 +1,18 @@
 //! `Section`: a stretch of a rasp, either a loaded text or a hole.
 
 ghost use Rattle.std.specs.Prelude.{◌≡◌, ◌≢◌, ◌<◌, ◌≤◌, ◌+◌, ◌-◌, ◌++◌, ◌↔◌, IsTrue, IfOk, OnErr, Ok, length, slice_get, take, drop, true, false, Some};
-ghost use Rattle.sam_runes.specs.Texts.{del, max_runes};
+ghost use Rattle.sam_runes.specs.Texts.{del, max_runes, part};
 ghost use Rattle.sam_rasp.specs.Rasp.{put_cells, Agrees};
-ghost use Rattle.sam_rasp.specs.Rows.{gaps_of, incoming_cells, most_kept, CanComeIn};
+ghost use Rattle.sam_rasp.specs.Counting.{CanComeIn};
+ghost use Rattle.sam_rasp.specs.Rows.{incoming_cells, most_kept};
 ghost use Rattle.sam_rasp.specs.Sections.{cells, size, is_loaded, IsShort};
+ghost use Rattle.sam_rasp.specs.Tallies.{tally_of};
 
 mod list;
 
 use crate::part::Part;
 use crate::piece::Piece;
+use crate::tally::{Measure, Tally};
 use sam_runes::MOST_IN_MESSAGE;
 use std::alloc::{AllocError, Global};
 
@@ -39,8 +42,8 @@ pub enum Section {
 /// What comes into a rasp as one section, or into one that is there.
 #[derive(Clone, Copy)]
 pub enum Incoming<'a> {
-    /// Runes: 1 to `MOST_IN_MESSAGE`.
-    Runes(&'a [char]),
+    /// Runes, 1 to `MOST_IN_MESSAGE`, and their tally.
+    Runes(&'a [char], Tally),
     /// So many gaps: at least 1.
     Gaps(u32),
 }
@@ -54,19 +57,19 @@ impl<'a> Incoming<'a> {
         ensures limit { result ≤ max_runes }
     {
         match self {
-            Incoming::Runes(runes) => runes.len() as u32,
+            Incoming::Runes(runes, _) => runes.len() as u32,
             Incoming::Gaps(count) => count,
         }
     }
 
-    /// Returns how many gaps come in.
-    #[tactic(auto, using(crate::proofs::SectionLaws::gaps))]
-    pub fn gaps(self) -> u32
-        ensures { result ≡ gaps_of (incoming_cells self.entry) }
+    /// Returns the tally of what comes in.
+    pub fn tally(self) -> Tally
+        requires { CanComeIn self }
+        ensures { result ≡ tally_of (incoming_cells self.entry) }
     {
         match self {
-            Incoming::Runes(_) => 0,
-            Incoming::Gaps(count) => count,
+            Incoming::Runes(_, tally) => tally,
+            Incoming::Gaps(count) => Tally::of_gaps(count),
         }
     }
 
@@ -76,7 +79,9 @@ impl<'a> Incoming<'a> {
         ensures { IfOk result (λ s. cells s ≡ incoming_cells self.entry) }
     {
         match self {
-            Incoming::Runes(runes) => Ok(Section::Loaded(Piece::of(alloc, runes)?)),
+            Incoming::Runes(runes, tally) => {
+                Ok(Section::Loaded(Piece::with_tally(alloc, runes, tally)?))
+            }
             Incoming::Gaps(count) => Ok(Section::Hole(count)),
         }
     }
@@ -129,16 +134,16 @@ impl Section {
         }
     }
 
-    /// Returns how many of what stands from place `p` to place `q` are gaps.
-    #[tactic(auto, using(crate::proofs::SectionLaws::gaps_gone))]
-    pub(crate) fn gaps_within(&self, p: u32, q: u32) -> u32
+    /// Returns the tally of what stands from place `p` to place `q`.
+    #[tactic(auto, using(crate::proofs::Tallies::within_facts))]
+    pub(crate) fn tally_within(&self, p: u32, q: u32) -> Tally
         requires ascending { p ≤ q }
         requires within { q ≤ size self.now }
-        ensures { gaps_of (del (cells self.now) p q) + result ≡ gaps_of (cells self.now) }
+        ensures { result ≡ tally_of (part (cells self.now) p q) }
     {
         match self {
-            Section::Loaded(_) => 0,
-            Section::Hole(_) => q - p,
+            Section::Loaded(text) => text.tally_within(p as usize, q as usize),
+            Section::Hole(_) => Tally::of_gaps(q - p),
         }
     }
 
@@ -186,7 +191,7 @@ impl Section {
     {
         match self {
             Section::Loaded(text) => match incoming {
-                Incoming::Runes(runes) => {
+                Incoming::Runes(runes, _) => {
                     if text.len() - (q - p) as usize + runes.len() > MOST_IN_MESSAGE {
                         return Ok(false);
                     }
@@ -196,7 +201,7 @@ impl Section {
                 Incoming::Gaps(_) => Ok(false),
             },
             Section::Hole(count) => match incoming {
-                Incoming::Runes(_) => Ok(false),
+                Incoming::Runes(_, _) => Ok(false),
                 Incoming::Gaps(more) => {
                     *count = *count - (q - p) + more;
                     Ok(true)
@@ -238,11 +243,10 @@ impl Part for Section {
         self.len()
     }
 
-    #[tactic(auto, using(crate::proofs::SectionLaws::gaps))]
-    fn gaps(&self) -> u32 {
+    fn tally(&self) -> Tally {
         match self {
-            Section::Loaded(_) => 0,
-            Section::Hole(count) => *count,
+            Section::Loaded(text) => text.tally(),
+            Section::Hole(count) => Tally::of_gaps(*count),
         }
     }
 
@@ -261,7 +265,7 @@ impl Part for Section {
         at: u32,
         end: u32,
         incoming: Incoming<'_>,
-    ) -> Result<Option<u32>, AllocError> {
+    ) -> Result<Option<Tally>, AllocError> {
         list::put(alloc, sections, index, at, end, incoming)
     }
 
@@ -311,5 +315,22 @@ impl Part for Section {
     #[tactic(auto, using(crate::proofs::Runs::section_before_facts))]
     fn sort_before(&self, loaded: bool, p: u32) -> u32 {
         if self.is_loaded() == loaded { p } else { 0 }
+    }
+
+    #[tactic(auto, using(crate::proofs::Tallies::before_facts))]
+    fn tally_before(&self, p: u32) -> Tally {
+        let len = self.len();
+        if p >= len {
+            return self.tally();
+        }
+        self.tally_within(0, p)
+    }
+
+    #[tactic(auto, using(crate::proofs::Tallies::reached_facts))]
+    fn reached(&self, measure: Measure, count: u32) -> u32 {
+        match self {
+            Section::Loaded(text) => text.reached(measure, count) as u32,
+            Section::Hole(gaps) => *gaps,
+        }
     }
 }

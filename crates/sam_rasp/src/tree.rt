@@ -2,22 +2,25 @@
 
 ghost use Rattle.std.specs.Prelude.{◌≡◌, ◌≢◌, ◌<◌, ◌≤◌, ◌+◌, ◌↔◌, [], IsTrue, MatchOption, Ok, length, take, drop, true, false};
 ghost use Rattle.sam_runes.specs.Texts.{del};
+ghost use Rattle.sam_rasp.specs.Counting.{reached, CanComeIn};
 ghost use Rattle.sam_rasp.specs.Rasp.{put_cells, sort_before, sort_from, Agrees};
-ghost use Rattle.sam_rasp.specs.Rows.{incoming_cells, most_kept, CanComeIn};
+ghost use Rattle.sam_rasp.specs.Rows.{incoming_cells, most_kept};
 ghost use Rattle.sam_rasp.specs.Sections.{cells, size};
+ghost use Rattle.sam_rasp.specs.Tallies.{tally_of};
 
 use crate::part::Part;
 use crate::row::Row;
 use crate::section::{Incoming, Section};
+use crate::tally::{Measure, Tally};
 use std::alloc::{AllocError, Global};
 use std::marker::Model;
 
-/// Sections in order. The outermost row alone has no limit. `MAX_RUNES` sections make at most 4,000 parts of it, or more where cuts have
+/// Sections in order. The outermost row alone has no limit. `MAX_RUNES` sections make at most 500 parts of it, or more where cuts have
 /// thinned the rows. Each call is that of the outermost row: a call of the nested type itself takes the prover seconds, wherever it stands.
 #[derive(Drop)]
 pub struct Tree {
-    /// The sections, in four rows one in the other.
-    rows: Row<Row<Row<Row<Section>>>>,
+    /// The sections, in five rows one in the other.
+    rows: Row<Row<Row<Row<Row<Section>>>>>,
 }
 
 impl Model for Tree {
@@ -62,7 +65,7 @@ impl Tree {
         ensures refused { result ≢ Ok true → self.new ≡ self.old }
         ensures always { n ≡ 0 → result ≢ Ok false }
     {
-        self.rows.put(alloc, p, n, incoming)
+        Ok(self.rows.put(alloc, p, n, incoming)?.is_some())
     }
 
     /// Takes `n` runes and gaps out from place `p` on. No memory is asked for.
@@ -113,5 +116,27 @@ impl Tree {
         ensures limit { result ≤ p }
     {
         self.rows.sort_before(loaded, p)
+    }
+
+    /// Returns its tally.
+    pub fn tally(&self) -> Tally
+        ensures { result ≡ tally_of self.now }
+    {
+        self.rows.tally()
+    }
+
+    /// Returns the tally of what stands before place `p`: of all of it from the end on.
+    pub fn tally_before(&self, p: u32) -> Tally
+        ensures { result ≡ tally_of (take p self.now) }
+    {
+        self.rows.tally_before(p)
+    }
+
+    /// Returns how many of its first runes and gaps take at most `count`.
+    pub fn reached(&self, measure: Measure, count: u32) -> u32
+        ensures count { result ≡ reached measure self.now count }
+        ensures limit { result ≤ length self.now }
+    {
+        self.rows.reached(measure, count)
     }
 }

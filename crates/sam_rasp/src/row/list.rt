@@ -1,10 +1,12 @@
 //! Changes of a list of parts. `index` is the number of a part, counted from 0, and `at` a place in it.
 
 ghost use Rattle.std.specs.Prelude.{◌≡◌, ◌<◌, ◌≤◌, ◌+◌, ◌-◌, IfOk, Ok, length, take, vec_capacity, vec_len};
-ghost use Rattle.sam_runes.specs.Texts.{del, ins};
-ghost use Rattle.sam_rasp.specs.Rows.{gaps_of, members_of, most_kept, NoneEmpty};
+ghost use Rattle.sam_runes.specs.Texts.{del, ins, part};
+ghost use Rattle.sam_rasp.specs.Rows.{members_of, most_kept, NoneEmpty};
+ghost use Rattle.sam_rasp.specs.Tallies.{tally_of};
 
 use crate::part::Part;
+use crate::tally::Tally;
 use std::alloc::AllocError;
 
 /// Returns the number of the first part that ends at or after place `q`, and the place at which it begins. The parts have `len` runes and
@@ -42,17 +44,17 @@ pub fn find<P: Part>(parts: &[P], len: u32, q: u32) -> (usize, u32)
     (index, start)
 }
 
-/// Returns how many runes and gaps the parts have together, and how many of them are gaps.
+/// Returns how many runes and gaps the parts have together, and their tally.
 #[tactic(auto, using(crate::proofs::Rows::count_facts))]
-pub fn counts<P: Part>(parts: &[P]) -> (u32, u32)
+pub fn counts<P: Part>(parts: &[P]) -> (u32, Tally)
     requires { length (members_of P.members parts.now) ≤ most_kept }
-    ensures { (result.0 ≡ length (members_of P.members parts.now)) × (result.1 ≡ gaps_of (members_of P.members parts.now)) }
+    ensures { (result.0 ≡ length (members_of P.members parts.now)) × (result.1 ≡ tally_of (members_of P.members parts.now)) }
 {
     let Some((first, others)) = parts.split_first() else {
-        return (0, 0);
+        return (0, Tally::NONE);
     };
-    let (len, gaps) = counts(others);
-    (first.len() + len, first.gaps() + gaps)
+    let (len, tally) = counts(others);
+    (first.len() + len, first.tally().plus(tally))
 }
 
 /// Puts a part in before part `index`, or after the last one. There is room for it, so no memory is asked for.
@@ -109,9 +111,10 @@ pub fn find_room<P: Part>(parts: &mut Vec<P>, len: u32, q: u32) -> Result<(usize
     Ok(find(parts.as_slice(), len, q))
 }
 
-/// Takes out what stands in part `index` from place `at` to place `end` of it, but not all of the part. Returns how many gaps went.
+/// Takes out what stands in part `index` from place `at` to place `end` of it, but not all of the part. Returns the tally
+/// of what went.
 #[tactic(auto, using(crate::proofs::Rows::cut_in_facts))]
-fn cut_in<P: Part>(parts: &mut Vec<P>, index: usize, at: u32, end: u32) -> u32
+fn cut_in<P: Part>(parts: &mut Vec<P>, index: usize, at: u32, end: u32) -> Tally
     requires index { index < vec_len parts.old }
     requires ascending { at ≤ end }
     requires within { length (members_of P.members (take index parts.old.items)) + end
@@ -122,18 +125,21 @@ fn cut_in<P: Part>(parts: &mut Vec<P>, index: usize, at: u32, end: u32) -> u32
     ensures members { members_of P.members parts.new.items ≡ del (members_of P.members parts.old.items)
         (length (members_of P.members (take index parts.old.items)) + at)
         (length (members_of P.members (take index parts.old.items)) + end) }
-    ensures gaps { gaps_of (members_of P.members parts.new.items) + result ≡ gaps_of (members_of P.members parts.old.items) }
+    ensures went { result ≡ tally_of (part (members_of P.members parts.old.items)
+        (length (members_of P.members (take index parts.old.items)) + at)
+        (length (members_of P.members (take index parts.old.items)) + end)) }
     ensures some { NoneEmpty P.members parts.new.items }
 {
     let part = &mut parts[index];
-    let gaps = part.gaps();
+    let before = part.tally();
     part.cut(at, end - at);
-    gaps - part.gaps()
+    before.minus(part.tally())
 }
 
-/// Takes what stands from place `at` to place `end` of part `index` out, and the part if nothing of it is left. Returns how many gaps went.
+/// Takes what stands from place `at` to place `end` of part `index` out, and the part if nothing of it is left. Returns the
+/// tally of what went.
 #[tactic(auto, using(crate::proofs::Rows::take_out_facts))]
-pub fn take_out<P: Part>(parts: &mut Vec<P>, index: usize, at: u32, end: u32) -> u32
+pub fn take_out<P: Part>(parts: &mut Vec<P>, index: usize, at: u32, end: u32) -> Tally
     requires index { index < vec_len parts.old }
     requires ascending { at ≤ end }
     requires within { length (members_of P.members (take index parts.old.items)) + end
@@ -142,14 +148,16 @@ pub fn take_out<P: Part>(parts: &mut Vec<P>, index: usize, at: u32, end: u32) ->
     ensures members { members_of P.members parts.new.items ≡ del (members_of P.members parts.old.items)
         (length (members_of P.members (take index parts.old.items)) + at)
         (length (members_of P.members (take index parts.old.items)) + end) }
-    ensures gaps { gaps_of (members_of P.members parts.new.items) + result ≡ gaps_of (members_of P.members parts.old.items) }
+    ensures went { result ≡ tally_of (part (members_of P.members parts.old.items)
+        (length (members_of P.members (take index parts.old.items)) + at)
+        (length (members_of P.members (take index parts.old.items)) + end)) }
     ensures some { NoneEmpty P.members parts.new.items }
 {
     let part = &parts[index];
-    let gaps = part.gaps();
+    let all = part.tally();
     if end - at == part.len() {
         parts.remove(index);
-        return gaps;
+        return all;
     }
     cut_in(parts, index, at, end)
 }

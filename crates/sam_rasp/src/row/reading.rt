@@ -1,10 +1,13 @@
 //! What is read off a list of parts.
 
-ghost use Rattle.std.specs.Prelude.{◌≡◌, ◌≤◌, ◌+◌, ◌↔◌, IsTrue, length, true, false};
+ghost use Rattle.std.specs.Prelude.{◌≡◌, ◌≤◌, ◌+◌, ◌↔◌, IsTrue, length, take, true, false};
+ghost use Rattle.sam_rasp.specs.Counting.{reached};
 ghost use Rattle.sam_rasp.specs.Rasp.{sort_before, sort_from, Agrees};
 ghost use Rattle.sam_rasp.specs.Rows.{members_of, most_kept};
+ghost use Rattle.sam_rasp.specs.Tallies.{tally_of};
 
 use crate::part::Part;
+use crate::tally::{Measure, Tally};
 
 /// Returns whether the parts have the length of `text`, and each of their runes is the rune of `text` at the same place.
 #[tactic(auto, using(crate::proofs::Rows::agrees_facts))]
@@ -92,6 +95,49 @@ pub fn sort_before<P: Part>(parts: &[P], len: u32, loaded: bool, p: u32) -> u32
             return found;
         }
         at = at.min(start);
+        rest = others;
+    }
+    found
+}
+
+/// Returns the tally of what stands before place `p`: of all of it from the end on.
+#[tactic(auto, using(crate::proofs::Tallies::before_facts))]
+pub fn tally_before<P: Part>(parts: &[P], p: u32) -> Tally
+    requires { length (members_of P.members parts.now) ≤ most_kept }
+    ensures { result ≡ tally_of (take p (members_of P.members parts.now)) }
+{
+    let mut rest = parts;
+    let mut at = p;
+    let mut tally = Tally::NONE;
+    while let Some((first, others)) = rest.split_first() {
+        let len = first.len();
+        if at <= len {
+            return tally.plus(first.tally_before(at));
+        }
+        tally = tally.plus(first.tally());
+        at -= len;
+        rest = others;
+    }
+    tally
+}
+
+/// Returns how many of the first runes and gaps take at most `count`.
+#[tactic(auto, using(crate::proofs::Tallies::reached_facts))]
+pub fn reached<P: Part>(parts: &[P], measure: Measure, count: u32) -> u32
+    requires { length (members_of P.members parts.now) ≤ most_kept }
+    ensures count { result ≡ reached measure (members_of P.members parts.now) count }
+    ensures limit { result ≤ length (members_of P.members parts.now) }
+{
+    let mut rest = parts;
+    let mut left = count;
+    let mut found = 0;
+    while let Some((first, others)) = rest.split_first() {
+        let taken = first.tally().count(measure);
+        if taken > left {
+            return found + first.reached(measure, left);
+        }
+        left -= taken;
+        found += first.len();
         rest = others;
     }
     found

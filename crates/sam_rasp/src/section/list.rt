@@ -1,13 +1,16 @@
 //! Changes of a list of sections. `index` is the number of a section, counted from 0, and `at` a place in it.
 
 ghost use Rattle.std.specs.Prelude.{◌≡◌, ◌≢◌, ◌<◌, ◌≤◌, ◌+◌, ◌-◌, IfOk, OnOk, OnErr, MatchOption, Ok, length, take, vec_capacity, vec_len, true};
-ghost use Rattle.sam_runes.specs.Texts.{del, ins};
+ghost use Rattle.sam_runes.specs.Texts.{del, ins, part};
 ghost use Rattle.sam_rasp.specs.Rasp.{put_cells};
-ghost use Rattle.sam_rasp.specs.Rows.{gaps_of, incoming_cells, most_kept, CanComeIn, NoneEmpty};
+ghost use Rattle.sam_rasp.specs.Counting.{CanComeIn};
+ghost use Rattle.sam_rasp.specs.Rows.{incoming_cells, most_kept, NoneEmpty};
 ghost use Rattle.sam_rasp.specs.Sections.{cells, cells_of};
+ghost use Rattle.sam_rasp.specs.Tallies.{tally_of};
 
 use crate::part::Part;
 use crate::section::{Incoming, Section};
+use crate::tally::Tally;
 use std::alloc::{AllocError, Global};
 
 /// Puts a section in before section `index`, or after the last one. There is room for it, so no memory is asked for.
@@ -142,8 +145,8 @@ fn put_apart(
 }
 
 /// Puts what comes in in the place of what stands in section `index` from place `at` to place `end` of it: in that section or the next one
-/// where it is of that sort and has room, else in a section of its own, but not in the place of loaded runes. Returns how many gaps went,
-/// or `None` if it put nothing in. The only error is out of memory. If it put nothing in, what the sections stand for is unchanged.
+/// where it is of that sort and has room, else in a section of its own, but not in the place of loaded runes. Returns the tally of what
+/// went, or `None` if it put nothing in. The only error is out of memory. If it put nothing in, what the sections stand for is unchanged.
 #[tactic(auto, using(crate::proofs::SectionLists::put_facts))]
 pub fn put(
     alloc: Global,
@@ -152,7 +155,7 @@ pub fn put(
     at: u32,
     end: u32,
     incoming: Incoming<'_>,
-) -> Result<Option<u32>, AllocError>
+) -> Result<Option<Tally>, AllocError>
     requires index { index < vec_len sections.old }
     requires ascending { at ≤ end }
     requires within { length (cells_of (take index sections.old.items)) + end ≤ length (cells_of (take (index + 1) sections.old.items)) }
@@ -160,11 +163,11 @@ pub fn put(
     requires some { NoneEmpty cells sections.old.items }
     requires limit { length (cells_of sections.old.items) + length (incoming_cells incoming) ≤ most_kept }
     ensures ok { IfOk result (λ r. MatchOption r (cells_of sections.new.items ≡ cells_of sections.old.items)
-        (λ gaps. (cells_of sections.new.items ≡ put_cells (cells_of sections.old.items)
+        (λ went. (cells_of sections.new.items ≡ put_cells (cells_of sections.old.items)
         (length (cells_of (take index sections.old.items)) + at) (length (cells_of (take index sections.old.items)) + end)
         (incoming_cells incoming.entry))
-        × (gaps_of (cells_of sections.new.items) + gaps ≡ gaps_of (cells_of sections.old.items) + gaps_of (incoming_cells incoming.entry))
-        × (gaps ≤ gaps_of (cells_of sections.old.items)))) }
+        × (went ≡ tally_of (part (cells_of sections.old.items)
+        (length (cells_of (take index sections.old.items)) + at) (length (cells_of (take index sections.old.items)) + end))))) }
     ensures always { at ≡ end → IfOk result (λ r. r ≢ None) }
     ensures err { OnErr result (cells_of sections.new.items ≡ cells_of sections.old.items) }
     ensures some { NoneEmpty cells sections.new.items }
@@ -172,18 +175,18 @@ pub fn put(
     let section = &sections[index];
     let len = section.len();
     let loaded = section.is_loaded();
-    let gaps = section.gaps_within(at, end);
+    let went = section.tally_within(at, end);
     if take_in(sections, index, at, end, incoming)? {
-        return Ok(Some(gaps));
+        return Ok(Some(went));
     }
     if at == len && index + 1 < sections.len() && take_in(sections, index + 1, 0, 0, incoming)? {
-        return Ok(Some(gaps));
+        return Ok(Some(went));
     }
     if loaded && at < end {
         return Ok(None);
     }
     put_apart(alloc, sections, index, at, end, incoming)?;
-    Ok(Some(gaps))
+    Ok(Some(went))
 }
 
 /// Joins section `index` with the next one if there is one, both are of one sort, and memory is at hand.

@@ -1,17 +1,15 @@
-use Rattle.sam_rasp.proofs.Common.{arith, cells_of, ◌+◌}
-use Rattle.sam_rasp.specs.Rows.{incoming_cells}
-use Rattle.sam_rasp.proofs.SectionLists.{at-index, put-gaps, taken-more}
+use Rattle.sam_rasp.proofs.Common.{arith, ◌+◌}
+use Rattle.sam_rasp.proofs.SectionLists.{at-index, part-at, taken-more}
 use Rattle.sam_rasp.proofs.section.list.put.Goals as goal
 
 pub returns-then-branch-clause-ok : goal.returns-then-branch-clause-ok
 returns-then-branch-clause-ok c =
     let xs = c.args.sections.now.items in
     let x = c.index-section.result.now in
-    let new = cells_of c.take_in.new.sections.items in
     grind (
       arith,
       (at-index xs c.args.index x),
-      (put-gaps xs c.args.index x c.args.at c.args.end c.gaps_within-gaps.result new (incoming_cells c.args.incoming)),
+      (part-at xs c.args.index x c.args.at c.args.end),
     )
 
 pub take_in-requires-then-index-len-clause-within : goal.take_in-requires-then-index-len-clause-within
@@ -21,20 +19,18 @@ pub returns-then-branch-2-clause-ok : goal.returns-then-branch-2-clause-ok
 returns-then-branch-2-clause-ok c =
     let xs = c.args.sections.now.items in
     let x = c.index-section.result.now in
-    let new = cells_of c.take_in-then-index-len.new.sections.items in
     grind (
       arith,
       (at-index xs c.args.index x),
-      (put-gaps xs c.args.index x c.args.at c.args.end c.gaps_within-gaps.result new (incoming_cells c.args.incoming)),
+      (part-at xs c.args.index x c.args.at c.args.end),
     )
 
 pub returns-clause-ok : goal.returns-clause-ok
 returns-clause-ok c =
     let xs = c.args.sections.now.items in
     let x = c.index-section.result.now in
-    let new = cells_of c.put_apart.new.sections.items in
     grind (
       arith,
       (at-index xs c.args.index x),
-      (put-gaps xs c.args.index x c.args.at c.args.end c.gaps_within-gaps.result new (incoming_cells c.args.incoming)),
+      (part-at xs c.args.index x c.args.at c.args.end),
     )
