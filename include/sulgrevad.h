@@ -109,7 +109,7 @@ enum sam_status {
     SAM_MADE = 5,       /* the handle is made already */
     SAM_NOT_TEXT = 6,   /* the bytes are not UTF-8 */
     SAM_NONE = 7,       /* there is no such file, or nothing more to hand out */
-    SAM_WAITING = 8,    /* sam_host_bring, sam_term_bring: some of what came before waits, and the bytes were not taken: step first */
+    SAM_WAITING = 8,    /* sam_host_bring, sam_term_bring: what came before waits; no byte was taken: step, then bring all again */
 
     SAM_ADD = 16, /* sam_host_add_file refused a file, and the host is as it was */
     /* SAM_ADD + 1 was SAM_ADD_BEGUN, of a host that was fed already: it is not given again */
@@ -238,6 +238,7 @@ struct sam_did {
     uint32_t came;
     uint16_t tag; /* the file */
     uint8_t kind; /* the kind of the message or frame, by the numbers of docs/reference/PROTOCOL.md */
+    bool loads;   /* whether the frame loads runes in the place of gaps (Hdata): more of the text is known, and nothing changed */
 };
 typedef struct sam_did sam_did;
 
@@ -261,7 +262,9 @@ struct sam_state {
 typedef struct sam_state sam_state;
 
 /* What a terminal knows of a tag, as its readers hand it out: sam_term_file. Where there is no such file, or it is not open, what needs it
- * is 0 or false. */
+ * is 0 or false. is_free says whether an edit would act at once: the file is open and not locked, no frame waits, no event is held, not
+ * even one of another file, and the session goes on. While it is false an edit acts later, and its places are those of the text by then:
+ * so a program that changes its own text first asks is_free before. */
 struct sam_file {
     uint32_t len;
     uint32_t dot_start;
@@ -273,6 +276,7 @@ struct sam_file {
     bool is_dirty;
     bool is_changed;
     bool is_locked;
+    bool is_free;
 };
 typedef struct sam_file sam_file;
 
@@ -507,12 +511,15 @@ SAM_MUST_USE sam_status sam_term_set_snarf(sam_term *term, const uint8_t *text, 
 
 /* ---- Events: what is shown ---- */
 
-/* Shows at most len runes from a place on, and asks for those that are not loaded: at most 512 at a time, and then for the next. */
+/* Shows at most len runes from a place on, and asks for those that are not loaded: at most 512 at a time, and then for the next. It goes on
+ * so whenever a change brings gaps into what is shown. An empty view, of len 0, asks for nothing by itself. */
 SAM_MUST_USE sam_status sam_term_view(sam_term *term, uint16_t tag, uint32_t place, uint32_t len);
 
 /* Shows the same, and asks for all that is not loaded at once, in at most 1,954 stretches of 512 runes: so the longest text comes in one
  * round trip. Each is a message of 11 bytes, and the file is locked until all are answered: ask for a long text in parts where the user may
- * want to type meanwhile. */
+ * want to type meanwhile. What is shown goes on to ask, as sam_term_view says: where a command line puts more than 512 runes in at many
+ * places, a file that is shown whole stays locked for a round trip a place. So once all is loaded, call sam_term_view(term, tag, 0, 0):
+ * then the next sam_term_load asks for all gaps in one round trip. */
 SAM_MUST_USE sam_status sam_term_load(sam_term *term, uint16_t tag, uint32_t place, uint32_t len);
 
 /* Shows the file from that many lines further up. */
@@ -568,7 +575,8 @@ SAM_MUST_USE sam_status sam_term_exit(sam_term *term);
  * (SAM_REFUSAL..). SAM_NONE if there is none. Refusals that nobody asks for are kept. */
 SAM_MUST_USE sam_status sam_term_next_refusal(sam_term *term, uint64_t *event, sam_status *why);
 
-/* How many event calls were taken. */
+/* How many event calls were taken: right after one that was taken (SAM_OK, SAM_UNFINISHED) it is that event's number, by which
+ * sam_term_next_refusal names it. */
 SAM_MUST_USE sam_status sam_term_events(sam_term *term, uint64_t *events);
 
 /* How many of them have acted or were refused. Events are done in order: the event that was taken last, whose number sam_term_events
@@ -630,8 +638,8 @@ SAM_MUST_USE sam_status sam_term_is_changed(sam_term *term, uint16_t tag, bool *
  * sam_term_open changes the file that command lines work on, too, but not what this hands out. */
 SAM_MUST_USE sam_status sam_term_current(sam_term *term, uint16_t *tag);
 
-/* Of a tag at once: sam_term_is_known, _is_open, _is_dirty, _is_changed, _locked, _len, _dot and _view_of. A tag without a file is no
- * error. */
+/* Of a tag at once: sam_term_is_known, _is_open, _is_dirty, _is_changed, _locked, _len, _dot and _view_of, and whether an edit would act at
+ * once. A tag without a file is no error. */
 SAM_MUST_USE sam_status sam_term_file(sam_term *term, uint16_t tag, sam_file *file);
 
 /* ---- The terminal: texts of open files ---- */

@@ -13,9 +13,11 @@ const STEPS = ["idle", "locked", "wrote", "edited", "answered", "received", "act
 
 const DID = 10; // words of 32 bits of a sam_did
 
-// A sam_did stands at result(0): its event, its count, its step and why, its start and gone, its came, its tag and its kind.
+// A sam_did stands at result(0): its event, its count, its step and why, its start and gone, its came, its tag, its kind, and whether it
+// loads.
 const didTag = () => u16(4, 4);
 const didKind = () => u8(4, 6);
+const didLoads = () => u8(4, 7) !== 0;
 
 function range(side, name, tag) {
   make(side, name, short(tag), result(0), result(1));
@@ -233,14 +235,15 @@ export class Terminal extends Side {
   nextFrame() {
     return ifAny(() => {
       make(this, "next_frame", result(0));
-      return { kind: didKind(), tag: didTag(), start: u32(3), gone: u32(3, 4) };
+      return { kind: didKind(), tag: didTag(), start: u32(3), gone: u32(3, 4), loads: didLoads() };
     });
   }
 
   step() {
     make(this, "step", result(0));
     const [start, gone, came] = [u32(3), u32(3, 4), u32(4)];
-    return { step: STEPS[u32(2)], kind: didKind(), tag: didTag(), change: { start, gone, came }, event: u64(0), why: u32(2, 4) };
+    const change = { start, gone, came };
+    return { step: STEPS[u32(2)], kind: didKind(), tag: didTag(), change, loads: didLoads(), event: u64(0), why: u32(2, 4) };
   }
 
   stepEdits(first, most) {
@@ -272,13 +275,13 @@ export class Terminal extends Side {
     return { ...counts, unsent: u32(7), snarfLen: u32(7, 4), version: u16(8), commandLocked, exited };
   }
 
-  /** A sam_file: five numbers of 32 bits, and five truths. */
+  /** A sam_file: five numbers of 32 bits, and six truths. */
   file(tag) {
     make(this, "file", short(tag), result(0));
-    const [isKnown, isOpen, isDirty, isChanged, isLocked] = [4, 5, 6, 7, 8].map((at) => u8(2, at) !== 0);
+    const [isKnown, isOpen, isDirty, isChanged, isLocked, isFree] = [4, 5, 6, 7, 8, 9].map((at) => u8(2, at) !== 0);
     const dot = { start: u32(0, 4), end: u32(1) };
     const view = { start: u32(1, 4), end: u32(2) };
-    return { isKnown, isOpen, isDirty, isChanged, isLocked, len: u32(0), dot, view };
+    return { isKnown, isOpen, isDirty, isChanged, isLocked, isFree, len: u32(0), dot, view };
   }
 
   *refusals() {

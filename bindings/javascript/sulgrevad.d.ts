@@ -220,16 +220,21 @@ export type FileState = {
   isDirty: boolean;
   isChanged: boolean;
   isLocked: boolean;
+  /** Whether an edit would act at once: the file is open and not locked, no frame waits, no event is held, not even one of another file,
+   * and the session goes on. */
+  isFree: boolean;
   len: number;
   dot: { start: number; end: number };
   view: { start: number; end: number };
 };
-/** What a step of a terminal did: `event` is the number of an event that acted or was refused, and `why` the status of a refusal. */
+/** What a step of a terminal did: `event` is the number of an event that acted or was refused, and `why` the status of a refusal. `loads`
+ * says whether a frame loaded runes in the place of gaps: more of the text is known then, and nothing changed. */
 export type TerminalStep = {
   step: "idle" | "locked" | "wrote" | "received" | "acted" | "refused";
   kind: number;
   tag: number;
   change: Change;
+  loads: boolean;
   event: number;
   why: number;
 };
@@ -292,7 +297,7 @@ export declare class Terminal extends Side {
   flushNow(): void;
   /** The oldest frame that waits, as the step that receives it will say it: its kind, its file or 0, and the place in its text where `gone`
    * runes or gaps will give way. So they can be read before. Null if no frame waits. */
-  nextFrame(): { kind: number; tag: number; start: number; gone: number } | null;
+  nextFrame(): { kind: number; tag: number; start: number; gone: number; loads: boolean } | null;
   /** Makes steps as long as the next frame edits a text, at most `most` and some hundred, and says what they did. All edit the text of one
    * file, none begins before the place `first`, and each is at the place of the one before it or above. So what goes can be read before the
    * call, and what came after it. Throws, where no edit was received, as `step` does; else the next step does. */

@@ -222,6 +222,7 @@ static const struct event events[] = {
     {"open", NULL, sam_term_open, NULL},           {"write", NULL, sam_term_write, NULL},
     {"close", NULL, sam_term_close, NULL},         {"work", NULL, sam_term_work, NULL},
     {"select", NULL, NULL, sam_term_select},       {"load", NULL, NULL, sam_term_load},
+    {"view", NULL, NULL, sam_term_view},
 };
 
 static emacs_value event(emacs_env *env, ptrdiff_t count, emacs_value *words, void *data)

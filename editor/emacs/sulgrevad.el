@@ -70,6 +70,7 @@
 (declare-function sulgrevad--tags "ext:sulgrevad-module" (term))
 (declare-function sulgrevad--take-out "ext:sulgrevad-module" (term))
 (declare-function sulgrevad--type "ext:sulgrevad-module" (term tag text))
+(declare-function sulgrevad--view "ext:sulgrevad-module" (term tag place len))
 (declare-function sulgrevad--work "ext:sulgrevad-module" (term tag))
 (declare-function sulgrevad--write "ext:sulgrevad-module" (term tag))
 
@@ -169,12 +170,15 @@ at the terminal.")
 (defvar-local sulgrevad--is-locked nil "Whether we made it read-only.")
 (defvar-local sulgrevad--is-held nil
   "Whether the terminal may hold an edit, since memory was out for it.")
+(defvar-local sulgrevad--is-asking nil
+  "Whether the terminal asks by itself for what of it is not loaded.")
 (defvar-local sulgrevad--has-drifted nil
   "Whether the terminal may not know all changes of the buffer.
 When the session is over: whether its text stands nowhere else.")
 ;; They outlive a change of the major mode.
 (dolist (name '(sulgrevad--tag sulgrevad--path sulgrevad--self sulgrevad--tick sulgrevad--changes sulgrevad--is-joined
-                sulgrevad--is-bounded sulgrevad--is-locked sulgrevad--is-held sulgrevad--has-drifted sulgrevad-mode))
+                sulgrevad--is-bounded sulgrevad--is-locked sulgrevad--is-held sulgrevad--is-asking
+                sulgrevad--has-drifted sulgrevad-mode))
   (put name 'permanent-local t))
 (defconst sulgrevad--hooks
   '((before-change-functions sulgrevad--before-change 100) (after-change-functions sulgrevad--after-change -100)
@@ -819,15 +823,21 @@ Return whether there was any."
 
 (defun sulgrevad--load-more ()
   "Have the host send what is not loaded of the files that have buffers.
-Not while the line is lost, since that would lock them until it is back."
+Not while the line is lost, since that would lock them until it is back.
+What is loaded whole is shown no longer: the terminal would else ask for
+one gap after the other where a command line brings many."
   (unless (sulgrevad--is-late)
     (sulgrevad--each
      (lambda ()
-       (let ((gap (and (sulgrevad--is-open sulgrevad--term sulgrevad--tag)
-                       (= 0 (sulgrevad--held sulgrevad--term))
-                       (not (sulgrevad--locked sulgrevad--term sulgrevad--tag))
-                       (sulgrevad--first-gap sulgrevad--term sulgrevad--tag))))
-         (when gap (sulgrevad--load sulgrevad--term sulgrevad--tag gap sulgrevad-most-load)))))))
+       (when (and (sulgrevad--is-open sulgrevad--term sulgrevad--tag)
+                  (= 0 (sulgrevad--held sulgrevad--term))
+                  (not (sulgrevad--locked sulgrevad--term sulgrevad--tag)))
+         (let ((gap (sulgrevad--first-gap sulgrevad--term sulgrevad--tag)))
+           (cond (gap (setq sulgrevad--is-asking t)
+                      (sulgrevad--load sulgrevad--term sulgrevad--tag gap sulgrevad-most-load))
+                 (sulgrevad--is-asking
+                  (setq sulgrevad--is-asking nil)
+                  (sulgrevad--view sulgrevad--term sulgrevad--tag 0 0)))))))))
 
 ;;; Waiting
 

@@ -21,6 +21,7 @@ class Did(ctypes.Structure):
     _fields_ = [
         ("event", c_uint64), ("count", c_size_t), ("step", c_uint32), ("why", c_uint32),
         ("start", c_uint32), ("gone", c_uint32), ("came", c_uint32), ("tag", c_uint16), ("kind", c_uint8),
+        ("loads", c_bool),
     ]  # fmt: skip
 
 
@@ -40,6 +41,7 @@ class File(ctypes.Structure):
     _fields_ = [
         ("len", c_uint32), ("dot_start", c_uint32), ("dot_end", c_uint32), ("view_start", c_uint32), ("view_end", c_uint32),
         ("is_known", c_bool), ("is_open", c_bool), ("is_dirty", c_bool), ("is_changed", c_bool), ("is_locked", c_bool),
+        ("is_free", c_bool),
     ]  # fmt: skip
 
 

@@ -23,7 +23,7 @@ OK, NONE = int(Status.OK), int(Status.NONE)
 STEPS = tuple(Step)  # by their numbers
 
 _FEW_RUNES = c_uint32 * FEW
-_STATE, _FILE = Struct("5Q2N2IH2?"), Struct("5I5?")  # what State and File have, in their order
+_STATE, _FILE = Struct("5Q2N2IH2?"), Struct("5I6?")  # what State and File have, in their order
 
 # The first number that is too great for a type of an argument.
 _END = {c_uint16: 2**16, c_uint32: 2**32, c_uint64: 2**64, c_size_t: 2 ** (8 * ctypes.sizeof(c_size_t))}
@@ -58,7 +58,8 @@ class HostDid(NamedTuple):
 
 class TerminalDid(NamedTuple):
     """What a step of a terminal did: `kind` is that of the frame of a RECEIVED step, `tag` the file of a RECEIVED or ACTED one, or 0, and
-    `change` what changed in its text; `event` is the number of an event that ACTED or was REFUSED, and `why` the reason of a refusal."""
+    `change` what changed in its text; `event` is the number of an event that ACTED or was REFUSED, and `why` the reason of a refusal.
+    `loads` says whether the frame loads runes in the place of gaps: more of the text is known then, and nothing changed."""
 
     step: Step
     kind: int = 0
@@ -66,16 +67,18 @@ class TerminalDid(NamedTuple):
     change: Change = Change(0, 0, 0)
     event: int = 0
     why: Optional[Status] = None
+    loads: bool = False
 
 
 class NextFrame(NamedTuple):
     """The frame that a terminal's next step receives: its kind, by the numbers of docs/reference/PROTOCOL.md, the file that it names, or 0,
-    and the place in its text where `gone` runes or gaps will give way."""
+    and the place in its text where `gone` runes or gaps will give way. `loads` says whether gaps give way to their runes."""
 
     kind: int
     tag: int
     start: int
     gone: int
+    loads: bool = False
 
 
 class TerminalState(NamedTuple):
@@ -96,13 +99,16 @@ class TerminalState(NamedTuple):
 
 
 class FileState(NamedTuple):
-    """What a terminal knows of a tag, as its readers say it; 0 and False where there is no such file, or it is not open."""
+    """What a terminal knows of a tag, as its readers say it; 0 and False where there is no such file, or it is not open. `is_free` says
+    whether an edit would act at once: the file is open and not locked, no frame waits, no event is held, not even one of another file, and
+    the session goes on."""
 
     is_known: bool
     is_open: bool
     is_dirty: bool
     is_changed: bool
     is_locked: bool
+    is_free: bool
     len: int
     dot: Tuple[int, int]
     view: Tuple[int, int]
@@ -550,7 +556,7 @@ class Terminal(_Side):
         did = Did()
         code = LIBRARY.sam_term_next_frame(byref(self._handle), byref(did))  # a program asks it for each of thousands of frames
         if code == OK:
-            return NextFrame(did.kind, did.tag, did.start, did.gone)
+            return NextFrame(did.kind, did.tag, did.start, did.gone, did.loads)
         if code == NONE:
             return None
         raise error_of(code)
@@ -574,7 +580,7 @@ class Terminal(_Side):
         if code != OK:
             raise error_of(code)
         why = Status(did.why) if did.why else None
-        return TerminalDid(STEPS[did.step], did.kind, did.tag, Change(did.start, did.gone, did.came), did.event, why)
+        return TerminalDid(STEPS[did.step], did.kind, did.tag, Change(did.start, did.gone, did.came), did.event, why, did.loads)
 
     def next_refusal(self) -> Optional[Refusal]:
         """The oldest refused event that was not handed out yet; None if there is none."""
@@ -603,13 +609,14 @@ class Terminal(_Side):
         """What the terminal knows of a tag, by one call. A tag without a file is no error."""
         file = File()
         self._call("file", tag, byref(file))
-        length, *places, is_known, is_open, is_dirty, is_changed, is_locked = _FILE.unpack_from(file)
+        length, *places, is_known, is_open, is_dirty, is_changed, is_locked, is_free = _FILE.unpack_from(file)
         start, end, view_start, view_end = places
-        return FileState(is_known, is_open, is_dirty, is_changed, is_locked, length, (start, end), (view_start, view_end))
+        dot, view = (start, end), (view_start, view_end)
+        return FileState(is_known, is_open, is_dirty, is_changed, is_locked, is_free, length, dot, view)
 
     @property
     def events(self) -> int:
-        """How many event calls were taken."""
+        """How many event calls were taken: right after one, the number of its event, by which a refusal names it."""
         return self._number("events", c_uint64)
 
     @property

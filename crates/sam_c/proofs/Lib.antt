@@ -2,6 +2,7 @@ pub mod Walks
 pub mod Pieces
 pub mod Ends
 pub mod Filling
+pub mod Frees
 pub mod Putting
 pub mod Replaying
 pub mod Measuring

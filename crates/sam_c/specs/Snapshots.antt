@@ -1,8 +1,12 @@
 -- What is read of a terminal at once.
-use Rattle.std.specs.Prelude.{ℕ, Bool, true, false, length, is_some, Option, Some, None}
+use Rattle.std.specs.Prelude.{◌≡◌, ◌≢◌, ℕ, Bool, true, false, not, ◌&&◌, List, [], ◌∷◌, length, is_none, is_some, Option, Some, None, Ok}
+use Rattle.sam_runes.specs.Texts.{is_empty}
 use Rattle.sam_crossing.specs.World.{is_locked}
 use Rattle.sam_term.specs.Sound.{unsent_length}
-use Rattle.sam_term.specs.Term.{is_changed, view_end}
+use Rattle.sam_term.specs.Events.{file_of, waits_for_all}
+use Rattle.sam_term.specs.Term.{PlainTerminal, act_of, is_changed, is_open, view_end}
+use Rattle.sam_term.specs.declared.event.Acted.TheVariants.{Locked}
+use Rattle.sam_term.specs.declared.event.UserEvent.{UserEvent}
 use Rattle.sam_term.specs.declared.records.KnownFile.{KnownFile}
 use Rattle.sam_term.specs.declared.records.Window.{Window}
 use Rattle.sam_endpoint.specs.TermEndpoints.{PlainTermEndpoint, decided, under_way}
@@ -32,6 +36,18 @@ abbrev pub is_known_dirty : Option KnownFile → Bool
 is_known_dirty None = false
 is_known_dirty (Some file) = file.dirty
 
+-- an edit of this open file would act at once: no frame waits and no event is held that would come before it, and it would wait for no lock
+abbrev pub is_free : PlainTermEndpoint → ℕ → Bool
+is_free e tag =
+    is_none e.stop && is_empty e.waiting && is_empty e.term.held
+    && not e.term.has_exited && is_open e.term tag && not (is_locked e.term tag)
+
+-- an event on this file that waits for no other one is not held back by a lock
+abbrev pub IsDecidedAtOnce : PlainTerminal → ℕ → Type 0
+IsDecidedAtOnce t tag =
+    (event : UserEvent) → file_of event ≡ Some tag → waits_for_all event ≡ false
+    → act_of (record t { held = event ∷ [] }) ≢ Ok (record t { held = event ∷ [] }, Locked)
+
 -- of a file that is not open there are no places
 abbrev pub no_places : PlainTermEndpoint → ℕ → SamTermFile
 no_places e tag =
@@ -46,6 +62,7 @@ no_places e tag =
       is_dirty = is_known_dirty (known_of e tag);
       is_changed = is_changed e.term tag;
       is_locked = is_locked e.term tag;
+      is_free = is_free e tag;
     }
 
 abbrev pub with_places : SamTermFile → Option Window → SamTermFile

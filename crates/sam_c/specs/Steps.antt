@@ -1,6 +1,8 @@
 -- What the calls do that take bytes in and go on by single steps.
-use Rattle.std.specs.Prelude.{◌≡◌, ℕ, List, slice_get, Option, option_map, Some, None, Result, Ok, Err}
+use Rattle.std.specs.Prelude.{◌≡◌, ◌==◌, ℕ, Bool, true, false, List, [], slice_get, Option, option_map, Some, None, Result, Ok, Err}
+use Rattle.sam_mesg.specs.HostKinds.{kind_h}
 use Rattle.sam_mesg.specs.TerminalKinds.{kind_t}
+use Rattle.sam_mesg.specs.declared.hmesg.Hmesg.TheVariants.{Hdata}
 use Rattle.sam_endpoint.specs.Naming.{file_of_t}
 use Rattle.sam_endpoint.specs.HostEndpoints.{PlainHostEndpoint}
 use Rattle.sam_endpoint.specs.HostStepping.{BringsIn as HostBringsIn, Steps as HostSteps}
@@ -37,7 +39,11 @@ TermBrought before piece status after =
 
 -- a step of this number that says no more
 abbrev pub did_nothing : ℕ → SamDid
-did_nothing step = record { event = 0; count = 0; step = step; why = 0; start = 0; gone = 0; came = 0; tag = 0; kind = 0 }
+did_nothing step = record { event = 0; count = 0; step = step; why = 0; start = 0; gone = 0; came = 0; tag = 0; kind = 0; loads = false }
+
+-- frames of this kind bring runes in the place of gaps, and change no text
+abbrev pub is_load : ℕ → Bool
+is_load kind = kind == kind_h (Hdata 0 0 [])
 
 abbrev pub tag_or_zero : Option ℕ → ℕ
 tag_or_zero None = 0
@@ -54,7 +60,14 @@ did_of_term term.Idle = did_nothing 0
 did_of_term term.Locked = did_nothing 1
 did_of_term term.Wrote = did_nothing 2
 did_of_term (term.Received kind tag change) =
-    record (did_nothing 5) { kind = kind; tag = tag_or_zero tag; start = change.start; gone = change.gone; came = change.came }
+    record (did_nothing 5) {
+      kind = kind;
+      tag = tag_or_zero tag;
+      start = change.start;
+      gone = change.gone;
+      came = change.came;
+      loads = is_load kind;
+    }
 did_of_term (term.Acted number tag change) =
     record (did_nothing 6) { event = number; tag = tag_or_zero tag; start = change.start; gone = change.gone; came = change.came }
 did_of_term (term.Refused number why) = record (did_nothing 7) { event = number; why = refusal_status why }
@@ -84,7 +97,14 @@ next_of e = option_map (λ m. (kind_t m, tag_or_zero (file_of_t m))) (slice_get 
 
 -- the oldest frame that waits at a terminal, as a step that doesn't know yet what comes
 abbrev pub did_next : NextFrame → SamDid
-did_next frame = record (did_nothing 5) { kind = frame.kind; tag = tag_or_zero frame.tag; start = frame.start; gone = frame.gone }
+did_next frame =
+    record (did_nothing 5) {
+      kind = frame.kind;
+      tag = tag_or_zero frame.tag;
+      start = frame.start;
+      gone = frame.gone;
+      loads = is_load frame.kind;
+    }
 
 abbrev pub next_did : PlainTermEndpoint → Option SamDid
 next_did e = option_map (λ frame. did_next (next_frame e.term frame)) (slice_get e.waiting 0)

@@ -1,9 +1,10 @@
 //! What C reads of a terminal at once: include/sulgrevad.h says what each field hands out. Neither call changes the terminal. Each returns
 //! `SAM_NO_HANDLE` if the handle is empty; what its other arguments lead to is then as it was.
 
-ghost use Rattle.std.specs.Prelude.{◌≡◌};
+ghost use Rattle.std.specs.Prelude.{◌≡◌, ◌&&◌, IsTrue};
 ghost use Rattle.sam_c.specs.Calls.{Reports};
-ghost use Rattle.sam_c.specs.Snapshots.{file_state, term_state};
+ghost use Rattle.sam_c.specs.Snapshots.{file_state, is_free, term_state, IsDecidedAtOnce};
+ghost use Rattle.sam_runes.specs.Texts.{is_empty};
 
 use crate::handle::{SamTerm, with_end};
 use crate::status::{NO_HANDLE, OK};
@@ -65,6 +66,8 @@ pub struct SamTermFile {
     pub is_changed: bool,
     /// Whether an edit of it would wait for a lock.
     pub is_locked: bool,
+    /// Whether an edit of it would act at once: it is open and not locked, nothing waits or is held before it, and the session goes on.
+    pub is_free: bool,
 }
 
 /// Returns what the terminal holds.
@@ -88,6 +91,28 @@ fn state_of(end: &TermEndpoint) -> SamTermState
     }
 }
 
+/// Returns whether nothing would come before another event: no event is held, and no frame waits.
+#[tactic(auto, using(crate::proofs::Frees::none_held, crate::proofs::Frees::none_next))]
+fn is_next(end: &TermEndpoint) -> bool
+    ensures { result ≡ is_empty end.now.waiting && is_empty end.now.term.held }
+{
+    end.next_frame().is_none() && end.term().held() == 0
+}
+
+/// Returns whether an edit of this file would act at once.
+#[tactic(auto, using(crate::proofs::Frees::decides))]
+fn is_free(end: &TermEndpoint, tag: u16) -> bool
+    ensures value { result ≡ is_free end.now tag }
+    ensures acts { IsTrue result → IsDecidedAtOnce end.now.term tag }
+{
+    let term = end.term();
+    end.stopped().is_none()
+        && is_next(end)
+        && !term.exited()
+        && term.rasp(tag).is_some()
+        && !term.locked(tag)
+}
+
 /// Returns what the terminal knows of a tag.
 fn file_of(end: &TermEndpoint, tag: u16) -> SamTermFile
     ensures { result ≡ file_state end.now tag }
@@ -108,6 +133,7 @@ fn file_of(end: &TermEndpoint, tag: u16) -> SamTermFile
         is_dirty,
         is_changed: term.is_changed(tag),
         is_locked: term.locked(tag),
+        is_free: is_free(end, tag),
     };
     let (Some(rasp), Some(dot), Some(view)) = (term.rasp(tag), term.dot(tag), term.view(tag)) else {
         return file;

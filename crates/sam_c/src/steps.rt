@@ -3,7 +3,7 @@
 
 ghost use Rattle.std.specs.Prelude.{◌≡◌};
 ghost use Rattle.sam_c.specs.Calls.{ReportsSome};
-ghost use Rattle.sam_c.specs.Steps.{HostBrought, HostStepped, TermBrought, TermStepped, did_of_host, did_of_term, did_nothing, next_did, next_of, tag_or_zero};
+ghost use Rattle.sam_c.specs.Steps.{HostBrought, HostStepped, TermBrought, TermStepped, did_of_host, did_of_term, did_nothing, is_load, next_did, next_of, tag_or_zero};
 
 use crate::handle::{SamHost, SamTerm, with_end};
 use crate::status::{
@@ -37,6 +37,9 @@ const ACTED: u32 = 6;
 /// The terminal refused an event.
 const REFUSED: u32 = 7;
 
+/// The kind of `Hdata`, the frame that loads runes.
+const DATA: u8 = 73;
+
 /// What a step did: `sam_did` of include/sulgrevad.h. What a step doesn't say is 0.
 #[repr(C)]
 #[derive(Clone, Copy, Drop)]
@@ -59,6 +62,8 @@ pub struct SamDid {
     pub tag: u16,
     /// The number of the kind of the message or frame.
     pub kind: u8,
+    /// Whether the frame loads runes in the place of gaps, and so changes no text.
+    pub loads: bool,
 }
 
 /// Returns what says of a step no more than this number.
@@ -75,7 +80,15 @@ fn did_nothing(step: u32) -> SamDid
         came: 0,
         tag: 0,
         kind: 0,
+        loads: false,
     }
+}
+
+/// Returns whether frames of this kind load runes.
+fn is_load(kind: u8) -> bool
+    ensures { result ≡ is_load kind }
+{
+    kind == DATA
 }
 
 /// Returns the tag, or 0 for none.
@@ -120,6 +133,7 @@ fn did_of_term(step: TermStep) -> SamDid
             start: change.start,
             gone: change.gone,
             came: change.came,
+            loads: is_load(kind),
             ..did_nothing(RECEIVED)
         },
         TermStep::Acted {
@@ -247,6 +261,7 @@ pub extern "C" fn sam_term_next_frame(term: &mut SamTerm, next: &mut SamDid, all
                     tag: tag_or_zero(frame.tag),
                     start: frame.start,
                     gone: frame.gone,
+                    loads: is_load(frame.kind),
                     ..did_nothing(RECEIVED)
                 };
                 OK

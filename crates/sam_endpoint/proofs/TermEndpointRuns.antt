@@ -490,6 +490,24 @@ pub runs_lead : (calls : List Call) (g : PlainTermEndpoint) → Runs new_term_en
     → HasDone (flat_map came_in calls) (flat_map put_in calls) (flat_map went_out calls) (flat_map handed_out calls) g
 runs_lead calls g runs = (kept_run [] [] [] [] calls new_term_endpoint g runs kept_begun).done
 
+-- each event that was held has been decided since, or is held
+leads_count : (t u : PlainTerminal) (steps : List Step) (composed : List Tmesg) → Leads t steps composed u
+    → length (events_in steps) + length t.held ≡ length (acts_in steps) + length u.held
+leads_count t u [] composed p = omega (arith, ap (λ (x : PlainTerminal). length x.held) (sym p.1))
+leads_count t u (run.Received frame ∷ steps) composed (v, first, rest, took, is, leads) =
+    omega (arith, leads_count v u steps rest leads, ap length (take_held t v frame first took))
+leads_count t u (run.Held event ∷ steps) composed p =
+    omega (arith, leads_count (record t { held = t.held ++ event ∷ [] }) u steps composed p, length-append t.held (event ∷ []))
+leads_count t u (run.Decided acted ∷ steps) composed (v, rest, took, is_decided, is, leads) =
+    omega (arith, leads_count v u steps rest leads, act_held t v acted took is_decided)
+leads_count t u (run.Sent ∷ steps) composed (v, first, rest, took, is, leads) =
+    omega (arith, leads_count v u steps rest leads, ap length (flush_held t v first took))
+
+pub events_numbered : (calls : List Call) (g : PlainTermEndpoint) → Runs new_term_endpoint calls g → g.events ≡ length (flat_map put_in calls)
+events_numbered calls g runs =
+    let kept = kept_run [] [] [] [] calls new_term_endpoint g runs kept_begun in
+    omega (arith, kept.count, leads_count new_terminal g.term kept.done.steps kept.done.composed kept.done.leads, ap length kept.done.given)
+
 -- ## Stops
 
 feed_goes : (e g : PlainTermEndpoint) (piece : List ℕ) (answer : Answer) → GoesOnAfter answer → Feeds e piece answer g → g.stop ≡ None

@@ -1,5 +1,5 @@
 -- A run of calls of a terminal end, and what it comes to.
-use Rattle.std.specs.Prelude.{◌≡◌, ◌⊎◌, ℕ, List, [], ◌∷◌, ◌++◌, drop, flat_map, slice_get, Option, Some, option_map, option_to_list, Result, Ok, Err}
+use Rattle.std.specs.Prelude.{◌≡◌, ◌⊎◌, ℕ, List, [], ◌∷◌, ◌++◌, drop, flat_map, length, slice_get, Option, Some, option_map, option_to_list, Result, Ok, Err}
 use Rattle.sam_mesg.specs.declared.tmesg.Tmesg.{Tmesg}
 use Rattle.sam_mesg.specs.declared.hmesg.HFrame.{HFrame}
 use Rattle.sam_frame.specs.Direction.{host, terminal}
@@ -190,3 +190,8 @@ StopsLead =
     → (taken : List Call) × ((taken ≡ calls ++ last ∷ []) ⊎ (taken ≡ calls))
     × HasDone (flat_map came_in taken) (flat_map put_in taken) (flat_map went_out taken) (flat_map handed_out taken) g
     × HasStopped g why × (g.stop ≡ Some why)
+
+-- the count of events is how many were put and taken: after a call that took one it is that event's number, counted from 1
+abbrev pub EventsAreNumbered : Type 0
+EventsAreNumbered =
+    (calls : List Call) (g : PlainTermEndpoint) → Runs new_term_endpoint calls g → g.events ≡ length (flat_map put_in calls)

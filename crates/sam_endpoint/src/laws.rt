@@ -3,7 +3,7 @@
 ghost use Rattle.sam_endpoint.specs.Changes.{ActsKeep, AskingBegins, FlushesKeep, FramesKeep, KeptTellsChange, UnaskedIsKept};
 ghost use Rattle.sam_endpoint.specs.HostRuns.{OneOutcome, RunsServe, StopsServe};
 ghost use Rattle.sam_endpoint.specs.HostStepping.{HostStepsFeed};
-ghost use Rattle.sam_endpoint.specs.TermRuns.{RunsLead, StopsLead};
+ghost use Rattle.sam_endpoint.specs.TermRuns.{EventsAreNumbered, RunsLead, StopsLead};
 ghost use Rattle.sam_endpoint.specs.TermStepping.{TermStepsFeed};
 
 use sam_frame::one_reading_t;
@@ -50,6 +50,13 @@ pub fn term_runs_lead()
 #[tactic(auto, using(crate::proofs::TermEndpointRuns::stops_lead))]
 pub fn term_stops_lead()
     ensures { StopsLead }
+{}
+
+/// States that `TermEndpoint::events` hands out how many events were put and taken. So right after a call that took one it is the number
+/// of this event, counted from 1, by which `next_refusal` names it and `decided` counts it.
+#[tactic(auto, using(crate::proofs::TermEndpointRuns::events_numbered))]
+pub fn term_events_numbered()
+    ensures { EventsAreNumbered }
 {}
 
 /// States that to bring a piece to a host endpoint, and then to go on by steps to their end, is to feed it: the answer is one of `feed`,

@@ -468,7 +468,7 @@ impl TermEndpoint {
         self.term.sent() - self.seen
     }
 
-    /// Returns how many events were taken.
+    /// Returns how many events were taken: right after a call that took one, the number of this event.
     pub fn events(&self) -> u64
         ensures { result ≡ self.now.events }
     {

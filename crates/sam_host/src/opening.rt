@@ -23,14 +23,14 @@ impl Host {
 
     /// Adds the tag and the name of each file that was not announced, tags ascending. The command file is left out: the answer to
     /// `Tstartcmdfile` has its name.
-    #[tactic(auto, using(crate::proofs::NameLaws::names_done, crate::proofs::NameLaws::name_told))]
+    #[tactic(auto, using(crate::proofs::NameLaws::names_done, crate::proofs::NameLaws::name_told, crate::proofs::NameLaws::names_new))]
     fn tell_names(&self, frames: &mut Vec<HFrame>) -> Result<(), HostFault>
         requires count { self.now.taken + 1 < 2 ^ 64 }
         ensures ok { OnOk result (Appends self.now frames.old.items frames.new.items (told_names 1 (drop 1 self.now.files.slots))) }
         ensures memory { OnErr result (result ≡ Err HostFault.OutOfMemory) }
     {
         let tags = self.files.tags();
-        let mut tag = 1;
+        let mut tag = self.files.first_unannounced();
         while tag < tags {
             self.tell_name(frames, tag as u16)?;
             tag += 1;

@@ -36,8 +36,7 @@ impl<'s, G> Drop for Plan<'s, G> {
 
 /// Runs the five workers of a session over its lines, and returns their ends. `starts` came with `lines`, and is spent.
 ///
-/// No worker begins before all five are started, and all memory that they begin with is had before. The call waits for its threads, which
-/// may never end.
+/// All memory that they begin with is had before. The call waits for its threads, which may never end.
 ///
 /// Errors, in this order: `OutOfMemory` if there is no memory for what the workers begin with; `NoThread` if a thread could not be
 /// started; `GateTimedOut` if the gate did not let a worker begin. A worker that stops on its way is no error: its end says why.

@@ -27,8 +27,8 @@ use std::thread::Threads;
 /// ```
 ///
 /// Errors, in this order: `OutOfMemory` if there is no memory for the lines or for what the workers begin with; `NoThread` if a thread
-/// could not be started, and then no worker began; `GateTimedOut` if the gate did not let a worker begin; `OutOfMemory` if there is no
-/// memory for the settling. A worker that stops on its way, when out of memory too, is no error: `Settled::stops` says it.
+/// could not be started; `GateTimedOut` if the gate did not let a worker begin; `OutOfMemory` if there is no memory for the settling. A
+/// worker that stops on its way, when out of memory too, is no error: `Settled::stops` says it.
 #[tactic(auto, using(crate::proofs::SessionLaws::settled_session))]
 pub fn run_threads<R: Threads + Wait + Sync, G: Gate>(
     rt: &R,

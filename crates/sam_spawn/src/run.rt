@@ -1,4 +1,4 @@
-//! Running the five workers: none begins before all are started.
+//! Running the five workers.
 ghost use Rattle.std.specs.Prelude.{◌≡◌, ◌<◌, true, false, IfOk, IfErr, IfSome, IsSomeAnd, IsTrue, IsFalse, Some, Err};
 ghost use Rattle.sam_spawn.specs.Promised.{AreOfKinds, KeepPromises, TasksKept, SomeRefused, fault_of};
 ghost use Rattle.sam_ends.specs.Tasks.{AreReady};
@@ -21,7 +21,7 @@ pub enum RunFault {
     /// The gate did not let some worker begin. The other workers may have begun, and have ended.
     #[error("a worker was not let begin")]
     GateTimedOut = 1,
-    /// A thread could not be started. No worker began.
+    /// A thread could not be started.
     #[error("no thread could be started")]
     NoThread = 2,
     /// A request for memory was refused: for the lines, for what the workers begin with, or for the settling.
@@ -31,7 +31,7 @@ pub enum RunFault {
 
 /// Runs the five workers that begin with these tasks in pieces of at most `piece` bytes, and returns their ends.
 ///
-/// No worker begins before all five are started. The call waits for its threads, which may never end.
+/// The call waits for its threads, which may never end.
 ///
 /// Errors, in this order: `NoThread` if a thread could not be started; `GateTimedOut` if the gate did not let a worker begin. A worker that
 /// stops on its way is no error: its end says why.

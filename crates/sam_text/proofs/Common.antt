@@ -11,6 +11,7 @@ pub use Rattle.sam_runes.specs.Edits.{AscendFrom, inserted, removed}
 pub use Rattle.sam_runes.specs.Slots.{Slots, free_slot, map_slots, put_slot, slot}
 pub use Rattle.sam_runes.specs.Texts.{Range, all_tags, ins, leftmost, max_runes, most_in_name, most_in_pattern, part}
 pub use Rattle.sam_runes.specs.declared.edit.Edit.{Edit}
+unfoldable pub use Rattle.sam_text.specs.Files.{AreAnnounced}
 pub use Rattle.sam_text.specs.Files.{AreFit, AreSoundFiles, HasShortName, IsFit, IsOutcomeFor, IsOutcomeOf, IsPattern, PlainFile, PlainFiles, PlainOutcome, RoomyFiles, after_print, announce_all, announced_file, blank_file, committed, cut_file, file_after, file_at, has_file, pasted_file, put_file, put_outcome, typed_file, with_new, without_file}
 pub use Rattle.sam_text.specs.Meaning.{WorkFile, address_or_dot, address_pattern, dot_after, dot_at, edits_of, effect_of, effect_of_line, effect_on, has_split, later, meaning, or_wrong, printed_of, run_on, side_pattern, steps_pattern, text_length, work_file, work_on, wrong}
 unfoldable pub use Rattle.sam_text.specs.Meaning.{line_outcome}

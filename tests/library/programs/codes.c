@@ -364,10 +364,10 @@ static void at_once(sam_term *term)
     WANT(state.pending == 5 + 13 + 13 && state.tags == 2 && state.unsent == 0 && state.snarf_len == 0, true);
     WANT(state.version == 1 && !state.command_locked && !state.exited, true);
     WANT(sam_term_file(term, 1, &file), SAM_OK);
-    WANT(file.is_known && file.is_open && !file.is_dirty && file.is_changed && !file.is_locked, true);
+    WANT(file.is_known && file.is_open && !file.is_dirty && file.is_changed && !file.is_locked && file.is_free, true);
     WANT(file.len == 1 && file.dot_start == 1 && file.dot_end == 1 && file.view_start == 0 && file.view_end == 0, true);
     WANT(sam_term_file(term, 7, &none), SAM_OK);
-    WANT(none.is_known || none.is_open || none.is_dirty || none.is_changed || none.is_locked, false);
+    WANT(none.is_known || none.is_open || none.is_dirty || none.is_changed || none.is_locked || none.is_free, false);
     WANT(none.len + none.dot_start + none.dot_end + none.view_start + none.view_end, 0);
 }
 

@@ -120,7 +120,7 @@ static void read_rasp(uint16_t tag, uint32_t place)
 /* All that is known of a tag at once is what its readers say one by one. */
 static void read_file(uint16_t tag)
 {
-    static const sam_file other = {1, 2, 3, 4, 5, true, true, true, true, true};
+    static const sam_file other = {1, 2, 3, 4, 5, true, true, true, true, true, true};
     sam_file file = other;
     uint32_t len = 0, start = 0, end = 0;
     bool is = false;

@@ -23,7 +23,7 @@ def edited(tag, count):
 
 
 def received(name, tag=0, change=(0, 0, 0)):
-    return TerminalDid(Step.RECEIVED, number(name), tag, Change(*change))
+    return TerminalDid(Step.RECEIVED, number(name), tag, Change(*change), loads=name == "Hdata")
 
 
 def acted(event, tag=0, change=(0, 0, 0)):

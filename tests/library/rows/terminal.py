@@ -1,7 +1,8 @@
 """A terminal: what it refuses, what locks it takes, and what the host does to its texts."""
 import random
 
-from sulgrevad import Terminal
+from frames import frame
+from sulgrevad import Status, Terminal
 
 from .trying import code_of, expect_equal, expect_sent, five_gaps, refusals, refused, take, take_all
 
@@ -63,6 +64,56 @@ def test_a_look_locks_its_file_alone():
     expect_equal((terminal.locked(1), terminal.locked(2), terminal.command_locked), (True, False, False))
     terminal.type(1, "a")
     expect_equal((terminal.held, terminal.len(1)), (1, 5))
+
+
+def free_files(terminal, *tags):
+    """Of which of these files it says that an edit would act at once, where an edit put now does just that."""
+    free = [tag for tag in tags if terminal.file(tag).is_free]
+    for tag in tags:
+        decided = terminal.decided
+        terminal.edit(tag, 0, 0, "")
+        expect_equal((tag, terminal.decided == terminal.events), (tag, tag in free and decided + 1 == terminal.events))
+    return free
+
+
+def test_a_file_is_free_where_an_edit_acts_at_once():
+    terminal = five_gaps()
+    take(terminal, "Hnewname", 2)
+    take(terminal, "Hbindname", 2)
+    expect_equal((free_files(terminal, 1, 2), terminal.file(3).is_free), ([1, 2], False))
+    terminal.look(1)  # it locks file 1
+    expect_equal((terminal.file(1).is_free, free_files(terminal, 2)), (False, [2]))
+    terminal.type(1, "a")  # it is held, and so is each event after it
+    expect_equal((terminal.locked(2), free_files(terminal, 1, 2)), (False, []))
+
+
+def test_a_file_is_not_free_once_the_session_is_over():
+    terminal = five_gaps()
+    take(terminal, "Hexit")
+    expect_equal((terminal.locked(1), terminal.is_open(1), terminal.file(1).is_free), (False, True, False))
+
+
+def test_a_file_is_not_free_while_a_frame_waits():
+    terminal = five_gaps()
+    terminal.bring(frame("Hgrow", 1, 0, 2))
+    expect_equal((terminal.locked(1), terminal.held, terminal.file(1).is_free), (False, 0, False))
+    terminal.feed(b"")
+    expect_equal((terminal.len(1), terminal.file(1).is_free), (7, True))
+
+
+def test_the_count_of_events_is_the_number_of_the_last():
+    terminal = five_gaps()
+    terminal.type(1, "a")
+    terminal.select(1, 0, 99)
+    number = terminal.events
+    terminal.look(1)
+    terminal.type(1, "a" * 513)  # held until the answer comes
+    late = terminal.events
+    expect_equal([(number, Status.REFUSAL_BAD_POSITION)], [*terminal.refusals()])
+    expect_equal((late - number, terminal.held), (2, 1))
+    terminal.take_out()
+    take(terminal, "Hunlockfile", 1)
+    expect_equal([(late, Status.REFUSAL_TEXT_TOO_LONG)], [*terminal.refusals()])
 
 
 def test_a_command_event_waits_for_each_file():

@@ -191,8 +191,8 @@ function checkSteps() {
   same([host.step().step, host.step()], ["wrote", { step: "edited", kind: 0, tag, count: 2 }]);
   same([host.step().step, host.nextMessage(), host.text(tag)], ["idle", null, "axyzc"]);
   terminal.bring(host.takeOut());
-  same(terminal.nextFrame(), { kind: 71, tag, start: 0, gone: 0 });
-  same(terminal.step(), { step: "received", kind: 71, tag, change: none, event: 0, why: 0 });
+  same(terminal.nextFrame(), { kind: 71, tag, start: 0, gone: 0, loads: false });
+  same(terminal.step(), { step: "received", kind: 71, tag, change: none, loads: false, event: 0, why: 0 });
   same([terminal.step().step, terminal.nextFrame()], ["idle", null]);
   terminal.openCmd();
   host.feed(terminal.takeOut());
@@ -217,7 +217,8 @@ function checkStates() {
   for (const [name, value] of Object.entries(terminal.state())) same([name, value], [name, terminal[name]]);
   const isLocked = terminal.locked(tag);
   const [dot, view] = [terminal.dot(tag), terminal.viewOf(tag)];
-  same(terminal.file(tag), { isKnown: true, isOpen: true, isDirty: false, isChanged: true, isLocked, len: 4, dot, view });
+  const isFree = !isLocked && terminal.held === 0;
+  same(terminal.file(tag), { isKnown: true, isOpen: true, isDirty: false, isChanged: true, isLocked, isFree, len: 4, dot, view });
   same([terminal.file(tag + 7).isKnown, terminal.file(tag + 7).len], [false, 0]);
 }
 

@@ -104,6 +104,7 @@ pub struct sam_did {
     pub came: u32,
     pub tag: u16,
     pub kind: u8,
+    pub loads: bool,
 }
 
 /// What a terminal holds.
@@ -138,6 +139,7 @@ pub struct sam_file {
     pub is_dirty: bool,
     pub is_changed: bool,
     pub is_locked: bool,
+    pub is_free: bool,
 }
 
 /// Where bytes lie in a piece.

@@ -14,6 +14,8 @@ pub struct NextFrame {
     pub start: u32,
     /// How many runes or gaps will give way there.
     pub gone: u32,
+    /// Whether gaps give way to their runes: the frame loads them, and changes no text.
+    pub loads: bool,
 }
 
 /// What a step of a host did.
@@ -41,8 +43,14 @@ pub enum TermStep {
     /// What was composed last is pending now.
     Wrote,
     /// The terminal received one frame of this kind, by the numbers of docs/reference/PROTOCOL.md; `tag` is the file that it names, or 0,
-    /// and `change` what changed in its text.
-    Received { kind: u8, tag: u16, change: Change },
+    /// and `change` what changed in its text. Where `loads` is true the frame loads runes in the place of gaps: more of the text is known,
+    /// and nothing changed.
+    Received {
+        kind: u8,
+        tag: u16,
+        change: Change,
+        loads: bool,
+    },
     /// The event of this number, counted from 1, acted; `tag` is the file that it names, or 0, and `change` what changed in its text.
     Acted { event: u64, tag: u16, change: Change },
     /// The event of this number was refused: why, or the number of a reason that this crate doesn't know.
@@ -63,6 +71,7 @@ pub(crate) fn next_frame(next: &sam_did) -> NextFrame {
         tag: next.tag,
         start: next.start,
         gone: next.gone,
+        loads: next.loads,
     }
 }
 
@@ -90,6 +99,7 @@ pub(crate) fn term_step(did: &sam_did) -> TermStep {
             kind: did.kind,
             tag,
             change: change_of(did),
+            loads: did.loads,
         },
         sys::SAM_STEP_ACTED => TermStep::Acted {
             event,

@@ -44,6 +44,9 @@ pub struct FileState {
     pub is_dirty: bool,
     pub is_changed: bool,
     pub is_locked: bool,
+    /// Whether an edit would act at once: the file is open and not locked, no frame waits, no event is held, not even one of another file,
+    /// and the session goes on.
+    pub is_free: bool,
     pub len: u32,
     pub dot: (u32, u32),
     pub view: (u32, u32),
@@ -354,13 +357,14 @@ impl Terminal {
             is_dirty: file.is_dirty,
             is_changed: file.is_changed,
             is_locked: file.is_locked,
+            is_free: file.is_free,
             len: file.len,
             dot: (file.dot_start, file.dot_end),
             view: (file.view_start, file.view_end),
         }
     }
 
-    /// How many events were taken.
+    /// How many events were taken: right after one was, its number, by which a refusal names it.
     pub fn events(&self) -> u64 {
         tells(|value| unsafe { sys::sam_term_events(self.at(), value) })
     }

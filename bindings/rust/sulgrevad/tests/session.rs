@@ -277,6 +277,7 @@ fn single_steps_say_what_they_did() -> Result<(), Error> {
         tag: file,
         start: 0,
         gone: 6,
+        loads: true,
     };
     assert_eq!(term.next_frame(), Some(next));
     assert_eq!(
@@ -284,11 +285,19 @@ fn single_steps_say_what_they_did() -> Result<(), Error> {
         TermStep::Received {
             kind: 73,
             tag: file,
-            change
+            change,
+            loads: true
         }
     ); // Hdata
     assert_eq!(term.step_edits(0, 9)?, []);
-    assert!(matches!(term.step()?, TermStep::Received { kind: 75, .. })); // Hunlockfile
+    assert!(matches!(
+        term.step()?,
+        TermStep::Received {
+            kind: 75,
+            loads: false,
+            ..
+        }
+    )); // Hunlockfile
     assert!(matches!(term.step()?, TermStep::Acted { tag, .. } if tag == file));
     let event = term.events();
     assert_eq!(
@@ -340,6 +349,7 @@ fn a_state_has_what_its_readers_say() -> Result<(), Error> {
         is_dirty: false,
         is_changed: true,
         is_locked: term.locked(file),
+        is_free: !term.locked(file) && term.held() == 0,
         len: 7,
         dot: (5, 5),
         view: (1, 4),
