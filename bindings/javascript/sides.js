@@ -328,6 +328,15 @@ export class Terminal extends Side {
     return one(this, "place", u32, short(tag), long(start), size(bytes));
   }
 
+  units(tag, start, end) {
+    make(this, "units", short(tag), long(start), long(end), result(0), result(1));
+    return { units: u32(0), gaps: u32(1) };
+  }
+
+  unitPlace(tag, start, units) {
+    return one(this, "unit_place", u32, short(tag), long(start), long(units));
+  }
+
   line(tag, start, lines) {
     return ifAny(() => one(this, "line", u32, short(tag), long(start), long(lines)));
   }

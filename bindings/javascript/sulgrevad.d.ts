@@ -334,6 +334,11 @@ export declare class Terminal extends Side {
   bytes(tag: number, start: number, end: number): { bytes: number; gaps: number };
   /** The place after the loaded runes from a place on that so many bytes of UTF-8 hold whole. Throws Missing. */
   place(tag: number, start: number, bytes: number): number;
+  /** How many code units the loaded runes from a place to a place take in UTF-16, as a string of JavaScript has them, and how many runes
+   * there are not loaded. Throws Missing. */
+  units(tag: number, start: number, end: number): { units: number; gaps: number };
+  /** The place after the loaded runes from a place on that so many code units of UTF-16 hold whole. Throws Missing. */
+  unitPlace(tag: number, start: number, units: number): number;
   /** The place after so many line ends from a place on; null if a gap or the end comes before, or the file isn't open. */
   line(tag: number, start: number, lines: number): number | null;
   /** Where the line of an open file begins that is so many lines before that of a place, 0 for that line itself; null if a gap comes before

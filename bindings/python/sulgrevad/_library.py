@@ -92,6 +92,7 @@ SIGNATURES: Dict[str, Tuple[Any, ...]] = {
     "term_read": (c_uint16, c_uint32, *_RUNES, _U32), "term_changed": (c_uint16, _U32, _U32, _U32),
     "term_text": (c_uint16, *_TEXT_FROM), "term_bytes": (c_uint16, c_uint32, c_uint32, _SIZE, _U32),
     "term_place": (c_uint16, c_uint32, c_size_t, _U32), "term_line": (c_uint16, c_uint32, c_uint32, _U32),
+    "term_units": (c_uint16, c_uint32, c_uint32, _U32, _U32), "term_unit_place": (c_uint16, c_uint32, c_uint32, _U32),
     "term_line_before": (c_uint16, c_uint32, c_uint32, _U32), "term_lines": (c_uint16, c_uint32, c_uint32, _U32, _U32),
     "term_first_gap": (c_uint16, c_uint32, _U32),
     "term_dot": (c_uint16, _U32, _U32), "term_view_of": (c_uint16, _U32, _U32), "term_locked": (c_uint16, _BOOL),

@@ -702,6 +702,18 @@ class Terminal(_Side):
         text is the last place. Raises Missing."""
         return self._number("place", c_uint32, tag, start, count)
 
+    def units(self, tag: int, start: int, end: int) -> Tuple[int, int]:
+        """How many code units the loaded runes of an open file from a place to a place take in UTF-16, and how many of its runes there are
+        not loaded. Raises Missing."""
+        count, gaps = c_uint32(), c_uint32()
+        self._call("units", tag, start, end, byref(count), byref(gaps))
+        return count.value, gaps.value
+
+    def unit_place(self, tag: int, start: int, units: int) -> int:
+        """The place after the loaded runes of an open file from a place on that so many code units of UTF-16 hold whole: a gap or the end of
+        the text is the last place. Raises Missing."""
+        return self._number("unit_place", c_uint32, tag, start, units)
+
     def line(self, tag: int, start: int, lines: int) -> Optional[int]:
         """The place after so many line ends of an open file from a place on; None if a gap or the end comes before, or it isn't open."""
         return self._number_if_any("line", c_uint32, tag, start, lines)

@@ -1,15 +1,16 @@
-//! What C reads of the text of an open file, in runes, bytes and lines: include/sulgrevad.h says of each call what it hands out. None of
+//! What C reads of the text of an open file, in runes, bytes, code units and lines: include/sulgrevad.h says of each call what it hands out. None of
 //! them changes the terminal. Each returns `SAM_NO_HANDLE` if the handle is empty, and then `SAM_NONE` if the file is not open; after these
 //! what its other arguments lead to is as it was. Places count runes from the beginning of the text.
 
 ghost use Rattle.std.specs.Prelude.{◌≡◌, drop, option_and_then, option_map};
 ghost use Rattle.sam_c.specs.Calls.{ReportsSome, ReportsText, written};
-ghost use Rattle.sam_c.specs.Measures.{front_runes, line_after, line_before, line_sizes, place_after, sizes};
+ghost use Rattle.sam_c.specs.Measures.{front_runes, line_after, line_before, place_after, sizes};
 ghost use Rattle.sam_c.specs.Terms.{rasp_of};
 
 use crate::handle::{SamTerm, with_end};
-use crate::measures::{line_after, line_before, place_after, size_of_range, tell_front};
+use crate::measures::tell_front;
 use crate::status::{NO_HANDLE, NONE, OK};
+use sam_rasp::Measure;
 use std::alloc::Global;
 
 /// Puts the text of an open file from a place on, up to the first gap, into the buffer in UTF-8, as many whole runes as have room. Hands
@@ -49,14 +50,14 @@ pub extern "C" fn sam_term_bytes(
     alloc: Global,
 ) -> u32
     ensures told { ReportsSome term.old.held.end result (bytes.old, gaps.old) (bytes.new, gaps.new)
-        (λ e. option_map (λ text. sizes text start end) (rasp_of e tag)) }
+        (λ e. option_map (λ text. sizes text Measure.Bytes start end) (rasp_of e tag)) }
     ensures kept { term.new.held.end ≡ term.old.held.end }
 {
     with_end!(term alloc held {
         match held.term().rasp(tag) {
             Some(rasp) => {
-                let all = size_of_range(rasp, start, end);
-                *bytes = all.bytes;
+                let all = rasp.tally(start, end);
+                *bytes = all.bytes as usize;
                 *gaps = all.gaps;
                 OK
             }
@@ -77,13 +78,68 @@ pub extern "C" fn sam_term_place(
     alloc: Global,
 ) -> u32
     ensures told { ReportsSome term.old.held.end result place.old place.new
-        (λ e. option_map (λ text. place_after text start bytes) (rasp_of e tag)) }
+        (λ e. option_map (λ text. place_after text start Measure.Bytes bytes) (rasp_of e tag)) }
     ensures kept { term.new.held.end ≡ term.old.held.end }
 {
     with_end!(term alloc end {
         match end.term().rasp(tag) {
             Some(rasp) => {
-                *place = place_after(rasp, start, bytes);
+                *place = rasp.place_after(start, Measure::Bytes, bytes);
+                OK
+            }
+            None => NONE,
+        }
+    })
+}
+
+/// Hands out how many code units the loaded runes of an open file from the place `start` to the place `end` take in UTF-16, and how many
+/// there are not loaded.
+#[unsafe(no_mangle)]
+pub extern "C" fn sam_term_units(
+    term: &mut SamTerm,
+    tag: u16,
+    start: u32,
+    end: u32,
+    units: &mut u32,
+    gaps: &mut u32,
+    alloc: Global,
+) -> u32
+    ensures told { ReportsSome term.old.held.end result (units.old, gaps.old) (units.new, gaps.new)
+        (λ e. option_map (λ text. sizes text Measure.Units start end) (rasp_of e tag)) }
+    ensures kept { term.new.held.end ≡ term.old.held.end }
+{
+    with_end!(term alloc held {
+        match held.term().rasp(tag) {
+            Some(rasp) => {
+                let all = rasp.tally(start, end);
+                *units = all.units;
+                *gaps = all.gaps;
+                OK
+            }
+            None => NONE,
+        }
+    })
+}
+
+/// Hands out the place after the loaded runes of an open file from the place `start` on that so many code units of UTF-16 hold whole: it is
+/// at a gap or at the end of the text at the latest.
+#[unsafe(no_mangle)]
+pub extern "C" fn sam_term_unit_place(
+    term: &mut SamTerm,
+    tag: u16,
+    start: u32,
+    units: u32,
+    place: &mut u32,
+    alloc: Global,
+) -> u32
+    ensures told { ReportsSome term.old.held.end result place.old place.new
+        (λ e. option_map (λ text. place_after text start Measure.Units units) (rasp_of e tag)) }
+    ensures kept { term.new.held.end ≡ term.old.held.end }
+{
+    with_end!(term alloc end {
+        match end.term().rasp(tag) {
+            Some(rasp) => {
+                *place = rasp.place_after(start, Measure::Units, units as usize);
                 OK
             }
             None => NONE,
@@ -108,7 +164,7 @@ pub extern "C" fn sam_term_line(
 {
     with_end!(term alloc end {
         let found = match end.term().rasp(tag) {
-            Some(rasp) => line_after(rasp, start, lines),
+            Some(rasp) => rasp.line_after(start, lines),
             None => None,
         };
         match found {
@@ -138,7 +194,7 @@ pub extern "C" fn sam_term_line_before(
 {
     with_end!(term alloc end {
         let found = match end.term().rasp(tag) {
-            Some(rasp) => line_before(rasp, start, lines),
+            Some(rasp) => rasp.line_before(start, lines),
             None => None,
         };
         match found {
@@ -164,14 +220,14 @@ pub extern "C" fn sam_term_lines(
     alloc: Global,
 ) -> u32
     ensures told { ReportsSome term.old.held.end result (lines.old, gaps.old) (lines.new, gaps.new)
-        (λ e. option_map (λ text. line_sizes text start end) (rasp_of e tag)) }
+        (λ e. option_map (λ text. sizes text Measure.Newlines start end) (rasp_of e tag)) }
     ensures kept { term.new.held.end ≡ term.old.held.end }
 {
     with_end!(term alloc held {
         match held.term().rasp(tag) {
             Some(rasp) => {
-                let all = size_of_range(rasp, start, end);
-                *lines = all.lines;
+                let all = rasp.tally(start, end);
+                *lines = all.newlines;
                 *gaps = all.gaps;
                 OK
             }

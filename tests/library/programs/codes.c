@@ -107,6 +107,8 @@ static void no_term_for_files(sam_term *term, struct handed *out)
     WANT(sam_term_text(term, 0, 0, out->buffer, sizeof out->buffer, &out->len, &out->more), SAM_NO_HANDLE);
     WANT(sam_term_bytes(term, 0, 0, 1, &out->len, &out->a), SAM_NO_HANDLE);
     WANT(sam_term_place(term, 0, 0, 1, &out->a), SAM_NO_HANDLE);
+    WANT(sam_term_units(term, 0, 0, 1, &out->a, &out->b), SAM_NO_HANDLE);
+    WANT(sam_term_unit_place(term, 0, 0, 1, &out->a), SAM_NO_HANDLE);
     WANT(sam_term_line(term, 0, 0, 1, &out->a), SAM_NO_HANDLE);
     WANT(sam_term_line_before(term, 0, 0, 1, &out->a), SAM_NO_HANDLE);
     WANT(sam_term_lines(term, 0, 0, 1, &out->a, &out->b), SAM_NO_HANDLE);

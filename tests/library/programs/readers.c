@@ -111,6 +111,8 @@ static void read_rasp(uint16_t tag, uint32_t place)
     note(PARTLY_LOADED, len > 0 && gaps > 0);
     note(LOADED, len > 0 && gaps == 0);
     READ(sam_term_place(&term, tag, place, pick(ROOM), &count));
+    READ(sam_term_units(&term, tag, place, place + pick(ROOM), &count, &gaps));
+    READ(sam_term_unit_place(&term, tag, place, pick(ROOM), &count));
     READ(sam_term_line(&term, tag, place, 1, &count));
     READ(sam_term_line_before(&term, tag, place, 1, &count));
     READ(sam_term_lines(&term, tag, place, place + pick(ROOM), &count, &gaps));

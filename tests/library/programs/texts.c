@@ -173,6 +173,8 @@ static void reads_no_file(sam_term *term, uint16_t tag, sam_status known)
     WANT(sam_term_text(term, tag, 0, bytes, sizeof bytes, &len, &a), SAM_NONE);
     WANT(sam_term_bytes(term, tag, 0, 1, &len, &a), SAM_NONE);
     WANT(sam_term_place(term, tag, 0, 1, &a), SAM_NONE);
+    WANT(sam_term_units(term, tag, 0, 1, &a, &b), SAM_NONE);
+    WANT(sam_term_unit_place(term, tag, 0, 1, &a), SAM_NONE);
     WANT(sam_term_line(term, tag, 0, 0, &a), SAM_NONE);
     WANT(sam_term_line_before(term, tag, 0, 0, &a), SAM_NONE);
     WANT(sam_term_lines(term, tag, 0, 1, &a, &b), SAM_NONE);
@@ -274,6 +276,21 @@ static void wants_place(sam_term *term, uint32_t start, size_t bytes, uint32_t p
     WANT(is, place);
 }
 
+static void wants_units(sam_term *term, uint32_t start, uint32_t end, uint32_t units, uint32_t gaps)
+{
+    uint32_t are = 99, lacks = 99;
+    WANT(sam_term_units(term, 1, start, end, &are, &lacks), SAM_OK);
+    WANT(are, units);
+    WANT(lacks, gaps);
+}
+
+static void wants_unit_place(sam_term *term, uint32_t start, uint32_t units, uint32_t place)
+{
+    uint32_t is = 99;
+    WANT(sam_term_unit_place(term, 1, start, units, &is), SAM_OK);
+    WANT(is, place);
+}
+
 static void wants_line(sam_term *term, uint32_t start, uint32_t lines, sam_status status, uint32_t place)
 {
     uint32_t is = 99;
@@ -316,6 +333,24 @@ static void lines_with_gaps(sam_term *term)
     wants_lines(term, 5, 4, 0, 0);
 }
 
+static void units_with_gaps(sam_term *term)
+{
+    wants_units(term, 0, 11, 8, 4);
+    wants_units(term, 2, 4, 2, 0);
+    wants_units(term, 5, 6, 2, 0); /* the bird */
+    wants_units(term, 8, 99, 0, 3);
+    wants_units(term, 4, 4, 0, 0);
+    wants_units(term, 4, 3, 0, 0);
+    wants_units(term, 99, 100, 0, 0);
+    wants_unit_place(term, 2, 0, 2);
+    wants_unit_place(term, 2, 3, 5);
+    wants_unit_place(term, 2, 4, 5); /* one unit is too few for the bird */
+    wants_unit_place(term, 2, 5, 6);
+    wants_unit_place(term, 2, UINT32_MAX, 8); /* the gap */
+    wants_unit_place(term, 0, 99, 0);
+    wants_unit_place(term, 99, 1, 99);
+}
+
 static void measures_with_gaps(sam_term *term)
 {
     wants_text(term, 0, 15, "", 0);
@@ -338,6 +373,7 @@ static void measures_with_gaps(sam_term *term)
     wants_place(term, 2, 99, 8); /* the gap */
     wants_place(term, 0, 99, 0);
     wants_place(term, 99, 1, 99);
+    units_with_gaps(term);
     wants_line(term, 0, 0, SAM_OK, 0);
     wants_line(term, 99, 0, SAM_OK, 99);
     wants_line(term, 99, 1, SAM_NONE, 0);
@@ -353,7 +389,13 @@ static void measures_without_gaps(sam_term *term)
     wants_bytes(term, 0, 11, 17, 0);
     wants_place(term, 0, 17, 11);
     wants_place(term, 0, 99, 11);
+    wants_place(term, 0, SIZE_MAX, 11);
+    wants_units(term, 0, 11, 12, 0);
+    wants_unit_place(term, 0, 12, 11);
+    wants_unit_place(term, 0, 11, 10);
+    wants_unit_place(term, 0, UINT32_MAX, 11);
     wants_line(term, 0, 3, SAM_OK, 8);
+    wants_line(term, 0, UINT32_MAX, SAM_NONE, 0);
     wants_line(term, 0, 4, SAM_NONE, 0);
     wants_text(term, 8, 15, "end", 3);
     wants_line_before(term, 11, 0, SAM_OK, 8);
@@ -364,7 +406,7 @@ static void measures_without_gaps(sam_term *term)
     wants_lines(term, 0, 11, 3, 0);
 }
 
-/* Runes, bytes and lines of a text of which the places 1 to 8 are loaded, and then all: runes of 1, 2, 3 and 4 bytes, and three lines. */
+/* Runes, bytes, code units and lines of a text of which the places 1 to 8 are loaded, and then all: runes of 1, 2, 3 and 4 bytes, and three lines. */
 static void measures(void)
 {
     static const char text[] = "a\n\xC3\xA9\xE2\x86\x92\n\xF0\x9F\x90\xA6z\nend"; /* a \n é → \n U+1F426 z \n e n d */

@@ -101,7 +101,7 @@ def holes(cells, place, end):
 
 
 def some_runes(source, count):
-    return "".join(source.choice("abcdefghijkl\n") for _ in range(count))
+    return "".join(source.choice("abcdefghijkl\né→\N{BIRD}") for _ in range(count))
 
 
 def change(source, terminal, cells):
@@ -140,6 +140,37 @@ def line_before(cells, place, lines):
     return None if start is None or None in cells[start:place] else start
 
 
+def bytes_of(rune):
+    return len(rune.encode())
+
+
+def units_of(rune):
+    return len(rune.encode("utf-16-le")) // 2
+
+
+def taken(cells, place, end, size_of):
+    """How much the runes from a place to an end take."""
+    return sum(size_of(rune) for rune in cells[place:end] if rune is not None)
+
+
+def place_after(cells, place, size, size_of):
+    """The place after the runes from a place on that so much holds whole: a gap or the end is the last."""
+    while place < len(cells) and cells[place] is not None and size_of(cells[place]) <= size:
+        size -= size_of(cells[place])
+        place += 1
+    return place
+
+
+def line_after(cells, place, lines):
+    """The place after so many line ends from a place on; None if a gap or the end comes before."""
+    while lines:
+        if place >= len(cells) or cells[place] is None:
+            return None
+        lines -= cells[place] == "\n"
+        place += 1
+    return place
+
+
 def test_a_rasp_says_what_a_plain_list_says():
     source, terminal, cells = random.Random(20261128), with_gaps(0), []
     for turn in range(TURNS):
@@ -153,9 +184,16 @@ def test_a_rasp_says_what_a_plain_list_says():
         expect_equal((turn, asked(terminal)), (turn, holes(cells, place, end)))
         first = next((at for at in range(place, len(cells)) if cells[at] is None), None)
         count = sum(rune is not None for rune in cells[place:end])
-        expect_equal((terminal.first_gap(1, place), terminal.bytes(1, place, end)), (first, (count, end - place - count)))
+        gaps = end - place - count
+        expect_equal((turn, terminal.first_gap(1, place)), (turn, first))
+        expect_equal((turn, terminal.bytes(1, place, end)), (turn, (taken(cells, place, end, bytes_of), gaps)))
+        expect_equal((turn, terminal.units(1, place, end)), (turn, (taken(cells, place, end, units_of), gaps)))
+        size = source.randrange(2_000)
+        expect_equal((turn, terminal.place(1, place, size)), (turn, place_after(cells, place, size, bytes_of)))
+        expect_equal((turn, terminal.unit_place(1, place, size)), (turn, place_after(cells, place, size, units_of)))
+        expect_equal((turn, terminal.line(1, place, turn % 4)), (turn, line_after(cells, place, turn % 4)))
         ends = cells[place:end].count("\n")
-        expect_equal((turn, terminal.lines(1, place, end)), (turn, (ends, end - place - count)))
+        expect_equal((turn, terminal.lines(1, place, end)), (turn, (ends, gaps)))
         expect_equal((turn, terminal.line_before(1, end, turn % 3)), (turn, line_before(cells, end, turn % 3)))
 
 

@@ -66,6 +66,8 @@ function checkTexts() {
   same([host.text(tag, 13, 1), host.text(tag, 16), host.text(tag, 99), host.text(tag, 0, 0)], ["𝄞", "\n", "", ""]);
   same(terminal.bytes(tag, 0, 14), { bytes: 18, gaps: 0 });
   same([terminal.place(tag, 0, 18), terminal.line(tag, 0, 1), terminal.line(tag, 0, 2)], [14, 17, null]);
+  same([terminal.units(tag, 0, 14), terminal.units(tag, 0, 13)], [{ units: 15, gaps: 0 }, { units: 13, gaps: 0 }]);
+  same([terminal.unitPlace(tag, 0, 15), terminal.unitPlace(tag, 0, 14)], [14, 13]);
   same([terminal.lineBefore(tag, 17, 0), terminal.lineBefore(tag, 17, 1), terminal.lineBefore(tag, 17, 2)], [17, 0, null]);
   same([terminal.lines(tag, 0, 17), terminal.lines(tag, 0, 16)], [{ lines: 1, gaps: 0 }, { lines: 0, gaps: 0 }]);
   same([host.faultPlace, terminal.faultPlace], [null, null]);

@@ -457,18 +457,25 @@ extern "C" {
         runes: *mut u32,
     ) -> sam_status;
     /// How many bytes the loaded runes of an open file from the place `start` to the place `end` take in UTF-8, and how many of its runes
-    /// there are not loaded. What is after the end of the text counts as nothing, and so does all if `end` is not after `start`.
+    /// there are not loaded. What is after the end of the text counts as nothing, and so does all if `end` is not after `start`. This call
+    /// and the next six cost by the logarithm of the stretches that are loaded or not, wherever the places are, and by at most 1,024 runes.
     pub fn sam_term_bytes(term: *mut sam_term, tag: u16, start: u32, end: u32, bytes: *mut usize, gaps: *mut u32) -> sam_status;
     /// The place after the loaded runes of an open file from the place `start` on that `bytes` bytes of UTF-8 hold whole: a gap or the end
     /// of the text is the last place that it hands out. It is `start` if that is after the end.
     pub fn sam_term_place(term: *mut sam_term, tag: u16, start: u32, bytes: usize, place: *mut u32) -> sam_status;
+    /// How many code units the loaded runes of an open file from the place `start` to the place `end` take in UTF-16 (two for each rune
+    /// from U+10000 on, else one), and how many of its runes there are not loaded. What is after the end of the text counts as nothing, and
+    /// so does all if `end` is not after `start`.
+    pub fn sam_term_units(term: *mut sam_term, tag: u16, start: u32, end: u32, units: *mut u32, gaps: *mut u32) -> sam_status;
+    /// The place after the loaded runes of an open file from the place `start` on that `units` code units of UTF-16 hold whole: a gap or the
+    /// end of the text is the last place that it hands out. It is `start` if that is after the end.
+    pub fn sam_term_unit_place(term: *mut sam_term, tag: u16, start: u32, units: u32, place: *mut u32) -> sam_status;
     /// The place after that many line ends (U+000A) of an open file from the place `start` on, where a line begins; for 0 of them it is
-    /// `start`, wherever that is. SAM_NONE also if a gap or the end of the text comes before. These four cost by the runes from `start` on
-    /// that they look at, and not by those before it.
+    /// `start`, wherever that is. SAM_NONE also if a gap or the end of the text comes before.
     pub fn sam_term_line(term: *mut sam_term, tag: u16, start: u32, lines: u32, place: *mut u32) -> sam_status;
     /// The place where the line of an open file begins that is that many lines before the line of the place `start`; for 0 of them that
     /// line itself. SAM_NONE also if a gap comes before that place, read backwards, if there are fewer lines, or if `start` is after the
-    /// end of the text. It costs by the runes back to that place.
+    /// end of the text.
     pub fn sam_term_line_before(term: *mut sam_term, tag: u16, start: u32, lines: u32, place: *mut u32) -> sam_status;
     /// How many of the loaded runes of an open file from the place `start` to the place `end` are line ends (U+000A), and how many of its
     /// runes there are not loaded. What is after the end of the text counts as nothing, and so does all if `end` is not after `start`. So a

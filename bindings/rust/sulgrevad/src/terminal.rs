@@ -491,6 +491,19 @@ impl Terminal {
         told(|place| unsafe { sys::sam_term_place(self.at(), tag, start, bytes, place) })
     }
 
+    /// How many code units the loaded runes of an open file from a place to a place take in UTF-16, and how many of its runes there are
+    /// not loaded; `None` if it is not open.
+    pub fn units(&self, tag: u16, start: u32, end: u32) -> Option<(u32, u32)> {
+        let mut gaps = 0;
+        told(|units| unsafe { sys::sam_term_units(self.at(), tag, start, end, units, &mut gaps) }).map(|units| (units, gaps))
+    }
+
+    /// The place after the loaded runes of an open file from a place on that so many code units of UTF-16 hold whole: a gap or the end of
+    /// the text is the last place. `None` if it is not open.
+    pub fn unit_place(&self, tag: u16, start: u32, units: u32) -> Option<u32> {
+        told(|place| unsafe { sys::sam_term_unit_place(self.at(), tag, start, units, place) })
+    }
+
     /// The place after so many line ends of an open file from a place on; `None` also if a gap or the end of the text comes before.
     pub fn line(&self, tag: u16, start: u32, lines: u32) -> Option<u32> {
         told(|place| unsafe { sys::sam_term_line(self.at(), tag, start, lines, place) })

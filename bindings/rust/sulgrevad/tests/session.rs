@@ -73,6 +73,9 @@ fn runes_bytes_and_lines() -> Result<(), Error> {
     assert_eq!(term.bytes(file, 0, 4), Some((5, 1)));
     assert_eq!(term.place(file, 1, 4), Some(3));
     assert_eq!(term.place(file, 1, 3), Some(2));
+    assert_eq!(term.units(file, 0, 4), Some((3, 1)));
+    assert_eq!((term.unit_place(file, 1, 2), term.unit_place(file, 0, 2)), (Some(3), Some(0)));
+    assert_eq!((term.units(9, 0, 1), term.unit_place(9, 0, 1)), (None, None));
     assert_eq!(term.line(file, 1, 1), Some(2));
     assert_eq!(term.line(file, 0, 1), None); // a gap comes before
     assert_eq!(term.line_before(file, 4, 0), Some(2));
