@@ -1,5 +1,7 @@
 -- The host stays sound, and its answers are counted.
 use Rattle.sam_host.proofs.Common.{◌≡◌, ℕ, suc, ◌+◌, ◌≤◌, List, [], ◌∷◌, length, Option, None, Ok, Err, refl, ap, subst, arith, unwrap_or, All, All-nil, All-cons, most_in_name, slot, first_of_checks, none_holds, opened_file, written_file, PlainFile, PlainFiles, PlainOutcome, blank_file, file_at, put_file, typed_file, cut_file, pasted_file, put_outcome, HasShortName, IsFit, AreFit, AreSoundFiles, HasShortParts, line_short, named-within, after_t, Tmesg, Hmesg, HFrame, PlainHost, IsVersion, Reply, Answer, answer, counted, stamped, host_checks, new_file, given_slots, reply_to, AreNamesShort, IsSound, AreGiven, StartsSound, StaysSound, FramesFit, AnswersAreCounted, IsSilentWhereDone, FitInPlace}
+use Rattle.sam_text.specs.Files.{dirty_file}
+use Rattle.sam_host.specs.Marking.{MarksKeepSound}
 use Rattle.sam_text.proofs.FitLaws.{all-put, fit-put, fit-typed, fit-cut, fit-pasted, fit-print, fit-committed}
 use Rattle.sam_text.proofs.KeptLaws.{all-free, all-announce}
 use Rattle.sam_host.proofs.EachFrame.{replies_opened}
@@ -96,6 +98,13 @@ stays_sound h g m frames e sound =
       files = reply_fits h m allowed sound.files;
       version = reply_version-is h m allowed sound.version;
     }))
+
+pub marks_keep_sound : MarksKeepSound
+marks_keep_sound h f sound = record {
+  names = names-put h.files f (dirty_file (file_at h.files f)) sound.names (sound.names f);
+  files = fit-put h.files f (dirty_file (file_at h.files f)) sound.files (sound.files f);
+  version = sound.version;
+}
 
 pub frames_fit : FramesFit
 frames_fit h g m frames e sound =

@@ -2,6 +2,7 @@
 //! computes. Each function does nothing: its clause is the law.
 
 ghost use Rattle.sam_host.specs.Laws.{AddsGiven, StartsSound, StaysSound, FramesFit, AnswersAreCounted, IsSilentWhereDone};
+ghost use Rattle.sam_host.specs.Marking.{MarksKeepSound};
 
 /// Says that a host to which files are added one by one is the host that is made with all of them.
 #[tactic(auto, using(crate::proofs::GivenLaws::adds_given))]
@@ -20,6 +21,11 @@ pub fn hosts_start_sound()
 #[tactic(auto, using(crate::proofs::SoundLaws::stays_sound))]
 pub fn hosts_stay_sound()
     ensures { StaysSound }
+{}
+
+/// Says that a sound host of which a file was marked as dirty is sound.
+pub fn marks_keep_hosts_sound()
+    ensures { MarksKeepSound }
 {}
 
 /// Says that each frame which a sound host answers fits in the version at its place of the stream, and in version 2.

@@ -4,7 +4,7 @@
 ghost use Rattle.std.specs.Prelude.{◌≡◌, ◌<◌, ◌≤◌, ◌+◌, ◌-◌, ◌∷◌, [], OnOk, OnErr, IfOk, Err, Some, None, true, false, length};
 ghost use Rattle.sam_runes.specs.Checks.{first_of_checks, unless};
 ghost use Rattle.sam_runes.specs.Texts.{max_runes, word_at, most_in_name};
-ghost use Rattle.sam_text.specs.Files.{blank_file, file_at, has_file, part_at, change_file, too_long, no_tag, file_checks, place_checks, range_checks, insert_checks, room_checks, IsChecked, with_dot, with_work, with_new, with_opened, with_started, without_file, opened_file, announced_file, written_file, typed_file, cut_file, pasted_file, has_room, is_printed, after_print, search_of, with_found, may_look, look_of, with_look};
+ghost use Rattle.sam_text.specs.Files.{blank_file, file_at, has_file, part_at, change_file, too_long, no_tag, file_checks, place_checks, range_checks, insert_checks, room_checks, IsChecked, with_dot, with_work, with_new, with_opened, with_started, without_file, dirty_file, opened_file, announced_file, written_file, typed_file, cut_file, pasted_file, has_room, is_printed, after_print, search_of, with_found, may_look, look_of, with_look};
 ghost use Rattle.sam_text.specs.Views.{room_at, StaysInRoom, KeepRooms, KeepRoomsBut};
 
 use crate::fault::FilesFault;
@@ -94,6 +94,20 @@ impl Files {
         self.wants_file(tag)?;
         let copy = self.copy_text(tag)?;
         self.change(tag, FileChange::Saved(copy));
+        Ok(())
+    }
+
+    /// Marks a file as dirty; its text, name, dot and saved copy stay. No memory is asked for. The caller makes sure that the tag is not 0.
+    /// The only error is `NoFile` if the tag has no file; the files are then unchanged.
+    pub fn mark_dirty(&mut self, tag: u16) -> Result<(), FilesFault>
+        requires { 0 < tag }
+        ensures answer { result ≡ unless (first_of_checks (file_checks self.old.plain tag)) tt }
+        ensures done { OnOk result (self.new.plain ≡ change_file self.old.plain tag dirty_file) }
+        ensures rooms { KeepRooms self.old self.new }
+        ensures unchanged { OnErr result (self.new ≡ self.old) }
+    {
+        self.wants_file(tag)?;
+        self.change(tag, FileChange::Dirty);
         Ok(())
     }
 
