@@ -100,7 +100,7 @@ PLACES = {
     "sam_runes": (370, 12, "texts as lists of runes"),
 }
 LEFT_OUT = {
-    *("sam_tests_whole", "sam_tests_codec", "sam_tests_lines", "sam_tests_gates", "sam_test_support", "sam_examples"),
+    *("sam_tests", "sam_tests_threads", "sam_test_support", "sam_examples"),
 }
 
 

@@ -1,6 +1,6 @@
 //! Why no edit is lost where messages and frames cross. This crate computes nothing: it has the events of a world
 //! ([`event`]), the definition of a world, and the proofs from which `sam_world`, `sam_local` and `sam_rest` make their laws.
-//! docs/DESIGN.md says the same in prose.
+//! docs/explanation/DESIGN.md says the same in prose.
 //!
 //! What they show: take any state that a run reaches, and let both sides handle what is under way and the unsent runes, with no new event
 //! of the user. Then nothing is refused, no lock is held at the end, and the rasp of each open file agrees with the host's text. And

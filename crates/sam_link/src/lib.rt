@@ -1,7 +1,7 @@
 //! A link: two ends, whose bytes and notes go over connections that may break anywhere, each once and in order.
 //!
-//! docs/LINK.md has the wire. An end keeps what it puts until the other side has acknowledged it, and each connection goes on where the
-//! other side's hello says.
+//! docs/reference/LINK.md has the wire. An end keeps what it puts until the other side has acknowledged it, and each connection goes on
+//! where the other side's hello says.
 #![tactic(auto)]
 
 mod answering;

@@ -1,5 +1,5 @@
 //! The limits of texts and of messages. Each stands here, and once more for contracts in specs/Texts.antt, under the same name in
-//! small letters (`LAST_VERSION` as the 2 in `common_version`). docs/PROTOCOL.md lists them.
+//! small letters (`LAST_VERSION` as the 2 in `common_version`). docs/reference/PROTOCOL.md lists them.
 
 ghost use Rattle.std.specs.Prelude.{◌≡◌};
 ghost use Rattle.sam_runes.specs.Texts.{agreed, common_version, snarf_limit};

@@ -1,7 +1,8 @@
 //! Scripts: reading them, replaying them over a world, printing what a world is like, and writing a run down as a script.
 //!
 //! [`Script::read`] reads the bytes of a script, [`replay`] does its lines on one thread, [`show`] prints a world, and [`run_lines`]
-//! writes the script of a run. docs/SCRIPTS.md gives the grammar and the lines that are printed. [`laws`] says how these fit together.
+//! writes the script of a run. docs/reference/SCRIPTS.md gives the grammar and the lines that are printed. [`laws`] says how these fit
+//! together.
 #![tactic(auto)]
 
 mod event;

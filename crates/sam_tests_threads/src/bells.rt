@@ -1,6 +1,6 @@
 //! How the ends of a line wake each other. A sleep also ends by itself, so a test measures how soon it ended, and asks that most of
-//! its wakes came sooner than a sleep ends. The others are left to a machine that has more to do. `tests/bells` runs these tests too, and
-//! looks at the system calls in place of the time.
+//! its wakes came sooner than a sleep ends. The others are left to a machine that has more to do. `tests/core/wakeups` runs these tests
+//! too, and looks at the system calls in place of the time.
 
 ghost use Rattle.std.specs.Prelude.{◌<◌};
 
@@ -343,7 +343,7 @@ fn woken_by_room(rt: &(impl Wait + Threads + Clock + Sync), alloc: Global, makin
 #[test]
 fn what_is_taken_wakes_the_sender(rt: HostRuntime) {
     // One round: on a busy machine the sender may still pause when room is made, and a round can then pass without a wake. That somebody
-    // wakes it `tests/bells` sees.
+    // wakes it `tests/core/wakeups` sees.
     let soon = woken_by_room(&rt, rt.alloc(), ONE);
     assert!(rt; are_many(&soon), "{soon:?}");
 }
