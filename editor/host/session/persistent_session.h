@@ -52,6 +52,8 @@ struct stay {
     bool is_answering; /* that is being done, and notes wait for it */
     bool has_ended;    /* the last note is put */
     bool is_again;     /* it was made again of its journal */
+    bool is_to_end;    /* somebody has asked for its end */
+    bool is_kept;      /* its folder stays, for another samhost to go on from its journal */
     int64_t begun, alone_since, longest_alone;
 };
 
