@@ -15,6 +15,7 @@
 #include <sys/mman.h>
 #include <sys/stat.h>
 #include <sys/uio.h>
+#include <time.h>
 #include <unistd.h>
 
 #include "journal/journal.h"
@@ -282,6 +283,23 @@ bool has_journal(const struct home *home)
     return faccessat(home->folder, JOURNAL, F_OK, 0) == 0;
 }
 
+/* Has an open journal be readable. Of one that lacks its front there is nothing to read. */
+static int map_records(int file, struct text *all, struct stat *status)
+{
+    *all = (struct text){0};
+    if (fstat(file, status) != 0)
+        return errno;
+    if (!S_ISREG(status->st_mode) || status->st_uid != geteuid())
+        return EPERM;
+    if (status->st_size < FRONT_LEN)
+        return 0;
+    void *bytes = mmap(NULL, (size_t)status->st_size, PROT_READ, MAP_PRIVATE, file, 0);
+    if (bytes == MAP_FAILED)
+        return errno;
+    *all = (struct text){bytes, (size_t)status->st_size};
+    return 0;
+}
+
 int open_journal(struct stay *stay, struct text *all, enum journal_kind *kind)
 {
     struct stat status;
@@ -292,14 +310,9 @@ int open_journal(struct stay *stay, struct text *all, enum journal_kind *kind)
     if (file < 0)
         return errno;
     stay->journal = (struct journal){.file = file, .is_unsynced = true}; /* who wrote it may have been killed before */
-    if (fstat(file, &status) != 0)
-        return errno;
-    if (status.st_size < FRONT_LEN)
-        return 0;
-    void *bytes = mmap(NULL, (size_t)status.st_size, PROT_READ, MAP_PRIVATE, file, 0);
-    if (bytes == MAP_FAILED)
-        return errno;
-    *all = (struct text){bytes, (size_t)status.st_size};
+    int error = map_records(file, all, &status);
+    if (error != 0 || all->len == 0)
+        return error;
     if (memcmp(all->bytes, MARK, MARK_LEN) == 0 && number_at(all->bytes + MARK_LEN, 4) == JOURNAL_VERSION)
         *kind = number_at(all->bytes + MARK_LEN + 4, 4) == sam_library_version() ? JOURNAL_SAME : JOURNAL_OTHER_LIBRARY;
     return 0;
@@ -377,4 +390,25 @@ void close_records(struct text *all)
     if (all->bytes != NULL)
         munmap(all->bytes, all->len);
     *all = (struct text){0};
+}
+
+bool is_left_alone(const struct home *home)
+{
+    struct stat status;
+    struct text all = {0};
+    struct record record = {.is_wrong = true};
+    size_t at = FRONT_LEN;
+    int64_t longest = -1;
+    int file = openat(home->folder, JOURNAL, O_RDONLY | O_NOFOLLOW | O_CLOEXEC);
+
+    if (file >= 0 && map_records(file, &all, &status) == 0 && all.len > 0 && next_record(&all, &at, &record) && record.step == STEP_START) {
+        free(take_words(&record)); /* its folder; the mode of new files and the file for undo follow */
+        (void)take_number(&record);
+        (void)take_number(&record);
+        longest = (int64_t)take_number(&record);
+    }
+    close_records(&all);
+    if (file >= 0)
+        close(file);
+    return !record.is_wrong && longest >= 0 && time(NULL) - status.st_mtime > longest / 1000;
 }

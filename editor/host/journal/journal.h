@@ -61,6 +61,9 @@ bool has_journal(const struct home *home);
 int open_journal(struct stay *stay, struct text *all, enum journal_kind *kind);
 void close_records(struct text *all);
 
+/* Whether a session whose samhost is gone has been alone for longer than it may be, as its journal says. */
+bool is_left_alone(const struct home *home);
+
 /* Cuts the journal to its whole records. What is cut off stays beside it. */
 int cut_journal(struct stay *stay, const struct text *all, size_t len);
 

@@ -9,6 +9,7 @@
 #include <stdlib.h>
 #include <string.h>
 #include <sys/socket.h>
+#include <sys/wait.h>
 #include <time.h>
 #include <unistd.h>
 
@@ -216,20 +217,6 @@ static int begin_in(struct home *home, char **paths, int count, const struct opt
     return status;
 }
 
-int begin_to_stay(char **paths, int count, const struct options *options)
-{
-    struct home home;
-    int error = open_home(options->name, true, &home);
-
-    if (error != 0)
-        return say_home(options->name, error);
-    error = lock_home(&home);
-    if (error == 0 && !has_journal(&home))
-        return begin_in(&home, paths, count, options);
-    close_home(&home);
-    return error == 0 || error == EWOULDBLOCK ? attach(options->name) : say_home(options->name, error);
-}
-
 /* ---- Finding it again ---- */
 
 /* Connects to a session of which the folder is there. ENOENT where no samhost has it any more. */
@@ -382,6 +369,47 @@ static int refuse_name(const char *name)
     return refuse_hello(SAM_LINK_NO_SESSION);
 }
 
+/* ---- Sessions that nobody came back to ---- */
+
+static int note_left(struct home *home, void *at)
+{
+    bool *has_some = at;
+
+    *has_some |= is_left_alone(home);
+    return 0;
+}
+
+/* Ends a session that is left alone, unless a samhost has it. */
+static int end_left(struct home *home, void *at)
+{
+    (void)at;
+    if (is_left_alone(home) && lock_home(home) == 0 && is_left_alone(home)) {
+        (void)end_without_samhost(home);
+        home->all = home->folder = home->lock = -1; /* they are closed */
+    }
+    return 0;
+}
+
+/* Ends sessions whose samhost is gone and that have been alone for as long as they may be, in a process of its own: it enters their
+ * folders, and nobody waits for it. */
+static void end_those_left(void)
+{
+    bool has_some = false;
+    pid_t process = each_home(note_left, &has_some) == 0 && has_some ? fork() : -1;
+
+    if (process > 0)
+        (void)waitpid(process, NULL, 0);
+    if (process != 0)
+        return;
+    if (fork() == 0) {
+        go_alone();
+        (void)each_home(end_left, NULL);
+    }
+    _exit(STATUS_OK);
+}
+
+/* ---- What the words ask for ---- */
+
 int attach(const char *name)
 {
     struct home home;
@@ -401,6 +429,21 @@ int attach(const char *name)
     if (error != ENOENT)
         return say_home(name, error);
     return find_heir(name, heir) ? refuse_hello(SAM_LINK_OTHER_SESSION) : refuse_name(name);
+}
+
+int begin_to_stay(char **paths, int count, const struct options *options)
+{
+    struct home home;
+
+    end_those_left();
+    int error = open_home(options->name, true, &home);
+    if (error != 0)
+        return say_home(options->name, error);
+    error = lock_home(&home);
+    if (error == 0 && !has_journal(&home))
+        return begin_in(&home, paths, count, options);
+    close_home(&home);
+    return error == 0 || error == EWOULDBLOCK ? attach(options->name) : say_home(options->name, error);
 }
 
 /* Whether nothing but a wrong journal is left of a session. */

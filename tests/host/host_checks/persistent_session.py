@@ -255,6 +255,27 @@ def check_stays_after_a_signal_until_it_is_ended(folder):
         expect_gone(folder, silent)
 
 
+def check_stays_until_nobody_comes_back(folder):
+    """A session whose samhost is gone ends, as any other, after as long alone as it may be: a new session sees to that, whose text it is saved
+    for. One that was alone for less stays."""
+    made(folder, a="one\n", b="other\n", c="third\n")
+    with Staying(folder, "a.txt") as left, Staying(folder, "b.txt") as late:
+        for session, name, hours in ((left, "a.txt", 73), (late, "b.txt", 71)):
+            session.type("two\n")
+            session.drop()
+            kill(folder, session)
+            when = time.time() - hours * 3600
+            os.utime(home_of(folder, session.name) / "journal", (when, when))
+        with Staying(folder, "c.txt") as new:
+            expect_gone(folder, left)
+            expect_equal(text_of(folder / "a.txt.sam-saved"), "one\ntwo\n", "the copy")
+            new.type("two\n")
+            new.leave()
+        late.type("three\n")
+        expect_equal(late.text(), "other\ntwo\nthree\n", "the text of the other")
+        late.leave()
+
+
 def check_stays_until_it_is_ended(folder):
     """--end ends a session that has a terminal, which hears of it."""
     made(folder, a="one\n")

@@ -175,10 +175,12 @@ def synced(log, size):
 
 
 class PowerCuts:
-    """A session whose samhost is killed, and whose journal is then what was on the disk. The same terminal goes on with it."""
+    """A session whose samhost is killed, and whose journal is then what was on the disk, and each second time some of what came after that.
+    The same terminal goes on with it."""
 
     def __init__(self, folder, session, log):
         self.folder, self.session, self.log, self.size = folder, session, log, 0
+        self.numbers, self.cuts = random.Random(3), 0
 
     def cut(self):
         """Cuts the power; answers how often the journal was synced since the last time."""
@@ -188,9 +190,12 @@ class PowerCuts:
         self.session.abandon()
         journal = home_of(self.folder, self.session.name) / "journal"
         on_disk, syncs = synced(self.log, self.size)
-        expect(0 < on_disk <= journal.stat().st_size, f"this test is wrong: {on_disk} bytes of {journal.stat().st_size} are on the disk")
-        os.truncate(journal, on_disk)
-        self.size = on_disk
+        data = journal.read_bytes()
+        expect(0 < on_disk <= len(data), f"this test is wrong: {on_disk} bytes of {len(data)} are on the disk")
+        self.cuts += 1
+        left = data[: on_disk if self.cuts % 2 else self.numbers.randint(on_disk, len(data))]
+        journal.write_bytes(left)
+        self.size = records_of(left)[1]
         self.log.unlink()
         self.session.prefix = traced(self.log)
         return syncs
@@ -212,6 +217,7 @@ def check_power_cut_at_the_last_sync(folder):
             session.carry(lambda: link.received - before > count, "the file isn't loaded")
             power.cut()
             session.settle()
+            power.cut()
         for number in range(2):
             path.write_text(f"of another program {number}\n")
             session.type(f"refused {number}\n")

@@ -10,7 +10,8 @@ import threading
 import time
 
 from checks import GIVEN_UP, Skipped, expect, times_longer, wait_until
-from host_checks.line import Staying, home_of, is_running, pid_of
+from host_checks.journals import kill
+from host_checks.line import Staying, home_of
 from host_checks.persistent_session import connected
 from host_checks.support import IS_ROOT, NOBODY, SAMHOST, Session, as_nobody, expect_equal, expect_line, made, names_of, own_lines, text_of
 
@@ -227,6 +228,23 @@ def check_neighbours_state_folder(folder):
         ended = subprocess.run([SAMHOST, *words], cwd=folder, env=environment, input=b"", capture_output=True, timeout=GIVEN_UP)
         expect_equal((ended.returncode, ended.stdout), (1, b""), f"{words}: after {ended.stderr!r} the status, and the output")
     expect_equal(os.listdir(state), [], "what is in it")
+
+
+def check_neighbours_journal(folder):
+    """A journal of another user's in a session's folder makes no session, and stays."""
+    another()
+    made(folder, a="one\n")
+    with Staying(folder, "a.txt") as session:
+        session.type("two\n")
+        session.abandon()
+        kill(folder, session)
+        journal = home_of(folder, session.name) / "journal"
+        data = journal.read_bytes()
+        os.chown(journal, NOBODY, NOBODY)
+        for words in (["--end", session.name], ["--attach", session.name]):
+            ended = subprocess.run([SAMHOST, *words], cwd=folder, env=session.environment, input=b"", capture_output=True, timeout=GIVEN_UP)
+            expect_equal((ended.returncode, ended.stdout), (1, b""), f"{words}: after {ended.stderr!r} the status, and the output")
+        expect_equal(journal.read_bytes(), data, "the journal")
 
 
 def check_neighbours_in_a_shared_folder(folder):
