@@ -15,7 +15,7 @@ from host_checks.line import Staying, home_of
 from host_checks.persistent_session import connected
 from host_checks.support import IS_ROOT, NOBODY, SAMHOST, Session, as_nobody, expect_equal, expect_line, made, names_of, own_lines, text_of
 
-SILENT = 25  # connections that say nothing
+SILENT = 40  # connections that say nothing: more than are taken and wait
 
 
 def another():
@@ -145,7 +145,7 @@ def silent_ones(folder, name):
 
 
 def check_neighbours_that_say_nothing(folder):
-    """Beside 25 connections that say nothing --list ends soon, and says what is true of the session."""
+    """Beside 40 connections that say nothing --list ends soon, and says what is true of the session."""
     made(folder, a="one\n")
     with Staying(folder, "a.txt") as session:
         session.type("two\n")
