@@ -20,6 +20,7 @@
 #include "limits.h"
 #include "log.h"
 #include "session/document.h"
+#include "session/persistent_session.h"
 #include "session/session.h"
 #include "sulgrevad.h"
 
@@ -145,8 +146,8 @@ static int put_text(struct session *session, uint16_t tag, const char *path)
     char *end = NULL;
     int error = end_of_links(path, &end);
 
-    if (session->stay != NULL) /* a power cut leaves no file newer than its session */
-        sync_journal(session);
+    if (session->stay != NULL)
+        flush_line(session);
     if (error == 0) {
         owner = owner_at(session, end);
         request.path = end;

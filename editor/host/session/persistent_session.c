@@ -257,6 +257,12 @@ static void write_line(struct session *session)
     }
 }
 
+void flush_line(struct session *session)
+{
+    sync_journal(session);
+    write_line(session);
+}
+
 void say_the_last(struct session *session, const char *machine)
 {
     if (session->stay->line < 0 || !say_note(session, "gone %s", machine))

@@ -242,6 +242,26 @@ def check_power_cut_at_the_last_sync(folder):
         session.leave()
 
 
+def check_power_cut_leaves_no_newer_file(folder):
+    """Before a file is written the disk has what asked for that, and it is acknowledged: the disk may take long."""
+    made(folder, a="one\n")
+    log = folder / "temporary" / "calls"
+    words = (*traced(log)[:-1], "trace=writev,fdatasync,sendto,rename")
+    with Staying(folder, "a.txt", prefix=words) as session:
+        session.type("two\n")
+        session.terminal.write(1)
+        session.settle()
+        expect_equal(text_of(folder / "a.txt"), "one\ntwo\n", "the file")
+        kill(folder, session)
+        session.process.stdout.read()
+        session.process.wait(GIVEN_UP)
+        session.abandon()
+    forms = {r"writev\(\d+<[^>]*/journal>": "record", r"fdatasync\(\d+<[^>]*/journal>": "on disk", r"sendto\(": "sent", r"rename\(": "file"}
+    calls = [name for line in log.read_text().splitlines() for form, name in forms.items() if re.match(rf"\d+ +{form}", line)]
+    at = calls.index("file")
+    expect_equal(calls[at - 3 : at], ["record", "on disk", "sent"], f"in {calls} what comes before the file")
+
+
 def check_power_needs_one_sync_for_an_answer(folder):
     """An acknowledgement and the answer that goes with it wait for the disk once: it is synced no more often than bytes come."""
     made(folder, a="one\n")
