@@ -79,8 +79,8 @@ void sync_journal(struct session *session);
 size_t first_record(void);
 bool next_record(const struct text *all, size_t *at, struct record *record);
 
-/* Whether a whole record stands somewhere behind a place where none begins: then that is no torn end, but damage. Where much stands there it
- * counts as damage. */
+/* Whether a whole record stands somewhere behind a place where none begins: then that is no torn end, but damage. Where much stands there
+ * it counts as damage. */
 bool has_records_behind(const struct text *all, size_t at);
 
 /* What a body has, in order. Words may be NULL; they are taken into memory of the caller's. */

@@ -306,8 +306,8 @@ static int64_t time_to_wait(const struct session *session, int64_t longest)
     return is_short && stay->attempt > 0 ? earlier(wait, PAUSE) : wait;
 }
 
-/* Sleeps until something comes or is due, and reads what it can; what is to be sent goes once the host has taken that, so that one sync does
- * for the acknowledgement and the answer. Signals come here. */
+/* Sleeps until something comes or is due, and reads what it can; what is to be sent goes once the host has taken that, so that one sync
+ * does for the acknowledgement and the answer. Signals come here. */
 static void carry(struct session *session, const sigset_t *mask, int64_t longest)
 {
     struct stay *stay = session->stay;

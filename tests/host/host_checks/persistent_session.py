@@ -256,8 +256,8 @@ def check_stays_after_a_signal_until_it_is_ended(folder):
 
 
 def check_stays_until_nobody_comes_back(folder):
-    """A session whose samhost is gone ends, as any other, after as long alone as it may be: a new session sees to that, whose text it is saved
-    for. One that was alone for less stays."""
+    """A session whose samhost is gone ends, as any other, after as long alone as it may be: a new session sees to that. One that was alone
+    for less stays."""
     made(folder, a="one\n", b="other\n", c="third\n")
     with Staying(folder, "a.txt") as left, Staying(folder, "b.txt") as late:
         for session, name, hours in ((left, "a.txt", 73), (late, "b.txt", 71)):
@@ -314,8 +314,8 @@ def check_stays_where_a_text_can_t_be_saved(folder):
 
 
 def check_stays_without_a_state_folder(folder):
-    """Where the folder of all sessions isn't there yet, as before a home is mounted, the terminal's connection is refused, and standard error
-    says why; else that there is no such session."""
+    """Where the folder of all sessions isn't there yet, as before a home is mounted, the terminal's connection is refused, and standard
+    error says why; else that there is no such session."""
     made(folder, a="one\n")
     with Staying(folder, "a.txt") as session:
         session.type("two\n")

@@ -202,8 +202,8 @@ class PowerCuts:
 
 
 def check_power_cut_at_the_last_sync(folder):
-    """The same terminal goes on after a power cut that leaves of the journal what was on the disk, with all that it has typed and seen: also
-    where the rest would come out otherwise now, as a long file that is being loaded, a write that was refused, and names of files."""
+    """The same terminal goes on after a power cut that leaves of the journal what was on the disk, with all that it has typed and seen:
+    also where the rest would come out otherwise now, as a long file that is being loaded, a write that was refused, and names of files."""
     (path, _) = made(folder, a="one\n", b="a line of the long file\n" * 30_000)
     log = folder / "temporary" / "calls"
     with Staying(folder, "a.txt", "b.txt", options=("--undo",), prefix=traced(log)) as session:

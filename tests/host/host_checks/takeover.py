@@ -9,6 +9,8 @@ from .journals import kill, records_of
 from .line import Staying, home_of, is_running, pid_of, state_of, with_calls
 from .support import IDLE, expect_equal, made, names_in, text_of
 
+RENAMES = "renameat,renameat2"  # calls of the system that rename the journal, and then the folder
+
 
 def names_of(session):
     return [session.terminal.name(tag) for tag in session.terminal.files() if tag != 0]
@@ -191,9 +193,9 @@ def check_taken_where_the_new_journal_is_lost(folder):
 
 
 def check_taken_and_killed_at_each_step(folder):
-    """Where samhost is killed in a takeover, also between the renaming of the journal and that of the folder, the new terminal goes on by the
-    name that it knows."""
-    for call, when in (("fsync", 1), ("fdatasync", 1), ("fdatasync", 2), ("renameat,renameat2", 1), ("renameat,renameat2", 2), ("fsync", 4)):
+    """Where samhost is killed in a takeover, also between the renaming of the journal and that of the folder, the new terminal goes on by
+    the name that it knows."""
+    for call, when in (("fsync", 1), ("fdatasync", 1), ("fdatasync", 2), (RENAMES, 1), (RENAMES, 2), ("fsync", 4)):
         place = folder / f"{call}{when}"
         place.mkdir()
         made(place, a="one\n")
@@ -216,7 +218,7 @@ def check_taken_where_the_folder_stays(folder):
     made(folder, a="one\n")
     with Staying(folder, "a.txt") as old:
         pid = alone(folder, old)
-        with with_calls(pid, "inject=renameat,renameat2:error=EIO:when=2"), Staying(folder, takes=old.name) as new:
+        with with_calls(pid, f"inject={RENAMES}:error=EIO:when=2"), Staying(folder, takes=old.name) as new:
             told = f"told the folder of session {old.name} can't be named anew: Input/output error; it is found all the same"
             expect(told in new.notes, f"it says {new.notes}")
             expect_equal(names_in(state_of(folder)), [old.name], "the folders of sessions")

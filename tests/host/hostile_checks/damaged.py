@@ -73,8 +73,8 @@ def check_damaged_in_the_front_or_the_middle(folder):
 
 
 def check_damaged_says_it_to_terminals(folder):
-    """--attach and --take of such a session refuse the terminal, say why, and keep the journal; --list and --end have it still. A second one
-    is kept beside the first."""
+    """--attach and --take of such a session refuse the terminal, say why, and keep the journal; --list and --end have it still. A second
+    one is kept beside the first."""
     killed = Killed(folder)
     journal = killed.flipped(killed.records[len(killed.records) // 2][0] + 6)
     for number, words in enumerate((["--attach", killed.name], ["--take"])):

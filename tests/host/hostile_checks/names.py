@@ -9,7 +9,8 @@ from host_checks.line import Staying
 from host_checks.support import SAMHOST, Session, expect_equal, expect_line, made, names_of, text_of
 
 JOINERS = "\u200c\u200d"  # scripts and emoji need them
-SIGNS = "".join(map(chr, (*range(0x600, 0x606), 0x6DD, 0x70F, 0x890, 0x891, 0x8E2, 0x110BD, 0x110CD, *range(0x13430, 0x13440))))  # that show
+# Of the category Cf, and shown all the same.
+SIGNS = "".join(map(chr, (*range(0x600, 0x606), 0x6DD, 0x70F, 0x890, 0x891, 0x8E2, 0x110BD, 0x110CD, *range(0x13430, 0x13440))))
 MISLEADING = "\u202e\u2066\u200e\u200f\u061c\u200b\ufeff\u00ad\u2028\u2029\U000e0041"  # bidi controls, unseen characters, separators
 
 
@@ -58,8 +59,8 @@ def check_names_in_the_list(folder):
 
 
 def check_names_that_front_ends_take_for_theirs(folder):
-    """A user's file whose name begins as those of texts that were left or read anew has a front in the session, and is read, written, reported
-    and taken over as any other."""
+    """A user's file whose name begins as those of texts that were left or read anew has a front in the session, and is read, written,
+    reported and taken over as any other."""
     (folder / "temporary").mkdir()
     names = ["~~left~~ 1 + 2026-01-01 00:00:00", "~~anew~~ 1", "~~undo~~", "~~sam~~", "~~left~~ 0 - " + "x" * 60]
     for name in names:
@@ -77,7 +78,8 @@ def check_names_that_front_ends_take_for_theirs(folder):
         (folder / names[0]).write_text("another\n")
         old.type("three\n")
         old.write()
-        told = f"told ? write ./{names[0]}: another program changed it, and the next write replaces it; its text is in ./{names[0]}.sam-saved"
+        why = "another program changed it, and the next write replaces it"
+        told = f"told ? write ./{names[0]}: {why}; its text is in ./{names[0]}.sam-saved"
         expect(told in old.notes, f"no {told!r} in {old.notes}")
         with Staying(folder, takes=old.name) as new:
             expect_equal(names_of(new)[:4], [f"./{name}" for name in names[:4]], "the names for the new terminal")

@@ -12,7 +12,6 @@ import time
 from checks import GIVEN_UP, Skipped, expect, times_longer, wait_until
 from host_checks.journals import kill
 from host_checks.line import Staying, home_of
-from host_checks.persistent_session import connected
 from host_checks.support import IS_ROOT, NOBODY, SAMHOST, Session, as_nobody, expect_equal, expect_line, made, names_of, own_lines, text_of
 
 SILENT = 40  # connections that say nothing: more than are taken and wait
@@ -61,13 +60,14 @@ def check_neighbours_root_keeps_its_own(folder):
     (folder / "a.txt.sam-saved").write_text("typed by root\n")
     os.chown(folder / "a.txt.sam-saved", NOBODY, NOBODY)
     with Session(folder, "a.txt", options=("--undo",)) as session:
-        expect_line([line for line in session.told() if "a.txt" in line], r"a.txt has a text that was not written: it is in a.txt.sam-saved.*")
+        told = [line for line in session.told() if "a.txt" in line]
+        expect_line(told, r"a.txt has a text that was not written: it is in a.txt.sam-saved.*")
         expect_equal(len(names_of(session)), 3, f"of the names {names_of(session)} the number")
 
 
 def check_neighbours_lock_holds_nothing_up(folder):
-    """A lock that another user holds on the folder of a file holds a write up for a fifth of a second at most: so many attempts it is tried.
-    (That another host of the user's is waited for longer, two_hosts tries.)"""
+    """A lock that another user holds on the folder of a file holds a write up for a fifth of a second at most: so many attempts it is
+    tried. (That another host of the user's is waited for longer, two_hosts tries.)"""
     another()
     if shutil.which("strace") is None:
         raise Skipped("no strace")
@@ -97,7 +97,8 @@ def check_neighbours_link_at_the_last_moment(folder):
     target = folder / "temporary" / "target"
     target.write_text("one\n")
     log = folder / "temporary" / "calls"
-    words = ("strace", "-f", "-qq", "-o", log, "-e", "trace=access,faccessat,faccessat2", "-e", "inject=access,faccessat,faccessat2:delay_exit=700000")
+    looks = "access,faccessat,faccessat2"
+    words = ("strace", "-f", "-qq", "-o", log, "-e", f"trace={looks}", "-e", f"inject={looks}:delay_exit=700000")
     with Session(folder, "a.txt", prefix=words, begin=False) as session:
         session.has_begun = True
         session.terminal.open_cmd()
