@@ -215,8 +215,8 @@ static int compare_with(struct home *home, void *at)
         if (is_known)
             spell_identity(&identity, words);
         if (is_known && strstr(answer, words) != NULL)
-            say("%s has changes in session %s that are not written; samterm --take, or samhost --take %s, goes on with them",
-                document->path, home->name, home->name);
+            say("%s has changes in session %s that are not written; samterm --take .. %s, or samhost --take %s, goes on with them",
+                document->path, home->name, home->name, home->name);
         free(identity.name);
     }
     return 0;

@@ -373,8 +373,8 @@ def check_stays_told_to_a_new_one(folder):
         old.drop()
         with Staying(folder, "link.txt", "b.txt", "c.txt", "new.txt") as new:
             told = [note for note in new.notes if " has changes in session " in note]
-            wanted = [f"told {name} has changes in session {old.name} that are not written; samterm --take, or samhost --take {old.name}, "
-                      "goes on with them" for name in ("link.txt", "new.txt")]  # fmt: skip
+            way = f"samterm --take .. {old.name}, or samhost --take {old.name}, goes on with them"
+            wanted = [f"told {name} has changes in session {old.name} that are not written; {way}" for name in ("link.txt", "new.txt")]
             expect_equal(told, wanted, "what it is told")
             new.leave()
         other = pid_of(folder, old.name)
