@@ -329,8 +329,12 @@ enum replay_fault begin_again(struct session *session)
     enum journal_kind kind;
     int error = open_journal(stay, &all, &kind);
 
-    if (error != 0 || kind == JOURNAL_UNKNOWN || !make_session(session))
-        replay.fault = error != 0 ? REPLAY_UNREADABLE : kind == JOURNAL_UNKNOWN ? REPLAY_OTHER : REPLAY_SHORT;
+    if (error != 0)
+        replay.fault = REPLAY_UNREADABLE;
+    else if (kind == JOURNAL_UNKNOWN) /* it lacks its front, or that is another */
+        replay.fault = all.len == 0 ? REPLAY_DAMAGED : REPLAY_OTHER;
+    else if (!make_session(session))
+        replay.fault = REPLAY_SHORT;
     size_t end = replay.fault == REPLAY_OK ? find_done(&all, &replay) : 0;
     if (replay.fault == REPLAY_OK)
         replay.fault = cut_to_whole_records(stay, &all, end, &replay.is_damaged);

@@ -241,23 +241,36 @@ static int signal_end(int line)
     return kill(process, SIGTERM) == 0 ? 0 : errno;
 }
 
-/* Asks the samhost of a session to end, and waits until it has. 0 where it was gone, and its folder is locked now; ENOENT once all of it is
+/* Asks the samhost of a session to end, where one listens. */
+static int ask_to_end(const struct home *home, bool *is_asked)
+{
+    char answer[ANSWER_ROOM];
+    int line, error = ask(home, "end", sizeof "end", LONGEST_ANSWER, answer, &line);
+
+    *is_asked = line >= 0;
+    if (!*is_asked)
+        return error == EAGAIN ? ETIMEDOUT : 0; /* else it is gone, or has not begun to listen */
+    error = strcmp(answer, "ends\n") != 0 ? signal_end(line) : 0;
+    close(line);
+    return error;
+}
+
+/* Has the samhost of a session end, and waits until it has. 0 where it was gone, and its folder is locked now; ENOENT once all of it is
  * gone. */
 static int end_living(struct home *home)
 {
     const struct timespec nap = {0, NAP};
     int64_t until = now() + LONGEST_END;
-    char answer[ANSWER_ROOM];
-    int line, error = ask(home, "end", sizeof "end", LONGEST_ANSWER, answer, &line);
-    int signalled = line >= 0 && strcmp(answer, "ends\n") != 0 ? signal_end(line) : 0;
+    bool is_asked = false;
 
-    if (line >= 0)
-        close(line);
-    if (signalled != 0 || error == EAGAIN)
-        return signalled != 0 ? signalled : ETIMEDOUT;
-    while ((error = lock_home(home)) == EWOULDBLOCK && now() < until)
+    for (;;) {
+        int error = is_asked ? 0 : ask_to_end(home, &is_asked);
+        if (error == 0)
+            error = lock_home(home);
+        if (error != EWOULDBLOCK || now() >= until)
+            return error;
         nanosleep(&nap, NULL);
-    return error;
+    }
 }
 
 int end_session(const char *name)

@@ -2,6 +2,7 @@
 import contextlib
 import os
 import random
+import shutil
 import signal
 import socket
 import subprocess
@@ -288,6 +289,22 @@ def check_stays_until_it_is_ended(folder):
             expect_equal((ending.wait(GIVEN_UP), *ending.communicate()), (0, b"", b""), "what comes of --end")
         expect_gone(folder, session)
         expect("told a.txt was not written; its text is in a.txt.sam-saved" in session.notes, f"it doesn't say where: {session.notes}")
+
+
+def check_stays_ended_while_it_begins(folder):
+    """--end ends a session that doesn't listen yet, as soon as it does."""
+    if shutil.which("strace") is None:
+        raise Skipped("no strace")
+    made(folder, a="one\n")
+    words = ("strace", "-f", "-qq", "-o", "/dev/null", "-e", "inject=listen:delay_enter=1500000")
+    with Staying(folder, "a.txt", begin=False, prefix=words) as session:
+        wait_until(lambda: (home_of(folder, session.name) / "socket").exists(), "it doesn't begin")
+        start = time.monotonic()
+        ended = session.run("--end", session.name)
+        took = time.monotonic() - start
+        expect_equal((ended.returncode, ended.stderr), (0, ""), "what comes of --end")
+        expect(took < 10 * times_longer(), f"it takes {took:.1f} s")
+        expect_gone(folder, session)
 
 
 def check_stays_where_a_text_can_t_be_saved(folder):
