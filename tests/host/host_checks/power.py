@@ -263,7 +263,8 @@ def check_power_cut_leaves_no_newer_file(folder):
 
 
 def check_power_needs_one_sync_for_an_answer(folder):
-    """An acknowledgement and the answer that goes with it wait for the disk once: it is synced no more often than bytes come."""
+    """An acknowledgement and the answer that goes with it wait for the disk once: it is synced as often as bytes come, and not twice. (After
+    a pause it is, too, when texts are saved aside.)"""
     made(folder, a="one\n")
     log = folder / "temporary" / "calls"
     with Staying(folder, "a.txt", prefix=traced(log)) as session:
@@ -276,7 +277,7 @@ def check_power_needs_one_sync_for_an_answer(folder):
         journal = (home_of(folder, session.name) / "journal").read_bytes()
         came = sum(kind in (HELLO, UP) for _, kind in records_of(journal)[0])
         syncs = power.cut()
-        expect(30 <= syncs <= came + 3, f"it is synced {syncs} times for {came} pieces")
+        expect(30 <= syncs <= 1.3 * came, f"it is synced {syncs} times for {came} pieces")
         session.settle()
         session.leave()
 
