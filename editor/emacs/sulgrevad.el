@@ -482,12 +482,19 @@ So they will in the buffer, once the file is free."
   (let ((base (file-name-nondirectory (directory-file-name name))))
     (if (string-empty-p base) "unnamed" base)))
 
+(defconst sulgrevad--not-shown
+  (concat "[\x00-\x1f\x7f-\x9f\u00ad\u061c\u180e\u200b\u200e\u200f\u2028-\u202e\u2060-\u2064\u2066-\u206f\ufeff"
+          "\ufff9-\ufffb\U0001bca0-\U0001bca3\U0001d173-\U0001d17a\U000e0001\U000e0020-\U000e007f]")
+  "What a host puts a question mark for where it tells a name.
+Controls, ends of lines and paragraphs, and formats that show nowhere.")
+
 (defun sulgrevad--is-about (told name)
   "Whether what the host has TOLD of a write is about the file NAME.
 Of a long path NAME is only the end, after three dots."
-  (if (string-prefix-p "…" name)
-      (string-search (concat (substring name 1) ": ") told)
-    (string-prefix-p (concat "? write " name ": ") told)))
+  (let ((name (replace-regexp-in-string sulgrevad--not-shown "?" name t t)))
+    (if (string-prefix-p "…" name)
+        (string-search (concat (substring name 1) ": ") told)
+      (string-prefix-p (concat "? write " name ": ") told))))
 
 (defun sulgrevad--is-unwritten (tag)
   "Whether the file TAG may differ from what the host has written."

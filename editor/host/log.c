@@ -9,6 +9,7 @@
 #include <signal.h>
 #include <stdarg.h>
 #include <stdbool.h>
+#include <stdint.h>
 #include <stdio.h>
 #include <string.h>
 #include <sys/time.h>
@@ -92,26 +93,56 @@ static void write_line(const char *line, size_t len)
     unheard = len > 0 ? unheard + 1 : 0;
 }
 
-/* The bytes of the control character that begins there, one of U+0080 to U+009F among them; 0 where none does. */
-static size_t control_len(const char *at)
-{
-    unsigned char first = (unsigned char)at[0];
+/* The characters of Unicode's categories Cc, Zl and Zp, and those of Cf that show nowhere, but for U+200C and U+200D, the joiners: samterm
+ * has the same. */
+static const struct {
+    uint32_t first, last;
+} not_shown[] = {
+    {0, 0x1F},          {0x7F, 0x9F},       {0xAD, 0xAD},       {0x61C, 0x61C},     {0x180E, 0x180E}, {0x200B, 0x200B},
+    {0x200E, 0x200F},   {0x2028, 0x202E},   {0x2060, 0x2064},   {0x2066, 0x206F},   {0xFEFF, 0xFEFF}, {0xFFF9, 0xFFFB},
+    {0x1BCA0, 0x1BCA3}, {0x1D173, 0x1D17A}, {0xE0001, 0xE0001}, {0xE0020, 0xE007F},
+};
 
-    if (first < ' ' || first == 0x7F)
-        return 1;
-    unsigned char second = (unsigned char)at[1];
-    return first == 0xC2 && second >= 0x80 && second <= 0x9F ? 2 : 0;
+static bool is_shown(uint32_t rune)
+{
+    for (size_t at = 0; at < sizeof not_shown / sizeof not_shown[0]; at++) {
+        if (rune >= not_shown[at].first && rune <= not_shown[at].last)
+            return false;
+    }
+    return true;
 }
 
-/* Puts a question mark in the place of each control character. */
-static void make_printable(char *words)
+/* The bytes of the rune that begins there, and the rune; 0 where no whole one does. */
+static size_t rune_at(const char *at, uint32_t *rune)
+{
+    static const uint32_t least[] = {0, 0, 0x80, 0x800, 0x10000};
+    unsigned char first = (unsigned char)at[0];
+    size_t len = first < 0x80 ? 1 : first < 0xC0 ? 0 : first < 0xE0 ? 2 : first < 0xF0 ? 3 : first < 0xF8 ? 4 : 0;
+
+    *rune = len == 1 ? first : first & (0x7Fu >> len);
+    for (size_t next = 1; next < len; next++) {
+        if (((unsigned char)at[next] & 0xC0) != 0x80)
+            return 0;
+        *rune = *rune << 6 | ((unsigned char)at[next] & 0x3F);
+    }
+    bool is_rune = len > 0 && *rune >= least[len] && *rune <= 0x10FFFF && (*rune < 0xD800 || *rune > 0xDFFF);
+    return is_rune ? len : 0;
+}
+
+void make_printable(char *words)
 {
     char *end = words;
+    uint32_t rune;
 
     while (*words != '\0') {
-        size_t control = control_len(words);
-        *end++ = control > 0 ? '?' : *words;
-        words += control > 0 ? control : 1;
+        size_t len = rune_at(words, &rune);
+        if (len > 0 && is_shown(rune)) {
+            memmove(end, words, len);
+            end += len;
+        } else {
+            *end++ = '?';
+        }
+        words += len > 0 ? len : 1;
     }
     *end = '\0';
 }

@@ -2,7 +2,11 @@
 #ifndef SAMHOST_LOG_H
 #define SAMHOST_LOG_H
 
-/* Writes a line to standard error, unless nobody reads there. Each control character in it comes out as a question mark. */
+/* Puts question marks in words for what a screen would not show as it stands: control characters, format characters that show nowhere (but
+ * for the two joiners, which scripts and emoji need), line and paragraph separators, and bytes that are no UTF-8. */
+void make_printable(char *words);
+
+/* Writes a line to standard error, unless nobody reads there; as printable words. */
 void say(const char *format, ...);
 
 /* Has lines go to a function, without their front and newline, in place of standard error; NULL: no longer. */

@@ -83,7 +83,11 @@ static char *name_of(struct session *session, uint16_t tag)
     int error;
     char *path = path_of(session, tag, &error);
 
-    return path != NULL || error == ENOMEM ? path : formatted(UNNAMED "%u", (unsigned)tag);
+    if (path != NULL || error == ENOMEM)
+        return path;
+    char *unnamed = formatted(UNNAMED "%u", (unsigned)tag), *own = unnamed == NULL ? NULL : from_folder(session, unnamed);
+    free(unnamed);
+    return own;
 }
 
 /* Saves the text in session->text where it was saved before, else in a new copy. */

@@ -146,7 +146,9 @@ static int secure_cut(struct session *session)
     }
     if (is_own(aside) && (is_same(aside->content, content_of(text)) || keep_again(text, aside) == 0))
         return 0;
-    int error = keep(text, CUT, NULL, SAVED, &copy);
+    char *name = from_folder(session, CUT);
+    int error = name == NULL ? ENOMEM : keep(text, name, NULL, SAVED, &copy);
+    free(name);
     if (error == 0) {
         drop_copy(aside);
         *aside = copy;

@@ -43,6 +43,14 @@ static int path_of_own(int which, char **path)
     return *path == NULL ? ENOMEM : 0;
 }
 
+char *state_path(void)
+{
+    char *path = NULL;
+
+    (void)path_of_own(0, &path);
+    return path;
+}
+
 /* Makes a folder, and those above it that are not there, for the user alone. */
 static void make_folders(char *path)
 {
@@ -95,7 +103,7 @@ static char *whole_path(const char *path)
     if (folder != NULL)
         whole = realpath(*folder == '\0' ? "." : folder, NULL);
     if (whole == NULL && errno != ENOMEM) {
-        rest = path;
+        rest = *path == '/' ? path + 1 : path;
         whole = *path == '/' ? formatted("") : realpath(".", NULL);
     }
     if (whole != NULL)

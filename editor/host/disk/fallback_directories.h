@@ -11,6 +11,9 @@ enum { OWN_FOLDERS = 3 }; /* where copies may be that can't stand beside their f
  * user's own, and nobody else's to read. */
 int own_folder(int which, bool makes, char **folder);
 
+/* The path of the first of them, there or not, without the slash, in memory of its own; NULL where nothing names one. */
+char *state_path(void);
+
 /* What names of copies of a file begin with in such a folder, in memory of its own: a number of the whole path, and the name. NULL where
  * there is no memory. */
 char *own_front(const char *path);

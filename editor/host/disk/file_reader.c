@@ -2,6 +2,8 @@
 #define _XOPEN_SOURCE 700
 #include <errno.h>
 #include <fcntl.h>
+#include <inttypes.h>
+#include <stdio.h>
 #include <stdlib.h>
 #include <string.h>
 #include <sys/stat.h>
@@ -21,22 +23,45 @@
 
 /* ---- Reading files ---- */
 
+/* Reads the file that stands at a path. It is looked at before it is opened, since to open a device may do something; and again after
+ * that. */
+static int read_regular(const char *path, int flags, struct text *text, struct stat *status)
+{
+    struct stat now;
+
+    *text = (struct text){0};
+    if (((flags & O_NOFOLLOW) != 0 ? lstat(path, status) : stat(path, status)) != 0)
+        return errno;
+    if (!S_ISREG(status->st_mode))
+        return S_ISDIR(status->st_mode) ? EISDIR : NOT_REGULAR;
+    int file = open(path, O_RDONLY | O_NONBLOCK | O_NOCTTY | O_CLOEXEC | flags), error = file < 0 || fstat(file, &now) != 0 ? errno : 0;
+    if (error == 0 && !S_ISREG(now.st_mode))
+        error = NOT_REGULAR;
+    if (error == 0)
+        error = read_all(file, MOST_BYTES, text);
+    *status = error == 0 ? now : *status;
+    if (file >= 0)
+        close(file);
+    return error;
+}
+
 int read_whole(const char *path, struct text *text)
 {
     struct stat status;
-    int file = open(path, O_RDONLY | O_NONBLOCK | O_CLOEXEC), error = file < 0 ? errno : 0;
+    int error = read_regular(path, 0, text, &status);
 
-    *text = (struct text){0};
-    if (file < 0)
-        return error == ENOENT ? 0 : error;
-    if (fstat(file, &status) != 0)
-        error = errno;
-    else if (!S_ISREG(status.st_mode))
-        error = S_ISDIR(status.st_mode) ? EISDIR : NOT_REGULAR;
-    else
-        error = read_all(file, MOST_BYTES, text);
-    close(file);
-    return error;
+    return error == ENOENT ? 0 : error;
+}
+
+int read_unlinked(const char *path, struct text *text, struct stat *status)
+{
+    return read_regular(path, O_NOFOLLOW, text, status);
+}
+
+/* A path as a file of the session has it, in memory of its own: with a front where it begins as the names do of what is no file. */
+static char *own_path(const char *path)
+{
+    return formatted(strncmp(path, RESERVED, strlen(RESERVED)) == 0 ? "./%s" : "%s", path);
 }
 
 /* The name of a path in the session: the path, or of a long one its last runes after a sign that it was cut. */
@@ -72,14 +97,16 @@ const char *why_not_added(uint32_t code)
 
 int add_text(struct session *session, const char *path, const struct text *text, uint32_t *code, uint16_t *tag)
 {
-    struct document document = {.path = formatted("%s", path), .shown = shown_name(path)};
+    struct document document = {.path = own_path(path)};
     struct content content = access(path, F_OK) == 0 ? content_of(text) : (struct content){.kind = NOT_THERE};
     char *end = NULL;
-    int error = end_of_links(path, &end);
+    int error = document.path == NULL ? ENOMEM : end_of_links(document.path, &end);
 
     *code = SAM_NO_MEMORY;
     if (error == 0)
-        error = document.path == NULL || document.shown == NULL ? ENOMEM : note_known(&document, end, content);
+        document.shown = shown_name(document.path);
+    if (error == 0)
+        error = document.shown == NULL ? ENOMEM : note_known(&document, end, content);
     if (error == 0) /* from here on nothing takes memory */
         *code = sam_host_add_file(&session->host, (const uint8_t *)document.shown, strlen(document.shown), text->bytes, text->len, tag);
     if (*code == SAM_OK)
@@ -139,6 +166,14 @@ int identify(const char *path, struct identity *identity)
     free(folder);
     free(end);
     return error;
+}
+
+void spell_identity(const struct identity *identity, char words[IDENTITY_ROOM])
+{
+    const char *name = identity->name == NULL ? "" : identity->name;
+    uint64_t hash = identity->name == NULL ? 0 : content_of(&(struct text){(uint8_t *)name, strlen(name)}).hash;
+
+    snprintf(words, IDENTITY_ROOM, " %" PRIx64 ":%" PRIx64 ":%" PRIx64 " ", (uint64_t)identity->device, (uint64_t)identity->inode, hash);
 }
 
 bool is_one_file(const struct identity *one, const struct identity *other)

@@ -7,6 +7,7 @@
 #include <sys/types.h>
 
 struct session;
+struct stat;
 struct text;
 
 /* Reads the files, and those below the folders, into the host. Returns the exit status: 0, or why the session can't begin. */
@@ -18,8 +19,11 @@ void tell_times(struct session *session);
 /* Adds the file for undo, which is never written or saved. Returns the exit status. */
 int add_vault(struct session *session);
 
-/* Reads a whole file into memory of the caller's; a file that isn't there is empty. */
+/* Reads a whole file into memory of the caller's; a file that isn't there is empty. What is no regular file is not opened. */
 int read_whole(const char *path, struct text *text);
+
+/* The same of a file that is there and no symbolic link; hands out its marks, too. */
+int read_unlinked(const char *path, struct text *text, struct stat *status);
 
 /* Adds a file that was read to the host, whose status it hands out, and its tag. After an error nothing is added. */
 int add_text(struct session *session, const char *path, const struct text *text, uint32_t *code, uint16_t *tag);
@@ -33,6 +37,11 @@ struct identity {
     ino_t inode;
     char *name; /* the caller's */
 };
+
+enum { IDENTITY_ROOM = 56 };
+
+/* An identity in words, between two blanks: device, inode, and the hash of the name. */
+void spell_identity(const struct identity *identity, char words[IDENTITY_ROOM]);
 
 bool is_folder(const char *path);
 int identify(const char *path, struct identity *identity);

@@ -26,8 +26,10 @@
 
 enum {
     MOST_KEPT = 1000,      /* names that are tried for a copy */
-    MOST_TRIES = 200,      /* attempts to lock a folder */
+    MOST_TRIES = 200,      /* attempts to lock a folder that another host of the user has locked */
+    TRIES_OF_OTHERS = 20,  /* those where it is another user who has */
     PAUSE = 10000000,      /* nanoseconds between two of them */
+    LOCK_ROOM = 256,       /* bytes of a line of the system's list of locks */
     ATTRIBUTES_ROOM = 4096 /* bytes of the names of a file's attributes */
 };
 
@@ -161,15 +163,40 @@ static bool is_locked_elsewhere(int file)
 #endif
 }
 
+/* Whether a process of the user's has an open folder locked, as the system's list of locks says. */
+static bool is_locked_by_own(int file)
+{
+    FILE *locks = fopen("/proc/locks", "re");
+    char line[LOCK_ROOM];
+    struct stat folder, process;
+    bool is_own = false;
+
+    while (locks != NULL && fstat(file, &folder) == 0 && !is_own && fgets(line, sizeof line, locks) != NULL) {
+        char path[LOCK_ROOM];
+        long number;
+        unsigned long long inode;
+        if (sscanf(line, "%*d: FLOCK %*s %*s %ld %*x:%*x:%llu", &number, &inode) != 2 || inode != folder.st_ino)
+            continue;
+        snprintf(path, sizeof path, "/proc/%ld", number);
+        is_own = stat(path, &process) == 0 && process.st_uid == geteuid();
+    }
+    if (locks != NULL)
+        fclose(locks);
+    return is_own;
+}
+
 /* Opens and locks the folder of a path, so that no other host changes a file there between this one's look at it and its write. Where that
- * takes long it goes without. */
+ * takes long it goes without: soon where another user has it locked, who may do so for ever. */
 static int lock_folder(const char *path)
 {
     const struct timespec pause = {0, PAUSE};
     int file = open_folder(path);
 
-    for (int tries = 0; file >= 0 && tries < MOST_TRIES && is_locked_elsewhere(file); tries++)
+    for (int tries = 0; file >= 0 && tries < MOST_TRIES && is_locked_elsewhere(file); tries++) {
+        if (tries >= TRIES_OF_OTHERS && !is_locked_by_own(file))
+            break;
         nanosleep(&pause, NULL);
+    }
     return file;
 }
 
@@ -476,10 +503,24 @@ static int write_over(struct request *request, int file, const struct text *old)
     return error;
 }
 
-static int put_in_place(struct request *request)
+/* Opens a file to be written in place; not another one that has come there since it was looked at, nor what a link leads to. */
+static int open_in_place(struct request *request, const struct stat *old, int *file)
+{
+    struct stat now;
+
+    *file = open(request->path, O_RDWR | O_NONBLOCK | O_NOCTTY | O_NOFOLLOW | O_CLOEXEC);
+    if (*file < 0 && errno != ELOOP && errno != ENXIO)
+        return errno;
+    if (*file >= 0 && fstat(*file, &now) == 0 && S_ISREG(now.st_mode) && now.st_dev == old->st_dev && now.st_ino == old->st_ino)
+        return 0;
+    request->found = content_at(request->path);
+    return IS_CHANGED;
+}
+
+static int put_in_place(struct request *request, const struct stat *seen)
 {
     struct text old = {0};
-    int file = open(request->path, O_RDWR | O_CLOEXEC), error = file < 0 ? errno : 0;
+    int file, error = open_in_place(request, seen, &file);
 
     if (error == 0)
         error = read_all(file, MOST_BYTES, &old);
@@ -508,7 +549,7 @@ int put_file(struct request *request)
     if (access(request->path, W_OK) != 0)
         return errno;
     if (old.st_nlink > 1 || has_attributes(request->path))
-        return put_in_place(request);
+        return put_in_place(request, &old);
     int error = put_new(request, &old);
-    return is_of_the_place(error) ? put_in_place(request) : error;
+    return is_of_the_place(error) ? put_in_place(request, &old) : error;
 }

@@ -20,16 +20,18 @@
 
 enum {
     MOST_OFFERED = 200, /* files that are taken of one folder */
-    MOST_SEEN = 20000   /* files that are looked at */
+    MOST_SEEN = 20000,  /* files that are looked at */
+    MOST_FOLDERS = 10000
 };
 
 /* A folder among the words, and what became of the files below it. */
 struct offer {
     struct session *session;
     struct marks *marks;
-    int seen, taken, left_out;
-    bool is_full; /* there are more than are taken, or looked at */
-    int status;   /* why the session can't begin; else STATUS_OK */
+    int seen, taken, left_out, folders;
+    bool is_full;     /* there are more than are taken, or looked at */
+    bool is_too_deep; /* there are more folders than are looked into */
+    int status;       /* why the session can't begin; else STATUS_OK */
 };
 
 bool has_mark(const struct marks *marks, const struct stat *status)
@@ -90,12 +92,16 @@ static int is_shown(const struct dirent *entry)
 static void offer_folder(struct offer *offer, const char *folder)
 {
     struct dirent **entries = NULL;
-    int count = scandir(folder, &entries, is_shown, alphasort);
 
+    offer->is_too_deep |= offer->folders >= MOST_FOLDERS;
+    if (offer->is_too_deep)
+        return;
+    offer->folders++;
+    int count = scandir(folder, &entries, is_shown, alphasort);
     if (count < 0)
         say("%s: %s", folder, cause(errno));
     for (int round = 0; round < 2; round++) {
-        for (int at = 0; at < count && offer->status == STATUS_OK && !offer->is_full; at++) {
+        for (int at = 0; at < count && offer->status == STATUS_OK && !offer->is_full && !offer->is_too_deep; at++) {
             struct stat status;
             char *path = formatted("%s%s", folder, entries[at]->d_name), *inner = path == NULL ? NULL : formatted("%s/", path);
             if (inner == NULL)
@@ -128,6 +134,8 @@ int add_folder(struct session *session, const char *path, struct marks *marks)
         say("%s: %s", path, cause(ENOMEM));
     else if (offer.is_full)
         say("%s has more files; the first %d are offered", path, offer.taken);
+    else if (offer.is_too_deep)
+        say("%s has more than %d folders; %d files of the first ones are offered", path, MOST_FOLDERS, offer.taken);
     else if (offer.taken == 0)
         say("%s has no text files", path);
     if (offer.left_out > 0)

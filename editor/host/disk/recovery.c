@@ -6,6 +6,7 @@
 #define _XOPEN_SOURCE 700
 #include <dirent.h>
 #include <errno.h>
+#include <pwd.h>
 #include <stdlib.h>
 #include <string.h>
 #include <sys/stat.h>
@@ -38,6 +39,8 @@ struct search {
     struct marks folders; /* those that were looked through */
     bool offers;          /* the terminal is offered the texts */
     int offered;          /* how many */
+    int foreign;          /* copies that are another user's */
+    char *first_foreign;  /* what is said of the first of them */
     bool is_short;        /* something was not looked at, since memory is out */
 };
 
@@ -55,6 +58,8 @@ struct left {
     struct stat status;
     char when[TIME_ROOM];
     bool is_newer;
+    bool is_read;
+    struct text text;
 };
 
 /* ---- Whose it is ---- */
@@ -105,30 +110,53 @@ static bool is_copy_of(struct search *search, const char *path, const struct fol
 
 /* ---- Copies ---- */
 
+static void free_left(struct left *left)
+{
+    free(left->path);
+    free(left->text.bytes);
+}
+
 /* Adds a text that was saved to the host, as a file that the terminal may open, and drops by writing it empty. */
 static void offer(struct search *search, size_t tag, const struct left *left)
 {
     struct session *session = search->session;
-    struct text text = {0};
+    const struct text *text = &left->text;
     uint16_t own = 0;
     char *path = formatted("%s", left->path);
     char *name = formatted(LEFT_OVER " %u %c %s", (unsigned)tag, left->is_newer ? '+' : '-', left->when);
-    bool is_there = path != NULL && name != NULL && read_whole(path, &text) == 0;
 
     search->is_short |= path == NULL || name == NULL;
-    if (is_there && search->offered < MOST_OFFERED &&
-        sam_host_add_file(&session->host, (const uint8_t *)name, strlen(name), text.bytes, text.len, &own) == SAM_OK) {
+    if (left->is_read && path != NULL && name != NULL && search->offered < MOST_OFFERED &&
+        sam_host_add_file(&session->host, (const uint8_t *)name, strlen(name), text->bytes, text->len, &own) == SAM_OK) {
         search->offered++;
         session->documents[own] = (struct document){.path = path, .shown = name, .is_left = true};
-        (void)note_known(&session->documents[own], path, content_of(&text)); /* where memory is out it can't be dropped */
+        (void)note_known(&session->documents[own], path, content_of(text)); /* where memory is out it can't be dropped */
         path = name = NULL;
     }
-    free(text.bytes);
     free(path);
     free(name);
 }
 
-/* Reads what is to be known of a copy. Returns whether it is a file. */
+/* Notes that a copy is another user's, and whose. */
+static void note_foreign(struct search *search, const char *path, uid_t owner)
+{
+    const struct passwd *user = search->foreign++ == 0 ? getpwuid(owner) : NULL;
+
+    if (search->foreign == 1 && user != NULL)
+        search->first_foreign = formatted("%s is of another user, %s", path, user->pw_name);
+    else if (search->foreign == 1)
+        search->first_foreign = formatted("%s is of another user, %lu", path, (unsigned long)owner);
+}
+
+/* Whether a copy is the user's own. Those that root makes of files of others are given to these. */
+static bool is_users(const struct stat *copy, const char *of)
+{
+    struct stat file;
+
+    return copy->st_uid == geteuid() || (geteuid() == 0 && of != NULL && stat(of, &file) == 0 && file.st_uid == copy->st_uid);
+}
+
+/* Reads what is to be known of a copy. Returns whether it is a file of the user's. */
 static bool look_at(struct search *search, const char *place, const char *entry, const char *of, struct left *left)
 {
     struct stat file;
@@ -137,6 +165,12 @@ static bool look_at(struct search *search, const char *place, const char *entry,
     search->is_short |= left->path == NULL;
     if (left->path == NULL || lstat(left->path, &left->status) != 0 || !S_ISREG(left->status.st_mode))
         return false;
+    if (is_users(&left->status, of))
+        left->is_read = read_unlinked(left->path, &left->text, &left->status) == 0;
+    if (!is_users(&left->status, of)) { /* as it is, or as it was opened */
+        note_foreign(search, left->path, left->status.st_uid);
+        return false;
+    }
     const struct timespec *saved = &left->status.st_mtim, *written = &file.st_mtim;
     left->is_newer = of == NULL || stat(of, &file) != 0 || saved->tv_sec > written->tv_sec ||
                      (saved->tv_sec == written->tv_sec && saved->tv_nsec >= written->tv_nsec);
@@ -153,8 +187,7 @@ static void report_saved(struct search *search, size_t tag, const char *place, c
     struct left left = {0};
 
     if (look_at(search, place, entry, document->path, &left)) {
-        struct content content = content_at(left.path);
-        bool is_written = content.kind == READ && is_same(content, content_at(document->path));
+        bool is_written = left.is_read && is_same(content_of(&left.text), content_at(document->path));
         if (!is_written || left.status.st_uid != geteuid() || unlink(left.path) != 0) {
             const char *age = left.is_newer ? "newer" : "older";
             say("%s has a text that was not written: it is in %s, of %s, %s than the file", document->path, left.path, left.when, age);
@@ -162,7 +195,17 @@ static void report_saved(struct search *search, size_t tag, const char *place, c
                 offer(search, tag, &left);
         }
     }
-    free(left.path);
+    free_left(&left);
+}
+
+/* Reports what a file was before a write that may have been broken off. */
+static void report_old(struct search *search, const struct document *document, const char *place, const char *entry)
+{
+    struct left left = {0};
+
+    if (look_at(search, place, entry, document->path, &left))
+        say("%s may be broken: what it was before a write is in %s", document->path, left.path);
+    free_left(&left);
 }
 
 /* Reports a copy where it is one of a file of the session, as it is named or as its symbolic links name it. */
@@ -175,7 +218,7 @@ static void report_copy(struct search *search, const struct folder *folder, cons
             !is_copy_of(search, document->known->path, folder, entry, len, &place))
             continue;
         if (is_old)
-            say("%s may be broken: what it was before a write is in %s%s", document->path, place, entry);
+            report_old(search, document, place, entry);
         else
             report_saved(search, tag, place, entry);
         free(place);
@@ -196,7 +239,7 @@ static void report_other(struct search *search, const struct folder *folder, con
         if (search->offers)
             offer(search, 0, &left);
     }
-    free(left.path);
+    free_left(&left);
 }
 
 /* Whether what is in a folder under a name is another user's. */
@@ -268,6 +311,11 @@ void report_left(struct session *session, bool offers)
         report_folder(&search, folder_of(session->documents[tag].known->path), false);
     }
     report_folder(&search, formatted(""), false);
+    if (search.foreign > 1)
+        say("%s, and is not offered; nor are %d more", search.first_foreign == NULL ? "a copy" : search.first_foreign, search.foreign - 1);
+    else if (search.foreign == 1)
+        say("%s, and is not offered", search.first_foreign == NULL ? "a copy" : search.first_foreign);
+    free(search.first_foreign);
     if (search.is_short)
         say("out of memory: not all that is left of earlier sessions was looked for");
     free(search.folders.items);

@@ -20,6 +20,7 @@
 #include "limits.h"
 #include "log.h"
 #include "session/document.h"
+#include "session/persistent_session.h"
 #include "session/session.h"
 #include "sulgrevad.h"
 
@@ -45,6 +46,13 @@ const char *cause(int error)
     }
 }
 
+char *from_folder(const struct session *session, const char *path)
+{
+    bool is_seen = session->lost_folder == NULL || *path == '/';
+
+    return is_seen ? formatted("%s", path) : formatted("%s/%s", session->lost_folder, path);
+}
+
 char *path_of(struct session *session, uint16_t tag, int *error)
 {
     const struct document *document = &session->documents[tag];
@@ -58,7 +66,7 @@ char *path_of(struct session *session, uint16_t tag, int *error)
     if (*error != 0)
         return NULL;
     bool is_cut = document->shown != NULL && strcmp(name, document->shown) == 0;
-    char *path = formatted("%s", is_cut ? document->path : name);
+    char *path = from_folder(session, is_cut ? document->path : name);
     *error = path == NULL ? ENOMEM : 0;
     return path;
 }
@@ -138,6 +146,8 @@ static int put_text(struct session *session, uint16_t tag, const char *path)
     char *end = NULL;
     int error = end_of_links(path, &end);
 
+    if (session->stay != NULL)
+        flush_line(session);
     if (error == 0) {
         owner = owner_at(session, end);
         request.path = end;
@@ -228,6 +238,14 @@ static bool has_it_anew(struct session *session, uint16_t tag)
     return has_it;
 }
 
+/* Once a file is written: takes back what was told of it when its terminal took the session over. */
+static void take_back(struct document *document, const char *path)
+{
+    if (document->is_taken)
+        say("%s is written", path);
+    document->is_taken = false;
+}
+
 static void write_file(struct session *session, uint16_t tag)
 {
     int error;
@@ -245,6 +263,8 @@ static void write_file(struct session *session, uint16_t tag)
         session->documents[tag].is_unsaved = error != 0;
         if (error != 0)
             report_unwritten(session, tag, path, error);
+        else
+            take_back(&session->documents[tag], path);
     }
     free(path);
     note_done(session, DOING_WRITE, tag, false);

@@ -19,6 +19,10 @@ void report_taken(struct session *session);
 /* Notes what a document has read from a path or written to it. */
 int note_known(struct document *document, const char *path, struct content content);
 
+/* A path that is seen from the folder in which the session began, in memory of its own; where that folder is gone, a whole path that leads
+ * nowhere. NULL where memory is out. */
+char *from_folder(const struct session *session, const char *path);
+
 /* The path of a file as it is named now, in memory of its own. NULL where it has none, with the reason in `error`. */
 char *path_of(struct session *session, uint16_t tag, int *error);
 

@@ -4,8 +4,8 @@
  * kind, the body, and CRC-32C of all these. Numbers have the highest byte first. A record is written once its step is done, and before
  * anything that rests on it goes out. The library's host and link are what these steps make of them, so nothing else has to be kept.
  *
- * What is written survives the process. It is on the disk before it is acknowledged, and after a pause; so what a power cut takes was not
- * acknowledged. Where the file can't be written any more it goes, and the session stays without it.
+ * What is written survives the process. It is on the disk before anything is sent that rests on it, before a file is written, and after a
+ * pause; so what a power cut takes nobody has heard of. Where the file can't be written any more it goes, and the session stays without it.
  */
 #define _GNU_SOURCE
 #include <errno.h>
@@ -15,6 +15,7 @@
 #include <sys/mman.h>
 #include <sys/stat.h>
 #include <sys/uio.h>
+#include <time.h>
 #include <unistd.h>
 
 #include "journal/journal.h"
@@ -32,7 +33,10 @@ enum {
     FRONT_LEN = MARK_LEN + 8, /* of the file */
     HEAD_LEN = 5,             /* of a record */
     SUM_LEN = 4,
-    ROOM_FIRST = 256
+    ROOM_FIRST = 256,
+    MOST_BODY = 1 << 26,   /* bytes of the body of a record */
+    MOST_BEHIND = 1 << 26, /* bytes behind a wrong record in which whole ones are looked for */
+    MOST_SUMMED = 1 << 28  /* bytes of what may be records there that are summed up */
 };
 
 #define MARK "\x89samjrn\n"
@@ -192,6 +196,7 @@ static void lose_journal(struct session *session, int error)
     close(stay->journal.file);
     stay->journal = (struct journal){.file = -1};
     (void)unlinkat(stay->home.folder, JOURNAL, 0);
+    sync_home(&stay->home); /* else a power cut could bring it back */
     say("the journal can't be written: %s; if samhost ends unasked, the session ends with it", cause(error));
 }
 
@@ -226,7 +231,7 @@ void add_record(struct session *session, enum step step, const uint8_t *bytes, s
     head[4] = (uint8_t)step;
     put_number(sum, sum_of(sum_of(0, head, HEAD_LEN), bytes, len), SUM_LEN);
     struct iovec parts[] = {{head, HEAD_LEN}, {(void *)bytes, len}, {sum, SUM_LEN}};
-    int error = len > UINT32_MAX ? EFBIG : write_all(journal->file, parts, 3);
+    int error = len > MOST_BODY ? EFBIG : write_all(journal->file, parts, 3);
     journal->is_unsynced = true;
     if (error != 0)
         lose_journal(session, error);
@@ -245,7 +250,6 @@ void sync_journal(struct session *session)
 {
     struct journal *journal = &session->stay->journal;
 
-    journal->is_awaited = false;
     if (journal->file < 0 || !journal->is_unsynced)
         return;
     journal->is_unsynced = false;
@@ -279,6 +283,23 @@ bool has_journal(const struct home *home)
     return faccessat(home->folder, JOURNAL, F_OK, 0) == 0;
 }
 
+/* Has an open journal be readable. Of one that lacks its front there is nothing to read. */
+static int map_records(int file, struct text *all, struct stat *status)
+{
+    *all = (struct text){0};
+    if (fstat(file, status) != 0)
+        return errno;
+    if (!S_ISREG(status->st_mode) || status->st_uid != geteuid())
+        return EPERM;
+    if (status->st_size < FRONT_LEN)
+        return 0;
+    void *bytes = mmap(NULL, (size_t)status->st_size, PROT_READ, MAP_PRIVATE, file, 0);
+    if (bytes == MAP_FAILED)
+        return errno;
+    *all = (struct text){bytes, (size_t)status->st_size};
+    return 0;
+}
+
 int open_journal(struct stay *stay, struct text *all, enum journal_kind *kind)
 {
     struct stat status;
@@ -288,15 +309,10 @@ int open_journal(struct stay *stay, struct text *all, enum journal_kind *kind)
     *kind = JOURNAL_UNKNOWN;
     if (file < 0)
         return errno;
-    stay->journal = (struct journal){.file = file};
-    if (fstat(file, &status) != 0)
-        return errno;
-    if (status.st_size < FRONT_LEN)
-        return 0;
-    void *bytes = mmap(NULL, (size_t)status.st_size, PROT_READ, MAP_PRIVATE, file, 0);
-    if (bytes == MAP_FAILED)
-        return errno;
-    *all = (struct text){bytes, (size_t)status.st_size};
+    stay->journal = (struct journal){.file = file, .is_unsynced = true}; /* who wrote it may have been killed before */
+    int error = map_records(file, all, &status);
+    if (error != 0 || all->len == 0)
+        return error;
     if (memcmp(all->bytes, MARK, MARK_LEN) == 0 && number_at(all->bytes + MARK_LEN, 4) == JOURNAL_VERSION)
         *kind = number_at(all->bytes + MARK_LEN + 4, 4) == sam_library_version() ? JOURNAL_SAME : JOURNAL_OTHER_LIBRARY;
     return 0;
@@ -307,24 +323,66 @@ size_t first_record(void)
     return FRONT_LEN;
 }
 
+/* How many bytes the body has of a record that may begin at a place, as its head says; false where none can. */
+static bool may_begin(const struct text *all, size_t at, size_t *len)
+{
+    size_t left = all->len - at;
+    const uint8_t *head = all->bytes + at;
+
+    *len = 0;
+    if (left < HEAD_LEN + SUM_LEN || head[4] < STEP_START || head[4] > LAST_STEP)
+        return false;
+    *len = (size_t)number_at(head, 4);
+    return *len <= MOST_BODY && *len <= left - HEAD_LEN - SUM_LEN;
+}
+
+static bool has_right_sum(const uint8_t *head, size_t len)
+{
+    return number_at(head + HEAD_LEN + len, SUM_LEN) == sum_of(0, head, HEAD_LEN + len);
+}
+
+bool has_records_behind(const struct text *all, size_t at)
+{
+    size_t len, summed = 0;
+
+    if (all->len - at > MOST_BEHIND)
+        return true;
+    for (; at < all->len; at++) {
+        if (!may_begin(all, at, &len))
+            continue;
+        summed += len;
+        if (summed > MOST_SUMMED || has_right_sum(all->bytes + at, len))
+            return true;
+    }
+    return false;
+}
+
 bool next_record(const struct text *all, size_t *at, struct record *record)
 {
-    size_t left = all->len - *at;
+    size_t len;
     const uint8_t *head = all->bytes + *at;
 
-    if (left < HEAD_LEN + SUM_LEN)
+    if (!may_begin(all, *at, &len) || !has_right_sum(head, len))
         return false;
-    uint64_t len = number_at(head, 4);
-    if (len > left - HEAD_LEN - SUM_LEN || number_at(head + HEAD_LEN + len, SUM_LEN) != sum_of(0, head, HEAD_LEN + (size_t)len))
-        return false;
-    *record = (struct record){.step = (enum step)head[4], .body = head + HEAD_LEN, .len = (size_t)len};
-    *at += HEAD_LEN + (size_t)len + SUM_LEN;
+    *record = (struct record){.step = (enum step)head[4], .body = head + HEAD_LEN, .len = len};
+    *at += HEAD_LEN + len + SUM_LEN;
     return true;
 }
 
-int cut_journal(struct stay *stay, size_t len)
+int cut_journal(struct stay *stay, const struct text *all, size_t len)
 {
-    return ftruncate(stay->journal.file, (off_t)len) != 0 ? errno : 0;
+    struct iovec torn = {all->bytes + len, all->len - len};
+    int file, error = make_in_home(&stay->home, TORN_JOURNAL, O_WRONLY | O_TRUNC, &file);
+
+    if (error != 0)
+        return error;
+    error = write_all(file, &torn, 1);
+    if (error == 0 && fsync(file) != 0)
+        error = errno;
+    close(file);
+    if (error == 0 && (ftruncate(stay->journal.file, (off_t)len) != 0 || fdatasync(stay->journal.file) != 0))
+        error = errno;
+    return error;
 }
 
 void close_records(struct text *all)
@@ -332,4 +390,25 @@ void close_records(struct text *all)
     if (all->bytes != NULL)
         munmap(all->bytes, all->len);
     *all = (struct text){0};
+}
+
+bool is_left_alone(const struct home *home)
+{
+    struct stat status;
+    struct text all = {0};
+    struct record record = {.is_wrong = true};
+    size_t at = FRONT_LEN;
+    int64_t longest = -1;
+    int file = openat(home->folder, JOURNAL, O_RDONLY | O_NOFOLLOW | O_CLOEXEC);
+
+    if (file >= 0 && map_records(file, &all, &status) == 0 && all.len > 0 && next_record(&all, &at, &record) && record.step == STEP_START) {
+        free(take_words(&record)); /* its folder; the mode of new files and the file for undo follow */
+        (void)take_number(&record);
+        (void)take_number(&record);
+        longest = (int64_t)take_number(&record);
+    }
+    close_records(&all);
+    if (file >= 0)
+        close(file);
+    return !record.is_wrong && longest >= 0 && time(NULL) - status.st_mtime > longest / 1000;
 }

@@ -26,6 +26,8 @@ enum step {
     STEP_KEPT_CUT   /* the copy of what was cut last */
 };
 
+enum { LAST_STEP = STEP_KEPT_CUT };
+
 /* What is done to files because of a message. */
 enum doing { DOING_WRITE = 1, DOING_CLOSE };
 
@@ -47,7 +49,6 @@ struct record {
 struct journal {
     int file;         /* -1 where there is none */
     bool is_unsynced; /* something may not be on the disk */
-    bool is_awaited;  /* that has to be there before anything more is sent */
 };
 
 enum journal_kind { JOURNAL_UNKNOWN, JOURNAL_OTHER_LIBRARY, JOURNAL_SAME };
@@ -60,8 +61,11 @@ bool has_journal(const struct home *home);
 int open_journal(struct stay *stay, struct text *all, enum journal_kind *kind);
 void close_records(struct text *all);
 
-/* Cuts the journal to its whole records. */
-int cut_journal(struct stay *stay, size_t len);
+/* Whether a session whose samhost is gone has been alone for longer than it may be, as its journal says. */
+bool is_left_alone(const struct home *home);
+
+/* Cuts the journal to its whole records. What is cut off stays beside it. */
+int cut_journal(struct stay *stay, const struct text *all, size_t len);
 
 /* Adds a record. Where that can't be, there is no journal from then on, and the terminal is told so. */
 void add_record(struct session *session, enum step step, const uint8_t *bytes, size_t len);
@@ -74,6 +78,10 @@ void sync_journal(struct session *session);
  * torn. */
 size_t first_record(void);
 bool next_record(const struct text *all, size_t *at, struct record *record);
+
+/* Whether a whole record stands somewhere behind a place where none begins: then that is no torn end, but damage. Where much stands there
+ * it counts as damage. */
+bool has_records_behind(const struct text *all, size_t at);
 
 /* What a body has, in order. Words may be NULL; they are taken into memory of the caller's. */
 void add_number(struct body *body, uint64_t number);

@@ -68,7 +68,7 @@ static void add_document(struct body *body, uint16_t tag, const struct document 
     add_number(body, tag);
     add_words(body, document->path);
     add_words(body, document->shown);
-    add_number(body, document->is_unsaved);
+    add_number(body, document->is_unsaved + (document->is_unsaved && document->is_taken));
     add_number(body, document->is_reported);
     add_number(body, document->is_left);
     add_copy(body, &document->aside);
@@ -112,7 +112,9 @@ void take_document(struct session *session, struct record *record)
     }
     document.path = take_words(record);
     document.shown = take_words(record);
-    document.is_unsaved = take_number(record) != 0;
+    uint64_t unsaved = take_number(record);
+    document.is_unsaved = unsaved > 0;
+    document.is_taken = unsaved > 1;
     document.is_reported = take_number(record) != 0;
     document.is_left = take_number(record) != 0;
     take_copy(record, &document.aside);

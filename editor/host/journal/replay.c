@@ -57,8 +57,13 @@ bool is_done_already(struct session *session, enum doing doing, uint16_t tag)
 {
     struct replay *replay = session->stay == NULL ? NULL : session->stay->replay;
 
-    if (replay == NULL || replay->next == replay->count)
+    if (replay == NULL)
         return false;
+    if (replay->next == replay->count) {
+        bool is_write = replay->is_damaged && doing == DOING_WRITE; /* nobody knows what came after it */
+        session->documents[tag].is_unsaved |= is_write;
+        return is_write;
+    }
     struct record record = replay->done[replay->next++];
     bool is_other = take_number(&record) != doing, is_held = take_number(&record) != 0;
     struct record document = record;
@@ -143,6 +148,10 @@ static void take_start(struct session *session, struct record *record)
     umask(0666 & ~session->mode_of_new_files);
     if (folder == NULL || chdir(folder) != 0) {
         say("%s: %s", folder == NULL ? "the folder of the session" : folder, cause(errno));
+        if (folder != NULL && session->stay->is_to_end) { /* its texts are saved elsewhere */
+            session->lost_folder = folder;
+            return;
+        }
         session->stay->replay->fault = REPLAY_NO_FOLDER;
     }
     free(folder);
@@ -200,7 +209,9 @@ static void note_again(struct session *session, const uint8_t *bytes, size_t len
 {
     struct stay *stay = session->stay;
 
-    stay->has_ended |= len > 6 && memcmp(bytes, "ended ", 6) == 0;
+    bool is_last = len > 6 && memcmp(bytes, "ended ", 6) == 0;
+    stay->has_ended |= is_last;
+    stay->is_kept |= is_last && bytes[6] == '0' + STATUS_LOST; /* the journal has what could not be saved */
     if (sam_link_put_note(&stay->link, bytes, len) != SAM_OK)
         stay->replay->fault = REPLAY_SHORT;
 }
@@ -299,6 +310,17 @@ static void replay_all(struct session *session, const struct text *all, size_t e
     stay->out.len = stay->out.sent = 0;
 }
 
+/* Cuts off what a crash has left of a last record. Where the journal is damaged instead, it stays as it is. */
+static enum replay_fault cut_to_whole_records(struct stay *stay, const struct text *all, size_t end, bool *is_damaged)
+{
+    if (end == 0 && all->len == first_record())
+        return REPLAY_NOTHING;
+    *is_damaged = end == 0 || has_records_behind(all, end);
+    if (end == 0)
+        return REPLAY_DAMAGED;
+    return *is_damaged || end == all->len || cut_journal(stay, all, end) == 0 ? REPLAY_OK : REPLAY_UNREADABLE;
+}
+
 enum replay_fault begin_again(struct session *session)
 {
     struct stay *stay = session->stay;
@@ -307,13 +329,15 @@ enum replay_fault begin_again(struct session *session)
     enum journal_kind kind;
     int error = open_journal(stay, &all, &kind);
 
-    if (error != 0 || kind == JOURNAL_UNKNOWN || !make_session(session))
-        replay.fault = error != 0 ? REPLAY_UNREADABLE : kind == JOURNAL_UNKNOWN ? REPLAY_OTHER : REPLAY_SHORT;
-    size_t end = replay.fault == REPLAY_OK ? find_done(&all, &replay) : 0;
-    if (replay.fault == REPLAY_OK && end == 0)
-        replay.fault = REPLAY_NOTHING;
-    if (replay.fault == REPLAY_OK && end < all.len && cut_journal(stay, end) != 0)
+    if (error != 0)
         replay.fault = REPLAY_UNREADABLE;
+    else if (kind == JOURNAL_UNKNOWN) /* it lacks its front, or that is another */
+        replay.fault = all.len == 0 ? REPLAY_DAMAGED : REPLAY_OTHER;
+    else if (!make_session(session))
+        replay.fault = REPLAY_SHORT;
+    size_t end = replay.fault == REPLAY_OK ? find_done(&all, &replay) : 0;
+    if (replay.fault == REPLAY_OK)
+        replay.fault = cut_to_whole_records(stay, &all, end, &replay.is_damaged);
     stay->replay = &replay;
     if (replay.fault == REPLAY_OK)
         replay_all(session, &all, end);
@@ -321,5 +345,7 @@ enum replay_fault begin_again(struct session *session)
     free(replay.done);
     free(replay.said.bytes);
     close_records(&all);
+    if (replay.is_damaged && (replay.fault == REPLAY_OK || replay.fault == REPLAY_DIFFERS))
+        return REPLAY_DAMAGED;
     return replay.fault != REPLAY_OK || kind == JOURNAL_SAME ? replay.fault : REPLAY_OTHER;
 }

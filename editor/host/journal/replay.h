@@ -18,7 +18,8 @@ enum replay_fault {
     REPLAY_OTHER,     /* the journal is of another version */
     REPLAY_SHORT,     /* memory is out */
     REPLAY_NO_FOLDER, /* the folder in which it began is gone */
-    REPLAY_DIFFERS
+    REPLAY_DIFFERS,
+    REPLAY_DAMAGED /* whole records stand behind one that is wrong, or it has no begin; what stands before that is known */
 };
 
 /* A session that is being made again. */
@@ -27,6 +28,7 @@ struct replay {
     size_t count, next;
     struct body said; /* what the host said before, and has not said again */
     size_t came;      /* how many bytes came for the host since it caught up */
+    bool is_damaged;  /* what was done behind its end is not known */
     enum replay_fault fault;
 };
 

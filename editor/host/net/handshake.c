@@ -30,6 +30,7 @@ void name_machine(char machine[MACHINE_ROOM])
     if (gethostname(machine, MACHINE_ROOM) != 0)
         machine[0] = '\0';
     machine[MACHINE_ROOM - 1] = '\0';
+    make_printable(machine);
 }
 
 /* ---- Connections ---- */
@@ -141,7 +142,6 @@ static uint32_t answer(struct session *session, const struct caller *caller, con
     if (code == SAM_OK) {
         stay->attempt = attempt;
         add_record(session, STEP_HELLO, caller->bytes, caller->len);
-        stay->journal.is_awaited = true; /* the answer says what has come */
     } else if (is_first) {
         drop_link(stay);
     }
@@ -203,17 +203,43 @@ static void answer_line(int socket, const char *line)
     (void)send(socket, line, strlen(line), MSG_NOSIGNAL | MSG_DONTWAIT); /* where it doesn't go, nobody is there */
 }
 
+static bool is_unwritten(struct session *session, size_t tag)
+{
+    bool is_dirty = false;
+
+    return tag != session->vault && sam_host_is_dirty(&session->host, (uint16_t)tag, &is_dirty) == SAM_OK &&
+           (is_dirty || session->documents[tag].is_unsaved);
+}
+
 static int count_unsaved(struct session *session)
 {
     size_t tags = count_tags(session);
     int count = 0;
 
-    for (size_t tag = 1; tag < tags; tag++) {
-        bool is_dirty = false;
-        if (tag != session->vault && sam_host_is_dirty(&session->host, (uint16_t)tag, &is_dirty) == SAM_OK)
-            count += is_dirty || session->documents[tag].is_unsaved;
-    }
+    for (size_t tag = 1; tag < tags; tag++)
+        count += is_unwritten(session, tag);
     return count;
+}
+
+/* Says which files are not written, as far as a line has room for them. */
+static void answer_changed(struct session *session, const struct caller *caller)
+{
+    char line[ANSWER_ROOM], words[IDENTITY_ROOM];
+    size_t tags = count_tags(session), len = 0;
+    int error;
+
+    for (size_t tag = 1; tag < tags && len + IDENTITY_ROOM + 1 < sizeof line; tag++) {
+        struct identity identity = {0};
+        char *path = !is_unwritten(session, tag) || session->documents[tag].is_left ? NULL : path_of(session, (uint16_t)tag, &error);
+        if (path != NULL && identify(path, &identity) == 0) {
+            spell_identity(&identity, words);
+            len += (size_t)snprintf(line + len, sizeof line - len, "%s", words);
+        }
+        free(identity.name);
+        free(path);
+    }
+    memcpy(line + len, "\n", 2);
+    answer_line(caller->socket, line);
 }
 
 /* Says how a session is: for how many seconds it has run, for how many nobody was there, and how many files are not written. */
@@ -306,6 +332,12 @@ static void take_question(struct session *session, struct caller *caller)
         answer_list(session, caller);
     else if (strcmp(words[0], "open") == 0)
         answer_open(session, caller, words[1], words[2], *words[3] != '\0');
+    else if (strcmp(words[0], "changed") == 0)
+        answer_changed(session, caller);
+    else if (strcmp(words[0], "end") == 0) {
+        session->stay->is_to_end = true;
+        answer_line(caller->socket, "ends\n");
+    }
     drop_caller(caller);
 }
 

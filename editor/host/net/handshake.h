@@ -19,7 +19,8 @@ enum {
     MACHINE_ROOM = 256  /* bytes of the name of a machine, and the zero after it */
 };
 
-/* What another samhost asks for begins with a mark, and the length of its words in two bytes; each word ends in a NUL. */
+/* What another samhost asks for begins with a mark, and the length of its words in two bytes; each word ends in a NUL. It is `list`, `open`
+ * with a path, a line and a word that has it wait, `changed` for the files that are not written, or `end`. The answer is a line. */
 #define QUESTION_MARK "\x89samask\n"
 enum {
     QUESTION_MARK_LEN = 8,

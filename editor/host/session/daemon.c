@@ -9,6 +9,7 @@
 #include <stdlib.h>
 #include <string.h>
 #include <sys/socket.h>
+#include <sys/wait.h>
 #include <time.h>
 #include <unistd.h>
 
@@ -125,7 +126,8 @@ static int serve_alone(struct session *session, int begun)
             listen_for_notes(heir);
             status = stay_and_serve(heir);
         }
-        remove_home(&session->stay->home);
+        if (!session->stay->is_kept)
+            remove_home(&session->stay->home);
     }
     free_staying(session);
     return status;
@@ -142,7 +144,7 @@ static int relay_to(struct session *session, int begun)
         count = read(begun, &byte, 1);
     while (count < 0 && errno == EINTR);
     close(begun);
-    if (count != 1 || (error = connect_home(&session->stay->home, &line)) != 0) {
+    if (count != 1 || (error = connect_home(&session->stay->home, 0, &line)) != 0) {
         set_listener(NULL, NULL);
         say("session %s did not begin: %s", session->stay->home.name, error == 0 ? "its process ended" : cause(error));
         free_staying(session);
@@ -206,26 +208,13 @@ static int begin_in(struct home *home, char **paths, int count, const struct opt
         } else /* one that is not whole is none */
             say("there is no journal: %s; if samhost ends unasked, the session ends with it", cause(error));
         note_about(session);
+        report_others(session);
         return part(session);
     }
     say_gathered(session->stay);
     remove_home(home);
     free_staying(session);
     return status;
-}
-
-int begin_to_stay(char **paths, int count, const struct options *options)
-{
-    struct home home;
-    int error = open_home(options->name, true, &home);
-
-    if (error != 0)
-        return say_home(options->name, error);
-    error = lock_home(&home);
-    if (error == 0 && !has_journal(&home))
-        return begin_in(&home, paths, count, options);
-    close_home(&home);
-    return error == 0 || error == EWOULDBLOCK ? attach(options->name) : say_home(options->name, error);
 }
 
 /* ---- Finding it again ---- */
@@ -237,7 +226,7 @@ static int find(struct home *home, int *line)
     int64_t until = now() + LONGEST_START;
     int error;
 
-    while ((error = connect_home(home, line)) != 0 && error != EPERM && now() < until) {
+    while ((error = connect_home(home, 0, line)) != 0 && error != EPERM && now() < until) {
         int locked = lock_home(home);
         if (locked == 0 || locked == ENOENT)
             return ENOENT;
@@ -258,32 +247,59 @@ static const char *why_not_again(enum replay_fault fault)
     case REPLAY_NO_FOLDER:
         return "the folder in which it began can't be entered";
     case REPLAY_UNREADABLE:
-        return "its journal can't be read";
+        return "its journal can't be read, or not be cut to its whole records";
+    case REPLAY_DAMAGED:
+        return "its journal is damaged";
     default:
         return "it had not begun";
     }
 }
 
+/* Keeps a journal that is wrong, so that it can be looked at, and says where. Returns whether it is kept. */
+static bool keep_wrong(const struct home *home)
+{
+    char *path = NULL;
+    int error = keep_wrong_journal(home, &path);
+
+    if (error == 0)
+        say("the journal of session %s is kept as %s", home->name, path == NULL ? WRONG_JOURNAL : path);
+    else
+        say("the journal of session %s stays where it is: %s", home->name, cause(error));
+    free(path);
+    return error == 0;
+}
+
 /* Says why a session can't be made again, and saves its texts aside where they are known. Where it will never be, its folder goes, but for
- * a journal that is wrong, so that it can be looked at. Returns the exit status. */
+ * a journal that is wrong, or that has a text which could not be saved. Returns the exit status. */
 static int give_up(struct session *session, enum replay_fault fault, bool is_attached)
 {
     struct home *home = &session->stay->home;
-    bool is_known = session->documents != NULL && (fault == REPLAY_OTHER || fault == REPLAY_DIFFERS);
-    bool is_for_ever = is_known || fault == REPLAY_NOTHING;
+    bool is_wrong = fault == REPLAY_DAMAGED || fault == REPLAY_DIFFERS;
+    bool is_known = session->documents != NULL && (fault == REPLAY_OTHER || is_wrong);
+    bool is_for_ever = is_known || is_wrong || fault == REPLAY_NOTHING;
 
     say_gathered(session->stay);
     say("session %s can't go on: %s", home->name, why_not_again(fault));
-    if (is_known)
-        (void)close_session(session, INPUT_ENDED);
-    if (fault == REPLAY_DIFFERS)
-        (void)renameat(home->folder, JOURNAL, home->folder, JOURNAL ".wrong");
-    if (is_for_ever)
+    bool is_saved = !is_known || close_session(session, INPUT_ENDED) == STATUS_OK;
+    if (is_wrong)
+        is_saved = keep_wrong(home);
+    if (is_for_ever && is_saved)
         remove_home(home);
     free_staying(session);
     if (is_attached && (is_for_ever || fault == REPLAY_OTHER))
         return refuse_hello(SAM_LINK_NO_SESSION);
     return fault == REPLAY_SHORT ? STATUS_MEMORY : STATUS_UNREADABLE;
+}
+
+/* Names the folder as the session is named, where a takeover had not come to that. */
+static void finish_naming(struct session *session)
+{
+    struct stay *stay = session->stay;
+    char name[NAME_DIGITS + 1];
+
+    name_of_id(stay->id, name);
+    if (stay->attempt > 0 && strcmp(name, stay->home.name) != 0 && rename_home(&stay->home, name) == 0)
+        sync_home(&stay->home);
 }
 
 /* Makes a session again whose samhost is gone, and goes on with it; its folder is locked. Returns the exit status. */
@@ -299,7 +315,22 @@ static int go_on(struct home *home)
     session->stay->is_again = true;
     listen_for_notes(session);
     enum replay_fault fault = begin_again(session);
-    return fault == REPLAY_OK ? part(session) : give_up(session, fault, true);
+    if (fault != REPLAY_OK)
+        return give_up(session, fault, true);
+    finish_naming(session);
+    return part(session);
+}
+
+/* Says where the wrong journal is that is all of a session. Returns the exit status. */
+static int report_wrong(const struct home *home)
+{
+    char *path = find_wrong_journal(home);
+
+    if (path != NULL)
+        say("all that is left of session %s is a journal that is wrong, in %s", home->name, path);
+    int status = path != NULL ? STATUS_UNREADABLE : STATUS_OK;
+    free(path);
+    return status;
 }
 
 int end_without_samhost(struct home *home)
@@ -311,21 +342,79 @@ int end_without_samhost(struct home *home)
         close_home(home);
         return STATUS_MEMORY;
     }
+    session->stay->is_to_end = true;
     enum replay_fault fault = has_journal(home) ? begin_again(session) : REPLAY_NOTHING;
-    int status = fault == REPLAY_OK ? close_session(session, INPUT_ENDED) : STATUS_OK;
-    if (fault == REPLAY_OK || fault == REPLAY_NOTHING)
-        remove_home(home);
-    else
+    if (fault != REPLAY_OK && fault != REPLAY_NOTHING)
         return give_up(session, fault, false);
+    int status = fault == REPLAY_OK ? close_session(session, INPUT_ENDED) : report_wrong(home);
+    if (status == STATUS_LOST)
+        say("session %s stays, since its journal has what is not saved: --end can be tried again", home->name);
+    else
+        remove_home(home);
     free_staying(session);
     return status;
 }
+
+/* Refuses a terminal's hello, since there is no session of a name, or where that is NULL none at all; and says why. Returns the exit
+ * status. */
+static int refuse_name(const char *name)
+{
+    char *path;
+
+    if (!has_state_folder(&path))
+        say("there is no state folder%s%s, so no session is found", path == NULL ? "" : " ", path == NULL ? "" : path);
+    else
+        say("there is no session%s%s", name == NULL ? "" : " ", name == NULL ? "" : name);
+    free(path);
+    return refuse_hello(SAM_LINK_NO_SESSION);
+}
+
+/* ---- Sessions that nobody came back to ---- */
+
+static int note_left(struct home *home, void *at)
+{
+    bool *has_some = at;
+
+    *has_some |= is_left_alone(home);
+    return 0;
+}
+
+/* Ends a session that is left alone, unless a samhost has it. */
+static int end_left(struct home *home, void *at)
+{
+    (void)at;
+    if (is_left_alone(home) && lock_home(home) == 0 && is_left_alone(home)) {
+        (void)end_without_samhost(home);
+        home->all = home->folder = home->lock = -1; /* they are closed */
+    }
+    return 0;
+}
+
+/* Ends sessions whose samhost is gone and that have been alone for as long as they may be, in a process of its own: it enters their
+ * folders, and nobody waits for it. */
+static void end_those_left(void)
+{
+    bool has_some = false;
+    pid_t process = each_home(note_left, &has_some) == 0 && has_some ? fork() : -1;
+
+    if (process > 0)
+        (void)waitpid(process, NULL, 0);
+    if (process != 0)
+        return;
+    if (fork() == 0) {
+        go_alone();
+        (void)each_home(end_left, NULL);
+    }
+    _exit(STATUS_OK);
+}
+
+/* ---- What the words ask for ---- */
 
 int attach(const char *name)
 {
     struct home home;
     char heir[NAME_DIGITS + 1];
-    int line, error = open_home(name, false, &home);
+    int line, error = open_named(name, &home);
 
     if (error == 0) {
         error = find(&home, &line);
@@ -339,7 +428,31 @@ int attach(const char *name)
         return relay(line);
     if (error != ENOENT)
         return say_home(name, error);
-    return refuse_hello(find_heir(name, heir) ? SAM_LINK_OTHER_SESSION : SAM_LINK_NO_SESSION);
+    return find_heir(name, heir) ? refuse_hello(SAM_LINK_OTHER_SESSION) : refuse_name(name);
+}
+
+int begin_to_stay(char **paths, int count, const struct options *options)
+{
+    struct home home;
+
+    end_those_left();
+    int error = open_home(options->name, true, &home);
+    if (error != 0)
+        return say_home(options->name, error);
+    error = lock_home(&home);
+    if (error == 0 && !has_journal(&home))
+        return begin_in(&home, paths, count, options);
+    close_home(&home);
+    return error == 0 || error == EWOULDBLOCK ? attach(options->name) : say_home(options->name, error);
+}
+
+/* Whether nothing but a wrong journal is left of a session. */
+static bool is_left_of_one(const struct home *home)
+{
+    char *path = has_journal(home) ? NULL : find_wrong_journal(home);
+
+    free(path);
+    return path != NULL;
 }
 
 /* Notes the name of a session, if it is the first. */
@@ -347,6 +460,8 @@ static int note_only(struct home *home, void *at)
 {
     char *name = at;
 
+    if (is_left_of_one(home))
+        return 0;
     if (*name != '\0')
         return EEXIST;
     memcpy(name, home->name, NAME_DIGITS + 1);
@@ -367,7 +482,7 @@ int take(const char *name)
         return STATUS_UNREADABLE;
     }
     if (name == NULL && *only == '\0')
-        return refuse_hello(SAM_LINK_NO_SESSION);
+        return refuse_name(NULL);
     if (name != NULL && find_heir(name, heir)) /* who is to come back finds it, whoever has taken it since */
         return attach(heir);
     return attach(name != NULL ? name : only);

@@ -10,6 +10,7 @@
 #include "disk/file_writer.h"
 #include "disk/paths.h"
 
+#define RESERVED "~~"        /* what names begin with, in the session, of what is no file of the user's */
 #define VAULT "~~undo~~"     /* the name of the file in which a terminal keeps text for undo; it is nowhere on disk */
 #define LEFT_OVER "~~left~~" /* what names begin with, in the session, of texts that an earlier session saved */
 #define ANEW "~~anew~~ "     /* the same of files that were read anew; the tag of the old one follows */
@@ -37,6 +38,7 @@ struct document {
     struct copy aside;
     struct copy_mark noted; /* the copy that the journal has */
     bool is_unsaved;        /* the terminal believes it written, and it is not */
+    bool is_taken;          /* the terminal was told so when it took the session over */
     bool is_reported;       /* it was said that its text can't be saved */
     bool is_left;           /* it is what an earlier session saved aside, which goes where it is written empty; or a file read anew */
     bool is_open;           /* the terminal has opened it, so it is watched */

@@ -1,8 +1,9 @@
 /* persistent_session.c: serves a session that stays when its line breaks.
  *
  * The bytes of the session go through a link, which gives each of them once and in order over connections that may break anywhere. What the
- * plain samhost writes to standard error goes to the terminal as notes, in order with them. It ends when the terminal leaves, at a signal,
- * and when no connection was there for as long as the words say; before that it saves all that is not written.
+ * plain samhost writes to standard error goes to the terminal as notes, in order with them. It ends when the terminal leaves, when somebody
+ * asks for that, and when no connection was there for as long as the words say; before that it saves all that is not written. At a signal
+ * it does that, too, but the session stays in its folder, for another samhost to go on: the machine may begin anew.
  */
 #define _GNU_SOURCE
 #include <errno.h>
@@ -15,6 +16,7 @@
 #include <unistd.h>
 
 #include "session/persistent_session.h"
+#include "disk/autosave.h"
 #include "disk/file_watcher.h"
 #include "disk/paths.h"
 #include "journal/journal.h"
@@ -30,7 +32,7 @@
 
 enum {
     LONGEST_END = 60000,   /* milliseconds that the last note is kept for a terminal that has left */
-    SIGNAL_END = 5000,     /* milliseconds that it is where a signal ends the session, and a terminal is there */
+    UNASKED_END = 5000,    /* milliseconds that it is where the terminal has not asked for the end, and is there */
     LONGEST_UNMET = 60000, /* milliseconds that a session stays alone to which no terminal came: nothing can be lost with it */
     PAUSE = 100,           /* milliseconds until memory is asked for again */
     MOST_PIECES_LEFT = 64, /* pieces of input that are still taken after a signal */
@@ -222,32 +224,29 @@ static void read_line(struct session *session)
     }
     if (in->len == 0)
         return;
-    uint64_t before = count_of(stay, sam_link_put_count);
     uint32_t code = sam_link_feed(&stay->link, stay->attempt, in->bytes, in->len);
-    if (code == SAM_OK) {
+    if (code == SAM_OK)
         add_record(session, STEP_UP, in->bytes, in->len);
-        stay->journal.is_awaited |= count_of(stay, sam_link_put_count) != before; /* it has acknowledged what came */
-    }
     if (code != SAM_NO_MEMORY)
         in->len = 0;
     if (code != SAM_OK && code != SAM_NO_MEMORY) /* a wrong packet ends the connection, and the next brings all of it again */
         drop_line(stay);
 }
 
-/* Sends what the link has for the newest connection, as much as goes without waiting. */
+/* Sends what the link has for the newest connection, as much as goes without waiting. All of it rests on records, so the disk has these
+ * before: acknowledgements say what has come, and the rest has to come out of them as it was. */
 static void write_line(struct session *session)
 {
     struct stay *stay = session->stay;
     struct piece *out = &stay->out;
 
-    if (stay->journal.is_awaited && stay->line >= 0)
-        sync_journal(session);
     while (stay->line >= 0) {
         if (out->sent == out->len) {
             out->sent = out->len = 0;
             if (sam_link_take_out(&stay->link, stay->attempt, out->bytes, PIECE, &out->len) != SAM_OK || out->len == 0)
                 return;
         }
+        sync_journal(session);
         ssize_t count = send(stay->line, out->bytes + out->sent, out->len - out->sent, MSG_NOSIGNAL | MSG_DONTWAIT);
         if (count < 0 && (errno == EAGAIN || errno == EINTR))
             return;
@@ -256,6 +255,12 @@ static void write_line(struct session *session)
         else
             out->sent += (size_t)count;
     }
+}
+
+void flush_line(struct session *session)
+{
+    sync_journal(session);
+    write_line(session);
 }
 
 void say_the_last(struct session *session, const char *machine)
@@ -301,7 +306,8 @@ static int64_t time_to_wait(const struct session *session, int64_t longest)
     return is_short && stay->attempt > 0 ? earlier(wait, PAUSE) : wait;
 }
 
-/* Sleeps until something comes or is due, and reads and sends what it can. Signals come here. */
+/* Sleeps until something comes or is due, and reads what it can; what is to be sent goes once the host has taken that, so that one sync
+ * does for the acknowledgement and the answer. Signals come here. */
 static void carry(struct session *session, const sigset_t *mask, int64_t longest)
 {
     struct stay *stay = session->stay;
@@ -331,7 +337,6 @@ static void carry(struct session *session, const sigset_t *mask, int64_t longest
     if (stay->line >= 0 && stay->line == line && (ends[1].revents != 0 || stay->in.len > 0))
         read_line(session);
     put_notes(session);
-    write_line(session);
 }
 
 /* ---- The session ---- */
@@ -348,6 +353,7 @@ static enum ending take_what_is_there(struct session *session, const sigset_t *m
         ending = take_packets(session);
         if (ending == GOES_ON)
             ending = take_again(session, &tries);
+        write_line(session);
         carry(session, mask, 0);
         after = count_of(session->stay, sam_link_received);
     } while (ending == GOES_ON && after != before && ++pieces <= MOST_PIECES_LEFT);
@@ -359,7 +365,7 @@ static enum ending serve_line(struct session *session, const sigset_t *mask)
     struct stay *stay = session->stay;
     enum ending ending = stay->ending;
 
-    while (ending == GOES_ON && !is_signalled() && time_left_alone(session) != 0) {
+    while (ending == GOES_ON && !is_signalled() && !stay->is_to_end && time_left_alone(session) != 0) {
         carry(session, mask, -1);
         if (stay->heir != NULL)
             return GOES_ON;
@@ -383,13 +389,13 @@ static enum ending serve_line(struct session *session, const sigset_t *mask)
 static void say_the_end(struct session *session, const sigset_t *mask, int status, bool has_left)
 {
     struct stay *stay = session->stay;
-    bool was_signalled = is_signalled();
+    bool was_signalled = is_signalled(), was_to_end = stay->is_to_end;
     uint64_t wanted = 0;
-    int64_t until = now() + (has_left ? LONGEST_END : stay->line >= 0 ? SIGNAL_END : 0);
+    int64_t until = now() + (has_left ? LONGEST_END : stay->line >= 0 ? UNASKED_END : 0);
 
     stay->longest_alone = -1;
-    session->has_open = false; /* nobody is told of files any more */
-    while (stay->attempt > 0 && now() < until && is_signalled() == was_signalled) {
+    session->has_open = session->due.is_waiting = false; /* nobody is told of files any more, and all is saved */
+    while (stay->attempt > 0 && now() < until && is_signalled() == was_signalled && stay->is_to_end == was_to_end) {
         say_missing(stay); /* no line comes after the last note */
         if (!stay->has_ended && stay->missing == 0)
             stay->has_ended = say_note(session, "ended %d", status);
@@ -406,6 +412,40 @@ static void say_the_end(struct session *session, const sigset_t *mask, int statu
     }
 }
 
+/* Whether the session is to stay in its folder: a signal has come, its terminal has not left, and its journal is there. */
+static bool is_kept_at(const struct stay *stay, enum ending ending)
+{
+    return ending == INPUT_ENDED && is_signalled() && !stay->is_to_end && stay->attempt > 0 && stay->journal.file >= 0;
+}
+
+/* Saves the texts aside, and has the journal be on the disk, so that another samhost can go on. Returns whether that is so. */
+static bool keep_session(struct session *session)
+{
+    struct stay *stay = session->stay;
+
+    (void)save_changed(session); /* what can't be saved is in the journal */
+    note_copies(session);
+    sync_journal(session);
+    stay->is_kept = stay->journal.file >= 0;
+    if (stay->is_kept) {
+        write_line(session);
+        drop_line(stay);
+    }
+    return stay->is_kept;
+}
+
+/* Saves the texts aside. Where a text can't be saved the folder stays, since the journal has that. Returns the exit
+ * status. */
+static int end_for_good(struct session *session)
+{
+    struct stay *stay = session->stay;
+    int status = close_session(session, stay->ending);
+    stay->is_kept = status == STATUS_LOST && stay->journal.file >= 0;
+    if (stay->is_kept)
+        say("the journal of session %s stays: samhost --end %s tries again to save what it has", stay->home.name, stay->home.name);
+    return status;
+}
+
 int stay_and_serve(struct session *session)
 {
     struct stay *stay = session->stay;
@@ -418,13 +458,17 @@ int stay_and_serve(struct session *session)
     stay->begun = stay->begun == 0 ? stay->alone_since : stay->begun;
     put_notes(session);
     write_line(session); /* the welcome of a terminal that has taken the session over: it may say nothing before */
-    if (!stay->has_ended) { /* else another samhost has done all but to wait */
+    if (stay->has_ended) /* another samhost has done all but to wait */
+        status = stay->is_kept ? STATUS_LOST : STATUS_OK;
+    else {
         stay->ending = serve_line(session, &mask);
         if (stay->heir != NULL)
             return STATUS_OK;
         for (size_t tag = 1, tags = count_tags(session); tag < tags; tag++)
             note_closing(session, (uint16_t)tag);
-        status = close_session(session, stay->ending);
+        if (is_kept_at(stay, stay->ending) && keep_session(session))
+            return STATUS_OK;
+        status = end_for_good(session);
     }
     note_copies(session);
     say_the_end(session, &mask, status, stay->ending != INPUT_ENDED);

@@ -52,6 +52,8 @@ struct stay {
     bool is_answering; /* that is being done, and notes wait for it */
     bool has_ended;    /* the last note is put */
     bool is_again;     /* it was made again of its journal */
+    bool is_to_end;    /* somebody has asked for its end */
+    bool is_kept;      /* its folder stays, for another samhost to go on from its journal */
     int64_t begun, alone_since, longest_alone;
 };
 
@@ -60,6 +62,10 @@ void listen_for_notes(struct session *session);
 
 /* Puts a note behind those that wait. Returns whether there is memory for it. */
 bool say_note(struct session *session, const char *format, ...);
+
+/* Before a file is written, which may take long: has the disk have all records, so that a power cut leaves no file newer than its session,
+ * and sends what is due. */
+void flush_line(struct session *session);
 
 /* Tells the terminal that another one, on this machine, has the session now, as far as its line takes that without waiting. */
 void say_the_last(struct session *session, const char *machine);

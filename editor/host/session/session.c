@@ -49,6 +49,7 @@ void free_session(struct session *session)
     free(session->documents);
     free(session->text.bytes);
     free_cut(&session->cut);
+    free(session->lost_folder);
     free(session);
 }
 

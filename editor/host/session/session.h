@@ -31,6 +31,7 @@ struct session {
     struct wire wire;
     struct due due;
     mode_t mode_of_new_files;
+    char *lost_folder; /* the one in which it began, where that is gone and the session only ends; else NULL */
     struct stay *stay; /* NULL where the session ends with its line */
 };
 

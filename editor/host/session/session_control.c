@@ -13,6 +13,7 @@
 #include <unistd.h>
 
 #include "session/session_control.h"
+#include "disk/file_reader.h"
 #include "disk/paths.h"
 #include "disk/saves.h"
 #include "journal/journal.h"
@@ -21,6 +22,7 @@
 #include "net/event_loop.h"
 #include "net/handshake.h"
 #include "session/daemon.h"
+#include "session/document.h"
 #include "session/ending.h"
 #include "session/persistent_session.h"
 #include "session/session.h"
@@ -28,6 +30,9 @@
 
 enum {
     LONGEST_ANSWER = 5000, /* milliseconds that an answer is waited for */
+    LONGEST_LIST = 2000,   /* milliseconds that those of all sessions together are, for the list */
+    LONGEST_LOOK = 1000,   /* milliseconds that they are before a session begins */
+    LEAST_ANSWER = 100,    /* milliseconds that each of them is, however late it is */
     LONGEST_END = 90000,   /* milliseconds that the end of a session is waited for */
     NAP = 50000000,        /* nanoseconds between two looks */
     SPAN_ROOM = 32
@@ -61,29 +66,31 @@ void note_about(const struct session *session)
 
 /* ---- Asking ---- */
 
-/* Asks the samhost of a session, and hands out the first line of its answer, which ends in NUL, and the connection, the caller's. */
-static int ask(const struct home *home, const char *words, size_t len, char answer[ANSWER_ROOM], int *socket)
+/* Asks the samhost of a session, and hands out the first line of its answer, which ends in NUL, and the connection, the caller's; -1 where
+ * there is none. It waits for that for so many milliseconds. */
+static int ask(const struct home *home, const char *words, size_t len, int64_t longest, char answer[ANSWER_ROOM], int *line)
 {
     uint8_t head[QUESTION_HEAD];
     size_t has = 0;
     ssize_t count = 1;
-    int line, error = connect_home(home, &line);
+    int64_t until = now() + longest, left;
+    int error = connect_home(home, longest, line);
 
+    answer[0] = '\0';
     if (error != 0)
         return error;
     memcpy(head, QUESTION_MARK, QUESTION_MARK_LEN);
     head[QUESTION_HEAD - 2] = (uint8_t)(len >> 8);
     head[QUESTION_HEAD - 1] = (uint8_t)len;
-    if (send(line, head, sizeof head, MSG_NOSIGNAL) < 0 || send(line, words, len, MSG_NOSIGNAL) < 0)
+    if (send(*line, head, sizeof head, MSG_NOSIGNAL) < 0 || send(*line, words, len, MSG_NOSIGNAL) < 0)
         error = errno;
-    while (error == 0 && count > 0 && has < ANSWER_ROOM - 1 && (has == 0 || answer[has - 1] != '\n')) {
-        struct pollfd end = {line, POLLIN, 0};
-        count = poll(&end, 1, LONGEST_ANSWER) > 0 ? read(line, answer + has, 1) : 0; /* what comes after the line is for later */
+    while (error == 0 && count > 0 && has < ANSWER_ROOM - 1 && (has == 0 || answer[has - 1] != '\n') && (left = until - now()) > 0) {
+        struct pollfd end = {*line, POLLIN, 0};
+        count = poll(&end, 1, (int)left) > 0 ? read(*line, answer + has, 1) : 0; /* what comes after the line is for later */
         has += count > 0 ? (size_t)count : 0;
     }
     answer[has] = '\0';
-    *socket = line;
-    return error == 0 && has == 0 ? ETIMEDOUT : error;
+    return error == 0 && (has == 0 || answer[has - 1] != '\n') ? ETIMEDOUT : error;
 }
 
 /* How a session is: for how many seconds it has run, for how many no terminal was there (-1: one is), and how many files are not
@@ -93,16 +100,24 @@ struct state {
     int unsaved;
 };
 
-static int ask_state(const struct home *home, struct state *state)
+static int ask_state(const struct home *home, int64_t longest, struct state *state)
 {
     char answer[ANSWER_ROOM];
-    int socket = -1, error = ask(home, "list", sizeof "list", answer, &socket);
+    int line, error = ask(home, "list", sizeof "list", longest, answer, &line);
 
-    if (socket >= 0)
-        close(socket);
+    if (line >= 0)
+        close(line);
     if (error == 0 && sscanf(answer, "%lld %lld %d", &state->seconds, &state->alone_for, &state->unsaved) != 3)
         error = EPROTO;
     return error;
+}
+
+/* For how many milliseconds one of many sessions is waited for, where all are until a time. */
+static int64_t time_left(const int64_t *until)
+{
+    int64_t left = *until - now();
+
+    return left > LEAST_ANSWER ? left : LEAST_ANSWER;
 }
 
 /* ---- The list ---- */
@@ -118,64 +133,150 @@ static void spell_span(int64_t seconds, char words[SPAN_ROOM])
         snprintf(words, SPAN_ROOM, "%lld h", (long long)(seconds / 3600));
 }
 
+/* Reads what a session is about. */
+static void read_about(const struct home *home, char about[ANSWER_ROOM])
+{
+    int file = openat(home->folder, ABOUT, O_RDONLY | O_NOFOLLOW | O_NONBLOCK | O_CLOEXEC);
+    ssize_t count = file < 0 ? 0 : read(file, about, ANSWER_ROOM - 1);
+
+    about[count > 0 ? count : 0] = '\0';
+    if (file >= 0)
+        close(file);
+    make_printable(about);
+}
+
+/* Lists a session whose samhost does not answer. */
+static void list_silent(struct home *home, const char *about)
+{
+    char *wrong = find_wrong_journal(home);
+
+    if (lock_home(home) == EWOULDBLOCK)
+        printf("%s  its samhost has not answered in time  %s\n", home->name, about);
+    else if (has_journal(home))
+        printf("%s  its samhost is gone, and another can begin from its journal  %s\n", home->name, about);
+    else if (wrong != NULL) {
+        make_printable(wrong);
+        printf("%s  its journal is wrong, and kept in %s  %s\n", home->name, wrong, about);
+    }
+    free(wrong);
+}
+
 static int list_one(struct home *home, void *at)
 {
-    char about[ANSWER_ROOM] = "", age[SPAN_ROOM], alone[SPAN_ROOM];
+    char about[ANSWER_ROOM], age[SPAN_ROOM], alone[SPAN_ROOM];
     struct state state;
-    int file = openat(home->folder, ABOUT, O_RDONLY | O_NOFOLLOW | O_CLOEXEC);
 
-    (void)at;
-    if (file >= 0) {
-        (void)!read(file, about, sizeof about - 1);
-        close(file);
-    }
-    if (ask_state(home, &state) == 0) {
+    read_about(home, about);
+    if (ask_state(home, time_left(at), &state) == 0) {
         bool is_in_use = state.alone_for < 0;
         spell_span(state.seconds, age);
         spell_span(state.alone_for, alone);
         printf("%s  %s old, %s%s, %d not written  %s\n", home->name, age, is_in_use ? "in use" : "alone for ", is_in_use ? "" : alone,
                state.unsaved, about);
-    } else if (has_journal(home)) {
-        printf("%s  its samhost is gone, and another can begin from its journal  %s\n", home->name, about);
+    } else {
+        list_silent(home, about);
     }
     return 0;
 }
 
 int list_sessions(void)
 {
-    int error = each_home(list_one, NULL);
+    int64_t until = now() + LONGEST_LIST;
+    int error = each_home(list_one, &until);
 
     if (error != 0)
         say("sessions can't be listed: %s", error == EPERM ? "the folder of them is not yours alone" : cause(error));
     return error == 0 && fflush(stdout) == 0 ? STATUS_OK : STATUS_UNREADABLE;
 }
 
+/* ---- Other sessions on the same files ---- */
+
+/* A new session, and until when others are asked. */
+struct newcomer {
+    struct session *session;
+    int64_t until;
+};
+
+static int compare_with(struct home *home, void *at)
+{
+    const struct newcomer *new = at;
+    struct session *session = new->session;
+    char answer[ANSWER_ROOM], words[IDENTITY_ROOM];
+    int line = -1;
+    bool is_itself = strcmp(home->name, session->stay->home.name) == 0;
+    bool has_some = !is_itself && ask(home, "changed", sizeof "changed", time_left(&new->until), answer, &line) == 0 && *answer == ' ';
+
+    if (line >= 0)
+        close(line);
+    for (size_t tag = 1, tags = count_tags(session); has_some && tag < tags; tag++) {
+        const struct document *document = &session->documents[tag];
+        struct identity identity = {0};
+        bool is_known = document->path != NULL && !document->is_left && identify(document->path, &identity) == 0;
+        if (is_known)
+            spell_identity(&identity, words);
+        if (is_known && strstr(answer, words) != NULL)
+            say("%s has changes in session %s that are not written; samterm --take .. %s, or samhost --take %s, goes on with them",
+                document->path, home->name, home->name, home->name);
+        free(identity.name);
+    }
+    return 0;
+}
+
+void report_others(struct session *session)
+{
+    struct newcomer new = {session, now() + LONGEST_LOOK};
+
+    (void)each_home(compare_with, &new); /* where they can't be listed, nothing is known of them */
+}
+
 /* ---- The end ---- */
 
-/* Asks the samhost of a session to end, and waits until it has. 0 where it was gone, and its folder is locked now; ENOENT once all of it is
+/* Signals an older samhost, which can't be asked, to end. One that is in another container has no number here. */
+static int signal_end(int line)
+{
+    pid_t process = 0;
+
+    if (!is_ours(line, &process) || process <= 0)
+        return EPERM;
+    return kill(process, SIGTERM) == 0 ? 0 : errno;
+}
+
+/* Asks the samhost of a session to end, where one listens. */
+static int ask_to_end(const struct home *home, bool *is_asked)
+{
+    char answer[ANSWER_ROOM];
+    int line, error = ask(home, "end", sizeof "end", LONGEST_ANSWER, answer, &line);
+
+    *is_asked = line >= 0;
+    if (!*is_asked)
+        return error == EAGAIN ? ETIMEDOUT : 0; /* else it is gone, or has not begun to listen */
+    error = strcmp(answer, "ends\n") != 0 ? signal_end(line) : 0;
+    close(line);
+    return error;
+}
+
+/* Has the samhost of a session end, and waits until it has. 0 where it was gone, and its folder is locked now; ENOENT once all of it is
  * gone. */
 static int end_living(struct home *home)
 {
     const struct timespec nap = {0, NAP};
     int64_t until = now() + LONGEST_END;
-    pid_t process = 0;
-    int line, error = connect_home(home, &line);
+    bool is_asked = false;
 
-    if (error == 0) {
-        bool is_known = is_ours(line, &process);
-        close(line);
-        if (!is_known || kill(process, SIGTERM) != 0)
-            return EPERM;
-    }
-    while ((error = lock_home(home)) == EWOULDBLOCK && now() < until)
+    for (;;) {
+        int error = is_asked ? 0 : ask_to_end(home, &is_asked);
+        if (error == 0)
+            error = lock_home(home);
+        if (error != EWOULDBLOCK || now() >= until)
+            return error;
         nanosleep(&nap, NULL);
-    return error;
+    }
 }
 
 int end_session(const char *name)
 {
     struct home home;
-    int error = open_home(name, false, &home);
+    int error = open_named(name, &home);
 
     if (error == ENOENT) {
         say("there is no session %s", name);
@@ -200,6 +301,7 @@ struct newest {
     char name[NAME_DIGITS + 1];
     bool is_in_use;
     struct timespec begun;
+    int64_t until; /* until when answers are waited for */
 };
 
 static int find_newest(struct home *home, void *at)
@@ -208,7 +310,7 @@ static int find_newest(struct home *home, void *at)
     struct stat status;
     struct state state;
 
-    if (fstatat(home->folder, ABOUT, &status, AT_SYMLINK_NOFOLLOW) != 0 || ask_state(home, &state) != 0)
+    if (fstatat(home->folder, ABOUT, &status, AT_SYMLINK_NOFOLLOW) != 0 || ask_state(home, time_left(&newest->until), &state) != 0)
         return 0;
     const struct timespec *begun = &status.st_mtim;
     bool is_in_use = state.alone_for < 0;
@@ -253,12 +355,12 @@ static int await_close(int line)
 /* Opens the folder of the session of a name, or where that is NULL of the newest one; ENOENT where there is none. */
 static int open_wanted(const char *name, struct home *home)
 {
-    struct newest newest = {0};
+    struct newest newest = {.until = now() + LONGEST_ANSWER};
     int error = name != NULL ? 0 : each_home(find_newest, &newest);
 
     if (error == 0 && name == NULL && *newest.name == '\0')
         error = ENOENT;
-    return error != 0 ? error : open_home(name != NULL ? name : newest.name, false, home);
+    return error != 0 ? error : open_named(name != NULL ? name : newest.name, home);
 }
 
 int open_in_session(const char *name, const char *path, const char *line, bool waits)
@@ -274,7 +376,7 @@ int open_in_session(const char *name, const char *path, const char *line, bool w
     }
     if (error == 0) {
         char *words = spell_question(path, line, waits, &len);
-        error = words == NULL ? ENOMEM : ask(&home, words, len, answer, &socket);
+        error = words == NULL ? ENOMEM : ask(&home, words, len, LONGEST_ANSWER, answer, &socket);
         close_home(&home);
         free(words);
     }

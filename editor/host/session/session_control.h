@@ -15,6 +15,9 @@ int end_session(const char *name);
  * written. */
 int open_in_session(const char *name, const char *path, const char *line, bool waits);
 
+/* Says which files of a new session another one has changed and not written, and how that is taken over. */
+void report_others(struct session *session);
+
 /* Writes into the folder of a session what the list says of it. */
 void note_about(const struct session *session);
 

@@ -13,14 +13,20 @@
 #include <sys/file.h>
 #include <sys/socket.h>
 #include <sys/stat.h>
+#include <sys/time.h>
 #include <sys/un.h>
 #include <unistd.h>
 
 #include "session/session_directory.h"
 #include "disk/fallback_directories.h"
+#include "disk/paths.h"
 #include "log.h"
 
-enum { MOST_WAITING = 16 }; /* connections that wait to be accepted */
+enum {
+    MOST_WAITING = 16, /* connections that wait to be accepted */
+    MOST_WRONG = 99,   /* wrong journals that are kept; a later one takes the place of the last */
+    WRONG_ROOM = 32
+};
 
 #define SOCKET "socket"
 #define LOCK "lock"
@@ -45,6 +51,14 @@ static int open_alone(int above, const char *name, int *folder)
     close(*folder);
     *folder = -1;
     return EPERM;
+}
+
+bool has_state_folder(char **path)
+{
+    struct stat status;
+
+    *path = state_path();
+    return *path != NULL && lstat(*path, &status) == 0;
 }
 
 /* Opens the folder in which all of them lie. */
@@ -94,13 +108,25 @@ void sync_home(const struct home *home)
     (void)fsync(home->all);
 }
 
+int rename_home(struct home *home, const char name[NAME_DIGITS + 1])
+{
+    if (renameat(home->all, home->name, home->all, name) != 0)
+        return errno;
+    memcpy(home->name, name, NAME_DIGITS + 1);
+    return 0;
+}
+
 void remove_home(struct home *home)
 {
-    const char *const names[] = {JOURNAL, NEW_JOURNAL, SOCKET, ABOUT, BEFORE, LOCK};
+    const char *const names[] = {JOURNAL, NEW_JOURNAL, TORN_JOURNAL, SOCKET, BEFORE, ABOUT, LOCK};
+    char *wrong = find_wrong_journal(home);
+    size_t count = sizeof names / sizeof names[0] - (wrong != NULL ? 2 : 0); /* that is listed still */
 
-    for (size_t at = 0; at < sizeof names / sizeof names[0]; at++)
+    for (size_t at = 0; at < count; at++)
         (void)unlinkat(home->folder, names[at], 0);
-    (void)unlinkat(home->all, home->name, AT_REMOVEDIR);
+    if (wrong == NULL)
+        (void)unlinkat(home->all, home->name, AT_REMOVEDIR);
+    free(wrong);
 }
 
 int make_in_home(const struct home *home, const char *name, int flags, int *file)
@@ -110,6 +136,59 @@ int make_in_home(const struct home *home, const char *name, int flags, int *file
     *file = openat(home->folder, name, flags | O_CREAT | O_NOFOLLOW | O_CLOEXEC, 0600);
     umask(mask);
     return *file < 0 ? errno : 0;
+}
+
+/* ---- Wrong journals ---- */
+
+/* The name of a wrong journal, by its number. */
+static void name_wrong(int number, char name[WRONG_ROOM])
+{
+    if (number == 1)
+        snprintf(name, WRONG_ROOM, WRONG_JOURNAL);
+    else
+        snprintf(name, WRONG_ROOM, WRONG_JOURNAL ".%d", number);
+}
+
+static bool is_there(const struct home *home, const char *name)
+{
+    return faccessat(home->folder, name, F_OK, AT_SYMLINK_NOFOLLOW) == 0;
+}
+
+/* The path of a file in the folder, in memory of the caller's; NULL where memory is out. */
+static char *path_in(const struct home *home, const char *name)
+{
+    char *state = NULL;
+    bool is_known = own_folder(0, false, &state) == 0;
+    char *path = is_known ? formatted("%s%s/%s", state, home->name, name) : formatted("%s/%s", home->name, name);
+
+    free(state);
+    return path;
+}
+
+int keep_wrong_journal(const struct home *home, char **path)
+{
+    char name[WRONG_ROOM];
+    int number = 1;
+
+    for (name_wrong(number, name); is_there(home, name) && number < MOST_WRONG; name_wrong(++number, name))
+        ;
+    *path = path_in(home, name);
+    if (renameat(home->folder, JOURNAL, home->folder, name) != 0)
+        return errno;
+    (void)fsync(home->folder);
+    return 0;
+}
+
+char *find_wrong_journal(const struct home *home)
+{
+    char name[WRONG_ROOM];
+
+    for (int number = MOST_WRONG; number >= 1; number--) {
+        name_wrong(number, name);
+        if (is_there(home, name))
+            return path_in(home, name);
+    }
+    return NULL;
 }
 
 /* ---- The lock ---- */
@@ -193,18 +272,21 @@ bool is_ours(int socket, pid_t *process)
     return true;
 }
 
-int connect_home(const struct home *home, int *line)
+int connect_home(const struct home *home, int64_t longest, int *line)
 {
     struct sockaddr_un address = address_of(home);
+    const struct timeval limit = {longest / 1000, longest % 1000 * 1000};
     int error = 0;
 
     *line = socket(AF_UNIX, SOCK_STREAM | SOCK_CLOEXEC, 0);
-    if (*line < 0 || connect(*line, (struct sockaddr *)&address, sizeof address) != 0)
+    if (*line < 0 || setsockopt(*line, SOL_SOCKET, SO_SNDTIMEO, &limit, sizeof limit) != 0 ||
+        connect(*line, (struct sockaddr *)&address, sizeof address) != 0)
         error = errno;
     else if (!is_ours(*line, NULL))
         error = EPERM;
     if (error != 0 && *line >= 0)
         close(*line);
+    *line = error == 0 ? *line : -1;
     return error;
 }
 
@@ -233,20 +315,23 @@ int each_home(int (*visit)(struct home *home, void *at), void *at)
 
 /* ---- Names that sessions had ---- */
 
-/* A name that is looked for, and how the session is named now that had it; empty until it is found. */
+/* A name that is looked for; how the folder of the session is named now that had it, empty until it is found; and whether the session has
+ * that name now, or was about to. */
 struct search {
     const char *name;
     char *heir;
+    bool is_last;
 };
 
-void note_before(const struct home *home, const char name[NAME_DIGITS + 1])
+void note_names(const struct home *home, const char before[NAME_DIGITS + 1], const char after[NAME_DIGITS + 1])
 {
-    char line[NAME_DIGITS + 2];
-    int file, len = snprintf(line, sizeof line, "%s\n", name);
+    char lines[2 * NAME_DIGITS + 3];
+    int file, len = snprintf(lines, sizeof lines, "%s\n%s\n", before, after);
 
     if (make_in_home(home, BEFORE, O_WRONLY | O_APPEND, &file) != 0)
         return; /* an older terminal is then told that there is no session */
-    (void)!write(file, line, (size_t)len);
+    (void)!write(file, lines, (size_t)len);
+    (void)fsync(file);
     close(file);
 }
 
@@ -255,20 +340,36 @@ static int look_before(struct home *home, void *at)
     struct search *search = at;
     char line[NAME_DIGITS + 1];
     int file = openat(home->folder, BEFORE, O_RDONLY | O_NOFOLLOW | O_CLOEXEC);
+    bool is_found = false, is_last = false;
 
     while (file >= 0 && read(file, line, sizeof line) == sizeof line) {
-        if (memcmp(line, search->name, NAME_DIGITS) == 0)
-            memcpy(search->heir, home->name, NAME_DIGITS + 1);
+        is_last = memcmp(line, search->name, NAME_DIGITS) == 0;
+        is_found |= is_last;
     }
     if (file >= 0)
         close(file);
+    if (is_found) {
+        memcpy(search->heir, home->name, NAME_DIGITS + 1);
+        search->is_last = is_last;
+    }
     return 0;
 }
 
 bool find_heir(const char *name, char heir[NAME_DIGITS + 1])
 {
-    struct search search = {name, heir};
+    struct search search = {name, heir, false};
 
     *heir = '\0';
     return each_home(look_before, &search) == 0 && *heir != '\0';
+}
+
+int open_named(const char *name, struct home *home)
+{
+    char heir[NAME_DIGITS + 1] = "";
+    struct search search = {name, heir, false};
+    int error = open_home(name, false, home);
+
+    if (error != ENOENT || each_home(look_before, &search) != 0 || *heir == '\0' || !search.is_last)
+        return error;
+    return open_home(heir, false, home);
 }

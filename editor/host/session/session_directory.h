@@ -3,6 +3,7 @@
 #define SAMHOST_SESSION_SESSION_DIRECTORY_H
 
 #include <stdbool.h>
+#include <stdint.h>
 #include <sys/types.h>
 
 #include "log.h"
@@ -11,8 +12,10 @@ enum { NAME_DIGITS = 16 }; /* digits of the name of a session that stays: the fi
 
 #define JOURNAL "journal" /* names of files in the folder of a session that stays */
 #define NEW_JOURNAL "journal.new"
+#define WRONG_JOURNAL "journal.wrong" /* one from which no session can be made; a number may follow */
+#define TORN_JOURNAL "journal.torn"   /* what was cut off the end of a journal, where a record is not whole */
 #define ABOUT "name"
-#define BEFORE "before" /* the names that the session had before other terminals took it over */
+#define BEFORE "before" /* the names that the session had before other terminals took it over, and then the one that it has */
 
 /* The folder of a session that stays, and that of all of them; the lock, where this process holds it. Open files, or -1. */
 struct home {
@@ -27,14 +30,29 @@ bool is_home_name(const char *word);
 int open_home(const char *name, bool makes, struct home *home);
 void close_home(struct home *home);
 
+/* Opens the folder of the session of a name; also one that a takeover has not come to name so. ENOENT where there is none. */
+int open_named(const char *name, struct home *home);
+
+/* Whether the folder of all sessions is there; hands out its path, in memory of the caller's: NULL where nothing names one. */
+bool has_state_folder(char **path);
+
 /* Opens a file in the folder, which is made where it isn't there, for the user alone whatever the umask. */
 int make_in_home(const struct home *home, const char *name, int flags, int *file);
 
 /* Has the folder be on the disk, with the names of what it has. */
 void sync_home(const struct home *home);
 
-/* Removes the folder and what a session has in it. */
+/* Gives the folder another name. */
+int rename_home(struct home *home, const char name[NAME_DIGITS + 1]);
+
+/* Removes the folder and what a session has in it. One that has a wrong journal stays, with that. */
 void remove_home(struct home *home);
+
+/* Keeps the journal as a wrong one, and hands out its path, in memory of the caller's; NULL where memory is out. */
+int keep_wrong_journal(const struct home *home, char **path);
+
+/* The path of a wrong journal that the folder has, in memory of the caller's; NULL where it has none. */
+char *find_wrong_journal(const struct home *home);
 
 /* Takes the lock, which is kept until the file of it is closed. EWOULDBLOCK where a living samhost has it. */
 int lock_home(struct home *home);
@@ -47,8 +65,8 @@ void note_owner(const struct home *home);
 int bind_home(const struct home *home, int *listener);
 int listen_at(int listener);
 
-/* Connects to the samhost of a session. */
-int connect_home(const struct home *home, int *line);
+/* Connects to the samhost of a session. Where too many others wait for it, EAGAIN after so many milliseconds; 0: after any time. */
+int connect_home(const struct home *home, int64_t longest, int *line);
 
 /* Whether the other end of a connection is the user's own; hands out its process, unless the pointer is NULL. */
 bool is_ours(int socket, pid_t *process);
@@ -56,10 +74,11 @@ bool is_ours(int socket, pid_t *process);
 /* Visits the folder of each session, until a visit returns an error number. */
 int each_home(int (*visit)(struct home *home, void *at), void *at);
 
-/* Notes a name that the session had before another terminal took it over; it goes with the folder. */
-void note_before(const struct home *home, const char name[NAME_DIGITS + 1]);
+/* Before a terminal takes the session over: notes the name that it has, and the one that it is to have; that goes with the folder. */
+void note_names(const struct home *home, const char before[NAME_DIGITS + 1], const char after[NAME_DIGITS + 1]);
 
-/* Finds the session that had a name before another terminal took it over, and hands out its name. Returns whether there is one. */
+/* Finds the session that had a name before another terminal took it over, and hands out how its folder is named. Returns whether there is
+ * one. */
 bool find_heir(const char *name, char heir[NAME_DIGITS + 1]);
 
 #endif

@@ -43,6 +43,19 @@ static bool is_handed_on(struct session *session, size_t tag)
            has;
 }
 
+/* Gives a name that the user has written a front where it begins as the names do of what is no file, and where there is room for it: the
+ * new terminal meets it as the name of a file from the start. */
+static void set_apart(char name[NAME_ROOM], size_t *len)
+{
+    bool is_taken = *len >= strlen(RESERVED) && memcmp(name, RESERVED, strlen(RESERVED)) == 0;
+
+    if (!is_taken || *len + 2 > MOST_IN_NAME)
+        return;
+    memmove(name + 2, name, *len);
+    memcpy(name, "./", 2);
+    *len += 2;
+}
+
 /* Gives the new host the names and texts of the old one, in their order. Returns whether there is memory for them. */
 static bool copy_files(struct session *session, struct session *heir)
 {
@@ -57,6 +70,7 @@ static bool copy_files(struct session *session, struct session *heir)
         if (take_text(session, (uint16_t)old) != 0 ||
             sam_host_name(&session->host, (uint16_t)old, (uint8_t *)name, NAME_ROOM, &len) != SAM_OK)
             return false;
+        set_apart(name, &len);
         if (sam_host_add_file(&heir->host, (const uint8_t *)name, len, session->text.bytes, session->text.len, &tag) != SAM_OK)
             return false;
     }
@@ -78,6 +92,7 @@ static void hand_documents(struct session *session, struct session *heir)
         document->is_open = false;
         document->watch = (struct watch){0}; /* the new terminal is told, too */
         document->is_unsaved |= sam_host_is_dirty(&session->host, (uint16_t)old, &is_dirty) != SAM_OK || is_dirty;
+        document->is_taken = document->is_unsaved;
     }
     heir->closed = session->closed;
     session->closed = NULL;
@@ -108,33 +123,50 @@ static void hand_stay(struct session *session, struct session *heir, struct call
 
 /* ---- The folder ---- */
 
-/* Writes the journal of the new session, and names its folder by its link. */
-static void name_anew(struct session *session, struct session *heir, const struct caller *caller)
+/* Writes the journal of the new session in the place of the old one's. Where that can't be, none is there: a journal that nobody writes
+ * would bring an older text back. */
+static void put_journal(struct session *session, struct session *heir, const struct caller *caller)
 {
-    struct home *home = &heir->stay->home;
-    char before[NAME_DIGITS + 1];
+    const struct home *home = &heir->stay->home;
+    struct journal *journal = &heir->stay->journal;
+    bool is_told = false;
 
     if (session->stay->journal.file >= 0)
         close(session->stay->journal.file);
     session->stay->journal.file = -1;
-    memcpy(before, home->name, sizeof before);
-    name_of_id(heir->stay->id, home->name);
     int error = make_journal(heir->stay, NEW_JOURNAL);
     if (error == 0) {
         note_start(heir);
         add_record(heir, STEP_HELLO, caller->bytes, caller->len);
         sync_journal(heir);
-        error = renameat(home->folder, NEW_JOURNAL, home->folder, JOURNAL) != 0 ? errno : 0;
+        is_told = journal->file < 0; /* it was lost meanwhile */
+        if (!is_told && renameat(home->folder, NEW_JOURNAL, home->folder, JOURNAL) == 0)
+            return;
+        error = errno;
     }
-    if (error != 0) {
-        (void)unlinkat(home->folder, JOURNAL, 0);
+    if (journal->file >= 0)
+        close(journal->file);
+    journal->file = -1;
+    (void)unlinkat(home->folder, JOURNAL, 0);
+    (void)unlinkat(home->folder, NEW_JOURNAL, 0);
+    if (!is_told)
         say("there is no journal: %s; if samhost ends unasked, the session ends with it", cause(error));
-    }
-    note_before(home, before);
-    if (renameat(home->all, before, home->all, home->name) != 0) {
-        say("session %s can't be named anew: %s", before, cause(errno));
-        memcpy(home->name, before, sizeof before);
-    }
+}
+
+/* Writes the journal of the new session, and names its folder by its link. Both names lead to the folder from the first step on, so a kill
+ * between two of them, or a folder that can't be named anew, keeps no terminal from it. */
+static void name_anew(struct session *session, struct session *heir, const struct caller *caller)
+{
+    struct home *home = &heir->stay->home;
+    char name[NAME_DIGITS + 1];
+
+    name_of_id(heir->stay->id, name);
+    note_names(home, home->name, name);
+    sync_home(home);
+    put_journal(session, heir, caller);
+    int error = rename_home(home, name);
+    if (error != 0)
+        say("the folder of session %s can't be named anew: %s; it is found all the same", home->name, cause(error));
     sync_home(home);
     note_about(heir);
 }
@@ -167,7 +199,9 @@ uint32_t take_over(struct session *session, struct caller *caller, const uint8_t
 {
     uint32_t code = SAM_NO_MEMORY;
 
-    if (session->stay->ending != GOES_ON) /* it waits for its terminal to hear of its end */
+    const struct stay *stay = session->stay;
+
+    if (stay->ending != GOES_ON || stay->has_ended || stay->is_to_end) /* it waits for its terminal to hear of its end */
         return SAM_LINK_NO_SESSION;
     struct session *heir = session->wire.is_short || session->stay->has_note ? NULL : make_heir(session, caller, id, &code);
 
@@ -176,10 +210,10 @@ uint32_t take_over(struct session *session, struct caller *caller, const uint8_t
     hand_documents(session, heir);
     hand_stay(session, heir, caller);
     heir->stay->attempt = attempt;
-    heir->stay->journal.is_awaited = true;
     listen_for_notes(heir);
     name_anew(session, heir, caller);
     (void)save_cut(session, false);
     report_taken(heir);
+    note_copies(heir);
     return SAM_OK;
 }

@@ -12,6 +12,15 @@ function shownName(path) {
   return runes.length <= MOST_RUNES_IN_NAME ? path : `…${runes.slice(1 - MOST_RUNES_IN_NAME).join("")}`;
 }
 
+/* What a host puts a question mark for where it tells a name: controls, ends of lines and paragraphs, and formats that show nowhere. */
+const CONTROLS = String.raw`\0-\x1f\x7f-\x9f\u2028\u2029`;
+const FORMATS = String.raw`\xad\u061c\u180e\u200b\u200e\u200f\u202a-\u202e\u2060-\u2064\u2066-\u206f\ufeff\ufff9-\ufffb`;
+const RARE_FORMATS = String.raw`\u{1bca0}-\u{1bca3}\u{1d173}-\u{1d17a}\u{e0001}\u{e0020}-\u{e007f}`;
+const NOT_SHOWN = new RegExp(`[${CONTROLS}${FORMATS}${RARE_FORMATS}]`, "gu");
+
+/** A name as a host tells it. */
+const asTold = (name) => name.replace(NOT_SHOWN, "?");
+
 /** What the name may be of the file that words are about: it ends at a colon, and others may stand in it. The longest comes first. */
 function namesIn(words) {
   const ends = [...words.matchAll(/: /g)].map(({ index }) => index).slice(0, MOST_ENDS).reverse();
@@ -55,7 +64,7 @@ export class Unwritten {
   #tagsOf(names) {
     const { editor } = this;
     for (const name of names) {
-      const tags = editor.tags.filter((tag) => editor.nameOf(tag) === name);
+      const tags = editor.tags.filter((tag) => asTold(editor.nameOf(tag)) === asTold(name));
       if (tags.length > 0) return tags;
     }
     return [];

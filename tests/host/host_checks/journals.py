@@ -16,7 +16,7 @@ from .line import Staying, home_of, is_running, pid_of
 from .support import SAMHOST, expect_equal, made, names_in, text_of
 
 FRONT = 16  # bytes of a journal before its first record
-UP, DOWN, DONE = 5, 6, 9  # kinds of records: bytes that came, bytes that the host said, a file that was written
+HELLO, UP, DOWN, DONE = 4, 5, 6, 9  # kinds of records: a connection, bytes that came, bytes that the host said, a file that was written
 
 
 def kill(folder, session):

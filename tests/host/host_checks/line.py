@@ -1,12 +1,14 @@
 """A terminal whose line to a session that stays breaks: a relay's process, and a link's end."""
+import contextlib
 import os
 import select
+import shutil
 import signal
 import subprocess
 import time
 from pathlib import Path
 
-from checks import GIVEN_UP, SECONDS, expect, times_longer, wait_until
+from checks import GIVEN_UP, SECONDS, Skipped, expect, times_longer, wait_until
 from link_model import HELLO_BYTES, MARK, Link, LinkFault, read_whole
 
 from .support import SAMHOST, expect_equal
@@ -32,6 +34,20 @@ def is_running(pid):
         return Path(f"/proc/{pid}/stat").read_text().rpartition(")")[2].split()[0] != "Z"
     except (FileNotFoundError, ProcessLookupError):
         return False
+
+
+@contextlib.contextmanager
+def with_calls(pid, *words):
+    """Has strace do something to calls of a process, as these words of it say, until this ends or the process does."""
+    if shutil.which("strace") is None:
+        raise Skipped("no strace")
+    command = ("strace", "-qq", "-f", "-o", "/dev/null", "-p", str(pid), *(word for each in words for word in ("-e", each)))
+    with subprocess.Popen(command, stderr=subprocess.DEVNULL) as tracer:
+        wait_until(lambda: "TracerPid:\t0\n" not in Path(f"/proc/{pid}/status").read_text(), "it is not traced")
+        try:
+            yield
+        finally:
+            tracer.terminate()
 
 
 class Staying:

@@ -2,6 +2,7 @@
 import contextlib
 import os
 import random
+import shutil
 import signal
 import socket
 import subprocess
@@ -9,12 +10,12 @@ import sys
 import time
 from pathlib import Path
 
-from checks import GIVEN_UP, SECONDS, Skipped, expect, wait_until
+from checks import GIVEN_UP, SECONDS, Skipped, expect, times_longer, wait_until
 from link_model import HELLO_BYTES, Read, What, read_whole, spelled
 
-from .journals import UP, records_of
-from .line import Staying, home_of, is_running, pid_of, state_of
-from .support import IS_ROOT, LATE, NOBODY, SAMHOST, expect_equal, made, names_in, text_of
+from .journals import UP, kill, records_of
+from .line import Staying, home_of, is_running, pid_of, state_of, with_calls
+from .support import IDLE, IS_ROOT, LATE, NOBODY, SAMHOST, expect_equal, front_of, made, names_in, text_of
 
 OWN = "0123456789abcdef"
 MINUTE = 60.0  # seconds that a session stays to which no terminal came
@@ -210,23 +211,234 @@ def check_stays_unmet_a_minute(folder):
             expect(home_of(folder, session.name).exists(), "a session is gone to which a terminal came")
 
 
-def check_stays_until_a_signal(folder):
-    """At SIGTERM it saves the texts aside, says the end, and goes; with a terminal and without."""
+def check_stays_after_a_signal(folder):
+    """At SIGTERM, as when its machine is to begin anew, samhost saves the texts aside and goes, with a terminal and without. The session
+    stays: the same terminal goes on with all, says nothing of it, and ends it once it leaves."""
     for is_alone in (False, True):
         place = folder / str(is_alone)
         place.mkdir()
         made(place, a="one\n")
-        with Staying(place, "a.txt") as session:
+        with Staying(place, "a.txt", options=("--undo",)) as session:
             session.type("two\n")
             pid = pid_of(place, session.name)
             if is_alone:
                 session.drop()
             os.kill(pid, signal.SIGTERM)
-            if not is_alone:
-                session.wait_for("ended 0")
             wait_until(lambda: not is_running(pid), "it doesn't go")
-            expect(not home_of(place, session.name).exists(), "its folder stays")
-        expect_equal(text_of(place / "a.txt.sam-saved"), "one\ntwo\n", "the copy")
+            expect_equal(text_of(place / "a.txt.sam-saved"), "one\ntwo\n", "the copy")
+            expect((home_of(place, session.name) / "journal").exists(), "the session is gone")
+            session.type("three\n")
+            expect(pid_of(place, session.name) != pid, "no other samhost has begun")
+            expect_equal(session.text(), "one\ntwo\nthree\n", "the text")
+            expect_equal([note for note in session.notes if not note.startswith("session ")], [], "what it says")
+            session.write()
+            session.leave()
+        expect_equal([name for name in names_in(place) if "sam" in name], [], "the copies that are left")
+        expect_equal(text_of(place / "a.txt"), "one\ntwo\nthree\n", "the file")
+
+
+def check_stays_after_a_signal_until_it_is_ended(folder):
+    """--end ends a session whose samhost a signal has ended, as any other; one that no terminal has come to goes at the signal."""
+    made(folder, a="one\n")
+    with Staying(folder, "a.txt") as session:
+        session.type("two\n")
+        pid = pid_of(folder, session.name)
+        os.kill(pid, signal.SIGTERM)
+        wait_until(lambda: not is_running(pid), "it doesn't go")
+        expect("another can begin from its journal" in session.run("--list").stdout, "the list doesn't have it")
+        ended = session.run("--end", session.name)
+        wanted = (0, "samhost: a.txt was not written; its text is in a.txt.sam-saved\n")
+        expect_equal((ended.returncode, ended.stderr), wanted, "what comes of --end")
+        expect_gone(folder, session)
+    with Staying(folder, "a.txt", begin=False) as silent:
+        wait_until(lambda: is_served(folder, silent), "it doesn't begin")
+        os.kill(pid_of(folder, silent.name), signal.SIGTERM)
+        expect_gone(folder, silent)
+
+
+def check_stays_until_nobody_comes_back(folder):
+    """A session whose samhost is gone ends, as any other, after as long alone as it may be: a new session sees to that. One that was alone
+    for less stays."""
+    made(folder, a="one\n", b="other\n", c="third\n")
+    with Staying(folder, "a.txt") as left, Staying(folder, "b.txt") as late:
+        for session, name, hours in ((left, "a.txt", 73), (late, "b.txt", 71)):
+            session.type("two\n")
+            session.drop()
+            kill(folder, session)
+            when = time.time() - hours * 3600
+            os.utime(home_of(folder, session.name) / "journal", (when, when))
+        with Staying(folder, "c.txt") as new:
+            expect_gone(folder, left)
+            expect_equal(text_of(folder / "a.txt.sam-saved"), "one\ntwo\n", "the copy")
+            new.type("two\n")
+            new.leave()
+        late.type("three\n")
+        expect_equal(late.text(), "other\ntwo\nthree\n", "the text of the other")
+        late.leave()
+
+
+def check_stays_until_it_is_ended(folder):
+    """--end ends a session that has a terminal, which hears of it."""
+    made(folder, a="one\n")
+    with Staying(folder, "a.txt") as session:
+        session.type("two\n")
+        pipe = subprocess.PIPE
+        words = [SAMHOST, "--end", session.name]
+        with subprocess.Popen(words, cwd=folder, env=session.environment, stdout=pipe, stderr=pipe) as ending:
+            session.wait_for("ended 0")
+            expect_equal((ending.wait(GIVEN_UP), *ending.communicate()), (0, b"", b""), "what comes of --end")
+        expect_gone(folder, session)
+        expect("told a.txt was not written; its text is in a.txt.sam-saved" in session.notes, f"it doesn't say where: {session.notes}")
+
+
+def check_stays_ended_while_it_begins(folder):
+    """--end ends a session that doesn't listen yet, as soon as it does."""
+    if shutil.which("strace") is None:
+        raise Skipped("no strace")
+    made(folder, a="one\n")
+    words = ("strace", "-f", "-qq", "-o", "/dev/null", "-e", "inject=listen:delay_enter=1500000")
+    with Staying(folder, "a.txt", begin=False, prefix=words) as session:
+        wait_until(lambda: (home_of(folder, session.name) / "socket").exists(), "it doesn't begin")
+        start = time.monotonic()
+        ended = session.run("--end", session.name)
+        took = time.monotonic() - start
+        expect_equal((ended.returncode, ended.stderr), (0, ""), "what comes of --end")
+        expect(took < 10 * times_longer(), f"it takes {took:.1f} s")
+        expect_gone(folder, session)
+
+
+def check_stays_where_a_text_can_t_be_saved(folder):
+    """A session whose text can't be saved anywhere at its end keeps its journal, and says so; --end saves it later."""
+    made(folder, a="one\n")
+    with Staying(folder, "a.txt") as session:
+        pid = pid_of(folder, session.name)
+        with with_calls(pid, "inject=pwrite64:error=ENOSPC"):
+            session.type("two\n")
+            session.terminal.exit()
+            session.wait_for("ended 5")
+            wait_until(lambda: not is_running(pid), "it doesn't go")
+        expect("told the text of a.txt is lost: No space left on device" in session.notes, f"it says {session.notes}")
+        expect(any("--end" in note for note in session.notes), f"it doesn't say how it is saved: {session.notes}")
+        session.drop()
+        session.start("--attach", session.name)
+        session.carry(lambda: session.process is None, "the session goes on")
+        expect((home_of(folder, session.name) / "journal").exists(), "the journal is gone")
+        ended = session.run("--end", session.name)
+        wanted = (0, "samhost: a.txt was not written; its text is in a.txt.sam-saved\n")
+        expect_equal((ended.returncode, ended.stderr), wanted, "what comes of --end")
+        expect_gone(folder, session)
+    expect_equal(text_of(folder / "a.txt.sam-saved"), "one\ntwo\n", "the copy")
+
+
+def check_stays_without_a_state_folder(folder):
+    """Where the folder of all sessions isn't there yet, as before a home is mounted, the terminal's connection is refused, and standard
+    error says why; else that there is no such session."""
+    made(folder, a="one\n")
+    with Staying(folder, "a.txt") as session:
+        session.type("two\n")
+        state = state_of(folder)
+        away = folder / "temporary" / "away"
+        for says, hides in ((f"there is no state folder {state}, so no session is found", True), (f"there is no session {OWN}", False)):
+            session.drop()
+            if hides:
+                state.rename(away)
+            session.start("--attach", session.name if hides else OWN)
+            expect_equal((session.refusal(), session.wait()), (What.NO_SESSION, 7), f"{says}: the answer, and the status")
+            expect_equal(session.process.stderr.read().decode(), f"samhost: {says}\n", "what it says")
+            if hides:
+                away.rename(state)
+        session.drop()
+        session.type("three\n")
+        expect_equal(session.text(), "one\ntwo\nthree\n", "the text")
+        session.leave()
+
+
+def check_stays_quiet_after_its_end(folder):
+    """A session whose terminal left and never heard of the end sleeps until that is over."""
+    made(folder, a="one\n")
+    with Staying(folder, "a.txt") as session:
+        session.type("two\n")
+        session.write()
+        pid = pid_of(folder, session.name)
+        session.terminal.exit()
+        session.send()
+        wait_until(lambda: b"ended 0" in (home_of(folder, session.name) / "journal").read_bytes(), "it doesn't end")
+        session.drop()
+        time.sleep(IDLE + 1)
+        before = seconds_of(pid)
+        time.sleep(4)
+        took = seconds_of(pid) - before
+        expect(took < 0.2, f"it takes {took:.2f} s of the processor in 4 s")
+
+
+def seconds_of(pid):
+    """The seconds of the processor that a process has taken."""
+    fields = Path(f"/proc/{pid}/stat").read_text().rpartition(")")[2].split()
+    return (int(fields[11]) + int(fields[12])) / os.sysconf("SC_CLK_TCK")
+
+
+def check_stays_told_to_a_new_one(folder):
+    """A new session on a file that another has changed and not written is told of that one, by each name of the file; of a file that isn't
+    there yet, too, and not of one that is written. Others that don't answer hold it up for a second at most."""
+    made(folder, a="one\n", b="other\n", c="third\n")
+    (folder / "link.txt").symlink_to("a.txt")
+    with Staying(folder, "a.txt", "b.txt", "c.txt", "new.txt") as old:
+        old.type("two\n")
+        old.type("three\n", 2)
+        old.write(2)
+        old.type("new\n", 4)
+        old.drop()
+        with Staying(folder, "link.txt", "b.txt", "c.txt", "new.txt") as new:
+            told = [note for note in new.notes if " has changes in session " in note]
+            way = f"samterm --take .. {old.name}, or samhost --take {old.name}, goes on with them"
+            wanted = [f"told {name} has changes in session {old.name} that are not written; {way}" for name in ("link.txt", "new.txt")]
+            expect_equal(told, wanted, "what it is told")
+            new.leave()
+        other = pid_of(folder, old.name)
+        os.kill(other, signal.SIGSTOP)
+        try:
+            start = time.monotonic()
+            with Staying(folder, "c.txt") as late:
+                took = time.monotonic() - start
+                expect(took < 3 * times_longer(), f"it begins after {took:.1f} s")
+                late.leave()
+        finally:
+            os.kill(other, signal.SIGCONT)
+        old.leave()
+
+
+def check_stays_ended_without_its_folder(folder):
+    """--end of a session whose first folder is gone saves its texts, and what was cut, to the user's own folder, and leaves other files
+    alone."""
+    place = folder / "place"
+    place.mkdir()
+    made(place, a="one two\n")
+    (folder / "a.txt").write_text("another\n")
+    with Staying(place, "a.txt", options=("--undo",)) as session:
+        environment = session.environment
+        session.terminal.select(1, 0, 4)
+        session.terminal.cut(1)
+        session.type("three\n")
+        session.terminal.new_file()
+        session.settle()
+        session.type("unnamed\n", session.terminal.current)
+        kill(place, session)
+        session.abandon()
+        state = state_of(place)
+        kept = folder / "state"
+        state.parent.rename(kept)
+        place.rename(folder / "elsewhere")
+        environment = {**environment, "XDG_STATE_HOME": str(kept), "TMPDIR": str(kept)}
+        words = [SAMHOST, "--end", session.name]
+        ended = subprocess.run(words, cwd=folder, env=environment, capture_output=True, text=True, timeout=GIVEN_UP)
+        expect_equal(ended.returncode, 0, f"after {ended.stderr!r} the status")
+        expect(not (kept / "sulgrevad" / session.name).exists(), "its folder stays")
+        copies = {name: kept / "sulgrevad" / f"{front_of(place / name)}.sam-saved" for name in ("a.txt", "cut", "unnamed-3")}
+        texts = {name: text_of(copy) for name, copy in copies.items()}
+        expect_equal(texts, {"a.txt": "two\nthree\n", "cut": "one ", "unnamed-3": "unnamed\n"}, f"after {ended.stderr!r} the copies")
+        expect(f"{place}/a.txt was not written; its text is in {copies['a.txt']}" in ended.stderr, f"it says {ended.stderr!r}")
+        expect_equal(names_in(folder), ["a.txt", "elsewhere", "state"], "what is in the folder")
+        expect_equal(text_of(folder / "a.txt"), "another\n", "the other file")
 
 
 def check_stays_for_the_last_note(folder):

@@ -9,7 +9,7 @@ import subprocess
 
 from checks import GIVEN_UP, Skipped, expect, times_slower
 
-from .journals import DONE, DOWN, UP, kill, records_of
+from .journals import DONE, DOWN, HELLO, UP, kill, records_of
 from .line import Staying, home_of
 from .support import SAMHOST, expect_equal, made, text_of
 
@@ -154,6 +154,132 @@ def check_power_cut_that_leaves_zeros(folder):
         with open(left.home / "journal", "ab") as journal:
             journal.write(bytes(count))
         left.expect_texts(len(left.journal) - count, left.texts_at_the_end(-count))
+
+
+def traced(log):
+    """Words that run a command and note in a file what it writes to its journal, and when that is on the disk."""
+    if shutil.which("strace") is None:
+        raise Skipped("no strace")
+    return ("strace", "-f", "-qq", "-y", "-s", "0", "-o", log, "-e", "trace=writev,fdatasync")
+
+
+def synced(log, size):
+    """How many bytes of a journal are on the disk that had so many at first, and how often it was synced, as the calls say."""
+    on_disk, syncs = 0, 0
+    for call, count in re.findall(r"^\d+ +(writev|fdatasync)\(\d+<[^>]*/journal>.* = (\d+)$", log.read_text(), re.MULTILINE):
+        if call == "writev":
+            size += int(count)
+        else:
+            on_disk, syncs = size, syncs + 1
+    return on_disk, syncs
+
+
+class PowerCuts:
+    """A session whose samhost is killed, and whose journal is then what was on the disk, and each second time some of what came after that.
+    The same terminal goes on with it."""
+
+    def __init__(self, folder, session, log):
+        self.folder, self.session, self.log, self.size = folder, session, log, 0
+        self.numbers, self.cuts = random.Random(3), 0
+
+    def cut(self):
+        """Cuts the power; answers how often the journal was synced since the last time."""
+        kill(self.folder, self.session)
+        self.session.process.stdout.read()  # what was on its way is lost
+        self.session.process.wait(GIVEN_UP)
+        self.session.abandon()
+        journal = home_of(self.folder, self.session.name) / "journal"
+        on_disk, syncs = synced(self.log, self.size)
+        data = journal.read_bytes()
+        expect(0 < on_disk <= len(data), f"this test is wrong: {on_disk} bytes of {len(data)} are on the disk")
+        self.cuts += 1
+        left = data[: on_disk if self.cuts % 2 else self.numbers.randint(on_disk, len(data))]
+        journal.write_bytes(left)
+        self.size = records_of(left)[1]
+        self.log.unlink()
+        self.session.prefix = traced(self.log)
+        return syncs
+
+
+def check_power_cut_at_the_last_sync(folder):
+    """The same terminal goes on after a power cut that leaves of the journal what was on the disk, with all that it has typed and seen:
+    also where the rest would come out otherwise now, as a long file that is being loaded, a write that was refused, and names of files."""
+    (path, _) = made(folder, a="one\n", b="a line of the long file\n" * 30_000)
+    log = folder / "temporary" / "calls"
+    with Staying(folder, "a.txt", "b.txt", options=("--undo",), prefix=traced(log)) as session:
+        terminal, link, power = session.terminal, session.link, PowerCuts(folder, session, log)
+        for count in range(3):
+            session.type(f"key {count}\n")
+            power.cut()
+        for number, count in enumerate((5_000, 15_000, 20_000)):
+            before = link.received
+            terminal.load(2, number * 200_000, (number + 1) * 200_000)
+            session.carry(lambda: link.received - before > count, "the file isn't loaded")
+            power.cut()
+            session.settle()
+            power.cut()
+        for number in range(2):
+            path.write_text(f"of another program {number}\n")
+            session.type(f"refused {number}\n")
+            session.write()
+            told = [note for note in session.notes if note.startswith("told ? write a.txt: another program changed it")]
+            expect_equal(len(told), number + 1, f"how often it says so, in {session.notes}: it")
+            power.cut()
+            session.type(f"after {number}\n")
+            power.cut()
+        for number in range(3):
+            link.put_note(b"names %d " % number)
+            session.carry(lambda: any(note.startswith(f"names {number} ") for note in session.notes), "no names come")
+            power.cut()
+            (folder / f"new{number}.txt").touch()
+            session.settle()
+        expect_equal(session.text(2), "a line of the long file\n" * 30_000, "the long file")
+        wanted = "one\nkey 0\nkey 1\nkey 2\nrefused 0\nafter 0\nrefused 1\nafter 1\n"
+        expect_equal(session.text(1), wanted, "the text")
+        session.write()
+        session.write()
+        expect_equal(text_of(path), wanted, "the file")
+        session.leave()
+
+
+def check_power_cut_leaves_no_newer_file(folder):
+    """Before a file is written the disk has what asked for that, and it is acknowledged: the disk may take long."""
+    made(folder, a="one\n")
+    log = folder / "temporary" / "calls"
+    words = (*traced(log)[:-1], "trace=writev,fdatasync,sendto,rename")
+    with Staying(folder, "a.txt", prefix=words) as session:
+        session.type("two\n")
+        session.terminal.write(1)
+        session.settle()
+        expect_equal(text_of(folder / "a.txt"), "one\ntwo\n", "the file")
+        kill(folder, session)
+        session.process.stdout.read()
+        session.process.wait(GIVEN_UP)
+        session.abandon()
+    forms = {r"writev\(\d+<[^>]*/journal>": "record", r"fdatasync\(\d+<[^>]*/journal>": "on disk", r"sendto\(": "sent", r"rename\(": "file"}
+    calls = [name for line in log.read_text().splitlines() for form, name in forms.items() if re.match(rf"\d+ +{form}", line)]
+    at = calls.index("file")
+    expect_equal(calls[at - 3 : at], ["record", "on disk", "sent"], f"in {calls} what comes before the file")
+
+
+def check_power_needs_one_sync_for_an_answer(folder):
+    """An acknowledgement and the answer that goes with it wait for the disk once: it is synced as often as bytes come, and not twice. (After
+    a pause it is, too, when texts are saved aside.)"""
+    made(folder, a="one\n")
+    log = folder / "temporary" / "calls"
+    with Staying(folder, "a.txt", prefix=traced(log)) as session:
+        power = PowerCuts(folder, session, log)
+        for _ in range(30):
+            session.terminal.select(1, 0, 0)
+            session.terminal.type(1, "k")
+            session.terminal.check(1)
+            session.settle()
+        journal = (home_of(folder, session.name) / "journal").read_bytes()
+        came = sum(kind in (HELLO, UP) for _, kind in records_of(journal)[0])
+        syncs = power.cut()
+        expect(30 <= syncs <= 1.3 * came, f"it is synced {syncs} times for {came} pieces")
+        session.settle()
+        session.leave()
 
 
 def check_power_cut_keeps_the_folder(folder):

@@ -5,9 +5,11 @@ import signal
 from checks import expect, wait_until
 from link_model import What
 
-from .journals import kill
-from .line import Staying, home_of, pid_of
+from .journals import kill, records_of
+from .line import Staying, home_of, is_running, pid_of, state_of, with_calls
 from .support import IDLE, expect_equal, made, names_in, text_of
+
+RENAMES = "renameat,renameat2"  # calls of the system that rename the journal, and then the folder
 
 
 def names_of(session):
@@ -128,6 +130,107 @@ def check_taken_by_its_name(folder):
         other.drop()
         other.start("--take")
         expect_equal((other.refusal(), other.wait()), (What.NO_SESSION, 7), "what comes of --take where there is none")
+
+
+def expect_line_last(session, note):
+    """A note has come, and no other after it that tells something."""
+    session.carry(lambda: note in session.notes, f"no {note!r} comes")
+    expect_equal([said for said in session.notes if said.startswith("told")][-1], note, "what it has told last")
+
+
+def check_taken_back_once_it_is_written(folder):
+    """What the new terminal was told of a file that was not written is taken back once that is written, and once only; also where samhost
+    was killed in between."""
+    for is_killed in (False, True):
+        place = folder / str(is_killed)
+        place.mkdir()
+        made(place, a="one\n", b="other\n")
+        with Staying(place, "a.txt", "b.txt") as old:
+            old.type("two\n")
+            old.drop()
+            with Staying(place, takes=old.name) as new:
+                expect(any(note.startswith("told ? write a.txt: it was not written before") for note in new.notes), f"it says {new.notes}")
+                if is_killed:
+                    kill(place, new)
+                new.write(2)
+                new.write(1)
+                expect_line_last(new, "told a.txt is written")
+                new.type("three\n")
+                new.write(1)
+                expect_equal(new.notes.count("told a.txt is written"), 1, "how often it says so")
+                new.leave()
+        expect_equal(text_of(place / "a.txt"), "one\ntwo\nthree\n", "the file")
+        expect_equal([name for name in names_in(place) if "sam" in name], [], "the copies that are left")
+
+
+def alone(folder, old):
+    """Has a terminal go, and waits until its session has nothing left to do."""
+    old.type("two\n")
+    old.drop()
+    wait_until(lambda: text_of(folder / "a.txt.sam-saved") == "one\ntwo\n", "it isn't saved aside")
+    wait_until(lambda: 10 in {kind for _, kind in records_of((home_of(folder, old.name) / "journal").read_bytes())[0]}, "it isn't noted")
+    return pid_of(folder, old.name)
+
+
+def check_taken_where_the_new_journal_is_lost(folder):
+    """Where the new session's journal can't be on the disk no journal is left: one that nobody writes would bring an older text back. The
+    terminal is told."""
+    for error, when in (("EIO", 1), ("EIO", 2), ("ENOSPC", 2)):
+        place = folder / f"{error}{when}"
+        place.mkdir()
+        made(place, a="one\n")
+        with Staying(place, "a.txt") as old:
+            pid = alone(place, old)
+            with with_calls(pid, f"inject=fdatasync:error={error}:when={when}"):
+                with Staying(place, takes=old.name) as new:
+                    new.type("three\n")
+                    home = home_of(place, new.name)
+                    journals = [name for name in names_in(home) if name.startswith("journal")]
+                    expect_equal(journals, [], f"{error} at the sync {when}: the journals that are there")
+                    told = [note for note in new.notes if note.startswith("told the journal can't be written: ")]
+                    expect_equal(len(told), 1, f"how often it says so, in {new.notes}: it")
+                    new.leave()
+
+
+def check_taken_and_killed_at_each_step(folder):
+    """Where samhost is killed in a takeover, also between the renaming of the journal and that of the folder, the new terminal goes on by
+    the name that it knows."""
+    for call, when in (("fsync", 1), ("fdatasync", 1), ("fdatasync", 2), (RENAMES, 1), (RENAMES, 2), ("fsync", 4)):
+        place = folder / f"{call}{when}"
+        place.mkdir()
+        made(place, a="one\n")
+        with Staying(place, "a.txt") as old:
+            pid = alone(place, old)
+            with with_calls(pid, f"inject={call}:signal=KILL:when={when}"), Staying(place, takes=old.name, begin=False) as new:
+                new.give()
+                wait_until(lambda: not is_running(pid), f"{call} {when}: it isn't killed")
+                new.begin()
+                expect_equal(new.text(), "one\ntwo\n", f"{call} {when}: the text")
+                new.type("three\n")
+                expect_equal(names_in(state_of(place)), [new.name], f"{call} {when}: the folders of sessions")
+                expect_equal(answer_to(old, "--attach", old.name), (What.OTHER_SESSION, 7), f"{call} {when}: what the older one finds")
+                new.leave()
+
+
+def check_taken_where_the_folder_stays(folder):
+    """A session whose folder can't be named anew is told of it, and found by the new name all the same: after a break, after a kill, and by
+    --end."""
+    made(folder, a="one\n")
+    with Staying(folder, "a.txt") as old:
+        pid = alone(folder, old)
+        with with_calls(pid, f"inject={RENAMES}:error=EIO:when=2"), Staying(folder, takes=old.name) as new:
+            told = f"told the folder of session {old.name} can't be named anew: Input/output error; it is found all the same"
+            expect(told in new.notes, f"it says {new.notes}")
+            expect_equal(names_in(state_of(folder)), [old.name], "the folders of sessions")
+            new.drop()
+            new.type("three\n")
+            os.kill(pid, signal.SIGKILL)
+            wait_until(lambda: not is_running(pid), "it still runs")
+            new.type("four\n")
+            expect_equal(new.text(), "one\ntwo\nthree\nfour\n", "the text")
+            expect_equal(names_in(state_of(folder)), [new.name], "the folders of sessions after another has begun")
+            expect_equal(new.run("--end", new.name).returncode, 0, "the status of --end")
+            expect_equal(names_in(state_of(folder)), [], "the folders of sessions at the end")
 
 
 def check_taken_keeps_what_was_cut(folder):

@@ -1,0 +1,202 @@
+"""Journals that a disk has damaged: nothing goes unsaid, and nothing is removed or cut without a copy."""
+import os
+import shutil
+import struct
+import subprocess
+
+from checks import GIVEN_UP, Skipped, expect, times_slower, wait_until
+from host_checks.journals import FRONT, kill, records_of
+from host_checks.line import Staying, home_of
+from host_checks.power import seconds_of_children
+from host_checks.support import SAMHOST, expect_equal, made, names_in, text_of
+from link_model import What
+
+BEGUN = 3  # the kind of the record before which all stands with which a session began
+MOST_SECONDS = 3.0  # of the processor, for a journal that claims much
+
+
+class Killed:
+    """A session whose samhost was killed, some texts of which stand nowhere but in its journal."""
+
+    def __init__(self, folder):
+        self.folder = folder
+        made(folder, a="one\n")
+        with Staying(folder, "a.txt") as session:
+            self.name, self.environment = session.name, session.environment
+            for number in range(6):
+                session.type(f"{number}\n")
+            kill(folder, session)
+            self.home = home_of(folder, session.name)
+            self.files = {path.name: path.read_bytes() for path in self.home.iterdir() if path.is_file()}
+        self.journal = self.files["journal"]
+        records, end = records_of(self.journal)
+        self.records = [(at, kind, after) for (at, kind), (after, _) in zip(records, [*records[1:], (end, 0)])]
+
+    def restore(self, journal):
+        shutil.rmtree(self.home, ignore_errors=True)
+        self.home.mkdir(mode=0o700)
+        for name, data in {**self.files, "journal": journal}.items():
+            (self.home / name).write_bytes(data)
+        for path in self.folder.glob("*.sam-*"):
+            path.unlink()
+
+    def flipped(self, at):
+        return self.journal[:at] + bytes([self.journal[at] ^ 0x10]) + self.journal[at + 1 :]
+
+    def run(self, *words, prefix=()):
+        return subprocess.run(
+            [*prefix, SAMHOST, *words], cwd=self.folder, env=self.environment, input=b"", capture_output=True, timeout=GIVEN_UP
+        )
+
+
+def check_damaged_in_the_front_or_the_middle(folder):
+    """One wrong bit, wherever it is but in the last record: --end says so, its status is not 0, the journal stays beside as journal.wrong,
+    and what is known is saved aside."""
+    killed = Killed(folder)
+    begun = next(after for _, kind, after in killed.records if kind == BEGUN)
+    saved = set()
+    for at, _, after in killed.records[:-1]:
+        for place in (at + 2, at + 4, (at + after) // 2, after - 1):
+            journal = killed.flipped(place)
+            killed.restore(journal)
+            ended = killed.run("--end", killed.name)
+            said, copy = ended.stderr.decode(), text_of(folder / "a.txt.sam-saved")
+            expect_equal(ended.returncode, 1, f"byte {place}: after {said!r} the status")
+            expect("its journal is damaged" in said and str(killed.home / "journal.wrong") in said, f"byte {place}: it says {said!r}")
+            expect_equal((killed.home / "journal.wrong").read_bytes(), journal, f"byte {place}: the journal that is kept")
+            expect(not (killed.home / "journal").exists(), f"byte {place}: the session goes on")
+            expect(at >= begun or copy is None, f"byte {place}: what is saved of a session that has no begin is {copy!r}")
+            expect(copy is None or f"its text is in {copy and 'a.txt.sam-saved'}" in said, f"byte {place}: it says {said!r}")
+            saved.add(copy)
+    wanted = {"one\n" + "".join(f"{number}\n" for number in range(count)) for count in range(1, 7)}
+    expect(wanted - saved <= {max(wanted, key=len)} and saved - wanted <= {None, "one\n"}, f"the texts that were saved are {saved}")
+
+
+def check_damaged_says_it_to_terminals(folder):
+    """--attach and --take of such a session refuse the terminal, say why, and keep the journal; --list and --end have it still. A second
+    one is kept beside the first."""
+    killed = Killed(folder)
+    journal = killed.flipped(killed.records[len(killed.records) // 2][0] + 6)
+    for number, words in enumerate((["--attach", killed.name], ["--take"])):
+        name = "journal.wrong" if number == 0 else "journal.wrong.2"
+        if number == 0:
+            killed.restore(journal)
+        else:
+            (killed.home / "journal").write_bytes(journal)
+        ended = killed.run(*words)
+        expect_equal((ended.returncode, ended.stdout[8:10]), (7, bytes([1, What.NO_SESSION])), f"{words}: the status, and the answer")
+        expect(b"its journal is damaged" in ended.stderr, f"{words}: it says {ended.stderr!r}")
+        expect_equal((killed.home / name).read_bytes(), journal, f"{words}: the journal that is kept")
+        expect(str(killed.home / name).encode() in ended.stderr, f"{words}: it says {ended.stderr!r}")
+    again = killed.run("--attach", killed.name)
+    expect_equal((again.returncode, again.stdout[8:10]), (7, bytes([1, What.NO_SESSION])), "what comes of another --attach")
+    expect("its journal is wrong, and kept in " in killed.run("--list").stdout.decode(), "the list doesn't have it")
+    ended = killed.run("--end", killed.name)
+    expect_equal(ended.returncode, 1, "the status of --end")
+    expect(b"all that is left of session" in ended.stderr and b"journal.wrong" in ended.stderr, f"--end says {ended.stderr!r}")
+    expect((killed.home / "journal.wrong").exists(), "the journal is gone")
+
+
+def check_damaged_writes_no_file(folder):
+    """Where the note of a write is in what is damaged, the file is not written once more: it may have been changed since."""
+    (path,) = made(folder, a="one\n")
+    with Staying(folder, "a.txt") as session:
+        session.type("two\n")
+        session.write()
+        session.type("three\n")
+        kill(folder, session)
+        path.write_text("one\n")  # as it was before the session: nothing shows that somebody put that there
+        journal = home_of(folder, session.name) / "journal"
+        data = bytearray(journal.read_bytes())
+        at = next(at for at, kind in records_of(bytes(data))[0] if kind == 9)
+        data[at + 8] ^= 1
+        journal.write_bytes(data)
+        session.abandon()
+        ended = session.run("--end", session.name)
+        expect_equal(ended.returncode, 1, f"after {ended.stderr!r} the status")
+    expect_equal(text_of(path), "one\n", "the file")
+    expect_equal(text_of(folder / "a.txt.sam-saved"), "one\ntwo\n", "the copy")
+
+
+def check_damaged_tail_is_kept(folder):
+    """What is cut off a torn end stays beside the journal, whose cut is on the disk before anything else."""
+    if shutil.which("strace") is None:
+        raise Skipped("no strace")
+    killed = Killed(folder)
+    at = killed.records[-1][0]
+    killed.restore(killed.journal[:-2])
+    log = folder / "calls"
+    words = ("strace", "-qq", "-y", "-f", "-o", log, "-e", "trace=ftruncate,fdatasync,fsync,writev,openat")
+    with subprocess.Popen(
+        [*words, SAMHOST, "--attach", killed.name], cwd=folder, env=killed.environment, stdin=subprocess.PIPE, stdout=subprocess.PIPE,
+        stderr=subprocess.PIPE,
+    ) as relay:  # fmt: skip
+        relay.stdin.close()
+        wait_until(lambda: (killed.home / "socket").exists(), "the session doesn't go on")
+        torn = (killed.home / "journal.torn").read_bytes()
+        expect_equal(killed.run("--end", killed.name).returncode, 0, "the status of --end")
+        relay.wait(GIVEN_UP)
+    expect_equal(torn, killed.journal[at:-2], "what is kept of the end")
+    calls = [line.split(None, 1)[1].partition("(") for line in log.read_text().splitlines()]
+    on = [(name, "torn" if "journal.torn>" in rest else "journal") for name, _, rest in calls if "/journal" in rest and name != "openat"]
+    start = on.index(("writev", "torn"))
+    wanted = [("writev", "torn"), ("fsync", "torn"), ("ftruncate", "journal"), ("fdatasync", "journal")]
+    expect_equal(on[start : start + 4], wanted, "what is done to the journal and to its end")
+
+
+def check_damaged_tail_without_room(folder):
+    """Where there is no room for what is cut off, the journal stays as it is, and the session can be ended later."""
+    if shutil.which("strace") is None:
+        raise Skipped("no strace")
+    killed = Killed(folder)
+    killed.restore(killed.journal[:-2])
+    words = ("strace", "-qq", "-f", "-o", "/dev/null", "-e", "inject=writev:error=ENOSPC")
+    ended = killed.run("--end", killed.name, prefix=words)
+    expect_equal(ended.returncode, 1, f"after {ended.stderr!r} the status")
+    expect_equal((killed.home / "journal").read_bytes(), killed.journal[:-2], "the journal")
+    ended = killed.run("--end", killed.name)
+    expect_equal(ended.returncode, 0, f"after {ended.stderr!r} the status of another --end")
+    expect(b"its text is in a.txt.sam-saved" in ended.stderr, f"it says {ended.stderr!r}")
+
+
+def check_damaged_to_nothing(folder):
+    """A journal that lacks its front is told as damaged, and kept; one that has no more than that had not begun, and goes."""
+    killed = Killed(folder)
+    for size in (0, 10, FRONT):
+        killed.restore(killed.journal[:size])
+        ended = killed.run("--end", killed.name)
+        is_kept = size < FRONT
+        expect_equal(ended.returncode, int(is_kept), f"{size} bytes: after {ended.stderr!r} the status")
+        found = b"its journal is damaged" in ended.stderr, (killed.home / "journal.wrong").exists()
+        expect_equal(found, (is_kept, is_kept), f"{size} bytes: whether it is told, and kept")
+        expect_equal(killed.home.exists(), is_kept, f"{size} bytes: whether the folder stays")
+
+
+def check_damaged_lengths_cost_little(folder):
+    """A record that claims gigabytes, in a file that has as many, is damage, and found quickly; so are many zeros."""
+    killed = Killed(folder)
+    for name, head in (("a long record", struct.pack(">IB", 0xFFFFFFF0, 5)), ("zeros", b"")):
+        killed.restore(killed.journal[: killed.records[-1][0]] + head)
+        os.truncate(killed.home / "journal", 5 << 30)
+        before = seconds_of_children()
+        ended = killed.run("--end", killed.name)
+        took = seconds_of_children() - before
+        expect(took < MOST_SECONDS * times_slower(), f"{name}: it takes {took:.1f} s of the processor")
+        expect_equal(ended.returncode, 1, f"{name}: after {ended.stderr!r} the status")
+        expect((killed.home / "journal.wrong").stat().st_size == 5 << 30, f"{name}: the journal is not kept")
+        (killed.home / "journal.wrong").unlink()
+
+
+def check_damaged_random_bits(folder):
+    """Of all single bits of a journal none has a session ended without a word and with the status 0, unless its text is saved whole or the
+    bit is in the last record."""
+    killed = Killed(folder)
+    last = killed.records[-1][0]
+    whole = "one\n" + "".join(f"{number}\n" for number in range(6))
+    for at in range(0, last, 7):
+        killed.restore(killed.flipped(at))
+        ended = killed.run("--end", killed.name)
+        is_saved = text_of(folder / "a.txt.sam-saved") == whole
+        expect(is_saved or (ended.returncode != 0 and ended.stderr), f"byte {at}: it ends with {ended.returncode}, {ended.stderr!r}")
+        kept = [name for name in names_in(killed.home) if name.startswith("journal")] if killed.home.exists() else []
+        expect(is_saved or kept, f"byte {at}: no journal is left")
