@@ -13,12 +13,14 @@ from ..keys.bindings import Input, Key, Mouse, Paste, Text
 from ..view.status_line import printable
 from ..text.texts import COMMAND, MOST_RUNES, Change, Changes
 from ..text.undo import Step
+from ..time_limit import TimeLimit, TooSlow
 from ..view.windows import end_of_load
 
 # The name in the session of a text that the host saved: the tag of its file, 0 for what was cut last; whether it is newer; and when it
 # was saved.
 NAMED = re.compile(r"~~left~~ ([0-9]{1,5}) ([+-]) (.*)")
 MOST_COMPARED = 1_000  # lines that differ, from the first to the last, of which it is shown how
+LONGEST_COMPARING = 0.5  # seconds of the processor for that
 REACH = 32_768  # runes that are loaded in one round trip
 RELOADS = "Enter puts in what the file has now"
 
@@ -302,10 +304,16 @@ def differences(file: str, other: str) -> List[str]:
     ours, theirs = ours[first : len(ours) - last], theirs[first : len(theirs) - last]
     if not ours and not theirs:
         return ["no line differs"]
+    counts = f"from line {first + 1} on {len(ours)} lines are in the file, and {len(theirs)} others in the old text"
     if len(ours) > MOST_COMPARED or len(theirs) > MOST_COMPARED:
-        return [f"from line {first + 1} on {len(ours)} lines are in the file, and {len(theirs)} others in the old text"]
+        return [counts]
     lines = []
-    for mark, start, end, low, high in difflib.SequenceMatcher(None, ours, theirs, autojunk=False).get_opcodes():
+    try:
+        with TimeLimit(LONGEST_COMPARING):
+            found = difflib.SequenceMatcher(None, ours, theirs, autojunk=False).get_opcodes()
+    except TooSlow:  # many of them are alike
+        return [counts]
+    for mark, start, end, low, high in found:
         if mark != "equal":
             lines.append(f"from line {first + start + 1} on:")
             lines += [f"- {line}" for line in ours[start:end]] + [f"+ {line}" for line in theirs[low:high]]

@@ -1,7 +1,6 @@
 """Colours of languages, by Pygments where it is installed: of the lines that a window shows, and never more at once than a key leaves time
 for. They are drawn, and nothing else goes by them."""
 import importlib
-import signal
 import sys
 import threading
 import time
@@ -12,6 +11,7 @@ from typing import Any, Callable, Dict, Iterator, List, NamedTuple, Optional, Se
 
 from .layout import Reader, Strip
 from ..text.texts import GAP, Changes
+from ..time_limit import TimeLimit, TooSlow
 
 # What is told apart: 0 is for text without a colour.
 KEYWORD, STRING, COMMENT, NUMBER, NAME, SPECIAL, GONE, CAME = range(1, 9)
@@ -63,39 +63,6 @@ class Unit(NamedTuple):
     before: Tuple[str, ...]
     after: Optional[Tuple[str, ...]]
     lines: Sequence[Line]
-
-
-class TooSlow(BaseException):
-    """A lexer has been stopped. No lexer takes it for an error of its own."""
-
-
-class TimeLimit:
-    """Stops what this thread does in a `with` of it, by TooSlow, once that has taken so many seconds of processor time. Regular expressions
-    may take for ever, and look for signals meanwhile."""
-
-    def __init__(self, seconds: float):
-        self.seconds = seconds
-        self._is_on, self._until = False, 0.0
-        self._is_heard = False  # the signal comes here
-
-    def __enter__(self) -> None:
-        if not self._is_heard:
-            self._is_heard = True
-            signal.signal(signal.SIGALRM, self._ring)
-        self._until, self._is_on = time.thread_time() + self.seconds, True
-        signal.setitimer(signal.ITIMER_REAL, self.seconds)
-
-    def __exit__(self, *_: Any) -> None:
-        self._is_on = False
-        signal.setitimer(signal.ITIMER_REAL, 0)
-
-    def _ring(self, *_: Any) -> None:
-        left = self._until - time.thread_time()
-        if self._is_on and left > 0:  # other programs had the processor
-            signal.setitimer(signal.ITIMER_REAL, left)
-        elif self._is_on:
-            self._is_on = False
-            raise TooSlow
 
 
 LIMIT = TimeLimit(LONGEST_LOOK)

@@ -2,6 +2,7 @@
 on, or can't begin."""
 import contextlib
 import os
+import random
 import re
 import shlex
 import signal
@@ -11,10 +12,10 @@ import time
 from pathlib import Path
 from types import SimpleNamespace
 
-from checks import times_longer
+from checks import Failed, times_longer
 
 from .colours import expect_pygments
-from .pairs import opened
+from .pairs import Pair, opened
 from .stopped import OnTerminal, cost_of
 from .support import SAMHOST, STATE, Session, below, expect, host_that, made, wait_until
 
@@ -127,8 +128,9 @@ def check_signal_while_it_is_held_up(folder):
     turns.keys.append("typed")
 
     def held_up():
-        while True:
+        while time.process_time() < 2 * SECONDS_TO_END:
             pass
+        raise Failed("a signal does nothing")
 
     turns._go_round = held_up
     threading.Timer(0.2, os.kill, (os.getpid(), signal.SIGTERM)).start()
@@ -182,6 +184,16 @@ def check_wrong_notes_end_nothing(folder):
         pair.finish()
     pair.press(text("x"))
     expect(pair.host.text(1) == "xa\n" and not editor.is_lost, f"the text is {pair.host.text(1)!r}, {editor.message}")
+
+
+def check_files_of_names_that_are_ours(folder):
+    """A file of the user's whose name begins as those of hidden files do, behind the front that samhost gives it, is one of his."""
+    names = [f"./~~{name}" for name in ("left~~ 1 + 2026-11-29 10:00:00", "anew~~ 1", "undo~~", "sam~~")]
+    pair = Pair(random.Random(1), ["a\n", "b\n", "c\n", "d\n"], names=names)
+    pair.finish()
+    editor = pair.editor
+    expect([editor.name(tag) for tag in editor.tags] == names, f"the files are {[editor.name(tag) for tag in editor.tags]}")
+    expect(not editor.left.all and editor.vault.tag is None and not editor.reloading.hidden, "one of them is taken for a hidden one")
 
 
 def check_floods(folder):
@@ -421,6 +433,16 @@ def check_session_that_cannot_begin(folder):
         session.wait_for("the next key shows 2 more")
         session.read("0.txt: it is not UTF-8", "1.txt: it is not UTF-8", "long.txt: it is longer")
         session.leave()
+
+
+def check_texts_that_take_long_to_compare(folder):
+    """Two texts of lines that are all alike are compared no longer than a user waits."""
+    from terminal.files.recovery import differences
+
+    start = time.process_time()
+    lines = differences("a\nb\n" * 500, "b\nb\na\na\n" * 250)
+    expect(time.process_time() - start < 2 and len(lines) > 0, f"it takes {time.process_time() - start:.1f} s")
+    expect(differences("a\nb\n", "a\nc\n")[1:] == ["- b", "+ c"], f"it shows {differences(chr(97), chr(98))}")
 
 
 # ---- Neighbours
