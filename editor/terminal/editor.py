@@ -35,6 +35,7 @@ def reads(key: Input) -> bool:
 
 
 OWN = "~~"  # what names of hidden files begin with
+MOST_EARLY = 10_000  # lines of texts that are told before their names
 RESTED = 1.0  # seconds since the last key from which on a question is no surprise
 
 WHY = {
@@ -175,7 +176,7 @@ class Editor(WindowLayout, KeyQueue, Actions):
         """A line of the host's standard error. What it says of a text stays on the screen until it is read. Where the user waits for a
         write, and it may replace another program's text, this asks; else the next `^W` does."""
         told, line = said(line), for_people(line)
-        if not self.has_begun and "failed" in told.what:
+        if not self.has_begun and "failed" in told.what and len(self._early_lines) < MOST_EARLY:
             self._early_lines.append((told, line))  # the files that it is about have no names yet
         tags = self.keeping.hear_host(told, line)
         for tag in tags if told.replaces else ():

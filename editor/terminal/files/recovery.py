@@ -19,6 +19,7 @@ from ..view.windows import end_of_load
 # The name in the session of a text that the host saved: the tag of its file, 0 for what was cut last; whether it is newer; and when it
 # was saved.
 NAMED = re.compile(r"~~left~~ ([0-9]{1,5}) ([+-]) (.*)")
+MOST_TIMES = 10_000  # files of which it is kept when they were written
 MOST_COMPARED = 1_000  # lines that differ, from the first to the last, of which it is shown how
 LONGEST_COMPARING = 0.5  # seconds of the processor for that
 REACH = 32_768  # runes that are loaded in one round trip
@@ -58,7 +59,8 @@ class Recovery:
     # ---- What there is
 
     def hear_written(self, path: str, when: int) -> None:
-        self._times[path] = when
+        if len(self._times) < MOST_TIMES:
+            self._times[path] = when
 
     def find(self, own: List[int]) -> None:
         """The names of the host's files are known: some of its own are texts that it saved. Others of the files may be here."""

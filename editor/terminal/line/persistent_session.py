@@ -30,6 +30,7 @@ SECONDS_TO_GO = 2  # that the last bytes may take where the session stays
 LATE_AFTER = 1.0  # seconds, and two round trips, after which an answer counts as late
 RETRY = 0.1  # seconds until that for which the memory was too small is tried again
 MOST_NOTES = 64  # that are taken before a key is
+MOST_EARLY = 100_000  # that may come before the stream begins
 MOST_LAST_LINES = 1_024  # of a connection that has ended
 SECONDS_MISSING = 60.0  # for which a session that the host doesn't find may come back: its folder may not be there yet
 ALIKE = 3  # connections that end alike, one after another, of which the user is told
@@ -538,6 +539,8 @@ class PersistentSession:
                 self._hear(data)
             self._early += self._come()
             self._push()
+            if len(self._early) > MOST_EARLY:
+                self._lose("the host tells without an end")
             if relay.is_lost and not self._has_in:
                 break
         for line in self._told_of():

@@ -17,7 +17,7 @@ from checks import Failed, times_longer
 from .colours import expect_pygments
 from .pairs import Pair, opened
 from .stopped import OnTerminal, cost_of
-from .support import SAMHOST, STATE, Session, below, expect, host_that, made, wait_until
+from .support import SAMHOST_WORD, STATE, Session, below, expect, host_that, made, wait_until
 
 HOST = Path(__file__).with_name("hostile_host.py")
 RUNES = "αβγδεζηθικλμνξο"  # that are typed: nothing else on the screen has them
@@ -204,7 +204,7 @@ def check_floods(folder):
         place.mkdir()
         (place / "a.txt").write_text(f"a{chr(0x301) * (900_000 if name == 'marks' else 0)}\ntext of a.txt\n")
         noise = {"lines": "yes >&2 &", "line": "yes | tr -d '\\n' >&2 &"}.get(name, "")
-        host = hostile(name) if name in ("flood", "names") else host_that(place, noise, f'exec {SAMHOST} "$@"')
+        host = hostile(name) if name in ("flood", "names") else host_that(place, noise, f'exec {SAMHOST_WORD} "$@"')
         with OnTerminal(place, "a.txt", *["b.txt"] * (name == "flood"), host=host) as session:
             session.read_until({"marks": "◌", "names": "a path opens any"}.get(name, "text of a.txt"))
             if name == "names":
@@ -274,9 +274,11 @@ def check_names_are_no_commands(folder):
     ssh.write_text('#!/bin/sh\nshift\nexec sh -c "$*"\n')
     ssh.chmod(0o755)
     name = "x$(touch OWNED) 'y\"`touch OWNED`;touch OWNED.txt"
+    once = shlex.quote(SAMHOST_WORD)
+    twice = shlex.quote(once)
     for at, (host, words) in enumerate((
-        (f"{ssh} box {SAMHOST}", ""), (f"{ssh} jump {ssh} box {SAMHOST}", ""), (str(SAMHOST), ""),
-        (host_that(folder, f'exec {ssh} box {SAMHOST} "$@"'), "--shells 1"),
+        (f"{ssh} box {once}", ""), (f"{ssh} jump {ssh} box {twice}", ""), (SAMHOST_WORD, ""),
+        (host_that(folder, f'exec {ssh} box {once} "$@"'), "--shells 1"),
     )):  # fmt: skip
         place = folder / str(at)
         place.mkdir()
