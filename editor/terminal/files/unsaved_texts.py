@@ -100,8 +100,11 @@ class UnsavedTexts:
         return tags
 
     def is_so(self, line: str) -> bool:
-        """Whether what the host told of files by a line still holds: what was not written may have been since, or been read anew."""
+        """Whether what the host told of files by a line is for the user, and still holds: what was not written may have been since, or been
+        read anew."""
         told = said(line)
+        if told.what == "written":
+            return False
         tags = self._tags_of(told) & set(self.editor.tags)
         if told.what in ("failed", "failed and saved"):
             return not tags or any(map(self.editor.is_changed, tags))
