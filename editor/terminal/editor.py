@@ -273,6 +273,7 @@ class Editor(WindowLayout, KeyQueue, Actions):
         self.go_to(self.shown_focus)
         self.deferred.clear()
         self.message = ""
+        self.notes.forget_the_line()
         for line in self.kept_here or ["what is loaded can still be read. ^Q leaves"]:
             self.notes.keep(2, f"{why}; {line}")
 

@@ -148,6 +148,10 @@ class Notes:
         """A question says what a line did."""
         self.unread = [kept for kept in self.unread if kept[1] != line]
 
+    def forget_the_line(self) -> None:
+        """What was told of how the host is reached is over."""
+        self.unread = [kept for kept in self.unread if not kept[1].startswith(SAMTERM)]
+
     @property
     def is_read(self) -> bool:
         """Whether a key that comes now was pressed by someone who read the line."""
