@@ -152,12 +152,12 @@ class Session:
     def _end(self) -> int:
         """Ends the link, and writes here what nobody has saved, also where a fault ends that. Returns the exit status."""
         keeping = self.editor.keeping
-        self._say_told()
+        self.say_told()
         status = None
         try:
             status = self._end_link()
         finally:
-            self._say_told()
+            self.say_told()
             self._keep_here((status == 0 or (self._stays and self.editor.way.has_all)) and not keeping.is_hopeless)
             self._tell_of_staying()
         if keeping.is_hopeless or status == STATUS_UNSAVED:
@@ -166,7 +166,7 @@ class Session:
             return STATUS_SIGNAL + self.ended_by
         return STATUS_LOST if self.editor.is_lost or keeping.has_left or self._stays else 0
 
-    def _say_told(self) -> None:
+    def say_told(self) -> None:
         """What the host told since, as far as it still holds."""
         while self.told:
             line = self.told.popleft()
@@ -270,6 +270,7 @@ def _edit(wish: Wish, stays: bool) -> Optional[int]:
         if not session.begin():
             if isinstance(link, PersistentSession) and link.refused_words and not wish.takes_over:
                 return None
+            session.say_told()
             ended_with = link.early_status
             link.close(say)
             why = f"it ended with status {ended_with}, and no session has begun" if ended_with else "the host doesn't answer"

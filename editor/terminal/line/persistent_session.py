@@ -34,6 +34,7 @@ MOST_EARLY = 100_000  # that may come before the stream begins
 MOST_LAST_LINES = 1_024  # of a connection that has ended
 SECONDS_MISSING = 60.0  # for which a session that the host doesn't find may come back: its folder may not be there yet
 ALIKE = 3  # connections that end alike, one after another, of which the user is told
+SECONDS_APART = 60.0  # that a connection lasts whose end is no more of the same
 SESSION = re.compile("[0-9a-f]{16}")  # a session's name: it goes into a command line
 MOST_IN_NAME = 40  # runes of another that are told
 STATUS = re.compile("[0-9]{1,3}")  # an exit status
@@ -156,7 +157,7 @@ class PersistentSession:
         self._is_measured = True
         if self._lost_at is None:
             self._lost_at = max(self._asked_at, self._heard_at) if self._is_answer_due else self.clock()
-        if why != self._end_was or self.clock() - self._called_at > SECONDS_MISSING:
+        if why != self._end_was or self.clock() - self._called_at > SECONDS_APART:
             self._alike = 0
         self._end_was, self._alike = why, self._alike + 1
         if why and self._alike == ALIKE:
@@ -400,7 +401,7 @@ class PersistentSession:
     def _meet_refusal(self, what: int) -> None:
         """The host has refused a connection, or welcomed another one."""
         if what == NO_SESSION and self._may_come_back():
-            self._break(REFUSED[what])
+            self._break()
         elif what in REFUSED:
             self._lose(REFUSED[what])
         else:

@@ -206,7 +206,7 @@ def check_floods(folder):
         place = folder / name
         place.mkdir()
         (place / "a.txt").write_text(f"a{chr(0x301) * (900_000 if name == 'marks' else 0)}\ntext of a.txt\n")
-        noise = {"lines": "yes >&2 &", "line": "yes | tr -d '\\n' >&2 &"}.get(name, "")
+        noise = {"lines": "seq 99999999 >&2 &", "line": "yes | tr -d '\\n' >&2 &"}.get(name, "")
         host = hostile(name) if name in ("flood", "names") else host_that(place, noise, f'exec {SAMHOST_WORD} "$@"')
         with OnTerminal(place, "a.txt", *["b.txt"] * (name == "flood"), host=host) as session:
             session.read_until({"marks": "◌", "names": "a path opens any"}.get(name, "text of a.txt"))
@@ -434,6 +434,7 @@ def check_session_that_cannot_begin(folder):
             expect("doesn't answer" not in told, f"{words[:1]}: it tells {told[-300:]!r}")
     ended = PersistentSession(["sh", "-c", "echo why >&2; exit 3"], lambda name: [])
     lines = []
+    ended.send(b"what is sent first")
     expect(not ended.wait_for_stream(b"", lines.append) and ended.early_status == 3, f"this test is wrong: {ended.early_status}")
     while not ended.relay.is_quiet:
         lines += ended.relay.listen()
