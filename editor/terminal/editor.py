@@ -1,8 +1,9 @@
 """The editor: what comes from the host, and the keys that act. Windows stand in view/window_layout.py, keys that wait in
 keys/key_queue.py, and what a key does in keys/actions.py."""
 import time
+from bisect import bisect_left
 from collections import deque
-from typing import Callable, Iterable, List, Optional, Sequence, Set, Tuple
+from typing import Callable, Container, FrozenSet, Iterable, List, NamedTuple, Optional, Sequence, Set, Tuple
 
 from .keys.actions import TOO_LONG, Actions
 from .view.colours import Colours
@@ -13,7 +14,7 @@ from .keys.bindings import PLACE, Input, Key, Mouse, Paste, Text
 from .files.recovery import Recovery
 from .text.lines import Numbers
 from .line.host_process import SECONDS_TO_END
-from .view.status_line import OFFER, REPEAT, Notes, said
+from .view.status_line import OFFER, REPEAT, Notes, Said, for_people, said
 from .keys.mouse import Pointer
 from .files.reload import Reload
 from .text.prefetch import Prefetch
@@ -33,6 +34,10 @@ def reads(key: Input) -> bool:
     return isinstance(key, Mouse) or bound(key).reads
 
 
+OWN = "~~"  # what names of hidden files begin with
+MOST_EARLY = 10_000  # lines of texts that are told before their names
+RESTED = 1.0  # seconds since the last key from which on a question is no surprise
+
 WHY = {
     Status.REFUSAL_EXITED: "the session is over",
     Status.REFUSAL_NO_FILE: "there is no such file",
@@ -43,6 +48,15 @@ WHY = {
     Status.REFUSAL_COMMAND_FILE: "that can't be done to the command window",
     Status.REFUSAL_BAD_VERSION: "there is no such version",
 }
+
+
+class Known(NamedTuple):
+    """All files in their order; those that are not the user's; and his."""
+
+    every: List[int]
+    hidden: Set[Optional[int]]
+    tags: List[int]
+    all: FrozenSet[int]
 
 
 class Editor(WindowLayout, KeyQueue, Actions):
@@ -57,7 +71,7 @@ class Editor(WindowLayout, KeyQueue, Actions):
         self.terminal, self.clock, self.indents = terminal, clock, indents
         # The names that the files have whose paths the user gave; None where he goes on with a session.
         self.asked_for = None if asked_for is None else {shown_name(path) for path in asked_for}
-        self._early_lines: List[str] = []  # of texts that were not written, told before their names
+        self._early_lines: List[Tuple[Said, str]] = []  # of texts that were not written, told before their names
         self.way, self.notes = Delivery(terminal, clock), Notes(clock)
         self.vault = UndoStore(terminal, self.texts)
         self.log, self.numbers, self.keeping = Undo(terminal, self.texts, self.vault), Numbers(self.texts), UnsavedTexts(self)
@@ -65,11 +79,12 @@ class Editor(WindowLayout, KeyQueue, Actions):
         told = {CLEAN: self._meet_clean, CLOSE: self._meet_close, MOVETO: self._meet_move, SETDOT: self._meet_dot}
         told.update({NEWNAME: self._meet_name, DELNAME: self._meet_name})
         settled = {UNLOCK: self._meet_unlock, UNLOCKFILE: self._meet_pasted}
-        self.colours = Colours(self.name)
+        self.colours = Colours(self.name, tell=lambda line: self.notes.keep(1, line))
         self.stream = Stream(terminal, self.texts, told, settled)
         hear = self.log.hear, self.numbers.hear, self.keeping.hear_changes, self.hear_changes, self.hear_run, self.colours.hear
         self.texts.listeners = [*hear]
-        self._known: Optional[List[int]] = None  # all files, since thousands take long to ask for; None where some came or went
+        self._known: Optional[Known] = None  # since thousands take long to ask for; None where they were not asked for
+        self._renamed: Set[int] = set()  # files that have come or gone since
         self.pointer, self.menu, self.help = Pointer(self), None, None  # the help lies over all else
         self.is_lost = self.is_leaving = self.is_over = self.has_begun = False
         self.leaves_alone = False  # the user leaves, and the host has not answered that
@@ -105,10 +120,21 @@ class Editor(WindowLayout, KeyQueue, Actions):
     @property
     def tags(self) -> List[int]:
         """The user's files."""
-        if self._known is None:
-            self._known = self.terminal.files()
         hidden = {COMMAND, self.vault.tag, *self.left.tags, *self.reloading.hidden}
-        return [tag for tag in self._known if tag not in hidden]
+        if self._known is None or self._renamed or self._known.hidden != hidden:
+            every = self.terminal.files() if self._known is None else self._known.every
+            for tag in self._renamed:
+                at = bisect_left(every, tag)
+                was, is_known = every[at : at + 1] == [tag], self.terminal.is_known(tag)
+                every[at : at + was] = [tag] if is_known else []
+            self._renamed.clear()
+            tags = [tag for tag in every if tag not in hidden]
+            self._known = Known(every, hidden, tags, frozenset(tags))
+        return self._known.tags
+
+    def is_users(self, tag: int) -> bool:
+        """Whether a file is one of the user's."""
+        return self._known is not None and tag in self._known.all
 
     @property
     def is_alone(self) -> bool:
@@ -147,24 +173,34 @@ class Editor(WindowLayout, KeyQueue, Actions):
             self.way.hear()
 
     def hear(self, line: str) -> None:
-        """A line of the host's standard error. What it says of a text stays on the screen until it is read. Where `^W` was the last key,
-        and it may replace another program's text, this asks; else the next `^W` does."""
-        told = said(line)
-        if not self.has_begun and "failed" in told.what:
-            self._early_lines.append(line)  # the files that it is about have no names yet
+        """A line of the host's standard error. What it says of a text stays on the screen until it is read. Where the user waits for a
+        write, and it may replace another program's text, this asks; else the next `^W` does."""
+        told, line = said(line), for_people(line)
+        if not self.has_begun and "failed" in told.what and len(self._early_lines) < MOST_EARLY:
+            self._early_lines.append((told, line))  # the files that it is about have no names yet
         tags = self.keeping.hear_host(told, line)
         for tag in tags if told.replaces else ():
             self.reloading.forget(tag)
         if told.what == "written":
             self.left.hear_written(told.names[0], told.when)
-        elif told.replaces and self.active.tag in tags and action_of(self._last.key) == "write" and not self.deferred:
-            self._ask(self.keeping.question(self.active.tag), Key("^W"))
+        elif told.replaces and self.asks_to_write(tags):
+            pass
         elif told.what == "changed":
             self.reloading.meet_changed(tags, line)
         elif told.rank:
             self.notes.keep(told.rank, line + OFFER if told.what == "left" else line)
         else:
             self.message = line
+
+    def asks_to_write(self, tags: Container[int]) -> bool:
+        """Asks before another program's text is replaced, where one of these files is the one used last, and its user waits for a write: no
+        key came since, or it was put off, and he rests. Returns whether it is asked."""
+        tag = self.active.tag
+        waits = action_of(self._last.key) == "write" or self.quiet_for >= RESTED
+        if tag not in tags or not waits or self.deferred:
+            return False
+        self._ask(self.keeping.question(tag), Key("^W"))
+        return True
 
     def meet_note(self, note: Note) -> None:
         """A note of the host that is no line to tell."""
@@ -195,8 +231,8 @@ class Editor(WindowLayout, KeyQueue, Actions):
             self.reloading.forget(tag)
         self.way.confirm()
 
-    def _meet_name(self, _tag: int) -> None:
-        self._known = None
+    def _meet_name(self, tag: int) -> None:
+        self._renamed.add(tag)
 
     def _meet_close(self, tag: int) -> None:
         for memory in (self.log, self.numbers, self.keeping, self.left, self.reloading, self.colours):
@@ -237,26 +273,29 @@ class Editor(WindowLayout, KeyQueue, Actions):
         self.go_to(self.shown_focus)
         self.deferred.clear()
         self.message = ""
+        self.notes.forget_the_line()
         for line in self.kept_here or ["what is loaded can still be read. ^Q leaves"]:
             self.notes.keep(2, f"{why}; {line}")
 
     def _meet_files(self) -> None:
         """Shows the first file, and a file that was made; drops the windows of files that were closed."""
         if not self.has_begun and not self.terminal.command_locked:
-            self.vault.find(self.tags)
-            self.reloading.find(self.tags)
-            self.left.find(self.tags)
+            own = [tag for tag in self.tags if self.terminal.name(tag).startswith(OWN)]
+            self.vault.find(own)
+            self.reloading.find(own)
+            self.left.find(own)
             self._begin_with(self.tags)
         known = self.tags
-        gone = [window for window in self.files if window.tag not in known]
+        gone = [window for window in self.files if not self.is_users(window.tag)]
         for window in gone:
             self.drop(window)
             del self.all_windows[window.tag]
         for window in {pressed.window for pressed in self.deferred} - {None, self.command} if self.deferred else ():
-            if window.tag not in known:
+            if not self.is_users(window.tag):
                 self.let_go_of(window)
         current = self.terminal.current
-        if current in known and current not in self.all_windows:  # it was made; command lines work on a file that had a window
+        is_shown = current is None or current in self.all_windows
+        if not is_shown and self.is_users(current):  # it was made; command lines work on a file that had a window
             self.show(current)
         elif gone and not self.files and known:
             is_in_command = self.focus is self.command and self.active is not self.command
@@ -274,8 +313,8 @@ class Editor(WindowLayout, KeyQueue, Actions):
             self.message = "no file: ^N makes one, F1 shows the keys"
         self.terminal.open_cmd()
         self.has_begun = True
-        for line in self._early_lines:
-            self.keeping.hear_host(said(line), line)
+        for told, line in self._early_lines:
+            self.keeping.hear_host(told, line)
         if self._has_others(known):
             self.do_menu()  # of a folder the host has the files below it
 

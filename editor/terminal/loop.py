@@ -31,7 +31,12 @@ MOST_READ = 65_536  # bytes of keys that are read at once
 # 5 milliseconds.
 MOST_UNCOLLECTED = 50_000
 MOST_SIGNALS = 4096  # numbers of signals that are read at once
+SECONDS_TO_ACT = 1.0  # of the processor, after which a signal that ends the session doesn't wait for what is done
 BROKEN_PASTE = "the end of a paste has not come, so all keys are part of it. Esc twice ends it"
+
+
+class HeldUp(Exception):
+    """A signal ends the session, and what is done takes too long."""
 
 
 class Loop:
@@ -51,8 +56,11 @@ class Loop:
         for end in (self.signals, wakes):
             os.set_blocking(end, False)
         signal.set_wakeup_fd(wakes, warn_on_full_buffer=False)
-        for number in (*SCREENS, *ENDS):
+        for number in SCREENS:
             signal.signal(number, lambda *_: None)
+        for number in ENDS:
+            signal.signal(number, lambda *_: signal.setitimer(signal.ITIMER_PROF, SECONDS_TO_ACT, SECONDS_TO_ACT))
+        signal.signal(signal.SIGPROF, self._give_up)
 
     def run(self) -> None:
         """Returns when the user has left, or can't be reached any more."""
@@ -64,8 +72,19 @@ class Loop:
                 self._go_round()
             if self.ended_by:  # what came of a paste
                 self._act_on(self.decoder.finish(time.monotonic()))
+        except HeldUp:
+            pass
         finally:
+            signal.signal(signal.SIGPROF, signal.SIG_IGN)
             self.editor.take_late([*self.keys, *self.decoder.finish(time.monotonic())])
+
+    def _give_up(self, *_) -> None:
+        """What is done has taken so long since a signal that ends the session."""
+        numbers = self._heard()
+        if not self.ended_by:
+            self._end(next((number for number in ENDS if number in numbers), signal.SIGTERM))
+        signal.setitimer(signal.ITIMER_PROF, SECONDS_TO_ACT, SECONDS_TO_ACT)
+        raise HeldUp
 
     def _go_round(self) -> None:
         since = time.monotonic()
@@ -168,14 +187,19 @@ class Loop:
 
     def _is_stopped(self) -> bool:
         """Whether a signal has come that ends waiting for the line: `^C` that alone, others the session."""
-        try:
-            numbers = os.read(self.signals, MOST_SIGNALS)
-        except BlockingIOError:
-            return False
+        numbers = self._heard()
         for number in ENDS:
             if number in numbers and number != signal.SIGINT:
                 self._end(number)
         return any(number in numbers for number in ENDS)
+
+    def _heard(self) -> bytes:
+        """The numbers of the signals that have come since. They are taken, so none of them ends what is done."""
+        signal.setitimer(signal.ITIMER_PROF, 0)
+        try:
+            return os.read(self.signals, MOST_SIGNALS)
+        except BlockingIOError:
+            return b""
 
     def _end(self, number: int) -> None:
         self.editor.is_over, self.ended_by = True, number
@@ -183,7 +207,7 @@ class Loop:
     def _take_signals(self, ready: Dict[int, int]) -> None:
         if self.signals not in ready:
             return
-        numbers = os.read(self.signals, MOST_SIGNALS)
+        numbers = self._heard()
         for number in ENDS:
             if number in numbers and not self.ended_by:
                 self._end(number)

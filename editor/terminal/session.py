@@ -5,7 +5,8 @@ import os
 import shlex
 import signal
 import sys
-from typing import List, NamedTuple, Optional
+from collections import deque
+from typing import Deque, Iterable, List, NamedTuple, Optional
 
 from .view import layout
 from .files import local_backup
@@ -13,13 +14,15 @@ from .editor import Editor
 from .text.cached_terminal import CachedTerminal
 from .line.host_process import SECONDS_OF_SILENCE, SECONDS_TO_END, HostProcess
 from .loop import KEYBOARD, Loop
-from .view.status_line import printable, said
+from .line.shells import for_shells, shells_of
+from .view.status_line import for_people, printable, said
 from .view.screen import FOOT, Screen
 from .line.persistent_session import Line, PersistentSession
 from .line.stream import FIRST
 from sulgrevad import SamError, Terminal
 
 USAGE = "usage: "  # the words of a samhost that knows of no session that stays: it is run without then
+MOST_TOLD = 1_000  # lines of the host that are told again at the end, the last ones
 STATUS_NO_HOST, STATUS_LOST, STATUS_UNSAVED, STATUS_SIGNAL = 1, 3, 5, 128
 
 
@@ -29,7 +32,7 @@ def say(line: str) -> None:
         print(printable(line), file=sys.stderr, flush=True)
 
 
-def say_all(lines: List[str]) -> None:
+def say_all(lines: Iterable[str]) -> None:
     for line in lines:
         say(f"samterm: {line}")
 
@@ -41,7 +44,7 @@ class Session:
         self.terminal, self.link, self.editor = terminal, link, editor
         if isinstance(link, PersistentSession):
             editor.way.line = link
-        self.told: List[str] = []  # what the host told while the screen hid standard error
+        self.told: Deque[str] = deque(maxlen=MOST_TOLD)  # what the host told while the screen hid standard error
         self.ended_by = 0
         self.has_colours = False
 
@@ -57,7 +60,7 @@ class Session:
             say(f"samterm: the host's command printed: {line}")
         for item in self.link.take_early() if is_there else []:
             if isinstance(item, str):
-                self._hear_early(item)
+                self._hear(item)
             elif isinstance(item, bytes):
                 is_there = is_there and self._takes(item)
             else:
@@ -80,7 +83,7 @@ class Session:
 
     def _hear_early(self, line: str) -> None:
         if said(line).what != "written" and not (isinstance(self.link, PersistentSession) and line.startswith(USAGE)):
-            say(line)
+            say(for_people(line))
         self.editor.hear(line)
 
     def _hear(self, line: str) -> None:
@@ -149,15 +152,12 @@ class Session:
     def _end(self) -> int:
         """Ends the link, and writes here what nobody has saved, also where a fault ends that. Returns the exit status."""
         keeping = self.editor.keeping
-        for line in self.told:
-            say(line)
-        self.told.clear()
+        self.say_told()
         status = None
         try:
             status = self._end_link()
         finally:
-            for line in self.told:
-                say(line)
+            self.say_told()
             self._keep_here((status == 0 or (self._stays and self.editor.way.has_all)) and not keeping.is_hopeless)
             self._tell_of_staying()
         if keeping.is_hopeless or status == STATUS_UNSAVED:
@@ -165,6 +165,16 @@ class Session:
         if self.ended_by:
             return STATUS_SIGNAL + self.ended_by
         return STATUS_LOST if self.editor.is_lost or keeping.has_left or self._stays else 0
+
+    def say_told(self) -> None:
+        """What the host told since, as far as it still holds."""
+        while self.told:
+            line = self.told.popleft()
+            holds = True
+            with contextlib.suppress(SamError):  # of a terminal that has stopped
+                holds = self.editor.keeping.is_so(line)
+            if holds:
+                say(for_people(line))
 
     def _end_link(self) -> Optional[int]:
         """Sends what was typed, and waits for the host's end. Returns its status; None where it doesn't end, or the user doesn't wait."""
@@ -197,7 +207,8 @@ class Session:
 class Wish(NamedTuple):
     """What the user asks for: the words of the host's command, the files, how Enter begins a line, for how many hours a session stays
     that is alone, whether he goes on with one that stays, whose name may be given in place of the files, whether lines have numbers,
-    how far tab stops are apart, and whether nothing has colours."""
+    how far tab stops are apart, whether nothing has colours, and how many shells read the words after the command; None where the command
+    shows that."""
 
     command: List[str]
     files: List[str]
@@ -207,6 +218,7 @@ class Wish(NamedTuple):
     numbers: bool = False
     tab: int = layout.TAB
     plain: bool = False
+    shells: Optional[int] = None
 
     @property
     def stays(self) -> bool:
@@ -216,13 +228,18 @@ class Wish(NamedTuple):
         """The words for a host after those of the session."""
         times = ["--times"] if any(local_backup.left(self.files).values()) else []  # whether these are newer only the host can tell
         hours = ["--stay", self.hours] if stays and self.hours is not None else []
-        return ["--undo", *times, *hours, *(["--"] if any(name.startswith("-") for name in self.files) else []), *self.files]
+        dash = ["--"] if any(name.startswith("-") for name in self.files) else []
+        return self._quoted("--undo", *times, *hours, *dash, *self.files)
+
+    def _quoted(self, *words: str) -> List[str]:
+        """Words that come after those of the command."""
+        return for_shells(words, shells_of(self.command) if self.shells is None else self.shells)
 
     def link(self, stays: bool) -> Line:
         if not stays:
             return HostProcess([*self.command, *self.words(False)])
         if self.takes_over:
-            return PersistentSession(self.command, lambda name: ["--take", *self.files], takes_over=True)
+            return PersistentSession(self.command, lambda name: self._quoted("--take", *self.files), takes_over=True)
         return PersistentSession(self.command, lambda name: ["--serve", name, *self.words(True)])
 
 
@@ -253,8 +270,11 @@ def _edit(wish: Wish, stays: bool) -> Optional[int]:
         if not session.begin():
             if isinstance(link, PersistentSession) and link.refused_words and not wish.takes_over:
                 return None
+            session.say_told()
+            ended_with = link.early_status
             link.close(say)
-            say(f"samterm: {shlex.join(wish.command)}: the host doesn't answer")
+            why = f"it ended with status {ended_with}, and no session has begun" if ended_with else "the host doesn't answer"
+            say(f"samterm: {shlex.join(wish.command)}: {why}")
             return STATUS_NO_HOST
         session.run()
         return session.status

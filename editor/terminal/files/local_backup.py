@@ -5,9 +5,10 @@ import os
 import re
 import stat
 import sys
+import tempfile
 from itertools import chain
 from pathlib import Path
-from typing import Callable, Dict, Iterable, Iterator, List, Optional, Tuple
+from typing import Callable, Collection, Dict, Iterator, List, Optional, Tuple
 
 from sulgrevad import Terminal
 from ..text.texts import GAP, Change
@@ -15,14 +16,20 @@ from ..text.texts import GAP, Change
 MOST_NAMES = 1000  # names that are tried
 MOST_IN_BASE = 200  # bytes of the front of a name that names of files here begin with
 MOST_READ = 65_536  # runes that are read at once
+MOST_BYTES = 4_194_304  # of such a file that is read: a text has less
 
-NEW = ".new"  # after the name of such a file while it is written again
+NEW = ".new"  # ends the name of such a file while it is written again
 SUFFIX = ".sam-here"  # what comes after the name of a file, and before a number
 ENDS = re.compile(re.escape(SUFFIX) + r"(\.\d+)?$")
 GAPS = re.compile(f"{GAP}+")
 TOLD_GAPS = re.compile(r"\[(\d+) characters that were not loaded\]")
 
+# What is no file's text has a name that no file has.
+OF_NO_FILE = "\0"
+TYPED, COMMAND_LINE, CUT = f"{OF_NO_FILE}typed", f"{OF_NO_FILE}command", f"{OF_NO_FILE}cut"
+
 LOOKS = (256, 64)  # characters beside a gap that are looked at, to find what it had
+MOST_PLACES, MOST_COMPARED = 10_000, 10_000_000  # places that are looked at, and characters there; after more it is not found
 
 host: Tuple[str, ...] = ()  # the host's command
 
@@ -60,19 +67,32 @@ def filled(text: str, whole: str) -> str:
 
 
 def _place_of(whole: str, before: str, count: int, after: str) -> Optional[int]:
-    """Where so many characters stand in a text between two others, as far as these are looked at; None where that may be several texts."""
+    """Where so many characters stand in a text between two others, as far as these are looked at; None where that may be several texts, or
+    takes too long to find."""
     for width in LOOKS:
-        left, right, found, texts = before[-width:], after[:width], None, set()
-        start = whole.find(left)
-        while start >= 0 and len(texts) < 2:
-            place = start + len(left)
-            is_there = whole.startswith(right, place + count) and (right or place + count == len(whole))
-            if is_there and place + count <= len(whole):
-                found = place
-                texts.add(whole[place : place + count])
-            start = whole.find(left, start + 1) if left else -1
-        if texts:
-            return found if len(texts) == 1 else None
+        places = _places_of(whole, before[-width:], count, after[:width])
+        if places is None or len({whole[place : place + count] for place in places}) > 1:
+            return None
+        if places:
+            return places[0]
+    return None
+
+
+def _places_of(whole: str, left: str, count: int, right: str) -> Optional[List[int]]:
+    """All places of so many characters between two texts; at an end of the whole one where the text there is empty. None where these are
+    too many."""
+    places: List[int] = []
+    start = whole.find(left)
+    for _ in range(MOST_PLACES):
+        place = start + len(left)
+        end = place + count
+        if start < 0 or (start > 0 and not left):
+            return places
+        if end <= len(whole) and whole.startswith(right, end) and (right or end == len(whole)):
+            places.append(place)
+            if len(places) * count > MOST_COMPARED:
+                return None
+        start = whole.find(left, start + 1)
     return None
 
 
@@ -89,10 +109,8 @@ def keep(name: str, text: str) -> Optional[str]:
 
 def write_again(path: str, text: str) -> str:
     """Puts another text in the place of such a file's, whole or not at all. Returns its path."""
-    new = path + NEW
-    with contextlib.suppress(FileNotFoundError):
-        os.unlink(new)
-    _write(Path(new), text)
+    file, new = tempfile.mkstemp(prefix=os.path.basename(path) + ".", suffix=NEW, dir=os.path.dirname(path))
+    _fill(file, new, text)
     os.replace(new, path)
     return path
 
@@ -118,7 +136,7 @@ def _note(name: str, path: str) -> None:
             return
 
 
-def left(names: Iterable[str]) -> Dict[str, List[str]]:
+def left(names: Collection[str]) -> Dict[str, List[str]]:
     """The files of this machine that have texts of some files, from earlier sessions: those that were noted, and those in this folder of
     which nothing was."""
     noted: Dict[str, List[str]] = {}
@@ -135,7 +153,11 @@ def left(names: Iterable[str]) -> Dict[str, List[str]]:
     for path in _entries(""):
         if os.path.realpath(path) not in known and _is_own(path):
             here.setdefault(ENDS.sub("", path), []).append(path)
-    return {name: noted.get(_number(name), []) + here.get(_base(name), []) for name in names}
+    if not noted and not here:
+        return {name: [] for name in names}
+    for base in {_base(name) for name in names if not name.startswith(OF_NO_FILE)}:  # what nobody noted is rather a file's
+        here.setdefault(OF_NO_FILE + base, [])
+    return {name: noted.get(_number(name), []) + here.get(name, here.get(_base(name), [])) for name in names}
 
 
 def _entries(folder: str) -> List[str]:
@@ -149,16 +171,23 @@ def _entries(folder: str) -> List[str]:
 def _is_own(path: str) -> bool:
     """Whether a path is a file of the user's."""
     try:
-        status = os.lstat(path)
+        return _is_file_of_ours(os.lstat(path))
     except OSError:
         return False
+
+
+def _is_file_of_ours(status: os.stat_result) -> bool:
     return stat.S_ISREG(status.st_mode) and status.st_uid == os.geteuid()
 
 
 def read(path: str) -> Optional[str]:
-    """What such a file has; None where it can't be read."""
+    """What such a file has; None where it can't be read, is another user's or no file, or is too long to be a text."""
     try:
-        return Path(path).read_bytes().decode("utf-8")
+        file = os.open(path, os.O_RDONLY | os.O_NOFOLLOW | os.O_NONBLOCK | os.O_CLOEXEC)
+        with open(file, "rb") as source:
+            status = os.fstat(file)
+            is_one = _is_file_of_ours(status) and status.st_size <= MOST_BYTES
+            return source.read(MOST_BYTES).decode("utf-8") if is_one else None
     except (OSError, UnicodeDecodeError):
         return None
 
@@ -210,7 +239,11 @@ def _base(name: str) -> str:
 
 def _write(path: Path, text: str) -> None:
     """Writes a file that is not there yet, for its owner alone, whole or not at all."""
-    file = os.open(path, os.O_WRONLY | os.O_CREAT | os.O_EXCL, 0o600)
+    _fill(os.open(path, os.O_WRONLY | os.O_CREAT | os.O_EXCL, 0o600), str(path), text)
+
+
+def _fill(file: int, path: str, text: str) -> None:
+    """Writes a text to a new file that is open; where that can't be the file goes."""
     try:
         with open(file, "wb") as sink:
             sink.write(text.replace(GAP, "").encode("utf-8", "replace"))

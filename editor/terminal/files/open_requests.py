@@ -4,9 +4,10 @@ from typing import Deque, List, NamedTuple, Optional, Tuple
 
 from ..keys.bindings import Input, Key, Text
 from ..view.menus import Menu
-from ..line.persistent_session import Note
+from ..line.persistent_session import Note, number_of, tag_of
 
 QUIET = 1.0  # seconds after the last key from which on a file may come up that the user did not ask for
+MOST_WISHES = 64  # that wait; of more the first ones are dropped
 VERSION = 2  # of the protocol; with its offer come the names of files that have joined
 
 
@@ -26,7 +27,8 @@ class OpenRequests:
         self._names_of = 0  # of the last one for names
         self._path: Optional[str] = None  # the path that is being opened
         self._opened: Optional[int] = None  # the file of the path, once the host has told it
-        self._wishes: Deque[Wished] = deque()
+        self._wishes: Deque[Wished] = deque(maxlen=MOST_WISHES)
+        self._asked_for: Optional[Wished] = None  # the wish for which the names were asked for
         self._goes_to: Optional[Wished] = None  # a file that is shown, until the line is gone to
 
     @property
@@ -59,16 +61,15 @@ class OpenRequests:
     def meet(self, note: Note) -> None:
         """A note of the host."""
         word, _, rest = note.rest.partition(" ")
-        number = int(word) if word.isdecimal() else 0
-        if note.verb == "names" and number == self._names_of and isinstance(self.editor.menu, Files):
+        if note.verb == "names" and number_of(word) == self._names_of and isinstance(self.editor.menu, Files):
             more, _, names = rest.partition(" ")
             self.editor.menu.meet_names(names_of(names), more == "1")
-        elif note.verb == "wish":
-            self._wishes.append(Wished(number, int(rest) if rest.isdecimal() else 0))
+        elif note.verb == "wish" and (tag := tag_of(word)) is not None:
+            self._wishes.append(Wished(tag, number_of(rest) or 0))
         elif self._path is None:
             return
-        elif note.verb == "opened" and rest.isdecimal():
-            self._opened = int(rest)
+        elif note.verb == "opened":
+            self._opened = tag_of(rest)
         elif note.verb == "refused":
             self.editor.give_back_typed(f"{self._path} is not opened: {rest}")
             self._path = None
@@ -85,10 +86,14 @@ class OpenRequests:
             tag, self._opened, self._path = self._opened, None, None
             editor.show(tag)
         if self._wishes and editor.quiet_for >= QUIET and not editor.is_lock_held and not editor.way.is_late and editor.menu is None:
-            if self.terminal.is_known(self._wishes[0].tag):
+            wished = self._wishes[0]
+            if self.terminal.is_known(wished.tag):
                 self._goes_to = self._wishes.popleft()
                 editor.show(self._goes_to.tag)
+            elif self._asked_for is wished:  # the names have come, and it has none
+                self._wishes.popleft()
             else:
+                self._asked_for = wished
                 self.terminal.offer_version(VERSION)
         if self._goes_to is not None and editor.window_of(self._goes_to.tag).is_settled and not editor.is_lock_held:
             wished, self._goes_to = self._goes_to, None

@@ -8,16 +8,20 @@ from typing import Dict, List, NamedTuple, Optional, Tuple, Union
 
 from . import local_backup
 from .unsaved_texts import shown_name
+from ..line.persistent_session import tag_of
 from ..keys.bindings import Input, Key, Mouse, Paste, Text
 from ..view.status_line import printable
 from ..text.texts import COMMAND, MOST_RUNES, Change, Changes
 from ..text.undo import Step
+from ..time_limit import TimeLimit, TooSlow
 from ..view.windows import end_of_load
 
 # The name in the session of a text that the host saved: the tag of its file, 0 for what was cut last; whether it is newer; and when it
 # was saved.
-NAMED = re.compile(r"~~left~~ (\d{1,5}) ([+-]) (.*)")
+NAMED = re.compile(r"~~left~~ ([0-9]{1,5}) ([+-]) (.*)")
+MOST_TIMES = 10_000  # files of which it is kept when they were written
 MOST_COMPARED = 1_000  # lines that differ, from the first to the last, of which it is shown how
+LONGEST_COMPARING = 0.5  # seconds of the processor for that
 REACH = 32_768  # runes that are loaded in one round trip
 RELOADS = "Enter puts in what the file has now"
 
@@ -25,7 +29,7 @@ RELOADS = "Enter puts in what the file has now"
 class Old(NamedTuple):
     """A text that an earlier session left of a file."""
 
-    of: int  # the file; COMMAND for what was cut last
+    of: int  # the file; COMMAND for what was cut last, where the host has it, and for what was typed and not put in, where it is here
     when: str
     is_newer: Optional[bool]  # than the file; None where nobody knows
     tag: int = COMMAND  # of the text, where the host has it
@@ -55,16 +59,19 @@ class Recovery:
     # ---- What there is
 
     def hear_written(self, path: str, when: int) -> None:
-        self._times[path] = when
+        if len(self._times) < MOST_TIMES:
+            self._times[path] = when
 
-    def find(self, known: List[int]) -> None:
-        """The names of the host's files are known: some are texts that it saved. Others of the files may be here."""
-        for tag in known:
-            if found := NAMED.fullmatch(self.terminal.name(tag)):
-                self.tags[tag] = Old(int(found[1]), found[3], found[2] == "+", tag=tag)
+    def find(self, own: List[int]) -> None:
+        """The names of the host's files are known: some of its own are texts that it saved. Others of the files may be here."""
+        for tag in own:
+            found = NAMED.fullmatch(self.terminal.name(tag))
+            of = tag_of(found[1]) if found else None
+            if of is not None:
+                self.tags[tag] = Old(of, found[3], found[2] == "+", tag=tag)
         names = {tag: self.terminal.name(tag) for tag in self.editor.tags}
-        here = local_backup.left(names.values())
-        for tag, name in names.items():
+        here = local_backup.left([*names.values(), local_backup.TYPED])
+        for tag, name in [(COMMAND, local_backup.TYPED), *names.items()]:
             for path in here[name]:
                 self._note_here(tag, name, path)
 
@@ -77,6 +84,9 @@ class Recovery:
         when = time.strftime("%Y-%m-%d %H:%M:%S", time.localtime(saved))
         old = Old(tag, when, None if written is None else int(saved) >= written, path=path)
         self._here[path] = old
+        if tag == COMMAND:
+            self.editor.notes.keep(1, f"what was typed and not put in is in {path}, of {when}; F9 has ^V paste it, or drops it")
+            return
         age = {None: "", True: ", newer than the file", False: ", older than the file"}[old.is_newer]
         self.editor.notes.keep(1, f"of {name} a text was written here: it is in {path}, of {when}{age}; F9 takes it, compares or drops it")
 
@@ -88,7 +98,9 @@ class Recovery:
     def line(self, old: Union[Old, Changed]) -> str:
         if isinstance(old, Changed):
             return f"{self.editor.name(old.of)}: another program changed it"
-        what = "what was cut last" if old.of == COMMAND else self.editor.name(old.of)
+        what = self.editor.name(old.of)
+        if old.of == COMMAND:
+            what = "what was typed and not put in" if old.path else "what was cut last"
         age = {None: "", True: ", newer than the file", False: ", older than the file"}[None if old.of == COMMAND else old.is_newer]
         return f"{what}: {'written here' if old.path else 'saved by the host'} {old.when}{age}"
 
@@ -112,7 +124,7 @@ class Recovery:
             editor.show(tag)
             return editor.reloading.begin(tag, "Enter")
         if tag == COMMAND:
-            return self._snarf(old)
+            return self._take_typed(old) if old.path else self._snarf(old)
         if not self.terminal.is_known(tag):
             editor.message = "its file is closed"
             return True
@@ -184,6 +196,17 @@ class Recovery:
         self.terminal.snarf(old.tag)
         self.editor.note_snarfed(self.editor.texts.read(old.tag, 0, length))
         self.editor.message = "^V pastes it"
+        return True
+
+    def _take_typed(self, old: Old) -> bool:
+        """The same of what was typed and not put in: where it was to go, only the user can know."""
+        text = local_backup.read(old.path)
+        if text is None or len(text) > MOST_RUNES:
+            self.editor.message = f"{old.path} can't be read" if text is None else f"{old.path} is too long"
+            return True
+        self.terminal.set_snarf(text)
+        self.editor.note_snarfed(text)
+        self.editor.message = f"^V pastes at the caret what was typed and not put in; {old.path} stays until F9 and d drop it"
         return True
 
     def _is_opened(self, old: Old) -> bool:
@@ -283,10 +306,16 @@ def differences(file: str, other: str) -> List[str]:
     ours, theirs = ours[first : len(ours) - last], theirs[first : len(theirs) - last]
     if not ours and not theirs:
         return ["no line differs"]
+    counts = f"from line {first + 1} on {len(ours)} lines are in the file, and {len(theirs)} others in the old text"
     if len(ours) > MOST_COMPARED or len(theirs) > MOST_COMPARED:
-        return [f"from line {first + 1} on {len(ours)} lines are in the file, and {len(theirs)} others in the old text"]
+        return [counts]
     lines = []
-    for mark, start, end, low, high in difflib.SequenceMatcher(None, ours, theirs, autojunk=False).get_opcodes():
+    try:
+        with TimeLimit(LONGEST_COMPARING):
+            found = difflib.SequenceMatcher(None, ours, theirs, autojunk=False).get_opcodes()
+    except TooSlow:  # many of them are alike
+        return [counts]
+    for mark, start, end, low, high in found:
         if mark != "equal":
             lines.append(f"from line {first + start + 1} on:")
             lines += [f"- {line}" for line in ours[start:end]] + [f"+ {line}" for line in theirs[low:high]]

@@ -6,7 +6,7 @@ line, `^Z` takes it back, and the file counts as written then.
 from typing import Dict, Iterable, List, Optional, Set
 
 from .open_requests import VERSION
-from ..line.persistent_session import Note
+from ..line.persistent_session import Note, tag_of
 
 NAME = "~~anew~~ "  # what names of the hidden files begin with
 OFFER = "; ^U reloads it"
@@ -24,9 +24,9 @@ class Reload:
         self._anew: Optional[int] = None  # its new text, once the host has told it
         self._sure_of: Optional[int] = None  # the file of which the user is sure, though it was not written
 
-    def find(self, known: Iterable[int]) -> None:
-        """The names of the host's files are known: an earlier terminal may have left some."""
-        self.hidden.update(tag for tag in known if self.terminal.name(tag).startswith(NAME))
+    def find(self, own: Iterable[int]) -> None:
+        """The names of the host's own files are known: an earlier terminal may have left some."""
+        self.hidden.update(tag for tag in own if self.terminal.name(tag).startswith(NAME))
 
     def drop(self, tag: int) -> None:
         """The file is closed."""
@@ -90,9 +90,9 @@ class Reload:
         word, _, rest = note.rest.partition(" ")
         if self._tag is None or word != self._id or note.verb not in ("anew", "refused"):
             return False
-        if note.verb == "anew" and rest.isdecimal():
-            self._anew = int(rest)
-            self.hidden.add(self._anew)
+        if note.verb == "anew" and (anew := tag_of(rest)) is not None:
+            self._anew = anew
+            self.hidden.add(anew)
         else:
             self.editor.notes.keep(1, f"{self.editor.name(self._tag)} is not reloaded: {rest}")
             self._tag = None

@@ -4,7 +4,7 @@ from typing import Dict, List, Optional, Set, Tuple
 
 from . import local_backup
 from .backup_process import BackupProcess
-from ..view.status_line import Said, printable
+from ..view.status_line import Said, printable, said
 from ..text.texts import GAP, Changes
 
 HERE_AFTER = 10.0  # seconds without a line after which changed texts are also written here, and then again
@@ -37,7 +37,9 @@ class UnsavedTexts:
         self._written: Dict[int, int] = {}  # how many of them there were at the last write
         self._saved: Dict[int, int] = {}  # how many of them are in what the host has saved aside
         self._dropped: Dict[int, Tuple[str, str]] = {}  # names and texts of files that were dropped with open eyes, until they are saved
-        self.put_off: List[int] = []  # files that are written when the line is back
+        self.put_off: Dict[int, bool] = {}  # files that are written when the line is back; whether the user is sure, where that is asked
+        self._tags: Dict[str, Set[int]] = {}  # by the names of files, as they are told
+        self._named_of, self._known_tags = (), []  # type: tuple, List[int]  # what these go by
         self._copies = BackupProcess()  # what was written here while the line was lost
         self._here_at: Optional[float] = None  # when
 
@@ -50,10 +52,9 @@ class UnsavedTexts:
         self._writing[tag] += 1
         self._written[tag] = self._changes[tag]
 
-    def write_later(self, tag: int) -> None:
-        """A file is to be written when the line is back."""
-        if tag not in self.put_off:
-            self.put_off.append(tag)
+    def write_later(self, tag: int, is_sure: bool) -> None:
+        """A file is to be written when the line is back; the user may be sure that it replaces another program's text."""
+        self.put_off[tag] = is_sure or self.put_off.get(tag, False)
 
     def is_writing(self, tag: int) -> bool:
         """Whether a write of a file is not answered."""
@@ -81,6 +82,8 @@ class UnsavedTexts:
             self.is_hopeless = True
         self.is_cut_saved = self.is_cut_saved or told.what == "cut"
         tags = self._tags_of(told)
+        if told.is_taken and not tags:  # one of them is not written, and nobody knows which
+            tags = set(self.editor.tags)
         for tag in () if told.what in ("left", "written", "changed") else tags:
             if told.replaces:
                 name, self.refusals[tag] = self.name(tag), line
@@ -96,12 +99,33 @@ class UnsavedTexts:
                 self._dropped.pop(tag, None)
         return tags
 
+    def is_so(self, line: str) -> bool:
+        """Whether what the host told of files by a line is for the user, and still holds: what was not written may have been since, or been
+        read anew."""
+        told = said(line)
+        if told.what == "written":
+            return False
+        tags = self._tags_of(told) & set(self.editor.tags)
+        if told.what in ("failed", "failed and saved"):
+            return not tags or any(map(self.editor.is_changed, tags))
+        return told.what != "changed" or not tags or bool(tags & set(self.editor.reloading.changed))
+
     def _tags_of(self, told: Said) -> Set[int]:
         """The files that a line of the host may be about, also those that were dropped."""
-        names = {**{tag: name for tag, (name, _) in self._dropped.items()}, **{tag: self.name(tag) for tag in self.editor.tags}}
-        of_names = ({tag for tag, name in names.items() if printable(name) == shown_name(told_name)} for told_name in told.names)
-        unnamed = {told.tag} & set(names)
+        named = self._named()
+        of_names = (named.get(printable(shown_name(name)), set()) for name in told.names)
+        unnamed = {told.tag for known in (self._dropped, self.editor.tags) if told.tag is not None and told.tag in known}
         return unnamed | next(filter(None, of_names), set())
+
+    def _named(self) -> Dict[str, Set[int]]:
+        """The files by their names as they are told. Thousands take long to ask for, so they are kept until some change."""
+        tags, dropped = self.editor.tags, [(tag, name) for tag, (name, _) in self._dropped.items()]
+        of = self.terminal.namings, dropped
+        if self._named_of != of or self._known_tags is not tags:
+            self._named_of, self._known_tags, self._tags = of, tags, {}
+            for tag, name in [*dropped, *((tag, self.name(tag)) for tag in tags)]:
+                self._tags.setdefault(printable(name), set()).add(tag)
+        return self._tags
 
     def drop(self, tag: int) -> None:
         """The file is closed."""
@@ -125,22 +149,20 @@ class UnsavedTexts:
             tag, (name, text) = next(iter(self._dropped.items()))
             lines.append(self._kept(name, text, tag))
             del self._dropped[tag]
-        waiting = self._typed_ahead()
         for tag in filter(self.terminal.is_open, self.editor.tags):
-            more = f"\n[typed, and not put in yet:]\n{waiting[tag]}" if tag in waiting else ""
             is_saved = has_all and (has_ended_well or self._saved.get(tag) == self._changes[tag])
-            if more or (self.editor.is_changed(tag) and not is_saved):
+            if self.editor.is_changed(tag) and not is_saved:
                 try:
                     text = local_backup.loaded(self.terminal, tag, self.editor.vault.going)
-                    lines.append(self._kept(self.name(tag), text + more, tag))
+                    lines.append(self._kept(self.name(tag), text, tag))
                 except Exception as error:  # whatever it is, the other texts are written
                     self.is_hopeless = True
                     lines.append(f"the text of {self.name(tag)} is lost: {error}")
                     continue
                 self._saved[tag] = self._changes[tag]
-                waiting.pop(tag, None)
+        lines += [self.keep_typed(text, tag) for tag, text in self._typed_ahead().items()]
         begun = "" if has_ended_well else self.editor.begun_line()
-        lines += [self._kept(name, text) for name, text in (("typed", "".join(waiting.values())), ("command", begun)) if text]
+        lines += [self._kept(local_backup.COMMAND_LINE, begun)] if begun else []
         lines += self._kept_cut(has_all and self.is_cut_saved)
         self._copies.drop()
         return lines
@@ -187,20 +209,24 @@ class UnsavedTexts:
             self._copies.drop()
         for tag in [] if way.is_late else list(self.put_off):
             if not self.terminal.is_open(tag):
-                self.put_off.remove(tag)
+                del self.put_off[tag]
             elif not self.terminal.locked(tag) and not self.terminal.command_locked:
-                self.put_off.remove(tag)
-                if self.question(tag):
-                    self.editor.notes.keep(2, f"{self.name(tag)} is not written yet: ^W asks first")
-                else:
-                    self.editor.write(tag)
+                self._write_put_off(tag, self.put_off.pop(tag))
+
+    def _write_put_off(self, tag: int, is_sure: bool) -> None:
+        """The line is back: writes a file, unless another program's text stands in it and the user doesn't know."""
+        question = self.question(tag)
+        if not question or is_sure:
+            self.editor.write(tag)
+        elif not self.editor.asks_to_write({tag}):
+            self.editor.notes.keep(2, f"{self.name(tag)} is not written yet: ^W asks first")
 
     def _keep_all_here(self) -> None:
         editor = self.editor
         texts = [(tag, self.name(tag), lambda tag=tag: local_backup.loaded(self.terminal, tag, editor.vault.going))
                  for tag in filter(self.terminal.is_open, editor.tags) if editor.is_changed(tag)]  # fmt: skip
-        texts += [(None, "typed", lambda: editor.typed_ahead), (None, "command", editor.begun_line)]
-        texts.append((None, "cut", lambda: local_backup.told(editor.cut_text)))
+        texts += [(None, local_backup.TYPED, lambda: editor.typed_ahead), (None, local_backup.COMMAND_LINE, editor.begun_line)]
+        texts.append((None, local_backup.CUT, lambda: local_backup.told(editor.cut_text)))
         self._copies.write([((tag, name), text_of) for tag, name, text_of in texts])
 
     def _kept_cut(self, is_saved: bool) -> List[str]:
@@ -209,21 +235,23 @@ class UnsavedTexts:
         if not text or is_saved:
             return []
         lacks = text.count(GAP)
-        lines = [self._kept("cut", local_backup.told(text))]
+        lines = [self._kept(local_backup.CUT, local_backup.told(text))]
         if lacks:
             lines.append(f"of what was cut {lacks} characters were not loaded: samhost saves all of it, unless it was killed before")
         return lines
 
-    def keep_typed(self, text: str) -> str:
-        """The same of what was typed for a file that did not come."""
-        return self._kept("typed", text)
+    def keep_typed(self, text: str, tag: Optional[int] = None) -> str:
+        """The same of what was typed and put in nowhere, for a file or for whichever comes: it is in no text, and so in none's file."""
+        known = tag is not None and tag in self.editor.tags
+        return self._kept(local_backup.TYPED, text, what=f"what was typed{f' for {self.name(tag)}' if known else ''} and not put in")
 
     def keep_late(self) -> List[str]:
         """The same of what was typed when the host was lost already: some of it before the user could know."""
         text, self.typed_late = self.typed_late, ""
-        return [self._kept("typed", text)] if text else []
+        return [self.keep_typed(text)] if text else []
 
-    def _kept(self, name: str, text: str, tag: Optional[int] = None) -> str:
+    def _kept(self, name: str, text: str, tag: Optional[int] = None, what: str = "") -> str:
+        what = what or f"what is loaded of {name}".replace("\0", "")
         path = self._copies.take((tag, name))
         try:
             path = local_backup.keep(name, text) if path is None else local_backup.write_again(path, text)
@@ -231,4 +259,4 @@ class UnsavedTexts:
             path = None
         self.is_hopeless = self.is_hopeless or path is None
         self.has_left = self.has_left or path is not None
-        return f"what is loaded of {name} is here in {path}" if path else f"the text of {name} is lost: no file can be written here"
+        return f"{what} is here in {path}" if path else f"{what} is lost: no file can be written here"

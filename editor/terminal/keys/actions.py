@@ -9,6 +9,7 @@ from ..text.texts import COMMAND, GAP, MOST_RUNES
 from ..view.windows import Window
 
 MOST_PASTED_HERE = 4_096  # runes that `^V` types where the session stays: so no break can lock the file meanwhile
+MOST_IN_MENU = 2_000  # files
 LEAST_ROWS = 4  # rows of the least window, with its title
 TOO_LONG = f"the file would have more than {MOST_RUNES:,} characters"
 
@@ -105,7 +106,9 @@ class Actions(Commands, Moves):
         self.go_to(self.windows[(self.windows.index(self.focus) + 1) % len(self.windows)])
 
     def do_menu(self) -> None:
-        tags = self.tags
+        tags = self.tags[:MOST_IN_MENU]
+        if len(tags) < len(self.tags):
+            self.message = f"the menu has the first {MOST_IN_MENU:,} of {len(self.tags):,} files; a path opens any"
         entries = [("* " if self.is_changed(tag) else "  ", self.name(tag)) for tag in tags]
         chosen = tags.index(self.active.tag) if self.active.tag in tags else 0
         if self.joining.is_there:
@@ -164,10 +167,10 @@ class Actions(Commands, Moves):
         tag = self.active.tag
         if self.active is self.command:
             return
-        if self.way.is_late:
-            self.write_later(tag)
-            return
         question = self.keeping.question(tag)
+        if self.way.is_late:
+            self.write_later(tag, is_sure=question != "" and self._answered == question)
+            return
         if question:
             self.notes.forget(self.keeping.refusals[tag])
         if not question or self.is_sure(question):
@@ -177,9 +180,9 @@ class Actions(Commands, Moves):
         self.keeping.write(tag)
         self.terminal.write(tag)
 
-    def write_later(self, tag: int) -> None:
-        """A file is written when the line is back."""
-        self.keeping.write_later(tag)
+    def write_later(self, tag: int, is_sure: bool) -> None:
+        """A file is written when the line is back; the user may be sure that it replaces another program's text."""
+        self.keeping.write_later(tag, is_sure)
         self.message = f"{self.name(tag)} is written when the line is back"
 
     def do_close(self) -> None:

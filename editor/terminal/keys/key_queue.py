@@ -417,7 +417,7 @@ class KeyQueue:
         self.notes.take(first.has_read)
         name = "Tab" if indents else key.name if isinstance(key, Key) else "the mouse"
         if action_of(key) == "write":
-            self.write_later((first.window or self.active).tag)
+            self.write_later((first.window or self.active).tag, is_sure=False)
         else:
             self.message = f"{name} can't act until the line is back" + ("; ^Q again leaves" if action_of(key) == "leave" else "")
         return True

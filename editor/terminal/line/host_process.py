@@ -6,7 +6,8 @@ import select
 import signal
 import subprocess
 import time
-from typing import Callable, Dict, List, Optional, Union
+from collections import deque
+from typing import Callable, Deque, Dict, List, Optional, Union
 
 PIECE = 65_536  # bytes that one call reads
 MOST_AT_ONCE = 131_072  # bytes that are taken before a key is: to handle them takes some 10 milliseconds
@@ -14,6 +15,8 @@ IN_PIPE = 262_144  # bytes that wait in the pipe, so a relay need not wait for u
 SECONDS_TO_END = 10  # how long the host may take to end
 SECONDS_OF_SILENCE = 2  # the same where it has not answered for a while
 MOST_NOISE = 65_536  # bytes that may come before the stream
+MOST_IN_LINE = 4_096  # bytes of a line of standard error; more are dropped
+MOST_LINES = 64  # lines of it that are taken before a key is
 
 
 def poll_of(wanted: Dict[int, int]) -> "select.poll":
@@ -52,9 +55,10 @@ class HostProcess:
             fcntl.fcntl(self.source, fcntl.F_SETPIPE_SZ, IN_PIPE)
         self.waiting = bytearray()  # bytes that the pipe has not taken yet
         self.up = self.down = 0  # bytes that have gone each way
-        self.is_lost = self.is_deaf = self.is_quiet = False  # the host writes, reads, tells nothing more
+        self.is_lost = self.is_deaf = self._has_ended = False  # the host writes, reads, tells nothing more
         self.noise: List[str] = []  # lines that came before the stream
         self._line = b""
+        self._lines: Deque[bytes] = deque()  # that were not taken yet
         self.early = b""  # the first bytes of the stream
 
     def send(self, data: bytes = b"") -> None:
@@ -94,23 +98,40 @@ class HostProcess:
             return b""
 
     def listen(self) -> List[str]:
-        """The lines that the host has written to its standard error since."""
+        """The lines that the host has written to its standard error since: so many at once that a key need not wait for them."""
+        if not self._lines:
+            self._read_lines()
+        count = min(MOST_LINES, len(self._lines))
+        return [self._lines.popleft().decode("utf-8", "replace") for _ in range(count)]
+
+    def _read_lines(self) -> None:
         try:
             data = os.read(self.messages, PIECE)
         except BlockingIOError:
-            return []
+            return
         except OSError:
             data = b""
-        self.is_quiet = not data
-        *lines, self._line = (self._line + data).split(b"\n") if data else [self._line, b""]
-        return [line.decode("utf-8", "replace") for line in lines if line]
+        self._has_ended = not data
+        *lines, line = (self._line + data).split(b"\n") if data else [self._line, b""]
+        self._line = line[:MOST_IN_LINE]
+        self._lines.extend(line[:MOST_IN_LINE] for line in lines if line)
+
+    @property
+    def has_lines(self) -> bool:
+        """Whether some have come, and were not taken yet."""
+        return bool(self._lines)
+
+    @property
+    def is_quiet(self) -> bool:
+        """Whether the host tells nothing more."""
+        return self._has_ended and not self._lines
 
     def take(self, ready: Dict[int, int]) -> List[Union[str, bytes]]:
         """What has come: first what the host says of a text, which it says before it answers."""
-        if self.source not in ready and self.messages not in ready:
+        if self.source not in ready and self.messages not in ready and not self.has_lines:
             return []
-        data = self.receive() if self.source in ready and not self.is_lost else b""
         lines: List[Union[str, bytes]] = [] if self.is_quiet else list(self.listen())
+        data = self.receive() if self.source in ready and not self.is_lost and not self.has_lines else b""
         return lines + ([data] if data else [])
 
     def take_early(self) -> List[Union[str, bytes]]:
@@ -118,8 +139,8 @@ class HostProcess:
         return [self.early]
 
     def delay(self) -> Optional[float]:
-        """Nothing is due here by the clock."""
-        return None
+        """Nothing is due here by the clock; but lines that wait."""
+        return 0.0 if self.has_lines else None
 
     def wanted(self) -> Dict[int, int]:
         """What to wait for: events by descriptor."""
@@ -128,7 +149,7 @@ class HostProcess:
             wanted[self.source] = select.POLLIN
         if self.waiting and not self.is_deaf:
             wanted[self.sink] = select.POLLOUT
-        if not self.is_quiet:
+        if not self._has_ended:
             wanted[self.messages] = select.POLLIN
         return wanted
 
@@ -177,13 +198,19 @@ class HostProcess:
     def _pass_on(self, hear: Callable[[str], None], take: Callable[[bytes], None], until: float) -> bool:
         """Waits until something can be done, and passes on what has come: a host that still answers would else wait for us. Returns
         whether that was before a time."""
-        ready = wait_for(self.wanted(), max(0.0, until - time.monotonic()))
+        has_lines = self.has_lines
+        ready = wait_for(self.wanted(), 0.0 if has_lines else max(0.0, until - time.monotonic()))
         if self.source in ready and (data := self.receive()):
             take(data)
-        if self.messages in ready:
+        if self.messages in ready or has_lines:
             for line in self.listen():
                 hear(line)
-        return bool(ready)
+        return (bool(ready) or has_lines) and time.monotonic() < until
+
+    @property
+    def early_status(self) -> Optional[int]:
+        """The status with which the process has ended before its stream began; None where it goes on."""
+        return self.process.returncode if self.is_lost and self.is_over(waits=True) else None
 
     def kill(self) -> None:
         """Ends the process, and what it has begun in a session of its own."""

@@ -4,9 +4,11 @@ Each connection is a process that carries bytes to the session and back (a relay
 again over the next connection.
 """
 import os
+import re
 import select
 import time
-from typing import Callable, Dict, List, NamedTuple, Optional, Sequence, Union
+from collections import deque
+from typing import Callable, Deque, Dict, List, NamedTuple, Optional, Sequence, Tuple, Union
 
 import sulgrevad
 from .host_process import SECONDS_TO_END, HostProcess, wait_for
@@ -27,15 +29,30 @@ PAUSES = (1, 2, 4, 8, 16, 30)  # seconds until another connection is tried; the 
 SECONDS_TO_GO = 2  # that the last bytes may take where the session stays
 LATE_AFTER = 1.0  # seconds, and two round trips, after which an answer counts as late
 RETRY = 0.1  # seconds until that for which the memory was too small is tried again
+MOST_NOTES = 64  # that are taken before a key is
+MOST_EARLY = 100_000  # that may come before the stream begins
+MOST_LAST_LINES = 1_024  # of a connection that has ended
+SECONDS_MISSING = 60.0  # for which a session that the host doesn't find may come back: its folder may not be there yet
+ALIKE = 3  # connections that end alike, one after another, of which the user is told
+SECONDS_APART = 60.0  # that a connection lasts whose end is no more of the same
+SESSION = re.compile("[0-9a-f]{16}")  # a session's name: it goes into a command line
+MOST_IN_NAME = 40  # runes of another that are told
+STATUS = re.compile("[0-9]{1,3}")  # an exit status
 
-WELCOME = 4
+WELCOME, NO_SESSION = 4, 20
 # Refusals of the host after which no connection comes any more.
 REFUSED = {
     18: "the host knows another version of the link",
-    20: "the session is not there any more",
+    NO_SESSION: "the session is not there any more",
     21: "another terminal has taken the session over",
     23: "the host has begun again, and lacks some of what it said: samterm --take goes on with the texts that it has",
 }
+# Others, and why else a connection may end.
+ENDS = {17: "the host took the first bytes for no hello", 19: "the host took the hello for wrong", 22: "the host knows a newer connection"}
+WRONG_HELLO, WRONG_BYTES = "the host's hello doesn't fit what was sent", "what came is not what the host said before"
+NO_HELLO, SILENT = "what came first was no hello", "no answer came"
+CAN = "^Q leaves and keeps the texts here; samterm --take then goes on with those that the host has"  # what the user can do
+CAN_ASK = "F5 tries at once, and ssh can ask then; ^Q leaves and keeps the texts here"
 
 
 class Note(NamedTuple):
@@ -43,6 +60,20 @@ class Note(NamedTuple):
 
     verb: str
     rest: str
+
+
+NUMBER, MOST_TAG = re.compile("[0-9]{1,9}"), 65_535
+
+
+def number_of(word: str) -> Optional[int]:
+    """The number that a word of a note is; None where it is none, or too long."""
+    return int(word) if NUMBER.fullmatch(word) else None
+
+
+def tag_of(word: str) -> Optional[int]:
+    """The same of a file's tag."""
+    number = number_of(word)
+    return number if number is not None and number <= MOST_TAG else None
 
 
 Item = Union[bytes, str, Note]  # bytes of the stream, a line that the host tells, another note
@@ -68,7 +99,9 @@ class PersistentSession:
         self._noise = b""  # what came before the first hello
         self._early: List[Item] = []
         self._begun = bytearray()  # what has come of a connection before it was welcomed
-        self._unput, self._unfed = bytearray(), bytearray()  # for which there was no memory
+        # For which there was no memory: bytes of the stream and notes, which are told by True, in their order; and what came.
+        self._unput: Deque[Tuple[bool, bytes]] = deque()
+        self._unfed = bytearray()
         self._has_out, self._has_in = True, False  # whether the end may have bytes for the connection, and for us
         self._phase, self._attempt = self._end.phase, 0
         self._due = self._asked = 0  # up to which byte of ours an answer is wanted, and where the last question stands
@@ -76,6 +109,11 @@ class PersistentSession:
         self._asked_at = self._heard_at = self._called_at = self._again_at = 0.0
         self._lost_at: Optional[float] = None  # since when there is no line
         self._failures, self._connecting = 0, SECONDS_TO_CONNECT
+        self._words, self._is_in_front = "", False  # of the newest connection: what it told last, and whether the user waits for it
+        self._end_was, self._alike = "", 0  # how the last connection ended, and how many before it ended like that
+        self._tells: List[str] = []  # what is to be told of connections
+        self._is_met = False  # a host has welcomed us
+        self._missing_since: Optional[float] = None  # since when none finds the session
         self.round_trip, self._is_measured = 0.0, True  # seconds that the last question took, and whether its answer has come
         self._call(begin(self.name))
 
@@ -86,6 +124,7 @@ class PersistentSession:
         attempt = self._end.call(self.takes_over)
         self._note_phase()
         self._begun.clear()
+        self._words, self._is_in_front = "", in_front
         self._called_at = self._heard_at = self.clock()
         try:
             self.relay = HostProcess([*self.command, *words], own_session=attempt > 1 and not in_front)
@@ -113,16 +152,23 @@ class PersistentSession:
             relay.kill()
             self._old.append(relay)
 
-    def _break(self) -> None:
-        """The newest connection is broken: another is tried after a pause."""
+    def _break(self, why: str = "") -> None:
+        """The newest connection is broken: another is tried after a pause. Where several end alike, why is told."""
         self._is_measured = True
         if self._lost_at is None:
             self._lost_at = max(self._asked_at, self._heard_at) if self._is_answer_due else self.clock()
+        if why != self._end_was or self.clock() - self._called_at > SECONDS_APART:
+            self._alike = 0
+        self._end_was, self._alike = why, self._alike + 1
+        if why and self._alike == ALIKE:
+            can = CAN_ASK if why in (self._words, SILENT) else CAN
+            self._tells.append(f"samterm: {ALIKE} connections in a row ended alike: {why}. {can}")
         self._drop()
         self._pause()
 
     def _pause(self) -> None:
-        self._again_at = self.clock() + PAUSES[min(self._failures, len(PAUSES) - 1)]
+        failures = max(self._failures, self._alike - 1 if self._end_was else 0)
+        self._again_at = self.clock() + PAUSES[min(failures, len(PAUSES) - 1)]
         self._failures += 1
 
     def _lose(self, why: str) -> None:
@@ -156,7 +202,7 @@ class PersistentSession:
                 self._break()
         elif now - self._called_at >= self._connecting:
             self._connecting = min(2 * self._connecting, MOST_TO_CONNECT)
-            self._break()
+            self._break(self._words or SILENT)
 
     @property
     def _breaks_at(self) -> float:
@@ -179,6 +225,9 @@ class PersistentSession:
     def delay(self) -> Optional[float]:
         """Seconds until something is due by the clock; None where nothing is."""
         now = self.clock()
+        has_ended = self.relay is not None and (self.relay.has_lines or (self.relay.is_lost and not self.is_lost))
+        if self._tells or has_ended or (self._has_in and not self.is_lost):
+            return 0.0
         if self._unput or self._unfed:
             return RETRY
         if self.is_lost:
@@ -214,18 +263,20 @@ class PersistentSession:
 
     def put_note(self, verb: str, *words: str) -> None:
         """Sends a note, in its order with the stream."""
+        self._unput.append((True, " ".join((verb, *words)).encode("utf-8", "surrogateescape")))
         self._put(b"")
-        self._end.put_note(" ".join((verb, *words)).encode("utf-8", "surrogateescape"))
-        self._due, self._has_out = self._end.put_count, True
 
     def _put(self, data: bytes) -> None:
-        self._unput += data
-        if self._unput:
+        """Has the end take bytes of the stream, after all that it has not taken yet."""
+        if data:
+            self._unput.append((False, data))
+        while self._unput:
+            is_note, first = self._unput[0]
             try:
-                self._end.put(bytes(self._unput))
+                self._end.put_note(first) if is_note else self._end.put(first)
             except MemoryError:
                 return
-            self._unput.clear()
+            self._unput.popleft()
             self._due, self._has_out = self._end.put_count, True
 
     def _ask(self) -> None:
@@ -271,25 +322,44 @@ class PersistentSession:
         items = self.take_early()
         self._hear_network(ready)
         relay = self.relay
-        if relay is not None:
-            data = relay.receive() if relay.source in ready and not relay.is_lost else b""
-            if not relay.is_quiet and (relay.messages in ready or relay.source in ready):  # it tells of a text before it answers
+        if relay is None and not self.is_lost:
+            items += self._come()
+        elif relay is not None:
+            # No more is taken while notes wait.
+            data = relay.receive() if relay.source in ready and not relay.is_lost and not self._has_in else b""
+            # It tells of a text before it answers.
+            if not relay.is_quiet and (relay.messages in ready or relay.source in ready or relay.has_lines):
                 items += self._new_lines(relay)
             if data:
                 self._hear(data)
             elif self._unfed:
                 self._feed()
             items += self._come()
-            if relay.is_lost and relay is self.relay and not self.is_lost:
-                self._break()
+            if relay.is_lost and relay is self.relay and not (self.is_lost or self._has_in):
+                items += self._last_lines(relay)
+                self._break("" if self.is_open else self._words)
         self.go_on()
         self.send()
-        return items
+        return [*items, *self._told_of()]
+
+    def _told_of(self) -> List[str]:
+        """What there is to tell of connections."""
+        tells, self._tells = self._tells, []
+        return tells
 
     def _new_lines(self, relay: HostProcess) -> List[str]:
         """What a connection's programs write to standard error; each line once, however many connections fail by the same."""
-        lines = [line for line in relay.listen() if line != self._last_line]
+        lines = relay.listen()
+        self._words = lines[-1] if lines else self._words
+        lines = [line for line in lines if line != self._last_line]
         self._last_line = lines[-1] if lines else self._last_line
+        return lines
+
+    def _last_lines(self, relay: HostProcess) -> List[str]:
+        """The same of one whose stream has ended, as far as that is there."""
+        lines: List[str] = []
+        while len(lines) < MOST_LAST_LINES and not relay.is_quiet and (more := self._new_lines(relay)):
+            lines += more
         return lines
 
     def _hear(self, data: bytes) -> None:
@@ -301,7 +371,7 @@ class PersistentSession:
         self._begun += data
         noise, found, _ = self._begun.partition(MARK)
         if len(noise) > MOST_NOISE:
-            self._break()
+            self._break(NO_HELLO)
             return
         hello = bytes(self._begun[len(noise) :][:HELLO_BYTES])
         if found and len(hello) == HELLO_BYTES:
@@ -313,6 +383,7 @@ class PersistentSession:
 
     def _greet(self, hello: bytes) -> None:
         """The host's hello has come."""
+        what = 0
         try:
             what = sulgrevad.read_hello(hello).what
             self._end.welcomed(hello)
@@ -320,14 +391,32 @@ class PersistentSession:
             self._acknowledged = self._end.acknowledged
         except SamError:
             self._note_phase()
-            if what in REFUSED:
-                self._lose(REFUSED[what])
-            else:
-                self._break()
+            self._meet_refusal(what)
             return
         self._failures, self._connecting, self._lost_at = 0, SECONDS_TO_CONNECT, None
+        self._is_met, self._missing_since = True, None
         self._asked_at = self.clock()
         self._feed()
+
+    def _meet_refusal(self, what: int) -> None:
+        """The host has refused a connection, or welcomed another one."""
+        if what == NO_SESSION and self._may_come_back():
+            self._break()
+        elif what in REFUSED:
+            self._lose(REFUSED[what])
+        else:
+            self._break(ENDS.get(what, WRONG_HELLO))
+
+    def _may_come_back(self) -> bool:
+        """Whether a session that the host doesn't find may be found later: it was there, no key asks, and some seconds are left. The first
+        time that is told."""
+        now = self.clock()
+        if not self._is_met or self._is_in_front:
+            return False
+        if self._missing_since is None:
+            self._missing_since = now
+            self._tells.append(f"samterm: the host doesn't find the session. It is tried for {SECONDS_MISSING:.0f} s; F5 tries a last time")
+        return now - self._missing_since < SECONDS_MISSING
 
     def _feed(self) -> None:
         try:
@@ -337,7 +426,7 @@ class PersistentSession:
         except SamError:  # the packet is wrong
             self._unfed.clear()
             self._note_phase()
-            self._break()
+            self._break(WRONG_BYTES)
             return
         self._unfed.clear()
         self._has_in = self._has_out = True
@@ -346,9 +435,9 @@ class PersistentSession:
             self._is_measured, self.round_trip = True, self.clock() - self._asked_at
 
     def _come(self) -> List[Item]:
-        """What of the host's stream is here: bytes, joined as they came, and notes between them."""
+        """What of the host's stream is here: bytes, joined as they came, and notes between them; no more of these than leave a key time."""
         items: List[Item] = []
-        while self._has_in:
+        for _ in range(MOST_NOTES if self._has_in else 0):
             data = b"".join(iter(lambda: self._end.take_in(PIECE), b""))
             if data:
                 items.append(data)
@@ -366,9 +455,12 @@ class PersistentSession:
         if verb == "told":
             return f"samhost: {rest}"
         if verb == "session":
-            self.name, _, self.machine = rest.partition(" ")
+            name, _, self.machine = rest.partition(" ")
+            if SESSION.fullmatch(name) is None:
+                return f"samterm: the host calls the session {name[:MOST_IN_NAME]!r}, which is no name: it stays {self.name}"
+            self.name = name
         elif verb == "ended":
-            self.ended_with = int(rest) if rest.isdecimal() else 1
+            self.ended_with = int(rest) if STATUS.fullmatch(rest) else 1
             self._end.acknowledge()
             self._has_out = True
             self._push()
@@ -393,7 +485,7 @@ class PersistentSession:
     @property
     def lacking(self) -> int:
         """How many bytes of ours the host may not have."""
-        return len(self._unput) + max(0, self._due - self._acknowledged)
+        return sum(len(data) for _, data in self._unput) + max(0, self._due - self._acknowledged)
 
     @property
     def silence(self) -> float:
@@ -432,19 +524,28 @@ class PersistentSession:
         """Whether the host's command has ended at its words, before any byte: a samhost that knows of no session that stays."""
         return self.relay is not None and self.relay.is_lost and not self._begun and self.relay.process.wait() == 2
 
+    @property
+    def early_status(self) -> Optional[int]:
+        """The status with which the host's command has ended before the stream began; None where it goes on."""
+        return None if self.relay is None else self.relay.early_status
+
     def wait_for_stream(self, first: bytes, hear: Callable[[str], None]) -> bool:
         """Waits until the host's stream begins. Passes on what is told meanwhile. Returns whether it begins."""
         while not any(isinstance(item, bytes) for item in self._early) and not self.is_lost and self.relay is not None:
             relay, ready = self.relay, wait_for(self.wanted(), self.delay())
             self._hear_network(ready)
-            for line in relay.listen() if relay.messages in ready and not relay.is_quiet else []:
+            for line in relay.listen() if not relay.is_quiet and (relay.messages in ready or relay.has_lines) else []:
                 hear(line)
-            if relay.source in ready and (data := relay.receive()):
+            if relay.source in ready and not self._has_in and (data := relay.receive()):
                 self._hear(data)
             self._early += self._come()
             self._push()
-            if relay.is_lost:
+            if len(self._early) > MOST_EARLY:
+                self._lose("the host tells without an end")
+            if relay.is_lost and not self._has_in:
                 break
+        for line in self._told_of():
+            hear(line)
         if self.is_lost:
             hear(f"samterm: {self.why}")
         return any(isinstance(item, bytes) for item in self._early)

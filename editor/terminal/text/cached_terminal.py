@@ -39,6 +39,7 @@ class CachedTerminal(Terminal):
         self._refuses = False  # an event may be refused that was not told
         self._is_short = False  # memory was out, so some of what was done may be done later
         self.deeds = 0  # how often something was done
+        self.namings = 0  # how often a name may have changed
 
     def forget(self) -> None:
         """What is known of files and counts may be otherwise; names are not."""
@@ -46,6 +47,10 @@ class CachedTerminal(Terminal):
         self.deeds += 1
         self._known.clear()
         self._gaps.clear()
+
+    def _forget_names(self) -> None:
+        self.namings += 1
+        self._names.clear()
 
     def take_out(self, most: Optional[int] = None) -> bytes:
         if not self.pending:
@@ -199,7 +204,7 @@ def _forgetting(deed: Callable[..., Any]) -> Callable[..., Any]:
         finally:  # what was refused memory may be done in part
             self.forget()
             if deed is Terminal.feed:
-                self._names.clear()
+                self._forget_names()
 
     return done
 
@@ -234,7 +239,8 @@ def _step(self: CachedTerminal) -> TerminalDid:
             is_done = False
             self._known.pop(did.tag, None)
         elif did.kind in NAMING:
-            self._names.clear()
+            self.namings += 1
+            self._names.pop(did.tag, None)
     finally:
         if is_done:
             self.forget()

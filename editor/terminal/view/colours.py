@@ -11,6 +11,7 @@ from typing import Any, Callable, Dict, Iterator, List, NamedTuple, Optional, Se
 
 from .layout import Reader, Strip
 from ..text.texts import GAP, Changes
+from ..time_limit import TimeLimit, TooSlow
 
 # What is told apart: 0 is for text without a colour.
 KEYWORD, STRING, COMMENT, NUMBER, NAME, SPECIAL, GONE, CAME = range(1, 9)
@@ -34,6 +35,8 @@ LANGUAGES = {
 }  # fmt: skip
 
 BUDGET = 0.0015  # seconds of processor time that may be worked on colours before the screen is drawn
+LONGEST_LOOK = 0.004  # seconds of processor time after which a lexer is stopped: a line that takes longer is plain
+MOST_SLOW = 8  # such lines of a file, after which all of it is plain
 CONTEXT = 1_500  # runes above a window from which on its lines are looked at, where nothing nearer is known
 FAR = 8_000  # the same, of lines that are known and looked at anew
 LOOK_AHEAD = 2_048  # runes below it that a match may reach to
@@ -62,6 +65,7 @@ class Unit(NamedTuple):
     lines: Sequence[Line]
 
 
+LIMIT = TimeLimit(LONGEST_LOOK)
 LENGTH_OF, AFTER_OF = itemgetter(Unit._fields.index("length")), itemgetter(Unit._fields.index("after"))
 ROOT = ("root",)
 
@@ -158,6 +162,7 @@ class Coloured:
 
     def __init__(self, language: Language):
         self.language, self.first = language, 0
+        self.slow = 0  # how often the lexer was stopped
         self.units: List[Unit] = []
         self._starts: Optional[List[int]] = None  # of the units, and the end of the last one; None where that is to be counted
         self._unlooked = 0  # units that have to be looked at again
@@ -247,13 +252,18 @@ class Coloured:
         return True
 
     def _unit(self, text: str, at: int, before: Tuple[str, ...], is_whole: bool) -> Unit:
-        """The unit at a place; one without colours where not all of it is loaded, or it is too long."""
+        """The unit at a place; one without colours where not all of it is loaded, it is too long, or the lexer takes too long."""
         line_end = text.find("\n", at) + 1 or len(text)
         if line_end - at > LONGEST_LINE or GAP in text[at:line_end]:
             return Unit(max(1, line_end - at), before, ROOT if GAP not in text[at:line_end] else None, ())
         gap = text.find(GAP, at)
         known = text if gap < 0 else text[: text.rfind("\n", at, gap) + 1]
-        unit = self.language.unit(known, at, before)
+        try:
+            with LIMIT:
+                unit = self.language.unit(known, at, before)
+        except TooSlow:
+            self.slow += 1
+            return Unit(line_end - at, before, ROOT, ())
         is_cut = at + unit.length == len(known) and not (is_whole and gap < 0)
         return unit._replace(after=None) if is_cut else unit
 
@@ -312,10 +322,13 @@ def _start_above(read: Reader, top: int) -> int:
 
 
 class Colours:
-    """The colours of all files. `attributes` says how the screen draws each; without them there are none."""
+    """The colours of all files. `attributes` says how the screen draws each; without them there are none. A file whose colours take too
+    long gets none any more, and `tell` is told so."""
 
-    def __init__(self, name_of: Callable[[int], str], clock: Callable[[], float] = time.thread_time):
-        self.name_of, self.clock = name_of, clock
+    def __init__(
+        self, name_of: Callable[[int], str], clock: Callable[[], float] = time.thread_time, tell: Callable[[str], None] = lambda line: None
+    ):
+        self.name_of, self.clock, self.tell = name_of, clock, tell
         self.attributes: Sequence[int] = ()
         self.is_behind = False  # what is shown has lines that were not looked at
         self._until: Optional[float] = None  # None where nothing was looked at since `begin`
@@ -325,6 +338,8 @@ class Colours:
         self._files: Dict[int, Coloured] = {}
         self._changed: Set[int] = set()  # files that have changed since they were looked at all over
         self._anew: Dict[int, Coloured] = {}  # what is looked at all over, and shown once that is done
+        self._plain: Set[int] = set()  # files whose colours take too long
+        self._was_slow = False  # the lexer was stopped since `begin`: that is all that a key leaves time for
 
     def hear(self, changes: Changes) -> None:
         tag = changes.tag
@@ -337,6 +352,7 @@ class Colours:
         """The file is closed."""
         self._files.pop(tag, None)
         self._anew.pop(tag, None)
+        self._plain.discard(tag)
 
     def rest(self, windows) -> None:
         """The user rests: what has changed is looked at all over."""
@@ -360,13 +376,13 @@ class Colours:
 
     def begin(self) -> None:
         """The screen is drawn: so much may be worked on it."""
-        self.is_behind, self._until = False, None
+        self.is_behind, self._until, self._was_slow = False, None, False
         if self._reader is not None and not self._reader.is_alive():
             self._reader = None
 
     def of(self, window) -> Dict[int, Spans]:
         """The spans of the lines that a window shows, as far as they are known, by their places."""
-        language = self._language(self.name_of(window.tag)) if self.attributes else None
+        language = self._language(self.name_of(window.tag)) if self.attributes and window.tag not in self._plain else None
         if language is None:
             self._files.pop(window.tag, None)
             return NO_LINES
@@ -377,7 +393,7 @@ class Colours:
         try:
             is_known = self._looks(file, window)
             if anew is not None and is_known and self._looks(anew, window):
-                file = self._files[window.tag] = self._anew.pop(window.tag)
+                file = self._files[window.tag] = self._anew.pop(window.tag, anew)
         except Exception:  # whatever it is, no text depends on it
             self._languages = {name: None if known is language else known for name, known in self._languages.items()}
             return NO_LINES
@@ -388,10 +404,25 @@ class Colours:
         layout, length = window.layout(), window.length
         if file.is_known(layout.top, layout.end, length):
             return True
+        if self._was_slow:
+            self.is_behind = True
+            return False
         until = self._until = self.clock() + BUDGET if self._until is None else self._until
-        is_known = file.look(window.read, layout.top, layout.end, length, lambda: self.clock() > until)
+        before = file.slow
+        is_known = file.look(window.read, layout.top, layout.end, length, lambda: file.slow > before or self.clock() > until)
+        self._was_slow = file.slow > before
         self.is_behind = self.is_behind or not is_known
+        if file.slow >= MOST_SLOW:
+            self._make_plain(window.tag)
         return is_known
+
+    def _make_plain(self, tag: int) -> None:
+        """A file gets no colours any more."""
+        for known in (self._files, self._anew):
+            known.pop(tag, None)
+        self._plain.add(tag)
+        self.is_behind = True  # so that it is drawn without them
+        self.tell(f"{self.name_of(tag)} is shown without colours: to find them takes too long")
 
     def _language(self, file: str) -> Optional[Language]:
         """The language of a file by its name; None where there is none, or it is not read yet."""

@@ -16,11 +16,22 @@ Reader = Callable[[int, int], str]
 TAB = 8  # columns between tab stops
 SHADE = "░"  # stands for a rune that is not loaded
 NO_GLYPH = "\ufffd"  # stands for a rune that no screen can show
-NO_BASE = "◌"  # carries a combining rune that stands after none
+NO_BASE = "◌"  # carries a combining rune that stands after none, or after as many as one cell has
+MOST_ON_CELL = 8  # runes that stand on another; so what a screen shows has so many at most, however many a line has
 PIECE, LONGEST_PIECE = 1024, 65_536  # runes that are read at once, more and more of a long line
+MOST_KEPT = 16_384  # runes of a line whose strips are kept
 FAR_BACK = 8192  # runes that are looked at for the rows above a place, and of which the rows are worked out at once
 
+# Format characters that show, or join what is on both sides; others reorder or hide text, and so have a mark in their place.
+JOINERS = "\u200c\u200d"
+SHOWN_FORMATS = {*JOINERS, *map(chr, (*range(0x600, 0x606), 0x6DD, 0x70F, 0x890, 0x891, 0x8E2, 0x110BD, 0x110CD, *range(0x13430, 0x13440)))}
+
 _wcwidth = ctypes.CDLL(None).wcwidth  # the C library's, by which curses draws
+
+
+def is_hidden(rune: str) -> bool:
+    """Whether a rune is a format character that shows nowhere itself, and isn't one that joins."""
+    return unicodedata.category(rune) == "Cf" and rune not in SHOWN_FORMATS
 
 
 @lru_cache(maxsize=4096)
@@ -29,12 +40,15 @@ def looks(rune: str) -> Tuple[str, int]:
     kind = unicodedata.category(rune)
     if kind == "Cc":
         return ("^" + chr(ord(rune) ^ 64), 2) if ord(rune) < 128 else (NO_GLYPH, 1)
+    if is_hidden(rune):
+        mark = f"<{ord(rune):04X}>"
+        return mark, len(mark)
     if kind in ("Cn", "Cs", "Zl", "Zp"):
         return NO_GLYPH, 1
     columns = _wcwidth(ord(rune))  # -1 where the locale lacks the rune
     if columns >= 0:
         return rune, columns
-    if kind in ("Mn", "Me") or (kind == "Cf" and rune != "\u00ad") or "\u1160" <= rune <= "\u11ff":
+    if kind in ("Mn", "Me", "Cf") or "\u1160" <= rune <= "\u11ff":
         return rune, 0
     return rune, 2 if unicodedata.east_asian_width(rune) in "WF" else 1
 
@@ -85,14 +99,16 @@ class StripMaker:
         if rune == "\t" and self.column >= self.width:
             self.finish(at)  # its columns count from the row's start
         text, width = (SHADE, 1) if rune == GAP else (" ", TAB - self.column % TAB) if rune == "\t" else looks(rune)
-        if width == 0 and self.texts and not self.gaps[-1]:
+        if width == 0 and self.texts and not self.gaps[-1] and len(self.texts[-1]) <= MOST_ON_CELL:
             self.texts[-1].append(text)
             return
         if width == 0:
             text, width = NO_BASE + text, 1
-        if self.column >= self.width or (self.column + width > self.width and rune != "\t"):
+        if self.column >= self.width or (0 < self.column and self.column + width > self.width and rune != "\t"):
             self.finish(at)
-        width = min(width, self.width - self.column)
+        if width > self.width - self.column:
+            width = self.width - self.column
+            text = text[:width] if text.isascii() else text  # of a mark in a narrow window
         self.offsets.append(at)
         self.columns.append(self.column)
         self.texts.append([text.ljust(width) if rune == "\t" else text])
@@ -100,9 +116,13 @@ class StripMaker:
         self.column += width
 
 
-@lru_cache(maxsize=2048)
 def strips_of(line: str, width: int, ends: bool) -> Tuple[Strip, ...]:
     """The strips of a line without its newline; `ends` tells whether it has one. A carriage return before that is not shown."""
+    return (_known_strips if len(line) <= MOST_KEPT else _new_strips)(line, width, ends)
+
+
+def _new_strips(line: str, width: int, ends: bool) -> Tuple[Strip, ...]:
+    """The same."""
     width = max(width, 2)
     stop = len(line) - 1 if ends and line.endswith("\r") else len(line)
     if (line.isascii() and line[:stop].isprintable()) or line.count(GAP) == stop:
@@ -112,6 +132,9 @@ def strips_of(line: str, width: int, ends: bool) -> Tuple[Strip, ...]:
         maker.add(at, line[at])
     maker.finish(stop)
     return tuple(maker.strips)
+
+
+_known_strips = lru_cache(maxsize=2048)(_new_strips)
 
 
 def _plain_strips(line: str, width: int) -> Tuple[Strip, ...]:
@@ -327,7 +350,7 @@ def row_start(read: Reader, place: int, width: int) -> int:
 @lru_cache(maxsize=1024)
 def _last_row(text: str, width: int) -> int:
     """Where the last row of a piece of a line begins."""
-    return strips_of.__wrapped__(text, width, False)[-1].start
+    return _new_strips(text, width, False)[-1].start
 
 
 class Above(NamedTuple):

@@ -14,6 +14,7 @@ from .colours import Spans, painted
 from ..editor import Editor
 from .layout import Row, Strip, fitted, has_wide
 from ..line.persistent_session import Line
+from .status_line import printable
 from .windows import Window
 
 Run = Tuple[str, int]  # a text and its curses attributes
@@ -241,6 +242,7 @@ def frame_of(editor: Editor, rows: int, columns: int) -> Dict[int, List[Run]]:
 @lru_cache(maxsize=64)
 def lines_of(message: str, columns: int, rows: int) -> Sequence[str]:
     """A message in as many rows as it takes, but no more than half of them."""
+    message = printable(message)
     lines: List[str] = []
     width = max(1, columns - 1)
     while len(lines) < max(1, min(MOST_LINES, rows // 2)) and (message or not lines):

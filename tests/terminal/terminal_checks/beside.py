@@ -206,16 +206,15 @@ def check_what_files_share(folder):
 
 
 def check_typed_text_of_each_file_is_kept(folder):
-    """What was typed into files that wait when the host is lost is kept with each."""
+    """What was typed into files that wait when the host is lost is kept, of each by itself."""
     pair, editor, key, text = locked("one\n", "two\n")
     for each in (text("first"), key("^P"), text("!"), key("^W"), text("second")):
         editor.take(each)
     with kept_texts() as kept:
         editor.lose("the host is gone")
-    kept = dict(kept)
-    expect(set(kept) == {"file0", "file1"}, f"it keeps {kept}")
-    expect(kept["file0"].endswith("first") and "second" not in kept["file0"], f"it keeps {kept}")
-    expect(kept["file1"].endswith("second") and "first" not in kept["file1"], f"it keeps {kept}")
+    typed = [text for name, text in kept if name == "typed"]
+    expect(typed == ["first", "second"], f"it keeps {kept}")
+    expect(not any("first" in text or "second" in text for name, text in kept if name != "typed"), f"it keeps {kept}")
 
 
 def check_question_beside_a_late_key(folder):

@@ -409,6 +409,54 @@ def check_leave_and_take(folder):
         wait_until(lambda: path.read_text() in ("xone\ntwo\n", "xyone\ntwo\n"), "it is not written")
         wait_until(lambda: session.shows(">  a.txt"), "it stays marked as changed")
         session.leave()
+    told = (folder / "stderr").read_text()
+    expect("written" not in told and "? write" not in told, f"it tells at the end {told!r}")
+
+
+def check_taken_text_is_unsaved(folder):
+    """A text of which the host tells that an earlier terminal had not written it counts as changed until it is written; where nobody knows
+    which one it is, each does."""
+    taken = "it was not written before this terminal took the session over; its text is in /tmp/x.sam-saved"
+    for name, changed in (("file1", {2}), ("nobody: knows", {1, 2})):
+        pair, editor, key, text = opened("a\n", "b\n")
+        editor.hear(f"samhost: ? write {name}: {taken}")
+        expect({tag for tag in editor.tags if editor.is_changed(tag)} == changed, f"{name}: not as changed counts what should")
+        expect("not written: " in editor.message and "? write" not in editor.message, f"it tells {editor.message!r}")
+        editor.go_to(editor.files[1])
+        pair.press(key("^W"))
+        expect(not editor.is_changed(2), f"{name}: it counts as changed though it is written")
+
+
+def check_one_answer_after_a_break(folder):
+    """A write was put off, since the line was lost, and another program has changed the file: once the line is back that is asked at once,
+    and one `^W` answers it; where it was answered before, nothing is asked."""
+    refusal = "samhost: ? write file0: another program changed it, and the next write replaces it; its text is in /tmp/file0.sam-saved"
+    for when in ("known before", "answered meanwhile", "told afterwards"):
+        pair, editor, key, text, line = with_line("a\n")
+        pair.press(text("x"))
+        if when != "told afterwards":
+            editor.take(key("^W"))
+            editor.hear(refusal)
+            pair.finish()
+            expect("^W again replaces it" in editor.message, f"{when}: this test is wrong: {editor.message!r}")
+        if when == "known before":
+            pair.press(key("Left"))
+        line.is_broken, line.silence = True, 9.0
+        pair.wait(1)
+        editor.take(key("^W"))
+        pair.wait(1)
+        expect("is written when the line is back" in editor.message, f"{when}: it tells {editor.message!r}")
+        editor.take(key("Left"))
+        pair.wait(2)
+        line.is_broken, line.silence = False, 0.0
+        pair.pause()
+        if when == "told afterwards":
+            editor.hear(refusal)
+        pair.finish()
+        if when != "answered meanwhile":
+            expect("^W again replaces it" in editor.message, f"{when}: it doesn't ask, but tells {editor.message!r}")
+            pair.press(key("^W"))
+        expect(not editor.is_changed(1) and not editor.notes.unread, f"{when}: it isn't written; {editor.message!r}, {editor.notes.unread}")
 
 
 # ---- Files that join

@@ -122,7 +122,7 @@ def check_exception(folder):
         session.tmux("send-keys", "-H", *(f"{byte:x}" for byte in b"\x1bOPafter"))  # F1 and a text
         session.wait_for_end(1)
         wait_for_text(folder / "a.txt.sam-saved", "typed one\n")
-        wait_for_text(folder / "a.txt.sam-here", "typed one\n\n[typed, and not put in yet:]\nafter")
+        wait_for_text(folder / "typed.sam-here", "after")
     told = (folder / "stderr").read_text()
     expect("broken on purpose" in told and "a.txt.sam-saved" in told, f"it tells {told!r}")
 

@@ -18,7 +18,7 @@ class Kept:
         from terminal.files import local_backup
 
         self.local_backup, self.before, self.texts = local_backup, local_backup.keep, []
-        local_backup.keep = lambda name, text: self.texts.append((name, text)) or "/somewhere"
+        local_backup.keep = lambda name, text: self.texts.append((name.lstrip("\0"), text)) or "/somewhere"
         return self
 
     def __exit__(self, *_):

@@ -499,6 +499,67 @@ def check_gaps_are_filled(folder):
         (folder / "status").unlink()
 
 
+def check_what_waited_is_taken_by_itself(folder):
+    """What was typed behind a lock when the host was lost is in a file of its own, and in no text: F9 brings the text with all that it
+    lacked at its end, and has `^V` paste what waited."""
+    text = "".join(LINES)
+    (path,) = made(folder, a=text)
+    with Session(folder, "a.txt") as session:
+        session.wait_for("line 10 ")
+        session.wait_for_quiet()
+        with session.stopped_host() as host:
+            session.type("typed ")
+            session.wait_for("typed line 1 ")
+            session.keys("C-d")
+            session.type("waits ")
+            session.wait_for("| held")
+            os.kill(host, signal.SIGKILL)
+        session.wait_for("the host is gone")
+        session.keys("C-q")
+        session.wait_for_end(3)
+    told = (folder / "stderr").read_text()
+    expect("what was typed for a.txt and not put in is here in" in told, f"it tells {told!r}")
+    here, typed = folder / "a.txt.sam-here", folder / "typed.sam-here"
+    kept = here.read_text()
+    expect(kept.startswith("typed line 1 ") and kept.endswith("characters that were not loaded]"), f"it keeps {kept[-90:]!r}")
+    expect(typed.read_text() == "waits ", f"what waited is {typed.read_text()!r}")
+    (folder / "status").unlink()
+    with Session(folder, "a.txt", width=200) as session:
+        session.wait_for("what was typed and not put in is in")
+        session.read()
+        open_left(session, "what was typed and not put in: written here")
+        session.keys("Down", "Enter")
+        session.answer("it lacks 0 characters", "Enter")
+        session.wait_for("a.txt has that text now")
+        session.wait_for_quiet()
+        session.keys("C-w")
+        wait_for_text(path, f"typed {text}")
+        wait_until(lambda: not here.exists(), "the old text stays, though all of it is written")
+        open_left(session, "what was typed and not put in: written here")
+        session.keys("Enter")
+        session.wait_for("^V pastes at the caret what was typed and not put in")
+        session.keys("C-v")
+        session.wait_for("waits typed line 1 ")
+        session.wait_for_quiet()
+        session.keys("C-w")
+        wait_for_text(path, f"waits typed {text}")
+        open_left(session, "what was typed and not put in: written here")
+        session.type("d")
+        session.answer("d again drops it for good", "d")
+        wait_until(lambda: not typed.exists(), "it isn't dropped")
+        session.leave()
+
+
+def check_file_called_typed_is_no_text_that_waited(folder):
+    """A file that is called typed has copies of its own: what waited is none of them, and they are not offered as that."""
+    from terminal.files import local_backup
+
+    os.chdir(folder)
+    waited, text = local_backup.keep(local_backup.TYPED, "waited"), local_backup.keep("typed", "text")
+    found = local_backup.left(["typed", local_backup.TYPED])
+    expect(found == {"typed": [text], local_backup.TYPED: [waited]}, f"it finds {found}")
+
+
 def check_cut_is_taken(folder):
     """What was cut last in an earlier session is pasted by `^V` once it was taken."""
     (path,) = made(folder, a="one\n")

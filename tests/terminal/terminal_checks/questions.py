@@ -231,7 +231,7 @@ def check_worst_line_first(folder):
     ):  # fmt: skip
         editor.hear("samhost: " + line)
     editor.hear("another program")
-    for wanted in ("text of file0 is lost", "terminal is lost", "is closed", "? write", "saved aside", "its text is in"):
+    for wanted in ("text of file0 is lost", "terminal is lost", "is closed", "not written: ", "saved aside", "its text is in"):
         expect(wanted in editor.message, f"it shows {editor.message!r}, wanted {wanted!r}")
         editor.take(key("Left"))
         expect(wanted in editor.message, "a line that nobody can have read goes with a key")
@@ -247,7 +247,8 @@ def check_worst_line_of_many(folder):
         editor.hear(f"samhost: file{at}.sam-saved is there")
     for line in ("? write file0: no room", "the text of file0 is lost: no room"):
         editor.hear(f"samhost: {line}")
-        expect(line in editor.message, f"it shows {editor.message!r}, wanted {line!r}")
+        wanted = line.replace("? write", "not written:")
+        expect(wanted in editor.message, f"it shows {editor.message!r}, wanted {wanted!r}")
 
 
 def check_text_lost(folder):
@@ -288,7 +289,7 @@ def kept_texts():
     from terminal.files import local_backup
 
     kept = []
-    before, local_backup.keep = local_backup.keep, lambda name, text: kept.append((name, text)) or name
+    before, local_backup.keep = local_backup.keep, lambda name, text: kept.append((name.lstrip("\0"), text)) or name
     try:
         yield kept
     finally:
@@ -296,16 +297,15 @@ def kept_texts():
 
 
 def check_typed_ahead_is_kept(folder):
-    """What was typed and waits when the host is lost is written, too, with the text that it was typed into. What was typed for a file that
-    is not open yet, or before the files are known, has a file of its own."""
+    """What was typed and waits when the host is lost is written, too, to a file of its own: it is in no text. So is what was typed for a
+    file that is not open yet, or before the files are known."""
     pair, editor, key, text = opened("a\n")
     pair.press(text("x"))
     for typed in (key("^D"), text("after")):
         editor.take(typed)
     with kept_texts() as kept:
         editor.lose("the host is gone")
-    expect([name for name, _ in kept] == ["file0"], f"it keeps {kept}")
-    expect(kept[0][1].startswith("xa\n") and kept[0][1].endswith("after"), f"it keeps {kept}")
+    expect(kept == [("file0", "xa\n"), ("typed", "after")], f"it keeps {kept}")
     for trips in range(4):
         pair = Pair(random.Random(1), ["a\n"])
         for _ in range(trips):

@@ -31,9 +31,9 @@ MOST_WORK = 0.1  # seconds until the host has all, beside two round trips
 class OnTerminal:
     """samterm on a terminal of its own, to a session that stays, over a line that may be stopped."""
 
-    def __init__(self, folder, *files, delay=0):
+    def __init__(self, folder, *files, delay=0, host=None):
         self.folder, self.block, self.log = folder, folder / "block", folder / "connected"
-        host = shlex.join(map(str, (sys.executable, GATE, self.block, self.log, delay, SAMHOST)))
+        host = host or shlex.join(map(str, (sys.executable, GATE, self.block, self.log, delay, SAMHOST)))
         environment = {**os.environ, "SAM_LIBRARY": str(LIBRARY), "LC_ALL": "C.UTF-8", "TERM": "xterm-256color", "TMPDIR": str(folder)}
         environment["XDG_STATE_HOME"] = str(folder / STATE)
         self.end, inner = pty.openpty()

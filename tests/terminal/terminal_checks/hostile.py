@@ -1,0 +1,500 @@
+"""Hostile files, hosts and neighbours: whatever they do no key waits for long, and no command of theirs is run; and why a session can't go
+on, or can't begin."""
+import contextlib
+import os
+import random
+import re
+import select
+import shlex
+import signal
+import sys
+import threading
+import time
+from pathlib import Path
+from types import SimpleNamespace
+
+from checks import Failed, times_longer
+
+from .colours import expect_pygments
+from .pairs import Pair, opened
+from .slow_line import QUIET_LOOP, least_loop
+from .stopped import OnTerminal, cost_of
+from .support import SAMHOST_WORD, STATE, Session, below, expect, host_that, made, wait_until
+
+HOST = Path(__file__).with_name("hostile_host.py")
+RUNES = "αβγδεζηθικλμνξο"  # that are typed: nothing else on the screen has them
+MOST_FOR_A_KEY = 0.05  # seconds of the processor until it shows
+MOST_BESIDE_COLOURS = 0.01  # the same beside a lexer that takes for ever, and what a key costs without one
+SECONDS_TO_END = 5
+
+
+def hostile(*words):
+    """The command of a hostile host."""
+    return shlex.join([sys.executable, str(HOST), *words, "--"])
+
+
+def costs_of_keys(session):
+    """Types some runes, each once the last one shows. Answers the seconds of the processor that samterm takes for each."""
+    costs = []
+    for rune in RUNES:
+        before = cost_of(session.process.pid)
+        session.type(rune)
+        session.read_until(rune)
+        costs.append(cost_of(session.process.pid) - before)
+        session.rest(0.02)
+    return costs
+
+
+def expect_quick(session, most, what):
+    """No key takes more of the processor, or as many times more as the machine is slow; one of them may be held up by others."""
+    costs, slowness = sorted(costs_of_keys(session)), max(1, least_loop() / QUIET_LOOP)
+    told = f"{what}: keys cost {[f'{cost * 1000:.0f}' for cost in costs]} ms, {slowness:.1f} times slowed"
+    expect(costs[-2] < most * slowness, told)
+
+
+def samterm_of(session):
+    """The process of samterm, beside a host in Python."""
+    return below(int(session.tmux("display-message", "-p", "#{pane_pid}")))[0]
+
+
+def expect_end(session, what):
+    """The session is over soon."""
+    until = time.monotonic() + SECONDS_TO_END * times_longer()
+    while session.process.poll() is None and time.monotonic() < until:
+        session.read(0.05)
+    expect(session.process.poll() is not None, f"{what}: it doesn't end")
+
+
+# ---- Files
+
+
+def check_lexers_that_take_for_ever(folder):
+    """In a text for which a lexer would take for ever keys show at once, `^Q` leaves, and a signal ends the session; the next lines have
+    their colours all the same."""
+    expect_pygments()
+    texts = {
+        "lines.c": "a b\n" + "//\\\n" * 40, "quotes.pl": "qr/\n" + "'\n" * 40, "empty.c": "int a" + "\n" * 1900 + "x\n",
+        "blanks.c": "int a" + " " * 1900 + "x\n",
+    }  # fmt: skip
+    for name, text in texts.items():
+        place = folder / name.partition(".")[0]
+        place.mkdir()
+        (place / name).write_text(f"{text}static int one = 1;\n")
+        with OnTerminal(place, name) as session:
+            session.read_until("free")
+            session.rest(1.0)
+            expect_quick(session, MOST_BESIDE_COLOURS, name)
+            if name.endswith("pl"):
+                os.kill(session.process.pid, signal.SIGTERM)
+            else:
+                session.type("\x11")
+                session.read_until("not written")
+                time.sleep(0.7)
+                session.type("\x11")
+            expect_end(session, name)
+
+
+def check_files_without_colours_are_told(folder):
+    """A file whose colours take too long again and again is plain from then on, which is told once; others keep theirs."""
+    expect_pygments()
+    from terminal.view import colours
+
+    slow, told = "int a" + " " * 1900 + "x\n", []
+    texts = {1: slow * 30, 2: "int one = 1;\n" * 30}
+    found = colours.Colours(lambda tag: "a.c", tell=told.append)
+    found.attributes = [0] * 9
+    windows = [
+        SimpleNamespace(
+            tag=tag, length=len(text), layout=lambda text=text: SimpleNamespace(top=0, end=len(text)),
+            read=lambda place, count, text=text: text[place : place + count],
+        )
+        for tag, text in texts.items()
+    ]  # fmt: skip
+    for _ in range(200):
+        found.begin()
+        plain, coloured = (found.of(window) for window in reversed(windows))
+        time.sleep(0.005 if found.seconds else 0)
+    expect(plain and not coloured, f"the colours are {plain} and {coloured}")
+    expect(len(told) == 1 and "a.c is shown without colours" in told[0], f"it tells {told}")
+
+
+def check_signal_while_it_is_held_up(folder):
+    """A signal ends the session also while something takes for ever; what was typed is taken late then."""
+    import curses
+
+    from terminal import loop
+
+    curses.setupterm("xterm", os.open("/dev/null", os.O_WRONLY))
+    late = []
+    editor = SimpleNamespace(is_over=False, take_late=late.extend, arrange=lambda *size: None)
+    turns = loop.Loop(None, None, SimpleNamespace(size=(20, 80)), editor, None)
+    turns.keys.append("typed")
+
+    def held_up():
+        while time.process_time() < 2 * SECONDS_TO_END:
+            pass
+        raise Failed("a signal does nothing")
+
+    turns._go_round = held_up
+    threading.Timer(0.2, os.kill, (os.getpid(), signal.SIGTERM)).start()
+    turns.run()
+    expect((editor.is_over, turns.ended_by, late) == (True, signal.SIGTERM, ["typed"]), f"{editor.is_over}, {turns.ended_by}, {late}")
+
+
+# ---- What a host says
+
+
+def check_name_of_the_session(folder):
+    """A session's name that the host tells goes into a command line only where it is one: another is refused and told, and the old one
+    stays."""
+    (path,) = made(folder, a="one\n")
+    words = folder / "words"
+    for at, name in enumerate(("$(touch OWNED)", "0123456789abcde", "0123456789ABCDEF", "0123456789abcdef0", "\\0a\\nb", "")):
+        from terminal.line import persistent_session
+
+        line = persistent_session.PersistentSession(["sleep", "100"], lambda name: [])
+        old = line.name
+        told = line._meet(f"session {name.encode().decode('unicode_escape')} box")
+        line.close(print, seconds=0)
+        expect(line.name == old and isinstance(told, str) and "no name" in told, f"{name!r}: it is {line.name}, told {told!r}")
+    host = hostile("dies", "session $(touch${IFS}OWNED) box")
+    program = host_that(folder, f'echo "$*" >> {words}', 'case "$*" in *--attach*) exec sh -c "true $*";; esac', f'exec {host} "$@"')
+    with Session(folder, "a.txt", "b.txt", host=program, stays=True, width=140) as session:
+        session.wait_for("which is no name")
+        wait_until(lambda: words.read_text().count("--attach") > 0, "it doesn't try another connection")
+    attached = re.findall(r"--attach (.*)", words.read_text())
+    expect(all(re.fullmatch("[0-9a-f]{16}", name) for name in attached), f"it joins {attached}")
+    expect(not (folder / "OWNED").exists(), "a command of the host was run")
+
+
+def check_wrong_notes_end_nothing(folder):
+    """Notes with wrong numbers, tags and names do nothing."""
+    long = "9" * 4000
+    notes = [f"{verb} {words}" for verb in ("wish", "opened", "anew", "names", "refused", "folder", "nonsense", "told") for words in (
+        "", f"{long} 7", f"1 {long}", "65536 1", "70000 70000", "-1 -1", "² ²", "1.5 x", "x y", "\0 \0", "1", "999999999 999999999",
+    )]  # fmt: skip
+    host = hostile("notes", *(note for note in notes if "\0" not in note), "wish 2 3")
+    with OnTerminal(folder, "a.txt", "b.txt", host=host) as session:
+        session.read_until("b.txt", 20)
+        session.type("x")
+        session.read_until("x")
+        expect(session.process.poll() is None, "it has ended")
+    pair, editor, _, text = opened("a\n")
+    from terminal.line.persistent_session import Note
+
+    for note in notes:
+        editor.meet_note(Note(*note.partition(" ")[::2]))
+        pair.finish()
+    pair.press(text("x"))
+    expect(pair.host.text(1) == "xa\n" and not editor.is_lost, f"the text is {pair.host.text(1)!r}, {editor.message}")
+
+
+def check_files_of_names_that_are_ours(folder):
+    """A file of the user's whose name begins as those of hidden files do, behind the front that samhost gives it, is one of his."""
+    names = [f"./~~{name}" for name in ("left~~ 1 + 2026-11-29 10:00:00", "anew~~ 1", "undo~~", "sam~~")]
+    pair = Pair(random.Random(1), ["a\n", "b\n", "c\n", "d\n"], names=names)
+    pair.finish()
+    editor = pair.editor
+    expect([editor.name(tag) for tag in editor.tags] == names, f"the files are {[editor.name(tag) for tag in editor.tags]}")
+    expect(not editor.left.all and editor.vault.tag is None and not editor.reloading.hidden, "one of them is taken for a hidden one")
+
+
+def check_floods(folder):
+    """No key waits for notes or lines without an end, for a line without an end, for 65,000 names, or for 900,000 runes that stand on
+    one."""
+    for name in ("names", "marks", "flood", "lines", "line"):
+        place = folder / name
+        place.mkdir()
+        (place / "a.txt").write_text(f"a{chr(0x301) * (900_000 if name == 'marks' else 0)}\ntext of a.txt\n")
+        noise = {"lines": "seq 99999999 >&2 &", "line": "yes | tr -d '\\n' >&2 &"}.get(name, "")
+        host = hostile(name) if name in ("flood", "names") else host_that(place, noise, f'exec {SAMHOST_WORD} "$@"')
+        with OnTerminal(place, "a.txt", *["b.txt"] * (name == "flood"), host=host) as session:
+            session.read_until({"marks": "◌", "names": "a path opens any"}.get(name, "text of a.txt"))
+            if name == "names":
+                session.type("\x1b")  # the menu goes
+            if name in ("flood", "lines"):
+                until = time.monotonic() + 1
+                while time.monotonic() < until:  # it never rests
+                    session.read(0.1)
+            else:
+                session.rest(1.0)
+            expect_quick(session, MOST_FOR_A_KEY, name)
+
+
+def check_words_with_many_ends(folder):
+    """A line of standard error is cut, and few of the places are tried at which a name may end."""
+    from terminal.line.host_process import MOST_IN_LINE, HostProcess, wait_for
+    from terminal.view.status_line import said
+
+    told = said("samhost: ? write " + ": " * 5_000)
+    expect(len(told.names) == 8, f"it tries {len(told.names)} names")
+    code = f"import os; os.write(2, b'x' * 300_000 + b'\\nlast\\n' + b'y' * 300_000)"
+    lines, process = [], HostProcess([sys.executable, "-c", code])
+    process.close(lines.append)
+    got = [line[:1] + str(len(line)) for line in lines]
+    expect(got == [f"x{MOST_IN_LINE}", "l4", f"y{MOST_IN_LINE}"], f"it tells {got}")
+    process, pieces = HostProcess(["sh", "-c", "yes | tr -d '\\n' >&2"]), 0
+    while pieces < 30:
+        pieces += process.messages in wait_for({process.messages: select.POLLIN}, 1.0)
+        expect(not process.listen() and len(process._line) <= MOST_IN_LINE, f"of a line without an end it keeps {len(process._line)} bytes")
+    process.kill()
+
+
+def check_unseen_runes(folder):
+    """Format characters that reorder or hide text have marks in texts and titles, and question marks in told lines; those that join
+    don't."""
+    from terminal.view.layout import fitted, looks
+    from terminal.view.screen import lines_of
+    from terminal.view.status_line import printable
+
+    for rune in "\u00ad\u061c\u180e\u200b\u200e\u200f\u202a\u202e\u2060\u2066\u2069\ufeff\ufff9\U000e0001\U000e0041":
+        mark = f"<{ord(rune):04X}>"
+        expect(looks(rune) == (mark, len(mark)), f"{rune!r} looks as {looks(rune)}")
+        expect(fitted(f"a{rune}b", 20) == f"a{mark}b".ljust(20), f"a title has {fitted(f'a{rune}b', 20)!r}")
+        expect(printable(f"a{rune}b") == "a?b", f"{rune!r} is told as {printable(rune)!r}")
+        expect(lines_of(f"a{rune}b", 20, 24)[0].rstrip() == "a?b", f"the bottom line has {lines_of(f'a{rune}b', 20, 24)}")
+    for rune in "\u200c\u200d\ufe0f\u0601\U000e0100":
+        expect(looks(rune)[0] == rune and printable(f"a{rune}") == f"a{rune}", f"{rune!r} looks as {looks(rune)}")
+    expect(printable("a\x9bb\u2028c\ud800d") == "a?b?c?d", f"it tells {printable(chr(0x9b))!r}")
+    (folder / "a\u202eb.txt").write_text("if x\u202e{ y\u2066 z\ufeff\n")
+    with Session(folder, "a*b.txt", width=100) as session:
+        session.wait_for("if x<202E>{ y<2066> z<FEFF>")
+        expect(session.shows("a<202E>b.txt"), "the title has no mark")
+        session.type("zz")
+        session.wait_for("zzif x<202E>{ y<2066>")
+        session.keys("End")
+        session.type("!")
+        session.wait_for("z<FEFF>!")
+        session.leave_unwritten()
+
+
+# ---- Words that a shell reads
+
+
+def check_names_are_no_commands(folder):
+    """A name of a file is that on its way through the shells of ssh, of one ssh or of two, and without one; `~/` is the far home."""
+    from terminal.line.shells import for_shells, shells_of
+
+    for command, count in (("ssh box samhost", 1), ("/usr/bin/ssh -p 22 box sudo samhost", 1), ("ssh a ssh b samhost", 2), ("samhost", 0)):
+        expect(shells_of(command.split()) == count, f"{command}: {shells_of(command.split())} shells")
+    expect(for_shells(["~/a b", "~", "--undo"], 1) == ["~/'a b'", "'~'", "--undo"], f"{for_shells(['~/a b', '~', '--undo'], 1)}")
+    ssh = folder / "ssh"
+    ssh.write_text('#!/bin/sh\nshift\nexec sh -c "$*"\n')
+    ssh.chmod(0o755)
+    name = "x$(touch OWNED) 'y\"`touch OWNED`;touch OWNED.txt"
+    once = shlex.quote(SAMHOST_WORD)
+    twice = shlex.quote(once)
+    for at, (host, words) in enumerate((
+        (f"{ssh} box {once}", ""), (f"{ssh} jump {ssh} box {twice}", ""), (SAMHOST_WORD, ""),
+        (host_that(folder, f'exec {ssh} box {once} "$@"'), "--shells 1"),
+    )):  # fmt: skip
+        place = folder / str(at)
+        place.mkdir()
+        (place / name).write_text("one\n")
+        with Session(place, words, shlex.quote(name), host=host, stays=at != 2, width=140) as session:
+            session.wait_for("one")
+            session.type("x")
+            session.keys("C-w")
+            wait_until(lambda: (place / name).read_text() == "xone\n", lambda: f"{host}: there are {list(place.iterdir())}")
+            session.leave()
+        expect(not list(place.glob("OWNED*")), f"{host}: a name is taken for a command")
+
+
+# ---- Connections that can't go on
+
+
+def check_tells_why_it_cannot_go_on(folder):
+    """After three connections that end alike it is told why, and what the user can do; and it goes on trying, with longer pauses."""
+    rows = (
+        (("fails", "no way to box"), "no way to box"), (("refuses", "22"), "the host knows a newer connection"),
+        (("garbage",), "what came is not what the host said before"),
+    )  # fmt: skip
+    with contextlib.ExitStack() as stack:
+        sessions = []
+        for how, _ in rows:
+            place = folder / how[0]
+            place.mkdir()
+            program = host_that(place, f"date +%s.%N >> {place / 'calls'}", f'exec {hostile(*how)} "$@"')
+            sessions.append(stack.enter_context(Session(place, "a.txt", "b.txt", host=program, stays=True, width=200)))
+        for session in sessions:
+            session.wait_for("LINE LOST")
+            session.type("typed ")
+        for session, (_, wanted) in zip(sessions, rows):
+            session.wait_for("3 connections in a row ended alike")
+            expect(session.shows(wanted) and session.shows("^Q leaves"), f"{wanted}: it tells\n" + "\n".join(session.screen()))
+        calls = sessions[-1].folder / "calls"
+        wait_until(lambda: len(calls.read_text().split()) >= 5, "it doesn't try any more")
+        times = [*map(float, calls.read_text().split())]
+        expect(times[4] - times[3] > 3, f"it tries at {times}")
+        for session in sessions:
+            os.kill(samterm_of(session), signal.SIGTERM)
+        for session in sessions:
+            session.wait_for_end(128 + signal.SIGTERM)
+            kept = [path.read_text() for path in session.folder.glob("a.txt.sam-here")]
+            told = (session.folder / "stderr").read_text()
+            expect(len(kept) == 1 and kept[0].startswith("typed text"), f"it keeps {kept}, and tells {told!r}")
+
+
+def check_session_that_is_not_there_yet(folder):
+    """Where the host doesn't find a session that was there, that is told, and it is tried on: so a folder may come a little later. After a
+    minute, or by a key, that is final."""
+    made(folder, a="one\n")
+    state = folder / STATE / "sulgrevad"
+    with Session(folder, "a.txt", stays=True, width=140) as session:
+        for comes_back in (True, False):
+            session.wait_for("one")
+            session.wait_for_quiet()
+            (lock,) = state.glob("*/lock")
+            os.kill(int(lock.read_text()), signal.SIGKILL)
+            state.rename(folder / "away")
+            session.wait_for("the host doesn't find the session")
+            session.type("x" if comes_back else "y")
+            if comes_back:
+                (folder / "away").rename(state)
+                wait_until(lambda: not session.shows("LINE LOST"), "it doesn't go on")
+                session.wait_for("xone")
+            else:
+                wait_until(lambda: re.search(r"LINE LOST ([4-9]|\d\d) s, again", session.status()), "it never waits")
+                session.keys("F5")
+                session.wait_for("the session is not there any more")
+                session.keys("C-q")
+                session.wait_for_end(3)
+    expect((folder / "a.txt.sam-here").read_text() == "xyone\n", "what was typed is lost")
+
+
+def check_when_a_missing_session_is_final(folder):
+    """The same by the clock, without a host."""
+    from terminal.line import persistent_session as line
+
+    now = [100.0]
+    session = line.PersistentSession(["sleep", "100"], lambda name: [], clock=lambda: now[0])
+    session._is_met = True
+    for seconds, is_final in ((0, False), (1, False), (30, False), (59, False), (60, True)):
+        now[0] = 100.0 + seconds
+        session._meet_refusal(line.NO_SESSION)
+        expect(session.is_lost == is_final, f"after {seconds} s: final is {session.is_lost}")
+    told = [item for item in session._told_of() if "doesn't find" in item]
+    expect(len(told) == 1, f"it tells {told}")
+    session.close(print, seconds=0)
+    first = line.PersistentSession(["sleep", "100"], lambda name: [])
+    first._meet_refusal(line.NO_SESSION)
+    expect(first.is_lost, "a session that never was is waited for")
+    first.close(print, seconds=0)
+
+
+def check_notes_keep_their_place(folder):
+    """A note goes after bytes that found no memory before it, also where the memory is there again in between."""
+    from terminal.line import persistent_session as line
+
+    session = line.PersistentSession(["sleep", "100"], lambda name: [])
+    end, taken, refuses = session._end, [], []
+
+    class End:
+        put_count = acknowledged = 0
+
+        def put(self, data):
+            self.take(data)
+
+        def put_note(self, data):
+            self.take(b"note " + data)
+
+        def take(self, data):
+            if refuses:
+                refuses.pop()
+                raise MemoryError
+            taken.append(data)
+
+    session._end = End()
+    refuses += [1] * 3
+    session._put(b"edit 1")
+    session.put_note("reloaded", "1")
+    session._put(b"edit 2")
+    expect(not taken and not session.has_all and session.lacking > 0, f"this test is wrong: {taken}")
+    session._put(b"")
+    expect(taken == [b"edit 1", b"note reloaded 1", b"edit 2"], f"the order is {taken}")
+    session._end = end
+    session.close(print, seconds=0)
+
+
+def check_session_that_cannot_begin(folder):
+    """Where all files are refused, why is told at once, each of them; and so is what else is told at the start, one line after another."""
+    from terminal.line.persistent_session import PersistentSession
+
+    names = [f"{at}.txt" for at in range(300)]
+    for name in names:
+        (folder / name).write_bytes(b"\xff")
+    (folder / "long.txt").write_text("x" * 1_600_000)
+    for words in (["long.txt"], names):
+        for stays in (True, False):
+            (folder / "status").unlink(missing_ok=True)
+            with Session(folder, *words, stays=stays) as session:
+                session.wait_for_end(1)
+            told = (folder / "stderr").read_text()
+            expect(all(f"{name}: it is " in told for name in words), f"{words[:1]}: it tells {told[-300:]!r}")
+            expect("doesn't answer" not in told, f"{words[:1]}: it tells {told[-300:]!r}")
+    ended = PersistentSession(["sh", "-c", "echo why >&2; exit 3"], lambda name: [])
+    lines = []
+    ended.send(b"what is sent first")
+    expect(not ended.wait_for_stream(b"", lines.append) and ended.early_status == 3, f"this test is wrong: {ended.early_status}")
+    while not ended.relay.is_quiet:
+        lines += ended.relay.listen()
+    start = time.monotonic()
+    ended.close(lines.append)
+    expect(time.monotonic() - start < 5 and lines == ["why"], f"it takes {time.monotonic() - start:.1f} s, and tells {lines}")
+    made(folder, a="one\n")
+    (folder / "status").unlink()
+    with Session(folder, "a.txt", "0.txt", "1.txt", "long.txt", stays=True, width=140) as session:
+        session.wait_for("the next key shows 2 more")
+        session.read("0.txt: it is not UTF-8", "1.txt: it is not UTF-8", "long.txt: it is longer")
+        session.leave()
+
+
+def check_texts_that_take_long_to_compare(folder):
+    """Two texts of lines that are all alike are compared no longer than a user waits."""
+    from terminal.files.recovery import differences
+
+    start = time.process_time()
+    lines = differences("a\nb\n" * 500, "b\nb\na\na\n" * 250)
+    expect(time.process_time() - start < 2 and len(lines) > 0, f"it takes {time.process_time() - start:.1f} s")
+    expect(differences("a\nb\n", "a\nc\n")[1:] == ["- b", "+ c"], f"it shows {differences(chr(97), chr(98))}")
+
+
+# ---- Neighbours
+
+
+def check_copies_beside_neighbours(folder):
+    """A copy is renewed though a name for that is taken; and one that is a link by now, or too long, isn't read."""
+    from terminal.files import local_backup
+
+    os.chdir(folder)
+    path = local_backup.keep("a.txt", "first")
+    for name in (".new", "..new"):
+        Path(path + name).mkdir()
+    expect(Path(local_backup.write_again(path, "second")).read_text() == "second", "it isn't renewed")
+    expect(Path(path).stat().st_mode & 0o777 == 0o600, "others may read it")
+    expect(local_backup.read(path) == "second", f"it reads {local_backup.read(path)!r}")
+    secret = folder / "secret"
+    secret.write_text("another's")
+    os.unlink(path)
+    os.symlink(secret, path)
+    expect(local_backup.read(path) is None, "it reads what a link leads to")
+    os.unlink(path)
+    os.mkfifo(path)
+    expect(local_backup.read(path) is None, "it reads a pipe")
+    os.unlink(path)
+    with open(path, "wb") as file:
+        file.truncate(1 << 40)
+    expect(local_backup.read(path) is None, "it reads a terabyte")
+
+
+def check_gaps_of_a_text_of_one_letter(folder):
+    """A gap that may have stood at a million places takes no time to be given up."""
+    from terminal.files import local_backup
+
+    start = time.process_time()
+    for count, after in ((500_000, "a" * 1000), (2, "b")):
+        text = f"{'a' * 1000}[{count} characters that were not loaded]{after}"
+        local_backup.filled(text, "a" * 1_000_000)
+    expect(time.process_time() - start < 1, f"it takes {time.process_time() - start:.1f} s")
+    end = local_backup.filled(f"{'abc' * 100}[300 characters that were not loaded]", "abc" * 200)
+    expect(end == "abc" * 200, f"a gap at the end is filled as {end[-60:]!r}")
