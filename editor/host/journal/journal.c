@@ -5,7 +5,8 @@
  * anything that rests on it goes out. The library's host and link are what these steps make of them, so nothing else has to be kept.
  *
  * What is written survives the process. It is on the disk before anything is sent that rests on it, before a file is written, and after a
- * pause; so what a power cut takes nobody has heard of. Where the file can't be written any more it goes, and the session stays without it.
+ * pause; so what a power cut takes nobody has heard of. A record says where that was so: what is wrong before it is damage, and what is
+ * wrong behind the last one is torn. Where the file can't be written any more it goes, and the session stays without it.
  */
 #define _GNU_SOURCE
 #include <errno.h>
@@ -253,8 +254,12 @@ void sync_journal(struct session *session)
     if (journal->file < 0 || !journal->is_unsynced)
         return;
     journal->is_unsynced = false;
-    if (fdatasync(journal->file) != 0)
+    if (fdatasync(journal->file) != 0) {
         lose_journal(session, errno);
+        return;
+    }
+    add_record(session, STEP_SYNCED, NULL, 0);
+    journal->is_unsynced = false; /* that may be missing after a power cut */
 }
 
 /* ---- The file ---- */
@@ -341,14 +346,14 @@ static bool has_right_sum(const uint8_t *head, size_t len)
     return number_at(head + HEAD_LEN + len, SUM_LEN) == sum_of(0, head, HEAD_LEN + len);
 }
 
-bool has_records_behind(const struct text *all, size_t at)
+bool has_records_behind(const struct text *all, size_t at, enum step step)
 {
     size_t len, summed = 0;
 
     if (all->len - at > MOST_BEHIND)
         return true;
     for (; at < all->len; at++) {
-        if (!may_begin(all, at, &len))
+        if (!may_begin(all, at, &len) || (step != 0 && all->bytes[at + 4] != step))
             continue;
         summed += len;
         if (summed > MOST_SUMMED || has_right_sum(all->bytes + at, len))

@@ -23,10 +23,11 @@ enum step {
     STEP_NOTED,     /* the next note of the terminal was done, and the link put these notes then */
     STEP_DONE,      /* a file was written, or saved before it was closed, and what is known of it since */
     STEP_KEPT,      /* what is known of a file since its text was saved aside */
-    STEP_KEPT_CUT   /* the copy of what was cut last */
+    STEP_KEPT_CUT,  /* the copy of what was cut last */
+    STEP_SYNCED     /* nothing: all that stands before this was on the disk */
 };
 
-enum { LAST_STEP = STEP_KEPT_CUT };
+enum { LAST_STEP = STEP_SYNCED };
 
 /* What is done to files because of a message. */
 enum doing { DOING_WRITE = 1, DOING_CLOSE };
@@ -79,9 +80,9 @@ void sync_journal(struct session *session);
 size_t first_record(void);
 bool next_record(const struct text *all, size_t *at, struct record *record);
 
-/* Whether a whole record stands somewhere behind a place where none begins: then that is no torn end, but damage. Where much stands there
- * it counts as damage. */
-bool has_records_behind(const struct text *all, size_t at);
+/* Whether a whole record, of this kind or where it is 0 of any, stands somewhere behind a place where none begins. Where much stands there
+ * it counts as if one did. */
+bool has_records_behind(const struct text *all, size_t at, enum step step);
 
 /* What a body has, in order. Words may be NULL; they are taken into memory of the caller's. */
 void add_number(struct body *body, uint64_t number);

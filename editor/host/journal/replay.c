@@ -277,6 +277,7 @@ static size_t find_done(const struct text *all, struct replay *replay)
 
     for (struct record record; next_record(all, &at, &record);) {
         has_begun |= record.step == STEP_BEGUN;
+        replay->has_marks |= record.step == STEP_SYNCED;
         if (record.step != STEP_DONE)
             continue;
         if (replay->count == room) {
@@ -310,15 +311,16 @@ static void replay_all(struct session *session, const struct text *all, size_t e
     stay->out.len = stay->out.sent = 0;
 }
 
-/* Cuts off what a crash has left of a last record. Where the journal is damaged instead, it stays as it is. */
-static enum replay_fault cut_to_whole_records(struct stay *stay, const struct text *all, size_t end, bool *is_damaged)
+/* Cuts off what a crash has left of the last records. Where the journal is damaged instead, it stays as it is: the disk had what stands
+ * before a mark. */
+static enum replay_fault cut_to_whole_records(struct stay *stay, const struct text *all, size_t end, struct replay *replay)
 {
     if (end == 0 && all->len == first_record())
         return REPLAY_NOTHING;
-    *is_damaged = end == 0 || has_records_behind(all, end);
+    replay->is_damaged = end == 0 || has_records_behind(all, end, replay->has_marks ? STEP_SYNCED : 0);
     if (end == 0)
         return REPLAY_DAMAGED;
-    return *is_damaged || end == all->len || cut_journal(stay, all, end) == 0 ? REPLAY_OK : REPLAY_UNREADABLE;
+    return replay->is_damaged || end == all->len || cut_journal(stay, all, end) == 0 ? REPLAY_OK : REPLAY_UNREADABLE;
 }
 
 enum replay_fault begin_again(struct session *session)
@@ -337,7 +339,7 @@ enum replay_fault begin_again(struct session *session)
         replay.fault = REPLAY_SHORT;
     size_t end = replay.fault == REPLAY_OK ? find_done(&all, &replay) : 0;
     if (replay.fault == REPLAY_OK)
-        replay.fault = cut_to_whole_records(stay, &all, end, &replay.is_damaged);
+        replay.fault = cut_to_whole_records(stay, &all, end, &replay);
     stay->replay = &replay;
     if (replay.fault == REPLAY_OK)
         replay_all(session, &all, end);

@@ -19,7 +19,7 @@ enum replay_fault {
     REPLAY_SHORT,     /* memory is out */
     REPLAY_NO_FOLDER, /* the folder in which it began is gone */
     REPLAY_DIFFERS,
-    REPLAY_DAMAGED /* whole records stand behind one that is wrong, or it has no begin; what stands before that is known */
+    REPLAY_DAMAGED /* a record is wrong that was on the disk, or it has no begin; what stands before that is known */
 };
 
 /* A session that is being made again. */
@@ -28,6 +28,7 @@ struct replay {
     size_t count, next;
     struct body said; /* what the host said before, and has not said again */
     size_t came;      /* how many bytes came for the host since it caught up */
+    bool has_marks;   /* it says what was on the disk; one of an older samhost doesn't */
     bool is_damaged;  /* what was done behind its end is not known */
     enum replay_fault fault;
 };

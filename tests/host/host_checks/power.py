@@ -259,7 +259,7 @@ def check_power_cut_leaves_no_newer_file(folder):
     forms = {r"writev\(\d+<[^>]*/journal>": "record", r"fdatasync\(\d+<[^>]*/journal>": "on disk", r"sendto\(": "sent", r"rename\(": "file"}
     calls = [name for line in log.read_text().splitlines() for form, name in forms.items() if re.match(rf"\d+ +{form}", line)]
     at = calls.index("file")
-    expect_equal(calls[at - 3 : at], ["record", "on disk", "sent"], f"in {calls} what comes before the file")
+    expect_equal(calls[at - 4 : at], ["record", "on disk", "record", "sent"], f"in {calls} what comes before the file")
 
 
 def check_power_needs_one_sync_for_an_answer(folder):

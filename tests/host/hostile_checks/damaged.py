@@ -5,13 +5,13 @@ import struct
 import subprocess
 
 from checks import GIVEN_UP, Skipped, expect, times_slower, wait_until
-from host_checks.journals import FRONT, kill, records_of
+from host_checks.journals import FRONT, crc, kill, records_of
 from host_checks.line import Staying, home_of
 from host_checks.power import seconds_of_children
 from host_checks.support import SAMHOST, expect_equal, made, names_in, text_of
 from link_model import What
 
-BEGUN = 3  # the kind of the record before which all stands with which a session began
+BEGUN, SYNCED = 3, 12  # kinds of records before which all stands with which a session began, and all that was on the disk
 MOST_SECONDS = 3.0  # of the processor, for a journal that claims much
 
 
@@ -31,6 +31,7 @@ class Killed:
         self.journal = self.files["journal"]
         records, end = records_of(self.journal)
         self.records = [(at, kind, after) for (at, kind), (after, _) in zip(records, [*records[1:], (end, 0)])]
+        self.synced = max(at for at, kind, _ in self.records if kind == SYNCED)  # before this all was on the disk
 
     def restore(self, journal):
         shutil.rmtree(self.home, ignore_errors=True)
@@ -50,12 +51,14 @@ class Killed:
 
 
 def check_damaged_in_the_front_or_the_middle(folder):
-    """One wrong bit, wherever it is but in the last record: --end says so, its status is not 0, the journal stays beside as journal.wrong,
+    """One wrong bit, wherever it is in what was on the disk: --end says so, its status is not 0, the journal stays beside as journal.wrong,
     and what is known is saved aside."""
     killed = Killed(folder)
     begun = next(after for _, kind, after in killed.records if kind == BEGUN)
     saved = set()
-    for at, _, after in killed.records[:-1]:
+    for at, _, after in killed.records:
+        if at >= killed.synced:
+            break
         for place in (at + 2, at + 4, (at + after) // 2, after - 1):
             journal = killed.flipped(place)
             killed.restore(journal)
@@ -116,6 +119,45 @@ def check_damaged_writes_no_file(folder):
         expect_equal(ended.returncode, 1, f"after {ended.stderr!r} the status")
     expect_equal(text_of(path), "one\n", "the file")
     expect_equal(text_of(folder / "a.txt.sam-saved"), "one\ntwo\n", "the copy")
+
+
+def check_damaged_behind_the_last_sync(folder):
+    """What is wrong behind all that was on the disk is what a power cut has left, also where later records came to the disk before earlier
+    ones: the session goes on from what nobody heard more than."""
+    made(folder, a="one\n")
+    with Staying(folder, "a.txt") as session:
+        session.type("two\n")
+        kill(folder, session)
+        journal = home_of(folder, session.name) / "journal"
+        data = journal.read_bytes()
+        synced = max(at for at, kind in records_of(data)[0] if kind == SYNCED)
+        lost, whole = spelled(5, b"never acknowledged"), spelled(5, b"nor this")
+        journal.write_bytes(data[: synced + 9] + bytes(len(lost)) + whole)
+        session.abandon()
+        session.type("three\n")
+        expect_equal(session.text(), "one\ntwo\nthree\n", "the text")
+        expect_equal((home_of(folder, session.name) / "journal.torn").read_bytes(), bytes(len(lost)) + whole, "what is cut off")
+        session.leave()
+
+
+def spelled(kind, body):
+    """A record of a journal."""
+    record = struct.pack(">IB", len(body), kind) + body
+    return record + struct.pack(">I", crc(record))
+
+
+def check_damaged_of_an_older_version(folder):
+    """A journal of a samhost that notes no syncs is damaged where any whole record stands behind a wrong one."""
+    killed = Killed(folder)
+    older = b"".join(killed.journal[at:after] for at, kind, after in killed.records if kind != SYNCED)
+    killed.restore(killed.journal[:FRONT] + older)
+    ended = killed.run("--end", killed.name)
+    got = ended.returncode, text_of(folder / "a.txt.sam-saved")
+    expect_equal(got, (0, "one\n0\n1\n2\n3\n4\n5\n"), f"after {ended.stderr!r} what comes of it")
+    killed.restore(killed.journal[:FRONT] + older[:-60] + bytes([older[-60] ^ 1]) + older[-59:])
+    ended = killed.run("--end", killed.name)
+    expect_equal(ended.returncode, 1, f"after {ended.stderr!r} the status")
+    expect((killed.home / "journal.wrong").exists(), "the journal is not kept")
 
 
 def check_damaged_tail_is_kept(folder):
@@ -188,10 +230,10 @@ def check_damaged_lengths_cost_little(folder):
 
 
 def check_damaged_random_bits(folder):
-    """Of all single bits of a journal none has a session ended without a word and with the status 0, unless its text is saved whole or the
-    bit is in the last record."""
+    """Of all single bits of what was on the disk none has a session ended without a word and with the status 0, unless its text is saved
+    whole."""
     killed = Killed(folder)
-    last = killed.records[-1][0]
+    last = killed.synced
     whole = "one\n" + "".join(f"{number}\n" for number in range(6))
     for at in range(0, last, 7):
         killed.restore(killed.flipped(at))
