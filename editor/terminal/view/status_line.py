@@ -6,7 +6,6 @@ from typing import Callable, List, NamedTuple, Optional, Tuple
 READ_AFTER = 0.5  # seconds that a line stands on the screen until a key counts as pressed by someone who read it
 REPEAT = 0.15  # seconds within which the same key again means that it is held down
 MOST_UNREAD = 100
-HINT = "F1 or ^G shows the keys"
 
 # What a host says of a text. Of a write that failed it says in the same line what became of the text.
 LOST = re.compile(r"the text of (.*) is lost: |(.*) is closed, and its text can't be saved: |what came last from the terminal is lost: ")
@@ -19,7 +18,6 @@ REPLACES = re.compile(r": (another program changed it|it is there already), and 
 LEFT = re.compile(r"(.*) has a text that was not written: it is in .*, (?:newer|older) than the file")
 WRITTEN = re.compile(r"(.*) was written last at (\d{1,12})")
 CHANGED = re.compile(r"(.*): another program changed it")
-OFFER = "; F9 takes it, compares or drops it"
 
 
 def printable(line: str) -> str:
@@ -63,11 +61,11 @@ def said(line: str) -> Said:
 
 
 class Notes:
-    """What stands on the line, and when the user saw it."""
+    """What stands on the line, and when the user saw it. It begins with a hint, which goes for all else."""
 
-    def __init__(self, clock: Callable[[], float]):
+    def __init__(self, clock: Callable[[], float], hint: str):
         self.clock = clock
-        self.message = HINT
+        self.message = self._hint = hint
         self.question = ""  # the message, where a key answers it
         self.unread: List[Tuple[int, str]] = []  # what the host told, the worst first
         self.standing = ""  # what hides all of these as long as it holds
@@ -114,7 +112,7 @@ class Notes:
 
     def keep(self, rank: int, line: str) -> None:
         """Shows a line until it is read, what is worse first."""
-        if self.message == HINT:
+        if self.message == self._hint:
             self.message = ""
         if (rank, line) not in self.unread:
             self.unread.append((rank, line))
