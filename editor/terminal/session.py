@@ -11,6 +11,7 @@ from .view import layout
 from .files import local_backup
 from .editor import Editor
 from .text.cached_terminal import CachedTerminal
+from .keys.bindings import SAM, KeySet
 from .line.host_process import SECONDS_OF_SILENCE, SECONDS_TO_END, HostProcess
 from .loop import KEYBOARD, Loop
 from .view.status_line import printable, said
@@ -144,7 +145,9 @@ class Session:
             say(f"samterm: the session stays at the host{lacks}. This goes on with it: {self._take_words()}")
 
     def _take_words(self) -> str:
-        return shlex.join(["samterm", "--take", shlex.join(self.link.command), self.link.name])
+        keys = self.editor.keys
+        others = [] if keys is SAM else ["--keys", keys.name]
+        return shlex.join(["samterm", *others, "--take", shlex.join(self.link.command), self.link.name])
 
     def _end(self) -> int:
         """Ends the link, and writes here what nobody has saved, also where a fault ends that. Returns the exit status."""
@@ -197,7 +200,7 @@ class Session:
 class Wish(NamedTuple):
     """What the user asks for: the words of the host's command, the files, how Enter begins a line, for how many hours a session stays
     that is alone, whether he goes on with one that stays, whose name may be given in place of the files, whether lines have numbers,
-    how far tab stops are apart, and whether nothing has colours."""
+    how far tab stops are apart, whether nothing has colours, and which set of keys."""
 
     command: List[str]
     files: List[str]
@@ -207,6 +210,7 @@ class Wish(NamedTuple):
     numbers: bool = False
     tab: int = layout.TAB
     plain: bool = False
+    keys: KeySet = SAM
 
     @property
     def stays(self) -> bool:
@@ -241,7 +245,7 @@ def _edit(wish: Wish, stays: bool) -> Optional[int]:
     files = None if wish.takes_over else wish.files
     with CachedTerminal() as terminal:
         layout.TAB = wish.tab
-        editor = Editor(terminal, indents=wish.indents, asked_for=files)
+        editor = Editor(terminal, indents=wish.indents, asked_for=files, keys=wish.keys)
         editor.has_numbers = wish.numbers
         try:
             link = wish.link(stays)
