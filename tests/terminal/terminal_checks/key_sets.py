@@ -248,6 +248,15 @@ def check_keys_printed(folder):
         expect((status, table) == (2, "") and "are to be a screen" in told, f"{words}: {status}, {table[:50]!r}, {told!r}")
 
 
+def check_file_named_as_the_option(folder):
+    """After `--` a FILE may have the name of the option."""
+    (folder / "--keys").write_text("text of it\n")
+    with Session(folder, "--", "--keys") as session:
+        session.wait_for("text of it")
+        session.wait_to_go_to("--keys")
+        session.leave()
+
+
 def check_keys_that_differ_in_pages(folder):
     """The tables of docs/howto/EDITOR.md and of the manual have each action whose keys differ, with the keys of both sets."""
     sam, usual = (key_sets()[name].bindings for name in ("sam", "usual"))
