@@ -200,15 +200,14 @@ def check_keys_by_the_variable(folder):
     """SAMTERM_KEYS chooses, unless --keys does. A session that is left is gone on with by the same keys."""
     (path,) = made(folder, a="one\n")
     with Session(folder, "a.txt", settings="SAMTERM_KEYS=usual", stays=True, width=100) as session:
-        session.ends_staying = False
         session.wait_for("one")
         session.type("x")
         session.keys("C-s")
         wait_for_text(path, "xone\n")
         os.kill(session.terminal(), signal.SIGTERM)
         session.wait_for_end(128 + signal.SIGTERM)
+        session.ends_staying = False  # the next one ends it
     told = (folder / "stderr").read_text()
-    expect("This goes on with it: samterm --keys usual --take " in told, f"it tells {told!r}")
     (folder / "status").unlink()
     with Session(folder, settings="SAMTERM_KEYS=usual", program=f"{SAMTERM_WORD} --keys sam", take="", width=100) as session:
         session.wait_for("xone")
@@ -216,6 +215,7 @@ def check_keys_by_the_variable(folder):
         session.keys("C-w")
         wait_for_text(path, "yxone\n")
         session.leave()
+    expect("This goes on with it: samterm --keys usual --take " in told, f"it tells {told!r}")
 
 
 def printed(*words, variable=None):
