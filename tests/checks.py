@@ -115,9 +115,10 @@ def uncover_tmp():
 
 
 def set_home(folder):
-    """Has programs find a home and a folder for temporary files in this folder, and the tools of the user where they were."""
+    """Has programs find a home and a folder for temporary files in this folder, the tools of the user where they were, and nothing else
+    that he has chosen."""
     old = Path(os.environ.get("HOME") or "/")
-    for name in [name for name in os.environ if name.startswith("XDG_")]:
+    for name in [name for name in os.environ if name.startswith("XDG_") or name == "SAMTERM_KEYS"]:
         del os.environ[name]
     for name, place in (("CARGO_HOME", ".cargo"), ("RUSTUP_HOME", ".rustup"), ("PYTHONUSERBASE", ".local")):
         os.environ.setdefault(name, str(old / place))

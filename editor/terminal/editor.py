@@ -10,11 +10,11 @@ from .view.colours import Colours
 from .view.window_layout import WindowLayout
 from .files.open_requests import OpenRequests
 from .files.unsaved_texts import UnsavedTexts, shown_name
-from .keys.bindings import PLACE, Input, Key, Mouse, Paste, Text
+from .keys.bindings import PLACE, SAM, Input, Key, KeySet, Mouse, Paste, Text
 from .files.recovery import Recovery
 from .text.lines import Numbers
 from .line.host_process import SECONDS_TO_END
-from .view.status_line import OFFER, REPEAT, Notes, Said, for_people, said
+from .view.status_line import REPEAT, Notes, Said, for_people, said
 from .keys.mouse import Pointer
 from .files.reload import Reload
 from .text.prefetch import Prefetch
@@ -24,14 +24,9 @@ from .line.stream import CLEAN, CLOSE, DELNAME, MOVETO, NEWNAME, SETDOT, UNLOCK,
 from .text.texts import COMMAND, COMMAND_NAME, Texts
 from .text.undo import Undo
 from .text.undo_store import UndoStore
-from .keys.key_queue import BUSY, LEAVING, REST, Pressed, KeyQueue, action_of, bound, last_of
+from .keys.key_queue import BUSY, LEAVING, REST, Pressed, KeyQueue, last_of
 from .line.delivery import Delivery
 from .view.windows import ask
-
-
-def reads(key: Input) -> bool:
-    """Whether a key changes no file."""
-    return isinstance(key, Mouse) or bound(key).reads
 
 
 OWN = "~~"  # what names of hidden files begin with
@@ -64,15 +59,16 @@ class Editor(WindowLayout, KeyQueue, Actions):
 
     def __init__(
         self, terminal: Terminal, clock: Callable[[], float] = time.monotonic, indents: bool = True,
-        asked_for: Optional[Sequence[str]] = (),
+        asked_for: Optional[Sequence[str]] = (), keys: KeySet = SAM,
     ):
         super().__init__(Texts(terminal))
+        self.keys = keys
         self._begin_waiting()
         self.terminal, self.clock, self.indents = terminal, clock, indents
         # The names that the files have whose paths the user gave; None where he goes on with a session.
         self.asked_for = None if asked_for is None else {shown_name(path) for path in asked_for}
         self._early_lines: List[Tuple[Said, str]] = []  # of texts that were not written, told before their names
-        self.way, self.notes = Delivery(terminal, clock), Notes(clock)
+        self.way, self.notes = Delivery(terminal, clock), Notes(clock, self.hint)
         self.vault = UndoStore(terminal, self.texts)
         self.log, self.numbers, self.keeping = Undo(terminal, self.texts, self.vault), Numbers(self.texts), UnsavedTexts(self)
         self.left, self.slices, self.joining, self.reloading = Recovery(self), Prefetch(self), OpenRequests(self), Reload(self)
@@ -114,6 +110,10 @@ class Editor(WindowLayout, KeyQueue, Actions):
     @message.setter
     def message(self, message: str) -> None:
         self.notes.say(message)
+
+    @property
+    def hint(self) -> str:
+        return f"{self.keys.all_of('help')} shows the keys"
 
     # ---- Files
 
@@ -174,7 +174,7 @@ class Editor(WindowLayout, KeyQueue, Actions):
 
     def hear(self, line: str) -> None:
         """A line of the host's standard error. What it says of a text stays on the screen until it is read. Where the user waits for a
-        write, and it may replace another program's text, this asks; else the next `^W` does."""
+        write, and it may replace another program's text, this asks; else the next such key does."""
         told, line = said(line), for_people(line)
         if not self.has_begun and "failed" in told.what and len(self._early_lines) < MOST_EARLY:
             self._early_lines.append((told, line))  # the files that it is about have no names yet
@@ -188,7 +188,7 @@ class Editor(WindowLayout, KeyQueue, Actions):
         elif told.what == "changed":
             self.reloading.meet_changed(tags, line)
         elif told.rank:
-            self.notes.keep(told.rank, line + OFFER if told.what == "left" else line)
+            self.notes.keep(told.rank, line + self.left.offer if told.what == "left" else line)
         else:
             self.message = line
 
@@ -196,10 +196,10 @@ class Editor(WindowLayout, KeyQueue, Actions):
         """Asks before another program's text is replaced, where one of these files is the one used last, and its user waits for a write: no
         key came since, or it was put off, and he rests. Returns whether it is asked."""
         tag = self.active.tag
-        waits = action_of(self._last.key) == "write" or self.quiet_for >= RESTED
+        waits = self.action_of(self._last.key) == "write" or self.quiet_for >= RESTED
         if tag not in tags or not waits or self.deferred:
             return False
-        self._ask(self.keeping.question(tag), Key("^W"))
+        self._ask(self.keeping.question(tag), Key(self.keys.of("write")))
         return True
 
     def meet_note(self, note: Note) -> None:
@@ -220,7 +220,7 @@ class Editor(WindowLayout, KeyQueue, Actions):
         elif typed:
             self.terminal.set_snarf(typed)
             self.note_snarfed(typed)
-            why += "; ^V has what you typed for it"
+            why += f"; {self.keys.of('paste')} has what you typed for it"
         self.notes.keep(1, why)
 
     def _meet_clean(self, tag: int) -> None:
@@ -274,7 +274,7 @@ class Editor(WindowLayout, KeyQueue, Actions):
         self.deferred.clear()
         self.message = ""
         self.notes.forget_the_line()
-        for line in self.kept_here or ["what is loaded can still be read. ^Q leaves"]:
+        for line in self.kept_here or [f"what is loaded can still be read. {self.keys.of('leave')} leaves"]:
             self.notes.keep(2, f"{why}; {line}")
 
     def _meet_files(self) -> None:
@@ -310,7 +310,7 @@ class Editor(WindowLayout, KeyQueue, Actions):
             page = self.active.width * self.active.height
             ask(self.terminal, known[0], 0, page, page)
         else:
-            self.message = "no file: ^N makes one, F1 shows the keys"
+            self.message = f"no file: {self.keys.of('new')} makes one, {self.keys.of('help')} shows the keys"
         self.terminal.open_cmd()
         self.has_begun = True
         for told, line in self._early_lines:
@@ -384,7 +384,7 @@ class Editor(WindowLayout, KeyQueue, Actions):
         key, is_for_menu = pressed.key, pressed.window is None and self._is_for_menu(pressed.key)
         if not self.notes.question or pressed.when >= self._asked_at:  # else the key came before that was asked
             self.notes.take(pressed.has_read)
-        if self.is_lost and not is_for_menu and not reads(key):
+        if self.is_lost and not is_for_menu and not self._reads(key):
             self.take_late([key])
             self.message = self._why_not(key)
             return
@@ -413,14 +413,19 @@ class Editor(WindowLayout, KeyQueue, Actions):
             self._put_back(pressed._replace(key=self._again, answers="", has_read=False, is_again=True))
             self._again = None
 
+    def _reads(self, key: Input) -> bool:
+        """Whether a key changes no file."""
+        return isinstance(key, Mouse) or self.bound(key).reads
+
     def _why_not(self, key: Input) -> str:
         """Why a key can't act without a host."""
         if isinstance(key, (Text, Paste)):
             return "HOST LOST: no text changes any more. What you type is written to typed.sam-here at the end"
-        if action_of(key) == "write" and self.kept_here:
+        if self.action_of(key) == "write" and self.kept_here:
             return f"HOST LOST: nothing can be written there; {'; '.join(self.kept_here)}"
         name = key.name if isinstance(key, Key) else ""
-        return f"HOST LOST: {name} can't act. Moves, ^S and ^C do, in what is loaded; ^Q leaves"
+        find, copy, leave = map(self.keys.of, ("find", "snarf", "leave"))
+        return f"HOST LOST: {name} can't act. Moves, {find} and {copy} do, in what is loaded; {leave} leaves"
 
     def take_late(self, keys: Iterable[Input]) -> None:
         """Keys that come too late to act: what was typed is told or written at the end."""
@@ -472,7 +477,7 @@ class Editor(WindowLayout, KeyQueue, Actions):
         self.notes.ask(question)
 
     def say_leaving(self) -> None:
-        self._ask(LEAVING, Key("^Q"))
+        self._ask(self.of_leaving(LEAVING), Key(self.keys.of("leave")))
 
     def is_sure(self, question: str) -> bool:
         """Whether this key answers a question that the user has read. If not, it is asked."""
@@ -482,9 +487,9 @@ class Editor(WindowLayout, KeyQueue, Actions):
         return False
 
     def _do(self, key: Key) -> None:
-        binding = bound(key)
+        binding = self.bound(key)
         if not binding.action:
-            self.message = f"{key.name} does nothing; F1 or ^G shows the keys"
+            self.message = f"{key.name} does nothing; {self.hint}"
             return
         if binding.waits == PLACE and not self.focus.is_open:
             return

@@ -12,6 +12,7 @@ from .view import layout
 from .files import local_backup
 from .editor import Editor
 from .text.cached_terminal import CachedTerminal
+from .keys.bindings import SAM, KeySet
 from .line.host_process import SECONDS_OF_SILENCE, SECONDS_TO_END, HostProcess
 from .loop import KEYBOARD, Loop
 from .line.shells import for_shells, shells_of
@@ -147,7 +148,9 @@ class Session:
             say(f"samterm: the session stays at the host{lacks}. This goes on with it: {self._take_words()}")
 
     def _take_words(self) -> str:
-        return shlex.join(["samterm", "--take", shlex.join(self.link.command), self.link.name])
+        keys = self.editor.keys
+        others = [] if keys is SAM else ["--keys", keys.name]
+        return shlex.join(["samterm", *others, "--take", shlex.join(self.link.command), self.link.name])
 
     def _end(self) -> int:
         """Ends the link, and writes here what nobody has saved, also where a fault ends that. Returns the exit status."""
@@ -207,8 +210,8 @@ class Session:
 class Wish(NamedTuple):
     """What the user asks for: the words of the host's command, the files, how Enter begins a line, for how many hours a session stays
     that is alone, whether he goes on with one that stays, whose name may be given in place of the files, whether lines have numbers,
-    how far tab stops are apart, whether nothing has colours, and how many shells read the words after the command; None where the command
-    shows that."""
+    how far tab stops are apart, whether nothing has colours, how many shells read the words after the command, None where the command
+    shows that, and which set of keys."""
 
     command: List[str]
     files: List[str]
@@ -219,6 +222,7 @@ class Wish(NamedTuple):
     tab: int = layout.TAB
     plain: bool = False
     shells: Optional[int] = None
+    keys: KeySet = SAM
 
     @property
     def stays(self) -> bool:
@@ -239,8 +243,11 @@ class Wish(NamedTuple):
         if not stays:
             return HostProcess([*self.command, *self.words(False)])
         if self.takes_over:
-            return PersistentSession(self.command, lambda name: self._quoted("--take", *self.files), takes_over=True)
-        return PersistentSession(self.command, lambda name: ["--serve", name, *self.words(True)])
+            line = PersistentSession(self.command, lambda name: self._quoted("--take", *self.files), takes_over=True)
+        else:
+            line = PersistentSession(self.command, lambda name: ["--serve", name, *self.words(True)])
+        line.keys = self.keys
+        return line
 
 
 def edit(wish: Wish) -> int:
@@ -258,7 +265,7 @@ def _edit(wish: Wish, stays: bool) -> Optional[int]:
     files = None if wish.takes_over else wish.files
     with CachedTerminal() as terminal:
         layout.TAB = wish.tab
-        editor = Editor(terminal, indents=wish.indents, asked_for=files)
+        editor = Editor(terminal, indents=wish.indents, asked_for=files, keys=wish.keys)
         editor.has_numbers = wish.numbers
         try:
             link = wish.link(stays)

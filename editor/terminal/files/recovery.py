@@ -85,10 +85,16 @@ class Recovery:
         old = Old(tag, when, None if written is None else int(saved) >= written, path=path)
         self._here[path] = old
         if tag == COMMAND:
-            self.editor.notes.keep(1, f"what was typed and not put in is in {path}, of {when}; F9 has ^V paste it, or drops it")
+            take, paste = self.editor.keys.of("old"), self.editor.keys.of("paste")
+            self.editor.notes.keep(1, f"what was typed and not put in is in {path}, of {when}; {take} has {paste} paste it, or drops it")
             return
         age = {None: "", True: ", newer than the file", False: ", older than the file"}[old.is_newer]
-        self.editor.notes.keep(1, f"of {name} a text was written here: it is in {path}, of {when}{age}; F9 takes it, compares or drops it")
+        self.editor.notes.keep(1, f"of {name} a text was written here: it is in {path}, of {when}{age}{self.offer}")
+
+    @property
+    def offer(self) -> str:
+        """What ends a line that tells of such a text."""
+        return f"; {self.editor.keys.of('old')} takes it, compares or drops it"
 
     @property
     def all(self) -> List[Union[Old, Changed]]:
@@ -143,7 +149,8 @@ class Recovery:
             editor.message = f"{old.path} is too long"
             return True
         self._put(old, filled)
-        editor.message = f"{editor.name(tag)} has that text now. ^Z takes it back; once ^W has written it, the old one is dropped"
+        undo, write = editor.keys.of("undo"), editor.keys.of("write")
+        editor.message = f"{editor.name(tag)} has that text now. {undo} takes it back; once {write} has written it, the old one is dropped"
         return True
 
     def _filled(self, old: Old, text: str) -> Optional[str]:
@@ -195,7 +202,7 @@ class Recovery:
         self.terminal.select(old.tag, 0, length)
         self.terminal.snarf(old.tag)
         self.editor.note_snarfed(self.editor.texts.read(old.tag, 0, length))
-        self.editor.message = "^V pastes it"
+        self.editor.message = f"{self.editor.keys.of('paste')} pastes it"
         return True
 
     def _take_typed(self, old: Old) -> bool:
@@ -206,7 +213,8 @@ class Recovery:
             return True
         self.terminal.set_snarf(text)
         self.editor.note_snarfed(text)
-        self.editor.message = f"^V pastes at the caret what was typed and not put in; {old.path} stays until F9 and d drop it"
+        take, paste = self.editor.keys.of("old"), self.editor.keys.of("paste")
+        self.editor.message = f"{paste} pastes at the caret what was typed and not put in; {old.path} stays until {take} and d drop it"
         return True
 
     def _is_opened(self, old: Old) -> bool:

@@ -9,7 +9,6 @@ from .open_requests import VERSION
 from ..line.persistent_session import Note, tag_of
 
 NAME = "~~anew~~ "  # what names of the hidden files begin with
-OFFER = "; ^U reloads it"
 
 
 class Reload:
@@ -35,7 +34,7 @@ class Reload:
 
     def meet_changed(self, tags: Iterable[int], line: str) -> None:
         """The host has told, by a line, that another program changed a file of these."""
-        line += OFFER if self.is_there else ""
+        line += f"; {self.editor.keys.of('reload')} reloads it" if self.is_there else ""
         self.changed.update((tag, line) for tag in tags)
         self.editor.notes.keep(1, line)
 
@@ -71,7 +70,8 @@ class Reload:
         if editor.is_lock_held or not editor.window_of(tag).is_settled:
             editor.act_again("waits for the host")
             return False
-        question = f"{editor.name(tag)} was not written; {key} again puts in its place what the file has, and ^Z takes that back"
+        undo = editor.keys.of("undo")
+        question = f"{editor.name(tag)} was not written; {key} again puts in its place what the file has, and {undo} takes that back"
         self._sure_of = self._sure_of if editor.acts_again else None
         if editor.is_changed(tag) and self._sure_of != tag and not editor.is_sure(question):
             return False
@@ -117,7 +117,7 @@ class Reload:
         if self.terminal.len(tag) == self.terminal.len(anew):
             editor.way.line.put_note("reloaded", self._id, f"{tag} {anew}")
             editor.write(tag)
-            editor.message = f"{editor.name(tag)} is reloaded; ^Z takes that back"
+            editor.message = f"{editor.name(tag)} is reloaded; {editor.keys.of('undo')} takes that back"
         else:
             editor.message = f"{editor.name(tag)} could not be reloaded"
         self.terminal.close(anew)

@@ -87,7 +87,8 @@ class UnsavedTexts:
         for tag in () if told.what in ("left", "written", "changed") else tags:
             if told.replaces:
                 name, self.refusals[tag] = self.name(tag), line
-                self._refused[tag] = (name, f"{name}: {told.replaces}. ^W again replaces it, and keeps what it has beside it")
+                key = self.editor.keys.of("write")
+                self._refused[tag] = (name, f"{name}: {told.replaces}. {key} again replaces it, and keeps what it has beside it")
             if "failed" in told.what:
                 self.unwritten[tag] = self._writing[tag] <= 0
             if "saved" not in told.what:
@@ -219,7 +220,7 @@ class UnsavedTexts:
         if not question or is_sure:
             self.editor.write(tag)
         elif not self.editor.asks_to_write({tag}):
-            self.editor.notes.keep(2, f"{self.name(tag)} is not written yet: ^W asks first")
+            self.editor.notes.keep(2, f"{self.name(tag)} is not written yet: {self.editor.keys.of('write')} asks first")
 
     def _keep_all_here(self) -> None:
         editor = self.editor

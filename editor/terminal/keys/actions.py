@@ -74,14 +74,14 @@ class Actions(Commands, Moves):
         """Whether what is selected may go: it can be brought back, or the user is sure."""
         start, end = window.dot
         gaps = self.texts.read(window.tag, start, end - start).count(GAP) if window.tag != COMMAND else 0
-        question = f"{gaps} characters of it are not loaded: ^Z can't bring them back. {key} goes on"
+        question = f"{gaps} characters of it are not loaded: {self.keys.of('undo')} can't bring them back. {key} goes on"
         return gaps == 0 or self.is_kept_or_sure(window.tag, start, end, question)
 
     def may_go_whole(self, tag: int, key: str) -> bool:
         """The same of the whole text of a file."""
         length = self.terminal.len(tag)
         gaps = self.texts.read(tag, 0, length).count(GAP)
-        question = f"{gaps} characters of the text are not loaded: ^Z can't bring them back. {key} again goes on"
+        question = f"{gaps} characters of the text are not loaded: {self.keys.of('undo')} can't bring them back. {key} again goes on"
         return gaps == 0 or self.is_kept_or_sure(tag, 0, length, question)
 
     def is_kept_or_sure(self, tag: int, start: int, end: int, question: str) -> bool:
@@ -90,14 +90,14 @@ class Actions(Commands, Moves):
         if self.vault.has(tag, start, end):
             return True
         if self._answered != question and self.vault.keep(tag, start, end):
-            self.act_again("the host keeps a copy of what is not loaded, for ^Z and ^R")
+            self.act_again(f"the host keeps a copy of what is not loaded, for {self.keys.of('undo')} and {self.keys.of('redo')}")
             return False
         return self.is_sure(question)
 
     # ---- Actions: the screen
 
     def do_help(self) -> None:
-        self.help = Help()
+        self.help = Help(self.keys.table())
 
     def do_switch(self) -> None:
         self.go_to(self.active if self.focus is self.command else self.command)
@@ -116,7 +116,7 @@ class Actions(Commands, Moves):
         elif tags:
             self.menu = Menu("Files", entries, chosen, lambda at: self.show(tags[at]))
         else:
-            self.message = "no file: ^N makes one"
+            self.message = f"no file: {self.keys.of('new')} makes one"
 
     def do_split(self) -> None:
         shown = [window.tag for window in self.windows]
@@ -189,7 +189,7 @@ class Actions(Commands, Moves):
         tag = self.focus.tag
         if tag == COMMAND:
             self.message = "the command window stays"
-        elif not self.is_changed(tag) or self.is_sure(f"{self.name(tag)} was not written; ^K again closes it"):
+        elif not self.is_changed(tag) or self.is_sure(f"{self.name(tag)} was not written; {self.keys.of('close')} again closes it"):
             if self.is_changed(tag):
                 self.keeping.let_go(tag)
             self.await_file()
@@ -202,21 +202,21 @@ class Actions(Commands, Moves):
         if self.active is self.command:
             self.message = "no file is shown"
         else:
-            self.reloading.begin(self.active.tag, "^U")
+            self.reloading.begin(self.active.tag, self.keys.of("reload"))
 
     def do_leave(self) -> None:
         if self.is_lost:
             self.is_over = True
-        elif self.may_leave("^Q"):
+        elif self.may_leave(self.keys.of("leave")):
             self.terminal.exit()
             self.is_leaving = True
             self.say_leaving()
 
     # ---- Actions: the selection
 
-    def _goes(self, key: str) -> bool:
-        """Whether the selection of the window may go. A step to be taken back begins then."""
-        if not self._may_go(self.focus, f"{key} again"):
+    def _goes(self, action: str) -> bool:
+        """Whether the selection of the window may go by an action. A step to be taken back begins then."""
+        if not self._may_go(self.focus, f"{self.keys.of(action)} again"):
             return False
         self.log.begin(self.focus.tag)
         self.focus.anchor = self.focus.goal = None
@@ -238,7 +238,7 @@ class Actions(Commands, Moves):
         self._snarfed, self.cut_text = text, ""
 
     def do_cut(self) -> None:
-        if self._goes("^X"):
+        if self._goes("cut"):
             self._clip(is_cut=True)
             self.texts.cut(self.focus.tag)
 
@@ -251,7 +251,7 @@ class Actions(Commands, Moves):
         is_short = self.way.line is not None and self.knows_snarfed and 0 < len(self._snarfed) <= MOST_PASTED_HERE
         if self.way.is_late or is_short:
             self._paste_here()
-        elif self._has_room(len(self._snarfed)) and self._goes("^V"):
+        elif self._has_room(len(self._snarfed)) and self._goes("paste"):
             self.log.comes[self.focus.tag] = self._snarfed
             self.texts.paste(self.focus.tag)
             if self.terminal.locked(self.focus.tag):
@@ -265,7 +265,7 @@ class Actions(Commands, Moves):
 
     def _paste_here(self) -> None:
         """Types what was cut or copied last: the host would have to answer before more is typed."""
-        if self._has_room(len(self._snarfed)) and self._goes("^V"):
+        if self._has_room(len(self._snarfed)) and self._goes("paste"):
             self.texts.left = self._snarfed
             self.texts.replace(self.focus.tag, self._snarfed)
             self.cut_text = ""
@@ -302,7 +302,7 @@ class Actions(Commands, Moves):
         start, end = self.focus.dot
         if start < end and self.focus.read(end - 1, 1) == "\n":
             end -= 1
-        if start == end or self._may_run(line_at(self.focus, end, start), "^E"):
+        if start == end or self._may_run(line_at(self.focus, end, start), self.keys.of("send")):
             self._work()
             self.terminal.send(self.focus.tag)
 
@@ -357,7 +357,8 @@ class Actions(Commands, Moves):
         if not self._can_turn(step, step and step.lacks, "nothing more to take back"):
             return
         count = self.log.unknown(step)
-        question = f"{count} characters of what goes are not loaded: ^R can't bring them again. ^Z again goes on"
+        undo, redo = self.keys.of("undo"), self.keys.of("redo")
+        question = f"{count} characters of what goes are not loaded: {redo} can't bring them again. {undo} again goes on"
         if count == 0 or self.is_kept_or_sure(self.focus.tag, 0, self.focus.length, question):
             self.log.back(self.focus.tag)
 
@@ -373,7 +374,8 @@ class Actions(Commands, Moves):
         if is_out_of_reach:
             self.message = "what went or came is kept by the host: that can be done when the line is back"
         elif step is None:
-            self.message = f"{nothing} in the command window: Esc goes to the text" if self.focus is self.command else nothing
+            to_text = f" in the command window: {self.keys.of('switch')} goes to the text"
+            self.message = nothing + to_text if self.focus is self.command else nothing
         elif lacks:
             self.message = f"that can't be taken back: {lacks} characters of what went were not loaded"
         return step is not None and not lacks and not is_out_of_reach

@@ -1,6 +1,6 @@
-"""The keys: what each does. All that is known of an action by its name stands here."""
+"""The keys: what each does, in each set of keys. All that is known of an action by its name stands here."""
 from itertools import groupby
-from typing import Dict, List, NamedTuple, Tuple, Union
+from typing import Dict, List, NamedTuple, Optional, Tuple, Union
 
 # What an action waits for. After `^N` and `^K` all but the first wait for the windows, too.
 NOTHING = "nothing"  # it acts at once, before keys that wait
@@ -39,7 +39,7 @@ class Binding(NamedTuple):
     shares: str = ""  # CLIPBOARD or PATTERN: it keeps its order among the keys of all files that share this
 
 
-BINDINGS = (
+BINDINGS = (  # with the keys of the set `sam`
     Binding(("F1", "^G"), "help", "shows these keys; arrows scroll, any other key goes back", NOTHING, reads=True),
     Binding(("Esc",), "switch", "goes to the command window, and back to the file", WINDOWS, reads=True, leads=True, order=FREE),
     Binding(("^P", "F6"), "next_window", "goes to the next window", WINDOWS, reads=True, leads=True, order=FREE),
@@ -85,7 +85,52 @@ BINDINGS = (
     Binding(("Page Down",), "page_down", "show what stands above or below; the selection stays", needs=ROWS, reads=True),
 )
 
-ACTIONS: Dict[str, Binding] = {key: binding for binding in BINDINGS for key in binding.keys}
+# The keys of the set `usual`, for each action of which they are others: those that many editors have, and the page of editor/web.
+USUAL: Dict[str, Tuple[str, ...]] = {
+    "help": ("F1", "^_"),
+    "split": ("^T",),
+    "unsplit": ("F4",),
+    "write": ("^S",),
+    "close": ("^W",),
+    "redo": ("^Y",),
+    "find": ("^F", "F7"),
+    "search": ("^G", "F3"),
+    "search_back": ("^B", "Shift-F3"),
+}
+
+
+class KeySet:
+    """Which key does what: the bindings, where some actions have other keys than in the set `sam`."""
+
+    def __init__(self, name: str, others: Dict[str, Tuple[str, ...]]):
+        self.name = name
+        self.bindings = tuple(binding._replace(keys=others.get(binding.action, binding.keys)) for binding in BINDINGS)
+        self._by_key = {key: binding for binding in self.bindings for key in binding.keys}
+        self._keys = {binding.action: binding.keys for binding in self.bindings}
+
+    def get(self, key: str) -> Optional[Binding]:
+        """What a key does; with Shift what it does without, where nothing else is said of that. None where it does nothing."""
+        return self._by_key.get(key) or self._by_key.get(key.replace("Shift-", ""))
+
+    def all_of(self, action: str) -> str:
+        """The keys of an action, as they are told."""
+        return " or ".join(self._keys[action])
+
+    def of(self, action: str) -> str:
+        """The first of them, which stands for all where a line on the screen names it."""
+        return self._keys[action][0]
+
+    def table(self) -> List[str]:
+        """The lines of the help window; keys of which the same is said stand in one."""
+        lines = []
+        for words, bindings in groupby(self.bindings, key=lambda binding: binding.help):
+            keys = ", ".join(self.all_of(binding.action) for binding in bindings)
+            lines.append(f"{keys:21} {words}")
+        return lines
+
+
+SAM = KeySet("sam", {})
+KEY_SETS: Dict[str, KeySet] = {key_set.name: key_set for key_set in (SAM, KeySet("usual", USUAL))}
 
 
 class Text(NamedTuple):
@@ -116,12 +161,3 @@ class Mouse(NamedTuple):
 
 
 Input = Union[Text, Paste, Key, Mouse]
-
-
-def table() -> List[str]:
-    """The lines of the help window; keys of which the same is said stand in one."""
-    lines = []
-    for words, bindings in groupby(BINDINGS, key=lambda binding: binding.help):
-        keys = ", ".join(" or ".join(binding.keys) for binding in bindings)
-        lines.append(f"{keys:21} {words}")
-    return lines

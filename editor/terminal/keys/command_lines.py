@@ -54,7 +54,7 @@ class Commands:
         if window is self.command or not window.is_open:
             return True
         what, detail = removes(line) if is_known else ("range", None)
-        question = f"this may take out text that is not loaded: ^Z can't bring it back. {key} again runs it"
+        question = f"this may take out text that is not loaded: {self.keys.of('undo')} can't bring it back. {key} again runs it"
         is_safe = what != "range" or self._is_loaded(window, detail)
         if not is_safe and not self.is_kept_or_sure(window.tag, 0, window.length, question):
             return False

@@ -5,8 +5,8 @@ from collections import deque
 from itertools import chain, islice
 from typing import Callable, Deque, Dict, NamedTuple, Optional, Set
 
-from .bindings import ACTIONS, ALL, ANSWERS, FILE, LINE, NOTHING, PATTERN, PLACE, ROWS, SCREEN, WINDOW, WINDOWS, WRITTEN
-from .bindings import Binding, Input, Key, Mouse, Paste, Text
+from .bindings import ALL, ANSWERS, FILE, LINE, NOTHING, PATTERN, PLACE, ROWS, SCREEN, WINDOW, WINDOWS, WRITTEN
+from .bindings import Binding, Input, Key, KeySet, Mouse, Paste, Text
 from ..view.layout import line_end, line_start
 from ..view.status_line import REPEAT
 from sulgrevad import SamError
@@ -17,10 +17,11 @@ from ..view.windows import Window, end_of_load
 BUSY = 0.25  # seconds after an edit or a move in which nothing more is asked for, so that the keys after it need not wait
 REST = 0.25  # seconds after the last key from which on it is asked for what the user may turn to next
 MOST_TURNS = 32  # keys that wait, of which the page keys are counted
-LEAVING = "leaving; ^Q again doesn't wait for the host"
-WAITING = "keys wait for the host; ^Q again leaves without them"
-SILENT = "the host doesn't answer. ^Q again leaves, and writes here what is loaded of"
-STAYS = "the line is lost. ^Q again leaves; the session stays there, and what it may lack is written here. Not written: "
+# Questions of leaving, with the key that leaves.
+LEAVING = "leaving; {} again doesn't wait for the host"
+WAITING = "keys wait for the host; {} again leaves without them"
+SILENT = "the host doesn't answer. {} again leaves, and writes here what is loaded of"
+STAYS = "the line is lost. {} again leaves; the session stays there, and what it may lack is written here. Not written: "
 
 # Runes that are loaded in one round trip for a key that goes by text which is not shown, twice as many each time.
 FIRST_REACH, LONGEST_REACH = 4_096, 32_768
@@ -51,21 +52,6 @@ FINDING = ("look", "search")  # actions that go on in what is loaded where the l
 TURNING = ("page_up", "page_down")  # those that turn pages: the caret stays
 OF_THE_FILE = ("write", "reload")  # those that are for the file that was used last, wherever keys go
 BY_ROWS = (ROWS, "up", "down")  # what keys need that go by the rows of the screen
-
-
-def bound(key: Input) -> Binding:
-    """What is known of what a key does."""
-    kind = type(key)
-    if kind is Text or kind is Paste:
-        return TABBING if key == TAB else ENTER if "\n" in key.runes else TYPING
-    if kind is Mouse:
-        return SCROLLING if key.what.startswith("wheel") else POINTING
-    return ACTIONS.get(key.name) or ACTIONS.get(key.name.replace("Shift-", ""), NO_ACTION)
-
-
-def action_of(key: Input) -> str:
-    """The name of what a key does; empty for text, for the mouse, and for a key that does nothing."""
-    return bound(key).action
 
 
 def last_of(key: Input) -> Input:
@@ -104,6 +90,25 @@ class Held:
 class KeyQueue:
     """The part of the editor that takes keys."""
 
+    keys: KeySet
+
+    def bound(self, key: Input) -> Binding:
+        """What is known of what a key does."""
+        kind = type(key)
+        if kind is Text or kind is Paste:
+            return TABBING if key == TAB else ENTER if "\n" in key.runes else TYPING
+        if kind is Mouse:
+            return SCROLLING if key.what.startswith("wheel") else POINTING
+        return self.keys.get(key.name) or NO_ACTION
+
+    def action_of(self, key: Input) -> str:
+        """The name of what a key does; empty for text, for the mouse, and for a key that does nothing."""
+        return self.bound(key).action
+
+    def of_leaving(self, question: str) -> str:
+        """A question of leaving, with the key that leaves."""
+        return question.format(self.keys.of("leave"))
+
     def _begin_waiting(self) -> None:
         self.deferred: Deque[Pressed] = deque()
         self._at = 0  # where the key that acts stood in these
@@ -137,9 +142,9 @@ class KeyQueue:
         if isinstance(key, Text) and key.runes[:1] == "\t" and len(key.runes) > 1:
             self.take(TAB, when)
             key = Text(key.runes[1:])
-        pressed, binding = Pressed(key, when, self._answer_of(key, when), self.notes.is_read), bound(key)
+        pressed, binding = Pressed(key, when, self._answer_of(key, when), self.notes.is_read), self.bound(key)
         is_leave = binding.action == "leave"
-        is_sure = pressed.answers in (LEAVING, WAITING) or (pressed.answers != "" and self.way.is_silent)
+        is_sure = pressed.answers != "" and (self.way.is_silent or pressed.answers in map(self.of_leaving, (LEAVING, WAITING)))
         self._leaves_at = when + REPEAT if is_leave and is_sure else None
         if self._leaves_at is not None or self._stops(key) or (is_leave and self._leaves_silence(key)):
             return
@@ -160,14 +165,14 @@ class KeyQueue:
         is_last = bool(self.deferred) and self.deferred[-1].key is key and not self.deferred[-1].answers
         if is_last and (binding.waits == ANSWERS or binding.action == "close"):
             if is_leave:
-                self._ask(LEAVING if self.is_leaving else WAITING, key)
+                self._ask(self.of_leaving(LEAVING if self.is_leaving else WAITING), key)
             else:
                 self.message = "keys wait for the host"
 
     def _acts_ahead(self, pressed: Pressed) -> bool:
         """Whether a key acts before those that wait: the help does, and the one that tries a lost line."""
-        is_retry = action_of(pressed.key) == "redraw" and self.way.is_known_late
-        if bound(pressed.key).waits != NOTHING and not is_retry:
+        is_retry = self.action_of(pressed.key) == "redraw" and self.way.is_known_late
+        if self.bound(pressed.key).waits != NOTHING and not is_retry:
             return False
         self.notes.take(pressed.has_read)
         if is_retry:
@@ -182,8 +187,8 @@ class KeyQueue:
         windows, is_in_menu, has_switched = len(self.windows), self.menu is not None, False
         at, last = self.windows.index(self.focus), self.windows.index(self.active)
         for pressed in self.deferred:
-            key, action = pressed.key, action_of(pressed.key)
-            if pressed.window is not None and not bound(key).leads:
+            key, action = pressed.key, self.action_of(pressed.key)
+            if pressed.window is not None and not self.bound(key).leads:
                 continue
             is_switch = action == "switch"
             has_switched = has_switched or is_switch
@@ -226,19 +231,19 @@ class KeyQueue:
             return False
         unwritten = ", ".join(self.name(tag) for tag in self.tags if self.is_changed(tag))
         if self.way.line is not None and (unwritten or self.deferred or not self.way.has_all):
-            self._ask(f"{STAYS}{unwritten or 'nothing is unwritten'}", key)
+            self._ask(f"{self.of_leaving(STAYS)}{unwritten or 'nothing is unwritten'}", key)
         elif unwritten or self.deferred:
-            self._ask(f"{SILENT}: {unwritten or 'keys that wait'}", key)
+            self._ask(f"{self.of_leaving(SILENT)}: {unwritten or 'keys that wait'}", key)
         else:
             self._leaves_at = self.clock()
         return True
 
     def _stops(self, key: Input) -> bool:
         """Whether a key stops a search that goes on."""
-        if action_of(key) != "switch":
+        if self.action_of(key) != "switch":
             return False
         for at, pressed in enumerate(self.deferred):
-            if pressed.is_again and pressed.window is self.focus and action_of(pressed.key) == "search_back":
+            if pressed.is_again and pressed.window is self.focus and self.action_of(pressed.key) == "search_back":
                 del self.deferred[at]
                 self.message = "stopped"
                 return True
@@ -299,7 +304,7 @@ class KeyQueue:
 
     def _binding(self, pressed: Pressed) -> Binding:
         """What is known of what a key does, in the window that it goes to. A line that leaves goes by all files."""
-        binding, window = bound(pressed.key), pressed.window or self.focus
+        binding, window = self.bound(pressed.key), pressed.window or self.focus
         if binding is ENTER and window is self.command:
             binding = RUNNING
         if binding.order == LINE and window.is_open and self.may_leave_by(window, pressed.key):
@@ -342,7 +347,7 @@ class KeyQueue:
         """Does what a key says in its window, wherever later keys go."""
         window = pressed.window
         self._reach.pop(window or self.focus, None)
-        if window is not None and bound(pressed.key).leads:
+        if window is not None and self.bound(pressed.key).leads:
             self.go_to(window)
             window = None
         self._in(window, self._act, pressed)
@@ -416,10 +421,10 @@ class KeyQueue:
         del self.deferred[self._at]
         self.notes.take(first.has_read)
         name = "Tab" if indents else key.name if isinstance(key, Key) else "the mouse"
-        if action_of(key) == "write":
+        if self.action_of(key) == "write":
             self.write_later((first.window or self.active).tag, is_sure=False)
         else:
-            self.message = f"{name} can't act until the line is back" + ("; ^Q again leaves" if action_of(key) == "leave" else "")
+            self.message = f"{name} can't act until the line is back" + (f"; {name} again leaves" if self.action_of(key) == "leave" else "")
         return True
 
     def _is_line_refused(self, key: Input, window: Window) -> bool:
@@ -483,7 +488,7 @@ class KeyQueue:
 
     def _is_for_menu(self, key: Input) -> bool:
         """Whether a menu lies over the windows, which takes all keys but `^Q`."""
-        return self.menu is not None and action_of(key) != "leave"
+        return self.menu is not None and self.action_of(key) != "leave"
 
     def first_of(self, pressed: Pressed, count: int) -> str:
         """The first runes of a text; those after them come next, and may go elsewhere."""
@@ -507,7 +512,7 @@ class KeyQueue:
     def _turns(self) -> int:
         """How many page keys wait next in the window to which keys go: those down, less those up."""
         waiting = islice(self.deferred, MOST_TURNS)
-        actions = [action_of(pressed.key) for pressed in waiting if pressed.window in (None, self.focus)]
+        actions = [self.action_of(pressed.key) for pressed in waiting if pressed.window in (None, self.focus)]
         return actions.count("page_down") - actions.count("page_up")
 
     @property

@@ -9,8 +9,7 @@ from ..view.windows import end_of_load
 PIECE = 16_384  # runes that are searched at once
 FIRST_REACH, LONGEST_REACH = 4_096, 32_768  # runes that are loaded for a search above, in one round trip, twice as many each time
 MOST_RUNES_IN_PATTERN = 128
-AFTER = ("Down", "^S", "^F", "F7")  # keys to the next place, and to the one before
-BEFORE = ("Up", "^B")
+AFTER, BEFORE = ("find", "search"), ("search_back",)  # actions whose keys go to the next place, and to the one before; so do arrows
 
 
 def lowered(text: str) -> str:
@@ -42,7 +41,7 @@ class Find:
     def take(self, key: Input) -> bool:
         """Returns whether the key is for the windows, as this is over."""
         self._why = ""
-        name = key.name if isinstance(key, Key) else ""
+        name, action = key.name if isinstance(key, Key) else "", self.editor.action_of(key)
         if isinstance(key, Text) and key.runes == "\n":
             self._finish()
         elif isinstance(key, (Text, Paste)) and len(self.pattern) < MOST_RUNES_IN_PATTERN:
@@ -52,10 +51,11 @@ class Find:
         elif name == "Esc":
             self.is_over = True
             self._select(*self.origin)
-        elif name in AFTER:
+        elif name == "Down" or action in AFTER:
             self._show(self._after(self.window.dot[0] + 1))
-        elif name in BEFORE:
-            self._show(self._before(self.window.dot[0]), " (not in what is loaded above", "; Enter, then ^B, looks there)")
+        elif name == "Up" or action in BEFORE:
+            back = self.editor.keys.of("search_back")
+            self._show(self._before(self.window.dot[0]), " (not in what is loaded above", f"; Enter, then {back}, looks there)")
         elif not isinstance(key, (Text, Paste)):
             self.is_over = True
             return True
@@ -78,7 +78,7 @@ class Find:
             low = max(0, self._gap - reach)
             terminal, tag = self.editor.terminal, self.window.tag
             terminal.load(tag, low, end_of_load(terminal, tag, low, self._gap) - low)
-            self.editor.act_again(f"looks above place {self._gap}; Esc stops that")
+            self.editor.act_again(f"looks above place {self._gap}; {self.editor.keys.of('switch')} stops that")
             return min(start, self._gap), min(2 * reach, LONGEST_REACH)
         return None
 

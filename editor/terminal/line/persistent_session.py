@@ -11,6 +11,7 @@ from collections import deque
 from typing import Callable, Deque, Dict, List, NamedTuple, Optional, Sequence, Tuple, Union
 
 import sulgrevad
+from ..keys.bindings import SAM
 from .host_process import SECONDS_TO_END, HostProcess, wait_for
 from .network import Network
 from sulgrevad import SamError
@@ -51,8 +52,9 @@ REFUSED = {
 ENDS = {17: "the host took the first bytes for no hello", 19: "the host took the hello for wrong", 22: "the host knows a newer connection"}
 WRONG_HELLO, WRONG_BYTES = "the host's hello doesn't fit what was sent", "what came is not what the host said before"
 NO_HELLO, SILENT = "what came first was no hello", "no answer came"
-CAN = "^Q leaves and keeps the texts here; samterm --take then goes on with those that the host has"  # what the user can do
-CAN_ASK = "F5 tries at once, and ssh can ask then; ^Q leaves and keeps the texts here"
+# What the user can do, by the keys that he has.
+CAN = "{leave} leaves and keeps the texts here; samterm --take then goes on with those that the host has"
+CAN_ASK = "{redraw} tries at once, and ssh can ask then; {leave} leaves and keeps the texts here"
 
 
 class Note(NamedTuple):
@@ -85,7 +87,7 @@ class PersistentSession:
     def __init__(self, command: List[str], begin: Callable[[str], List[str]], takes_over: bool = False, clock=time.monotonic):
         """The command runs samhost with words after it: those of `begin`, which is told the session's name, at first, and then those that
         join the session again."""
-        self.command, self.clock, self.takes_over = command, clock, takes_over
+        self.command, self.clock, self.takes_over, self.keys = command, clock, takes_over, SAM
         identity = os.urandom(ID_BYTES)
         self.name, self.machine = identity[:NAME_BYTES].hex(), ""
         self._end = sulgrevad.Link(sulgrevad.Link.TERMINAL, identity)
@@ -161,7 +163,7 @@ class PersistentSession:
             self._alike = 0
         self._end_was, self._alike = why, self._alike + 1
         if why and self._alike == ALIKE:
-            can = CAN_ASK if why in (self._words, SILENT) else CAN
+            can = (CAN_ASK if why in (self._words, SILENT) else CAN).format(leave=self.keys.of("leave"), redraw=self.keys.of("redraw"))
             self._tells.append(f"samterm: {ALIKE} connections in a row ended alike: {why}. {can}")
         self._drop()
         self._pause()

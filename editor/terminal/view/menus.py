@@ -1,7 +1,7 @@
 """What lies over the windows: the menu of files and the help. Each has rows to draw, and takes keys until it is over."""
 from typing import Callable, List, Tuple
 
-from ..keys.bindings import Input, Key, Mouse, Paste, Text, table
+from ..keys.bindings import Input, Key, Mouse, Paste, Text
 
 Line = Tuple[str, bool]  # a text, and whether it is the chosen one
 
@@ -10,17 +10,16 @@ MENU_PAGE = 10  # entries that a page key of a menu goes by
 
 
 class Help:
-    """The list of keys."""
+    """The list of keys, as lines."""
 
     title, is_box, goes_by_place = "Keys", True, False
 
-    def __init__(self):
-        self.is_over, self.first = False, 0
+    def __init__(self, table: List[str]):
+        self._table, self.is_over, self.first = table, False, 0
 
     def lines(self, height: int) -> List[Line]:
-        lines = table()
-        self.first = min(self.first, max(0, len(lines) - height))
-        return [(line, False) for line in lines[self.first : self.first + height]]
+        self.first = min(self.first, max(0, len(self._table) - height))
+        return [(line, False) for line in self._table[self.first : self.first + height]]
 
     def take(self, key: Input) -> bool:
         """Returns whether the key is for the windows, as this is over: so is a paste, of which nothing is to be lost."""

@@ -11,7 +11,6 @@ REPEAT = 0.15  # seconds within which the same key again means that it is held d
 MOST_UNREAD = 100
 MOST_ENDS = 8  # places in a line at which a name may end
 SAMHOST, SAMTERM = "samhost: ", "samterm: "  # what the lines of these begin with
-HINT = "F1 or ^G shows the keys"
 
 UNSAFE_KINDS = ("Cc", "Cs", "Zl", "Zp")  # controls, halves of runes, and ends of lines and paragraphs
 
@@ -28,7 +27,6 @@ LEFT = re.compile(r"(.*) has a text that was not written: it is in .*, (?:newer|
 WRITTEN = re.compile(r"(.*) was written last at (\d{1,12})")
 CHANGED = re.compile(r"(.*): another program changed it")
 TAKEN = ": it was not written before this terminal took the session over"
-OFFER = "; F9 takes it, compares or drops it"
 
 
 def printable(line: str) -> str:
@@ -86,11 +84,11 @@ def said(line: str) -> Said:
 
 
 class Notes:
-    """What stands on the line, and when the user saw it."""
+    """What stands on the line, and when the user saw it. It begins with a hint, which goes for all else."""
 
-    def __init__(self, clock: Callable[[], float]):
+    def __init__(self, clock: Callable[[], float], hint: str):
         self.clock = clock
-        self.message = HINT
+        self.message = self._hint = hint
         self.question = ""  # the message, where a key answers it
         self.unread: List[Tuple[int, str]] = []  # what the host told, the worst first
         self.standing = ""  # what hides all of these as long as it holds
@@ -137,7 +135,7 @@ class Notes:
 
     def keep(self, rank: int, line: str) -> None:
         """Shows a line until it is read, what is worse first."""
-        if self.message == HINT:
+        if self.message == self._hint:
             self.message = ""
         if (rank, line) not in self.unread:
             self.unread.append((rank, line))

@@ -6,11 +6,11 @@ from .support import Failed, expect
 
 
 def check_random(folder):
-    """Random keys while bytes are under way: at the end nothing waits, and both sides agree on what is shown."""
+    """Random keys of either set while bytes are under way: at the end nothing waits, and both sides agree on what is shown."""
     for seed in range(15):
         numbers = random.Random(seed)
         texts = ["".join(numbers.choice("ab c\n\t日é\u0301") for _ in range(numbers.choice((0, 5, 300, 5000)))) for _ in range(3)]
-        pair = Pair(numbers, texts)
+        pair = Pair(numbers, texts, key_set=("sam", "usual")[seed % 2])
         for _ in range(250):
             numbers.choice((pair.key, pair.carry, pair.carry, pair.editor.pause))()
             pair.settle()

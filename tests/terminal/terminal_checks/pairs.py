@@ -10,7 +10,7 @@ class Pair:
     LINES = (",x/a/c/bb/", ",d", "2", "/b/", "#3,$", "f name", "nonsense")
     SIZES = ((22, 80), (8, 20), (5, 7), (60, 200))
 
-    def __init__(self, random_numbers, texts, has_vault=False, names=None):
+    def __init__(self, random_numbers, texts, has_vault=False, names=None, key_set="sam"):
         import sulgrevad
         from terminal.editor import Editor
         from terminal.keys import bindings
@@ -25,11 +25,11 @@ class Pair:
             self.host.add_file(name, text)
         if has_vault:
             self.host.add_file("~~undo~~")
-        self.editor = Editor(self.terminal, clock=lambda: self.now, asked_for=names)
+        self.editor = Editor(self.terminal, clock=lambda: self.now, asked_for=names, keys=bindings.KEY_SETS[key_set])
         self.editor.begin()
         self.editor.arrange(*self.random.choice(self.SIZES))
         self.up, self.down = bytearray(self.terminal.take_out()), bytearray()
-        self.names = [key for binding in bindings.BINDINGS for key in binding.keys if key != "^Q"]
+        self.names = [key for binding in self.editor.keys.bindings for key in binding.keys if key != "^Q"]
         self.names += [f"Shift-{name}" for name in ("Left", "Right", "Up", "Down", "Home", "End")]
 
     def key(self):
@@ -143,9 +143,9 @@ def some_keys(numbers, keys):
     )
 
 
-def opened(*texts, has_vault=False, size=(60, 200)):
+def opened(*texts, has_vault=False, size=(60, 200), key_set="sam"):
     """A pair with a window for each text, and a screen of so many rows and columns."""
-    pair = Pair(random.Random(1), texts, has_vault)
+    pair = Pair(random.Random(1), texts, has_vault, key_set=key_set)
     pair.editor.arrange(*size)
     pair.finish()
     for _ in texts[1:]:

@@ -273,18 +273,17 @@ FREE = {"help", "switch", "next_window", "menu", "split", "unsplit", "small", "n
 
 
 def check_all_actions_wait(folder):
-    """Each action waits while its file is locked, but for those that need no settled place."""
-    from terminal.keys import bindings as table
+    """Each key of each set waits while its file is locked, but for those whose action needs no settled place."""
+    from terminal.keys.bindings import KEY_SETS
 
-    for binding in table.BINDINGS:
-        for name in binding.keys:
-            pair, editor, key, text = opened("one two\n", "b\n")
-            pair.terminal.set_snarf("pasted")
-            pair.finish()
-            editor.take(key("^V"))
-            expect(pair.terminal.locked(editor.focus.tag), "this test is wrong: the file is not locked")
-            editor.take(key(name))
-            expect(bool(editor.deferred) == (binding.action not in FREE), f"{name} waits: {bool(editor.deferred)}")
+    for name, binding, key_name in ((name, each, key) for name in KEY_SETS for each in KEY_SETS[name].bindings for key in each.keys):
+        pair, editor, key, text = opened("one two\n", "b\n", key_set=name)
+        pair.terminal.set_snarf("pasted")
+        pair.finish()
+        editor.take(key("^V"))
+        expect(pair.terminal.locked(editor.focus.tag), "this test is wrong: the file is not locked")
+        editor.take(key(key_name))
+        expect(bool(editor.deferred) == (binding.action not in FREE), f"{name}: {key_name} waits: {bool(editor.deferred)}")
 
 
 def check_ahead_of_waiting_keys(folder):
