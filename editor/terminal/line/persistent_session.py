@@ -417,7 +417,8 @@ class PersistentSession:
             return False
         if self._missing_since is None:
             self._missing_since = now
-            self._tells.append(f"samterm: the host doesn't find the session. It is tried for {SECONDS_MISSING:.0f} s; F5 tries a last time")
+            last = f"{self.keys.of('redraw')} tries a last time"
+            self._tells.append(f"samterm: the host doesn't find the session. It is tried for {SECONDS_MISSING:.0f} s; {last}")
         return now - self._missing_since < SECONDS_MISSING
 
     def _feed(self) -> None:
