@@ -26,7 +26,9 @@ from .text.undo import Undo
 from .text.undo_store import UndoStore
 from .keys.key_queue import BUSY, LEAVING, REST, Pressed, KeyQueue, last_of
 from .line.delivery import Delivery
-from .view.windows import ask
+
+
+COMMAND_AFTER = 2.0  # seconds of rest after which the command file is opened, if nothing needed it before
 
 
 OWN = "~~"  # what names of hidden files begin with
@@ -100,6 +102,8 @@ class Editor(WindowLayout, KeyQueue, Actions):
         self.cut_text = ""  # the same if it was cut, and the host has not pasted it since
         self._pasting: Set[int] = set()  # the files into which the host pastes
         self._sought: Optional[Tuple[int, int]] = None  # the file and the line that the host was told to select
+        self._is_command_asked_for = False  # the host opens the command file, or has
+        self._shown_at: Optional[float] = None  # when the first text showed
         self.sought_here = ""  # the pattern that was searched last without a host
         self._asks_at: List[float] = []  # when that may be asked for which the last update left, since keys came
 
@@ -259,15 +263,50 @@ class Editor(WindowLayout, KeyQueue, Actions):
             window.select(window.dot[1])
 
     def pause(self) -> None:
-        """The user pauses: sends what was typed, and asks the host by the command file whether it has arrived, unless a lock says that an
-        answer is due."""
-        self.way.send(COMMAND if self.command.is_open and not self.is_lock_held else None)
+        """The user pauses: sends what was typed, and asks the host whether it has arrived, unless a lock says that an answer is due."""
+        self.way.send(None if self.is_lock_held else self.asking_tag)
+
+    @property
+    def asking_tag(self) -> Optional[int]:
+        """The file by which the host may be asked something: the command file once it is open, and until then that which was used last."""
+        return next((window.tag for window in (self.command, self.active) if window.is_open), None)
+
+    def has_command_file(self) -> bool:
+        """Whether the command file is open. If not, the host is asked for it, unless its answers are late: no key acts for that round
+        trip, so this waits for a key that needs it, or for a rest."""
+        if not self._is_command_asked_for and self.has_begun and not self.is_alone:
+            self._is_command_asked_for = True
+            self.terminal.open_cmd()
+        return self.command.is_open
+
+    @property
+    def has_shown(self) -> bool:
+        """Whether there was a text to be seen."""
+        return self._shown_at is not None
+
+    @property
+    def idle_for(self) -> float:
+        """For how many seconds no key has come while there was a text to be seen."""
+        return 0.0 if self._shown_at is None else round(self.clock() - max(self._pressed_at, self._shown_at), 6)
+
+    def _use_rest(self) -> None:
+        """While the user rests, the command file is opened, and texts are loaded."""
+        if self._shown_at is None and self.active.is_open and not self.is_lock_held:
+            self._shown_at = self.clock()
+        is_time = not self._is_command_asked_for and self.rests and self.idle_for >= COMMAND_AFTER
+        if is_time and self.way.has_all and not self.is_lock_held:  # a host that doesn't answer would lock all by it
+            self.has_command_file()
+        self.slices.go_on()
+        to_command = COMMAND_AFTER - self.idle_for if self.has_shown and not self._is_command_asked_for else None
+        self._asks_at += [self.clock() + left for left in (self.slices.left, to_command) if left is not None and left > 0]
 
     def lose(self, why: str) -> None:
         """The host is gone: what is loaded can still be read. What was changed is written here."""
         if self.is_lost:
             return
         self.is_lost = self.texts.is_final = True
+        for window in self.windows:
+            window.ahead = None
         self.vault.stop()
         self.kept_here = self.keeping.keep_here(self.way.has_all)
         self.go_to(self.shown_focus)
@@ -304,15 +343,13 @@ class Editor(WindowLayout, KeyQueue, Actions):
                 self.go_to(self.command)
 
     def _begin_with(self, known: List[int]) -> None:
-        """The names of the files are known: opens the first one, and has it loaded before the command file is opened."""
+        """The names of the files are known: opens the first one. Where there is none keys go to the command window."""
+        self.has_begun = True
         if known:
             self.show(known[0])
-            page = self.active.width * self.active.height
-            ask(self.terminal, known[0], 0, page, page)
         else:
             self.message = f"no file: {self.keys.of('new')} makes one, {self.keys.of('help')} shows the keys"
-        self.terminal.open_cmd()
-        self.has_begun = True
+            self.has_command_file()
         for told, line in self._early_lines:
             self.keeping.hear_host(told, line)
         if self._has_others(known):
@@ -341,7 +378,8 @@ class Editor(WindowLayout, KeyQueue, Actions):
             self.left.go_on()
             self.keeping.go_on()
             self.update_windows()
-            self.slices.go_on()
+            self._use_rest()
+            self._look_ahead()
         elif self.is_lost:
             self.update_windows()
         is_time = self._leaves_at is not None and now >= self._leaves_at

@@ -52,6 +52,7 @@ class Loop:
         self._wanted: Optional[Dict[int, int]] = None  # what is waited for of the link
         self._poll = select.poll()
         self._is_updated = False  # the editor is, by what came last, and nothing is left to be done by that
+        self._quiet_at = 0.0  # when nothing was there after it slept; 0 where something was
         self.signals, wakes = os.pipe()
         for end in (self.signals, wakes):
             os.set_blocking(end, False)
@@ -65,7 +66,7 @@ class Loop:
     def run(self) -> None:
         """Returns when the user has left, or can't be reached any more."""
         self.editor.arrange(*self.screen.size)
-        self._collect()
+        gc.freeze()  # what was read in stays: to look through all of it now would take as long as a key may
         gc.disable()
         try:
             while not self.editor.is_over:
@@ -87,11 +88,12 @@ class Loop:
         raise HeldUp
 
     def _go_round(self) -> None:
-        since = time.monotonic()
-        ready = self._ready(0)
+        quiet_at, self._quiet_at = self._quiet_at, 0.0
+        since = quiet_at or time.monotonic()
+        ready = {} if quiet_at else self._ready(0)
         if not ready:
             self.editor.notes.settle(since)
-            ready = self._ready(self._idle())
+            ready = self._sleep(self._idle())
             self.drawn_at = time.monotonic()
         elif since - self.drawn_at >= LONGEST_UNDRAWN:
             self.screen.draw(self.editor, self.link)
@@ -101,6 +103,14 @@ class Loop:
         self._take_signals(ready)
         self._take_bytes(ready)
         self._send()
+
+    def _sleep(self, seconds: Optional[float]) -> Dict[int, int]:
+        """The same as `_ready`. Where nothing came, nothing need be looked for once more before it sleeps again."""
+        start = time.monotonic()
+        ready = self._ready(seconds)
+        if not ready and seconds is not None:
+            self._quiet_at = start + seconds
+        return ready
 
     def _ready(self, seconds: Optional[float]) -> Dict[int, int]:
         """What is there to be read or written: events by descriptor. Sleeps until something is, or so long where a time is given."""

@@ -1,4 +1,4 @@
-"""One session: the host is run, the editor goes on until the user leaves, and what nobody has saved is written here."""
+"""One session: the editor goes on until the user leaves, and what nobody has saved is written here."""
 import contextlib
 import curses
 import os
@@ -6,25 +6,25 @@ import shlex
 import signal
 import sys
 from collections import deque
-from typing import Deque, Iterable, List, NamedTuple, Optional
+from typing import Deque, Iterable, Optional
 
-from .view import layout
-from .files import local_backup
 from .editor import Editor
+from .start import STATUS_NO_HOST, Wish
 from .text.cached_terminal import CachedTerminal
-from .keys.bindings import SAM, KeySet
-from .line.host_process import SECONDS_OF_SILENCE, SECONDS_TO_END, HostProcess
+from .keys.bindings import SAM
+from .view import layout
+from .line.host_process import SECONDS_OF_SILENCE, SECONDS_TO_END
 from .loop import KEYBOARD, Loop
-from .line.shells import for_shells, shells_of
 from .view.status_line import for_people, printable, said
 from .view.screen import FOOT, Screen
+from .text.texts import COMMAND
 from .line.persistent_session import Line, PersistentSession
 from .line.stream import FIRST
 from sulgrevad import SamError, Terminal
 
 USAGE = "usage: "  # the words of a samhost that knows of no session that stays: it is run without then
 MOST_TOLD = 1_000  # lines of the host that are told again at the end, the last ones
-STATUS_NO_HOST, STATUS_LOST, STATUS_UNSAVED, STATUS_SIGNAL = 1, 3, 5, 128
+STATUS_LOST, STATUS_UNSAVED, STATUS_SIGNAL = 3, 5, 128
 
 
 def say(line: str) -> None:
@@ -183,7 +183,7 @@ class Session:
         """Sends what was typed, and waits for the host's end. Returns its status; None where it doesn't end, or the user doesn't wait."""
         with contextlib.suppress(SamError):  # of a terminal that has stopped, or has no memory
             try:
-                self.editor.way.send_last()
+                self.editor.way.send_last(self.editor.asking_tag or COMMAND)
             finally:
                 self.link.send(self.terminal.take_out())
         with contextlib.suppress(KeyboardInterrupt):  # the user doesn't wait for the host any longer
@@ -207,73 +207,14 @@ class Session:
             say_all(keeping.keep_late())
 
 
-class Wish(NamedTuple):
-    """What the user asks for: the words of the host's command, the files, how Enter begins a line, for how many hours a session stays
-    that is alone, whether he goes on with one that stays, whose name may be given in place of the files, whether lines have numbers,
-    how far tab stops are apart, whether nothing has colours, how many shells read the words after the command, None where the command
-    shows that, and which set of keys."""
-
-    command: List[str]
-    files: List[str]
-    indents: bool = True
-    hours: Optional[str] = None
-    takes_over: bool = False
-    numbers: bool = False
-    tab: int = layout.TAB
-    plain: bool = False
-    shells: Optional[int] = None
-    keys: KeySet = SAM
-
-    @property
-    def stays(self) -> bool:
-        return self.takes_over or self.hours is None or float(self.hours) > 0
-
-    def words(self, stays: bool) -> List[str]:
-        """The words for a host after those of the session."""
-        times = ["--times"] if any(local_backup.left(self.files).values()) else []  # whether these are newer only the host can tell
-        hours = ["--stay", self.hours] if stays and self.hours is not None else []
-        dash = ["--"] if any(name.startswith("-") for name in self.files) else []
-        return self._quoted("--undo", *times, *hours, *dash, *self.files)
-
-    def _quoted(self, *words: str) -> List[str]:
-        """Words that come after those of the command."""
-        return for_shells(words, shells_of(self.command) if self.shells is None else self.shells)
-
-    def link(self, stays: bool) -> Line:
-        if not stays:
-            return HostProcess([*self.command, *self.words(False)])
-        if self.takes_over:
-            line = PersistentSession(self.command, lambda name: self._quoted("--take", *self.files), takes_over=True)
-        else:
-            line = PersistentSession(self.command, lambda name: ["--serve", name, *self.words(True)])
-        line.keys = self.keys
-        return line
-
-
-def edit(wish: Wish) -> int:
-    """Runs a host, and edits files. Returns the exit status."""
-    local_backup.host = (*wish.command, "--undo")
-    status = _edit(wish, wish.stays)
-    if status is None:
-        say("samterm: that samhost is too old for a session that stays: a line that breaks ends this one")
-        status = _edit(wish, False)
-    return STATUS_NO_HOST if status is None else status
-
-
-def _edit(wish: Wish, stays: bool) -> Optional[int]:
-    """The same; None where the host knows of no session that stays."""
-    files = None if wish.takes_over else wish.files
+def run_session(wish: Wish, link: Line) -> Optional[int]:
+    """Edits over a link to a host that has begun. Returns the exit status; None where the host knows of no session that stays."""
+    layout.TAB = wish.shows.tab
     with CachedTerminal() as terminal:
-        layout.TAB = wish.tab
-        editor = Editor(terminal, indents=wish.indents, asked_for=files, keys=wish.keys)
-        editor.has_numbers = wish.numbers
-        try:
-            link = wish.link(stays)
-        except OSError as error:
-            say(f"samterm: {wish.command[0]}: {error.strerror}")
-            return STATUS_NO_HOST
+        editor = Editor(terminal, indents=wish.indents, asked_for=None if wish.takes_over else wish.files, keys=wish.keys)
+        editor.has_numbers, editor.has_details = wish.shows.numbers, wish.shows.details
         session = Session(terminal, link, editor)
-        session.has_colours = not wish.plain and not os.environ.get("NO_COLOR")
+        session.has_colours = not wish.shows.plain and not os.environ.get("NO_COLOR")
         if not session.begin():
             if isinstance(link, PersistentSession) and link.refused_words and not wish.takes_over:
                 return None

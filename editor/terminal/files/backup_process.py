@@ -1,7 +1,6 @@
 """Texts that are written here while the line is lost: by a process of its own, which has them as they stand when it begins. So no key waits
 for the disk, or until a long text is read."""
 import contextlib
-import json
 import os
 import select
 import signal
@@ -49,6 +48,8 @@ class BackupProcess:
         try:
             signal.set_wakeup_fd(-1)
             self._write(texts)
+            import json  # which few sessions need
+
             os.write(tells, json.dumps([[*which, path] for which, path in self.paths.items()]).encode("utf-8", "surrogateescape"))
         finally:
             os._exit(0)
@@ -73,6 +74,8 @@ class BackupProcess:
         with contextlib.suppress(ChildProcessError):
             os.waitpid(self._process, 0)
         self._process = 0
+        import json
+
         with contextlib.suppress(ValueError):  # it was killed before it could tell
             self.paths.update({(tag, name): path for tag, name, path in json.loads(data)})
 

@@ -1,6 +1,5 @@
 """What can't go to the host is written to files here."""
 import contextlib
-import hashlib
 import os
 import re
 import stat
@@ -157,7 +156,8 @@ def left(names: Collection[str]) -> Dict[str, List[str]]:
         return {name: [] for name in names}
     for base in {_base(name) for name in names if not name.startswith(OF_NO_FILE)}:  # what nobody noted is rather a file's
         here.setdefault(OF_NO_FILE + base, [])
-    return {name: noted.get(_number(name), []) + here.get(name, here.get(_base(name), [])) for name in names}
+    of_own = (lambda name: noted.get(_number(name), [])) if noted else lambda _: []
+    return {name: of_own(name) + here.get(name, here.get(_base(name), [])) for name in names}
 
 
 def _entries(folder: str) -> List[str]:
@@ -197,6 +197,8 @@ def _number(name: str) -> str:
     place = ""
     with contextlib.suppress(OSError):  # a folder that is gone
         place = "" if name.startswith("/") else os.getcwd()
+    import hashlib  # it takes long to be read in, and few sessions need it
+
     return hashlib.sha256("\0".join((*host, place, name)).encode("utf-8", "surrogateescape")).hexdigest()[:16]
 
 

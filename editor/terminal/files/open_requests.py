@@ -96,8 +96,12 @@ class OpenRequests:
                 self._asked_for = wished
                 self.terminal.offer_version(VERSION)
         if self._goes_to is not None and editor.window_of(self._goes_to.tag).is_settled and not editor.is_lock_held:
-            wished, self._goes_to = self._goes_to, None
-            if wished.line > 0 and editor.active.tag == wished.tag:
+            wished = self._goes_to
+            goes = wished.line > 0 and editor.active.tag == wished.tag
+            if goes and not editor.has_command_file():
+                return
+            self._goes_to = None
+            if goes:
                 editor.run_aside(str(wished.line))
 
     @property

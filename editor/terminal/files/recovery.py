@@ -1,6 +1,5 @@
 """What earlier sessions left: texts that the host saved beside the files, and those that were written here. A key takes one back, compares
 it with its file, or drops it."""
-import difflib
 import os
 import re
 import time
@@ -307,6 +306,8 @@ class Recovery:
 
 def differences(file: str, other: str) -> List[str]:
     """The lines in which two texts differ, those of the first with a `-`, those of the second with a `+`."""
+    import difflib  # which few sessions need
+
     ours, theirs = file.split("\n"), other.split("\n")
     first = next((at for at, (one, two) in enumerate(zip(ours, theirs)) if one != two), min(len(ours), len(theirs)))
     most = min(len(ours), len(theirs)) - first

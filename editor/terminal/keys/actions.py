@@ -1,9 +1,10 @@
 """What each key does. A method `do_NAME` stands for each action of the table of keys, here or in movement.py."""
 from .command_lines import Commands, line_at
-from .search import Find
+from .search import NOTHING_SOUGHT, Find
 from ..files.open_requests import Files
 from .bindings import Paste, Text
 from ..view.menus import Help, Menu
+from .motions import Targets
 from .movement import Moves
 from ..text.texts import COMMAND, GAP, MOST_RUNES
 from ..view.windows import Window
@@ -52,14 +53,18 @@ class Actions(Commands, Moves):
         self.texts.left = runes
         if not self._may_go(window, "the same key again"):
             return
-        if runes == "\n" and not is_paste and self.indents and start == end:
-            runes += window.targets.indentation()
-        if "\n" in runes and window.targets.newline() == "\r\n":
-            runes = runes.replace("\n", "\r\n")
+        runes = self._runes_of(window.targets, runes, is_paste)
         if not self._has_room(len(runes)):
             return
         self.log.begin(window.tag, "" if is_paste or "\n" in runes else "type", start, end)
         self.texts.replace(window.tag, runes)
+
+    def _runes_of(self, targets: Targets, runes: str, is_paste: bool = False) -> str:
+        """What comes into a text for what is typed or pasted: a newline brings the blanks that begin its line, and lines end as there."""
+        start, end = targets.window.dot
+        if runes == "\n" and not is_paste and self.indents and start == end:
+            runes += targets.indentation()
+        return runes.replace("\n", "\r\n") if "\n" in runes and targets.newline() == "\r\n" else runes
 
     def _has_room(self, count: int) -> bool:
         """Whether so many runes can take the place of the selection. Else the terminal would put in those of the last piece alone, and the
@@ -101,9 +106,16 @@ class Actions(Commands, Moves):
 
     def do_switch(self) -> None:
         self.go_to(self.active if self.focus is self.command else self.command)
+        self._open_command_file()
+
+    def _open_command_file(self) -> None:
+        """Where keys go to the command window now, the host opens the command file."""
+        if self.focus is self.command and not self.command.is_open:
+            self.has_command_file()
 
     def do_next_window(self) -> None:
         self.go_to(self.windows[(self.windows.index(self.focus) + 1) % len(self.windows)])
+        self._open_command_file()
 
     def do_menu(self) -> None:
         tags = self.tags[:MOST_IN_MENU]
@@ -141,6 +153,9 @@ class Actions(Commands, Moves):
     def do_numbers(self) -> None:
         self.has_numbers = not self.has_numbers
         self._arrange_anew()
+
+    def do_details(self) -> None:
+        self.has_details = not self.has_details
 
     def _arrange_anew(self) -> None:
         """Shares the screen anew. The windows follow at once, so a key that comes right after goes by the same rows as a later one."""
@@ -275,6 +290,8 @@ class Actions(Commands, Moves):
             start, end = self.focus.dot
             self.sought_here = self.focus.read(start, end - start)
             Find(self).go_on(self.sought_here)
+        elif self.focus.dot[0] == self.focus.dot[1]:
+            self.message = "nothing is selected: ^L looks for the selected text"
         else:
             self.terminal.look(self.focus.tag)
         self.focus.anchor = self.focus.goal = None
@@ -284,9 +301,16 @@ class Actions(Commands, Moves):
             Find(self).go_on(self.sought_here or self.terminal.pattern)
         elif self.sought_here and self.focus is not self.command:  # which the host has not searched
             Find(self).ask_host(self.sought_here)
+        elif not self.terminal.pattern and not self._may_get_a_pattern:
+            self.message = NOTHING_SOUGHT
         else:
             self.terminal.search(self.focus.tag)
         self.focus.anchor = self.focus.goal = None
+
+    @property
+    def _may_get_a_pattern(self) -> bool:
+        """Whether an answer is due that may bring the pattern that was searched last; those to loads don't."""
+        return any(self.terminal.locked(tag) and not self.terminal.is_loading(tag) for tag in self.all_windows)
 
     def do_search_back(self) -> None:
         pattern = self.sought_here or self.terminal.pattern
@@ -295,6 +319,7 @@ class Actions(Commands, Moves):
     def do_find(self) -> None:
         self.focus.anchor = self.focus.goal = None
         self.menu = Find(self)
+        self.message = self.menu.line
 
     def do_send(self) -> None:
         if not self.focus.is_open:

@@ -20,6 +20,7 @@ WINDOW = "window"  # these, and those of the window that it takes off the screen
 ALL = "all"  # all
 
 CLIPBOARD, PATTERN = "clipboard", "pattern"  # what keys of several files share
+PROMPT = "find: "  # before what is sought
 
 
 class Binding(NamedTuple):
@@ -48,12 +49,13 @@ BINDINGS = (  # with the keys of the set `sam`
     Binding(("^Y", "F4"), "unsplit", "takes the window off the screen; its file stays open", WINDOWS, reads=True, leads=True, order=WINDOW),
     Binding(("F8",), "small", "makes the command window small, and large again", WINDOWS, reads=True, order=SCREEN),
     Binding(("F10",), "numbers", "shows the numbers of lines, or hides them", WINDOWS, reads=True, order=SCREEN),
+    Binding(("F11", "^]"), "details", "shows details in the status line, or hides them", WINDOWS, reads=True, order=FREE),
     Binding(("F5",), "redraw", "draws the screen anew; tries a lost line at once", WINDOWS, reads=True, order=FREE),
     Binding(("^\\", "F12"), "suspend", "goes back to the shell, until its `fg`", WINDOWS, reads=True, order=FREE),
     Binding(("F9",), "old", "takes, compares or drops what an earlier session left", WINDOWS, leads=True, order=ALL),
     Binding(("^N",), "new", "makes a new file; the command line `f NAME` names it", WINDOWS, leads=True, asks=True, order=WINDOW),
     Binding(("^W",), "write", "writes the file", WRITTEN),
-    Binding(("^U",), "reload", "puts in what the file has now, where another program changed it", ANSWERS, asks=True),
+    Binding(("^U",), "reload", "puts in what another program has written to the file", ANSWERS, asks=True),
     Binding(("^K",), "close", "closes the file for good; asks if it was not written", WRITTEN, leads=True, asks=True, order=WINDOW),
     Binding(("^Q",), "leave", "leaves; asks if a file was not written", ANSWERS, reads=True, leads=True, asks=True, order=ALL),
     Binding(("^Z",), "undo", "takes back the last change of this window"),
@@ -70,7 +72,7 @@ BINDINGS = (  # with the keys of the set `sam`
     Binding(("^E",), "send", "runs the selection as a command line", ANSWERS, ROWS, asks=True, order=LINE, shares=PATTERN),
     Binding(("Backspace",), "erase_left", "erase the selection, or a character", needs="erased_left"),
     Binding(("Delete",), "erase_right", "erase the selection, or a character", needs="erased_right"),
-    Binding(("Shift-Tab",), "unindent", "takes a tab from the line or each selected one; Tab puts them in", needs="untabbed"),
+    Binding(("Shift-Tab",), "unindent", "takes a tab from the selected lines; Tab puts one in", needs="untabbed"),
     Binding(("Left",), "left", "move; with Shift they select", needs="left", reads=True, extends=True),
     Binding(("Right",), "right", "move; with Shift they select", needs="right", reads=True, extends=True),
     Binding(("Up",), "up", "move; with Shift they select", needs="up", reads=True, extends=True),

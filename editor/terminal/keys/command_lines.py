@@ -1,17 +1,18 @@
 """Command lines of the user: what has to hold before the host runs one."""
 from itertools import accumulate
 from operator import add, sub
-from typing import Dict, Optional, Tuple
+from typing import Dict, List, Optional, Tuple
 
 from .bindings import Input, Paste, Text
+from .command_errors import help_of, word_of
+from .long_lines import parts_of
 from ..view.layout import line_end, line_start
 from ..text.lines import is_address, line_number, removes
 from ..text.texts import COMMAND, GAP, Changes
 from ..view.windows import Window
 
 
-TOO_LONG = "? long\n"  # what the host prints of a line that it didn't run
-HINT = "? long: the text and all that the line puts in are over 1,000,000 characters together; select a part, and run it on that"
+MOST_LOOKED_AT = 4_096  # runes that came at the end of the command file which may say why a line didn't run
 
 
 def line_at(window: Window, place: int, least: int = 0) -> str:
@@ -26,6 +27,8 @@ class Commands:
 
     _aside = ""  # a line that is begun, and that the terminal holds until the host has run another before it
     _before: Optional[Dict[int, Tuple[int, int]]] = None  # what was selected before a line that is no address runs
+    _ran: Optional[Tuple[str, int, int]] = None  # the line that the host runs, the file on which, and the runes of the command file before
+    _parts_left = 0  # lines that it still has to run in the place of one
 
     def _run_line(self) -> None:
         """Ends the command line in which the caret stands. The host then runs it on the file that was used last."""
@@ -51,6 +54,7 @@ class Commands:
         if (line == "q" or (line == "" and not is_known)) and not self.may_leave(key):
             return False
         window = self.active
+        self._ran = (line, window.tag, self.command.length) if is_known else None
         if window is self.command or not window.is_open:
             return True
         what, detail = removes(line) if is_known else ("range", None)
@@ -78,9 +82,14 @@ class Commands:
     def end_run(self) -> None:
         """The host has run a command line. Unless that was an address alone the next key replaces nothing that the line has selected: the
         caret stands after its last change, else at the end of that."""
+        if self._parts_left > 1:
+            self._parts_left -= 1
+            return
+        ran, self._ran = self._ran, None
+        if self._parts_left == 0 and ran is not None and self._meet_error(*ran):
+            return
+        self._parts_left = 0
         before, self._before = self._before or {}, None
-        if before and self.texts.read(COMMAND, max(0, self.command.length - len(TOO_LONG)), len(TOO_LONG)) == TOO_LONG:
-            self.message = HINT
         for tag, dot in before.items():
             if tag == COMMAND or not self.terminal.is_open(tag) or (tag not in self._ends and self.texts.dot(tag) == dot):
                 continue
@@ -88,6 +97,32 @@ class Commands:
             place = self._ends.get(tag, window.dot[1])
             if window.dot != (place, place):
                 window.select(place)
+
+    def _meet_error(self, line: str, tag: int, before: int) -> bool:
+        """Says what helps where the host didn't run a line. Returns whether other lines run in its place."""
+        word = word_of(self.texts.read(COMMAND, before, MOST_LOOKED_AT))
+        if word is None:
+            return False
+        self.message = help_of(line, word)
+        parts = None
+        if word == "long" and self.terminal.is_open(tag):
+            parts = parts_of(line, self.terminal.len(tag), self.texts.dot(tag), lambda place, count: self.texts.read(tag, place, count))
+        if parts is not None and parts.lines:
+            self._run_parts(parts.lines)
+            self.message = f"the line runs in {len(parts.lines)} parts, as it is too long for one; ^Z takes all back"
+            return True
+        if parts is not None:
+            self.message = f"? {word}: {parts.why_not}"
+        return False
+
+    def _run_parts(self, lines: List[str]) -> None:
+        """Has the host run lines in the place of one that was too long. Each waits in the terminal until the one before it is answered, and
+        all keys wait for them. They are one step of undo, as none begins."""
+        end = self.terminal.len(COMMAND)
+        self.terminal.select(COMMAND, end, end)
+        self._parts_left = len(lines)
+        for line in lines:
+            self.texts.replace(COMMAND, line + "\n")
 
     def _is_loaded(self, window: Window, address: Optional[str]) -> bool:
         """Whether the range of an address is loaded, as far as that is easily told."""

@@ -2,11 +2,12 @@
 go by several files; so the same keys do the same over any line, and a file that waits for the host holds back no key of another.
 """
 from collections import deque
-from itertools import chain, islice
+from itertools import chain, islice, takewhile
 from typing import Callable, Deque, Dict, NamedTuple, Optional, Set
 
+from .ahead import text_ahead
 from .bindings import ALL, ANSWERS, FILE, LINE, NOTHING, PATTERN, PLACE, ROWS, SCREEN, WINDOW, WINDOWS, WRITTEN
-from .bindings import Binding, Input, Key, KeySet, Mouse, Paste, Text
+from .bindings import PROMPT, Binding, Input, Key, KeySet, Mouse, Paste, Text
 from ..view.layout import line_end, line_start
 from ..view.status_line import REPEAT
 from sulgrevad import SamError
@@ -116,6 +117,7 @@ class KeyQueue:
         self._reach: Dict[Window, int] = {}  # how much of that is loaded next in a window, where it is not shown
         self._edited_at = 0.0  # when the last key came that edits or moves
         self._pressed_at = 0.0  # when the last key of any kind came
+        self.has_pressed = False  # whether one did
         self._last = Pressed(Key(""), 0.0)
         self._leaves_at: Optional[float] = None  # when the user leaves without waiting for the host
         self._foreseen: Optional[bool] = None  # after an Esc that waits: whether keys go to the command window once it has acted
@@ -148,7 +150,7 @@ class KeyQueue:
         self._leaves_at = when + REPEAT if is_leave and is_sure else None
         if self._leaves_at is not None or self._stops(key) or (is_leave and self._leaves_silence(key)):
             return
-        self._pressed_at = when
+        self._pressed_at, self.has_pressed = when, True
         if self.help is not None and not is_leave:
             rest = self._act_in_help(pressed)
             if rest is not None:
@@ -168,6 +170,15 @@ class KeyQueue:
                 self._ask(self.of_leaving(LEAVING if self.is_leaving else WAITING), key)
             else:
                 self.message = "keys wait for the host"
+        elif self.deferred:
+            self._show_prompt()
+
+    def _show_prompt(self) -> None:
+        """Where a `^S` waits, shows its prompt all the same, and what is typed behind it."""
+        at = max((at for at, pressed in enumerate(self.deferred) if self.action_of(pressed.key) == "find"), default=None)
+        keys = [pressed.key for pressed in islice(self.deferred, at + 1, None)] if at is not None else [Key("")]
+        if all(isinstance(key, Text) and "\n" not in key.runes for key in keys):
+            self.message = PROMPT + "".join(key.runes for key in keys)
 
     def _acts_ahead(self, pressed: Pressed) -> bool:
         """Whether a key acts before those that wait: the help does, and the one that tries a lost line."""
@@ -347,6 +358,7 @@ class KeyQueue:
         """Does what a key says in its window, wherever later keys go."""
         window = pressed.window
         self._reach.pop(window or self.focus, None)
+        (window or self.focus).ahead = None
         if window is not None and self.bound(pressed.key).leads:
             self.go_to(window)
             window = None
@@ -364,6 +376,19 @@ class KeyQueue:
             self.deferred = deque(kept)
             self.give_back(typed, "a file is closed for which keys waited")
 
+    def _look_ahead(self) -> None:
+        """Has windows show what keys do that wait for loads alone: those that come first, and go to one window."""
+        for window in self.windows:
+            window.ahead = None
+        first = self.deferred[0] if self.deferred else None
+        window = None if first is None else first.window
+        if window is None or window is self.command or self.menu is not None or self.vault.is_busy or self._are_windows_due:
+            return
+        if window not in self.windows or not window.is_open or not self.terminal.is_kept(window.tag):
+            return
+        waiting = takewhile(lambda pressed: pressed.window is window and not pressed.answers, self.deferred)
+        window.ahead = text_ahead(window, (pressed.key for pressed in waiting), self._runes_of)
+
     # ---- What a key waits for
 
     def _must_wait_in_window(self, pressed: Pressed) -> Optional[bool]:
@@ -379,8 +404,9 @@ class KeyQueue:
         if self.vault.is_busy or (pressed.is_again and pressed.window is None and self.is_lock_held):
             return True
         if pressed.window is None and self._is_for_menu(key):
-            return self.menu.goes_by_place and not self.focus.is_settled
-        if self._are_windows_due:
+            asks_host = not self.menu.is_box and self.menu.runs_line(key)
+            return (self.menu.goes_by_place and not self.focus.is_settled) or self._lacks_command_file(asks_host)
+        if self._are_windows_due or self._lacks_command_file(self._runs_line(pressed, binding)):
             return True
         if self.way.is_late and (binding.action == "write" or self._needs_line(key, binding)):
             return binding.action != "write"  # that is put off
@@ -394,6 +420,15 @@ class KeyQueue:
         if binding.waits == WRITTEN and (self.keeping.is_writing(window.tag) or not self.way.is_confirmed):
             return True  # the write before it may ask
         return not self._has_shown(window, binding) or not window.is_settled or self._lacks_text(window, binding, key)
+
+    def _runs_line(self, pressed: Pressed, binding: Binding) -> bool:
+        """Whether a key acts by the command file: what is typed there, and what has the host run a line."""
+        is_there = binding.waits != WINDOWS and (pressed.window or self.focus) is self.command
+        return is_there or binding.order == LINE or (binding.action == "search" and self.sought_here != "")
+
+    def _lacks_command_file(self, runs_line: bool) -> bool:
+        """Whether a key that acts by the command file has to wait for it. The host is asked for it then."""
+        return runs_line and not self.is_alone and not self.has_command_file()
 
     # ---- Where the line is lost, or answers are late
 
@@ -412,7 +447,8 @@ class KeyQueue:
         waits behind stays: that text would go elsewhere."""
         behind = (kept for kept in islice(self.deferred, self._at + 1, None) if isinstance(kept.key, (Text, Paste)))
         has_text_behind = any(first.window is None or kept.window in (None, first.window, first.work) for kept in behind)
-        if not self.way.is_known_late or first.answers or has_text_behind:
+        is_shown = first.window is not None and first.window.ahead is not None and self._at < first.window.ahead.keys
+        if not self.way.is_known_late or first.answers or has_text_behind or is_shown:
             return False
         key = first.key
         indents = key == TAB and first.window is not None and first.window.is_settled and first.window.targets.may_indent()

@@ -1,7 +1,7 @@
 """Finding as the user types: on what is loaded at once, and by the host at Enter."""
 from typing import Optional, Tuple
 
-from .bindings import Input, Key, Paste, Text
+from .bindings import PROMPT, Input, Key, Paste, Text
 from ..text.lines import escaped
 from ..text.texts import GAP
 from ..view.windows import end_of_load
@@ -9,6 +9,7 @@ from ..view.windows import end_of_load
 PIECE = 16_384  # runes that are searched at once
 FIRST_REACH, LONGEST_REACH = 4_096, 32_768  # runes that are loaded for a search above, in one round trip, twice as many each time
 MOST_RUNES_IN_PATTERN = 128
+NOWHERE = "it stands nowhere"
 AFTER, BEFORE = ("find", "search"), ("search_back",)  # actions whose keys go to the next place, and to the one before; so do arrows
 
 
@@ -29,14 +30,19 @@ class Find:
         self.editor, self.window, self.is_over = editor, editor.focus, False
         self.origin = self.window.dot
         self.pattern, self._why, self._gap = "", "", 0
+        self._meets_gap = False  # whether the last look below came to text that is not loaded
         self._takes_any_case = False
 
     @property
     def line(self) -> str:
         start, end = self.window.dot
-        found = "" if self._why or not self._takes_any_case else self.window.read(start, end - start)
+        found = self.window.read(start, end - start) if self._takes_any_case and end - start == len(self.pattern) else ""
         other = f" (in any case; Enter has the host look for {found})" if found != self.pattern and lowered(found) == self.pattern else ""
-        return f"find: {self.pattern}{self._why}{other}".replace("\n", "\\n")
+        return f"{PROMPT}{self.pattern}{self._why}{other}".replace("\n", "\\n")
+
+    def runs_line(self, key: Input) -> bool:
+        """Whether a key has the host look for the pattern."""
+        return isinstance(key, Text) and key.runes[:1] == "\n"
 
     def take(self, key: Input) -> bool:
         """Returns whether the key is for the windows, as this is over."""
@@ -52,10 +58,10 @@ class Find:
             self.is_over = True
             self._select(*self.origin)
         elif name == "Down" or action in AFTER:
-            self._show(self._after(self.window.dot[0] + 1))
+            self._show(self._next(self.window.dot[0] + 1))
         elif name == "Up" or action in BEFORE:
             back = self.editor.keys.of("search_back")
-            self._show(self._before(self.window.dot[0]), " (not in what is loaded above", f"; Enter, then {back}, looks there)")
+            self._show(self._last_before(self.window.dot[0]), " (not in what is loaded above", f"; Enter, then {back}, looks there)")
         elif not isinstance(key, (Text, Paste)):
             self.is_over = True
             return True
@@ -71,7 +77,7 @@ class Find:
         if place is not None:
             self._select(place, place + len(pattern))
         elif not pattern:
-            self.editor.message = "nothing was searched yet"
+            self.editor.message = f"nothing was searched yet: {self.editor.keys.of('find')} finds"
         elif self._gap == 0 or self.editor.is_alone:
             self.editor.message = "it stands nowhere above" if self._gap == 0 else "not in what is loaded above"
         else:
@@ -85,25 +91,51 @@ class Find:
     def go_on(self, pattern: str) -> None:
         """Without a line: goes to the next place in what is loaded at which a pattern stands."""
         self.pattern = pattern
-        place = self._after(self.window.dot[0] + 1)
+        place = self._next(self.window.dot[0] + 1)
         if place is not None:
             self._select(place, place + len(pattern))
+            self.editor.message = self._why.strip(" ()")
+        elif pattern:
+            self.editor.message = "not in what is loaded below" if self._has_gap else NOWHERE
         else:
-            self.editor.message = "not in what is loaded below" if pattern else "nothing was searched yet"
+            self.editor.message = f"nothing was searched yet: {self.editor.keys.of('find')} finds"
 
     def _seek(self, pattern: str) -> None:
         """Shows the first place from where the search began."""
         self.pattern, self._takes_any_case = pattern, pattern == pattern.lower()
         if pattern:
-            self._show(self._after(self.origin[0]))
+            self._show(self._next(self.origin[0]))
         else:
             self._select(*self.origin)
 
     def _show(self, place: Optional[int], why: str = " (not in what is loaded", help: str = "; Enter asks the host)") -> None:
         if place is not None:
             self._select(place, place + len(self.pattern))
-        elif self.pattern:
+        elif self.pattern and self._has_gap:
             self._why = why + (")" if self.editor.is_alone else help)
+        elif self.pattern:
+            self._why = f" ({NOWHERE})"
+
+    @property
+    def _has_gap(self) -> bool:
+        """Whether some of the text is not loaded."""
+        return self.editor.terminal.first_gap(self.window.tag) is not None
+
+    def _next(self, place: int) -> Optional[int]:
+        """The first place from there on; where there is none down to the end, and all of that is loaded, the first from the top on."""
+        found = self._after(place)
+        if found is None and not self._meets_gap and self.pattern:
+            found = self._after(0)
+            self._why = " (from the top on)" if found is not None else ""
+        return found
+
+    def _last_before(self, place: int) -> Optional[int]:
+        """The last place before; where there is none up to the top, and all of that is loaded, the last from the end on."""
+        found = self._before(place)
+        if found is None and self._gap == 0 and self.pattern:
+            found = self._before(self.window.length)
+            self._why = " (from the end on)" if found is not None else ""
+        return found
 
     def _select(self, start: int, end: int) -> None:
         self.window.select(start)
@@ -116,12 +148,14 @@ class Find:
 
     def _after(self, place: int) -> Optional[int]:
         """The first place from there on, up to the next gap."""
+        self._meets_gap = False
         while self.pattern:
             text = self._read(place, PIECE + len(self.pattern) - 1)
             found, gap = text.find(self.pattern), text.find(GAP)
             if found >= 0 and (gap < 0 or found < gap):
                 return place + found
             if gap >= 0 or len(text) < PIECE:
+                self._meets_gap = gap >= 0
                 return None
             place += PIECE
         return None

@@ -3,7 +3,6 @@ from typing import Callable, Optional
 
 from .persistent_session import PersistentSession
 from ..text.cached_terminal import CachedTerminal
-from ..text.texts import COMMAND
 
 TOLD_AFTER = 0.15  # seconds on the way before messages are told of, so that with a quick host nothing flickers
 SILENT_AFTER = 3  # seconds without a word of the host, though an answer is due, that are told of
@@ -14,7 +13,7 @@ class Delivery:
     """The messages that the host has not taken, as far as it has told.
 
     The host answers no typing and no cutting, so nobody would learn that these arrived. `send` therefore asks it a question that changes
-    nothing, where the answer to the last one has come.
+    nothing, where the answer to the last one has come. A session that stays needs none: its line acknowledges bytes.
     """
 
     def __init__(self, terminal: CachedTerminal, clock: Callable[[], float]):
@@ -47,18 +46,19 @@ class Delivery:
         if self._sent_at != self.terminal.deeds:  # since nothing was done, nothing is there to be sent
             self.terminal.flush_now()
             self._sent_at = self.terminal.deeds
-        if tag is not None and (self.terminal.under_way > 0 or self._is_unasked) and self._arrived >= self._asked:
+        if self.line is None and tag is not None and (self.terminal.under_way > 0 or self._is_unasked) and self._arrived >= self._asked:
             self.terminal.check(tag)
             self._asked, self._sent_at = self.terminal.sent, self.terminal.deeds
             if self._is_unasked:
                 self._is_unasked, self._confirms = False, self._asked
         self._note()
 
-    def send_last(self) -> None:
-        """The session ends: sends what was typed, and asks once more."""
+    def send_last(self, tag: int) -> None:
+        """The session ends: sends what was typed, and asks once more, by the file of this tag."""
         self.terminal.flush_now()
         self._last = self.terminal.sent
-        self.terminal.check(COMMAND)
+        if self.line is None:
+            self.terminal.check(tag)
 
     @property
     def has_all(self) -> bool:
@@ -123,8 +123,13 @@ class Delivery:
         left = KNOWN_AFTER - (self.clock() - self._late_since)
         return left if left > 0 else 1.0 - silence % 1.0
 
+    @property
+    def _under_way(self) -> int:
+        """How many messages the host may not have taken."""
+        return 0 if self.line is not None and self.has_all else self.terminal.under_way
+
     def _note(self) -> None:
-        if self.terminal.under_way == 0:
+        if self._under_way == 0:
             self._since = None
         elif self._since is None:
             self._since = self.clock()
@@ -147,4 +152,4 @@ class Delivery:
     @property
     def told(self) -> int:
         """How many messages are to be told of."""
-        return 0 if self.seconds is not None else self.terminal.under_way
+        return 0 if self.seconds is not None else self._under_way

@@ -26,7 +26,8 @@ SECONDS_TO_BREAK = 15.0  # without a byte, where an answer is due, after which a
 SECONDS_ELSEWHERE = 2.0  # and four round trips: the same where an address of this machine has gone, and nothing has come since
 SECONDS_TO_CONNECT = 60.0  # the same until a connection is welcomed, and twice as many each time after that
 MOST_TO_CONNECT = 960.0
-PAUSES = (1, 2, 4, 8, 16, 30)  # seconds until another connection is tried; the last one from then on
+PAUSES = (0, 1, 2, 4, 8, 16, 30)  # seconds until another connection is tried; the last one from then on
+SHORT = 1.0  # seconds: a connection that breaks so soon after its welcome is no new beginning
 SECONDS_TO_GO = 2  # that the last bytes may take where the session stays
 LATE_AFTER = 1.0  # seconds, and two round trips, after which an answer counts as late
 RETRY = 0.1  # seconds until that for which the memory was too small is tried again
@@ -104,11 +105,13 @@ class PersistentSession:
         # For which there was no memory: bytes of the stream and notes, which are told by True, in their order; and what came.
         self._unput: Deque[Tuple[bool, bytes]] = deque()
         self._unfed = bytearray()
+        self._first_in = b""  # the first bytes for us of what was fed
         self._has_out, self._has_in = True, False  # whether the end may have bytes for the connection, and for us
         self._phase, self._attempt = self._end.phase, 0
         self._due = self._asked = 0  # up to which byte of ours an answer is wanted, and where the last question stands
+        self._is_put = False  # whether more was put since `_due` was read
         self._acknowledged = 0  # how many of them the host has acknowledged: it is asked for several times at each key
-        self._asked_at = self._heard_at = self._called_at = self._again_at = 0.0
+        self._asked_at = self._heard_at = self._called_at = self._again_at = self._welcomed_at = 0.0
         self._lost_at: Optional[float] = None  # since when there is no line
         self._failures, self._connecting = 0, SECONDS_TO_CONNECT
         self._words, self._is_in_front = "", False  # of the newest connection: what it told last, and whether the user waits for it
@@ -159,6 +162,8 @@ class PersistentSession:
         self._is_measured = True
         if self._lost_at is None:
             self._lost_at = max(self._asked_at, self._heard_at) if self._is_answer_due else self.clock()
+        if self.is_open and self.clock() - self._welcomed_at >= SHORT:
+            self._failures = 0
         if why != self._end_was or self.clock() - self._called_at > SECONDS_APART:
             self._alike = 0
         self._end_was, self._alike = why, self._alike + 1
@@ -222,7 +227,7 @@ class PersistentSession:
             if self.is_open and not self._is_answer_due:
                 self._question()
         if heard.came and self.relay is None:
-            self._again_at = min(self._again_at, now + PAUSES[0])
+            self._again_at = min(self._again_at, now + PAUSES[1])
 
     def delay(self) -> Optional[float]:
         """Seconds until something is due by the clock; None where nothing is."""
@@ -261,6 +266,8 @@ class PersistentSession:
             return
         self._put(data)
         self._ask()
+        if self._is_put:
+            self._note_due()
         self._push()
 
     def put_note(self, verb: str, *words: str) -> None:
@@ -279,11 +286,15 @@ class PersistentSession:
             except MemoryError:
                 return
             self._unput.popleft()
-            self._due, self._has_out = self._end.put_count, True
+            self._is_put = self._has_out = True
+
+    def _note_due(self) -> None:
+        """An answer is wanted to all that was put."""
+        self._due, self._is_put = self._end.put_count, False
 
     def _ask(self) -> None:
         """Asks whether all has come, unless such a question is under way."""
-        if self._acknowledged < self._due and self._asked <= self._acknowledged:
+        if (self._is_put or self._acknowledged < self._due) and self._asked <= self._acknowledged:
             self._question()
 
     def _question(self) -> None:
@@ -292,6 +303,8 @@ class PersistentSession:
         except MemoryError:
             return
         self._asked, self._asked_at, self._is_measured, self._has_out = self._end.put_count, self.clock(), False, True
+        if self._is_put:  # what was put stands before the question, so one number does for both
+            self._due, self._is_put = self._asked, False
 
     def _push(self) -> None:
         relay, room = self.relay, LEAST_PIECE
@@ -329,8 +342,9 @@ class PersistentSession:
         elif relay is not None:
             # No more is taken while notes wait.
             data = relay.receive() if relay.source in ready and not relay.is_lost and not self._has_in else b""
-            # It tells of a text before it answers.
-            if not relay.is_quiet and (relay.messages in ready or relay.source in ready or relay.has_lines):
+            # It tells of a text before it answers; an open line tells by notes.
+            tells = relay.messages in ready or relay.has_lines or (relay.source in ready and not (data and self.is_open))
+            if tells and not relay.is_quiet:
                 items += self._new_lines(relay)
             if data:
                 self._hear(data)
@@ -395,9 +409,9 @@ class PersistentSession:
             self._note_phase()
             self._meet_refusal(what)
             return
-        self._failures, self._connecting, self._lost_at = 0, SECONDS_TO_CONNECT, None
+        self._connecting, self._lost_at = SECONDS_TO_CONNECT, None
         self._is_met, self._missing_since = True, None
-        self._asked_at = self.clock()
+        self._asked_at = self._welcomed_at = self.clock()
         self._feed()
 
     def _meet_refusal(self, what: int) -> None:
@@ -423,7 +437,7 @@ class PersistentSession:
 
     def _feed(self) -> None:
         try:
-            self._end.feed(self._attempt, bytes(self._unfed))
+            self._first_in += self._end.feed_into(self._attempt, bytes(self._unfed), PIECE)
         except MemoryError:
             return
         except SamError:  # the packet is wrong
@@ -441,7 +455,7 @@ class PersistentSession:
         """What of the host's stream is here: bytes, joined as they came, and notes between them; no more of these than leave a key time."""
         items: List[Item] = []
         for _ in range(MOST_NOTES if self._has_in else 0):
-            data = b"".join(iter(lambda: self._end.take_in(PIECE), b""))
+            data, self._first_in = self._first_in + b"".join(iter(lambda: self._end.take_in(PIECE), b"")), b""
             if data:
                 items.append(data)
             note = self._end.next_note()

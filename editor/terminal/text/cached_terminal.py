@@ -1,5 +1,6 @@
 """The terminal as the editor reads it: what it holds, and what it knows of a file, is asked of the library once, until something is
 done."""
+from contextlib import suppress
 from functools import wraps
 from operator import itemgetter
 from typing import Any, Callable, Dict, Iterator, Optional, Tuple, Union
@@ -11,11 +12,12 @@ from .texts import COMMAND, GAP
 OF_ONE = ("type", "edit", "select", "view")
 # Each other event, and what takes frames in.
 DEEDS = (
-    "dclick", "look", "search", "flush", "cut", "snarf", "paste", "get_snarf", "set_snarf", "load", "scroll", "open", "new_file", "write",
+    "dclick", "look", "search", "flush", "cut", "snarf", "paste", "get_snarf", "set_snarf", "scroll", "open", "new_file", "write",
     "close", "open_cmd", "work", "send", "offer_version", "exit", "feed", "free",
 )  # fmt: skip
 NAMING = (68, 69, 83)  # the kinds of frames that change a name: Hnewname, Hmovname, Hdelname
 CHECKING = 71  # Hcheck, which may have the terminal ask for more of its file
+LOCKING = ("dclick", "look", "search", "paste", "scroll", "write", "close", "send")  # what locks a file, and isn't only a load
 DONE = (Step.RECEIVED, Step.ACTED, Step.REFUSED)  # steps that may change anything; the others change counts alone
 COUNTS = (
     "events", "decided", "held", "sent", "under_way", "tags", "unsent", "snarf_len", "version", "command_locked", "exited",
@@ -40,6 +42,8 @@ class CachedTerminal(Terminal):
         self._is_short = False  # memory was out, so some of what was done may be done later
         self.deeds = 0  # how often something was done
         self.namings = 0  # how often a name may have changed
+        self._opens_command = False  # nothing but the opening of the command file has taken the command lock since
+        self.loads: Dict[int, int] = {}  # of files that loads alone have locked since they were free: how many runes the last one asks for
 
     def forget(self) -> None:
         """What is known of files and counts may be otherwise; names are not."""
@@ -55,10 +59,13 @@ class CachedTerminal(Terminal):
     def take_out(self, most: Optional[int] = None) -> bytes:
         if not self.pending:
             return b""
-        before, self._now, takes_all = self.state(), None, most is None and not self._left
-        data = super().take_out(most)
-        if takes_all:
-            self._now = before._replace(pending=0)
+        before, after = self.state(), None
+        try:
+            takes_all = most is None and not self._left
+            data = super().take_out(most)
+            after = before._replace(pending=0) if takes_all else None
+        finally:
+            self._now = after
         return data
 
     def edits_at_once(self, gap: str = GAP) -> Iterator[Edits]:
@@ -86,6 +93,28 @@ class CachedTerminal(Terminal):
         self._refuses, self._is_short = True, True  # until it is done
         super().check(tag)
         self._is_short = False
+
+    def load(self, tag: int, place: int, length: int) -> None:
+        """Loads, and notes where nothing but that locks the file."""
+        is_free = self.is_open(tag) and not self.locked(tag) and self.held == 0
+        if is_free or tag in self.loads:
+            self.loads[tag] = self.bytes(tag, place, place + length)[1] + (0 if is_free else self.loads[tag])
+        self._load(tag, place, length)
+
+    def is_kept(self, tag: int) -> bool:
+        """Whether an open file is locked, and no answer that is due changes its text or selection: those to loads don't, nor does that
+        which opens the command file."""
+        return self.is_loading(tag) or (self._opens_command and self.command_locked and self.held == 0)
+
+    def loading(self) -> Iterator[Tuple[int, int]]:
+        """The files that loads alone lock, and how many runes these ask for. Those that are free again are forgotten."""
+        for tag in [tag for tag in self.loads if not self.locked(tag)]:
+            del self.loads[tag]
+        return ((tag, runes) for tag, runes in self.loads.items() if self.is_loading(tag))
+
+    def is_loading(self, tag: int) -> bool:
+        """Whether a file is locked, and by nothing but loads: no answer that is due changes its text or selection."""
+        return tag in self.loads and self.locked(tag) and not self.command_locked and self.held == 0
 
     def flush_now(self) -> None:
         """What is typed is sent; and what waited for memory goes on, which may be anything."""
@@ -194,8 +223,13 @@ class CachedTerminal(Terminal):
 
 
 def _forgetting(deed: Callable[..., Any]) -> Callable[..., Any]:
+    is_locking, is_load, opens_command = (deed.__name__ in names for names in (LOCKING, ("load",), ("open_cmd",)))
+
     @wraps(deed)
     def done(self: CachedTerminal, *words: Any, **more: Any) -> Any:
+        if is_locking:
+            self.loads.pop(words[0], None)
+        self._opens_command = opens_command or (self._opens_command and is_load)
         try:
             return deed(self, *words, **more)
         except MemoryError:
@@ -218,15 +252,24 @@ def _of_one(deed: Callable[..., Any], is_typing: bool) -> Callable[..., Any]:
         if self._now is None or self._now.held or self._is_short or (is_typing and tag == COMMAND):
             return forgets(self, tag, *words)
         self._is_short = True  # until it is done
-        self._now, self._refuses = None, True
+        refuses, self._now, self._refuses = self._refuses, None, True
         self.deeds += 1
         file, (place, gap) = self._known.pop(tag, None), self._gaps.pop(tag, (0, 0))
         deed(self, tag, *words)
         if is_typing and gap is None and file is not None and place <= file.dot[0]:
             self._gaps[tag] = place, None  # what comes is there, and all behind it was
         self._is_short = False
+        if is_typing and file is not None:
+            with suppress(MemoryError):
+                self._refuses = refuses or not _has_typed(file, self.file(tag), *words)
 
     return done
+
+
+def _has_typed(before: FileState, after: FileState, runes: str) -> bool:
+    """Whether a file shows that runes were typed: so that was not refused."""
+    gone = before.dot[1] - before.dot[0]
+    return len(runes) != gone and after.len == before.len - gone + len(runes)
 
 
 def _step(self: CachedTerminal) -> TerminalDid:
@@ -257,5 +300,6 @@ for _deed in DEEDS:
 for _deed in OF_ONE:
     setattr(CachedTerminal, _deed, _of_one(getattr(Terminal, _deed), _deed == "type"))
 CachedTerminal.step = _step  # type: ignore[method-assign]
+CachedTerminal._load = _forgetting(Terminal.load)  # type: ignore[attr-defined]
 for _count in COUNTS:
     setattr(CachedTerminal, _count, _count_of(_count))

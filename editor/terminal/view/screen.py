@@ -12,7 +12,7 @@ from typing import Dict, Iterable, List, NamedTuple, Optional, Sequence, Tuple
 
 from .colours import Spans, painted
 from ..editor import Editor
-from .layout import Row, Strip, fitted, has_wide
+from .layout import Row, Strip, fitted, has_wide, line_start
 from ..line.persistent_session import Line
 from .status_line import printable
 from .windows import Window
@@ -149,17 +149,18 @@ class Screen:
         else:
             editor.colours.begin()
             parts, cursor, self._sight = parts_of(editor, rows, columns), cursor_of(editor), sight
-        shown = (parts, cursor, status(editor, link))
-        counts, now = (link.up, link.down), time.monotonic()
+        shown = (parts, cursor, status(editor, link), editor.has_details)
+        counts, now = (link.up, link.down) if editor.has_details else (0, 0), time.monotonic()
         left = self._drawn_at + COUNTS_AFTER - now
-        if shown == self._shown and left > 0:
+        if shown == self._shown and (left > 0 or counts == self._counts):
             return left if self._counts != counts else None
         before, self._shown, self._counts, self._drawn_at = self._shown, shown, counts, now
         foot = rows - 1 - len(parts.lines)
         frame = changed_rows(before[0], parts, foot) if before is not None else None
         if frame is None:
             frame = {**dict.fromkeys(range(rows), NO_RUNS), **joined(parts, rows)}
-        frame[foot] = [(fitted(f"{shown[2]} | up {link.up} down {link.down}", columns), curses.A_REVERSE)]
+        bytes_told = f" | up {link.up} down {link.down}" if editor.has_details else ""
+        frame[foot] = [(fitted(shown[2] + bytes_told, columns), curses.A_REVERSE)]
         for y in range(rows) if len(frame) >= rows else frame:
             self._put(y, frame[y])
         self._put_cursor(cursor, rows, columns)
@@ -273,16 +274,26 @@ def window_rows(editor: Editor, window: Window) -> Dict[int, List[Run]]:
 
 
 def drawn_of(editor: Editor, window: Window) -> Drawn:
-    is_focus, tag, (_, dot, _, layout) = window is editor.shown_focus, window.tag, window.look()
-    title = f"{'>' if is_focus else ' '}{'*' if editor.is_changed(tag) else ' '} {editor.name(tag)}"
+    is_focus, tag, (_, dot, _, layout) = window is editor.shown_focus, window.tag, window.shown()
+    is_changed = editor.is_changed(tag) or window.shown_ahead is not None
+    title = f"{'>' if is_focus else ' '}{'*' if is_changed else ' '} {editor.name(tag)}"
     by: tuple = (title, is_focus, window.y, window.width, window.gutter, window.is_row)
     if layout is not None:
         colours = editor.colours
-        by += (first_number(editor, window), colours.attributes, layout, dot, colours.of(window))
+        by += (first_number(editor, window), colours.attributes, layout, dot, spans_of(editor, window))
     before = window.drawn
     if before is None or before.by != by:
         window.drawn = (None if before is None else drawn_after(by, before)) or drawn_anew(by, before)
     return window.drawn
+
+
+def spans_of(editor: Editor, window: Window) -> Dict[int, Spans]:
+    """The colours of the lines that a window shows. A line that keys change which wait is plain, until they have acted."""
+    spans, ahead = editor.colours.of(window), window.shown_ahead
+    if ahead is None or not spans:
+        return spans
+    before = {start: line for start, line in spans.items() if start < line_start(window.read, ahead.start)}
+    return {**before, **{start + ahead.grown: line for start, line in spans.items() if start > ahead.start + ahead.gone}}
 
 
 def drawn_after(by: tuple, before: Drawn) -> Optional[Drawn]:
@@ -348,7 +359,9 @@ def first_number(editor: Editor, window: Window) -> Tuple:
     """The number of the line in which a window begins, where it is known, and whether it begins there; empty where it shows none."""
     if window.is_row or not window.gutter:
         return ()
-    return editor.numbers.line(window.tag, window.top), window.top == 0 or window.read(window.top - 1, 1) == "\n"
+    ahead, top = window.shown_ahead, window.shown().layout.top
+    number, text = editor.numbers.line(window.tag, top) if ahead is None or top <= ahead.start else None, ahead or window
+    return number, top == 0 or text.read(top - 1, 1) == "\n"
 
 
 def numbers_of(rows: List[Row], gutter: int, number: Optional[int], begins: bool) -> List[List[Run]]:
@@ -405,26 +418,52 @@ def menu_rows(menu, rows: int, columns: int) -> Dict[int, List[Run]]:
 
 
 def status(editor: Editor, link: Line) -> str:
-    """Name, mark of a change, dot, line, locks, held events, runes not sent, and messages on the way."""
-    terminal, window, way = editor.terminal, editor.active, editor.way
-    name, state, (file, (start, end), caret, _) = editor.name(window.tag), terminal.state(), window.look()
+    """Name, mark of a change, the caret's line, and what is wrong; with details also what goes over the line."""
+    window, way = editor.active, editor.way
+    name, (file, dot, caret, _) = editor.name(window.tag), window.shown()
     parts = [("…" + name[-MOST_IN_STATUS:] if len(name) > MOST_IN_STATUS else name) + (" *" if editor.is_changed(window.tag) else "")]
     if file.is_open:
-        line = editor.numbers.line(window.tag, caret)
-        parts.append(f"{start},{end} of {file.len}" + (f", line {line}" if line is not None else ""))
-    parts.append("HOST LOST" if editor.is_lost else locks_of(editor))
+        parts += line_of(editor, window, caret, file.len)
+        parts += ["{},{} of {}".format(*dot, file.len)] if editor.has_details else []
+    if editor.is_lost:
+        parts.append("HOST LOST")
+    elif editor.has_details:
+        parts.append(locks_of(editor))
     is_broken = way.is_broken and not editor.is_lost
     if is_broken:
         parts.append(way.line.told)
-    for name, count in (("held", state.held + len(editor.deferred)), ("unsent", state.unsent), ("waiting", len(link.waiting))):
-        if count:
-            parts.append(f"{name} {count}")
-    if not editor.is_lost and not is_broken:
-        if state.under_way and way.told:
-            parts.append(f"{way.told} on the way")
-        if way.is_silent:
-            parts.append(f"no answer for {int(way.silence)} s")
+    parts += counts_of(editor, link)
+    if way.is_silent and not editor.is_lost and not is_broken:
+        parts.append(f"no answer for {int(way.silence)} s")
     return " | ".join(parts)
+
+
+def line_of(editor: Editor, window: Window, caret: int, length: int) -> List[str]:
+    """The line of the caret, of how many; each as far as it is known."""
+    ahead, tag = window.shown_ahead, window.tag
+    line, count = editor.numbers.line(tag, caret if ahead is None else ahead.start), editor.numbers.count(tag, length)
+    if line is None:
+        return []
+    line += 0 if ahead is None else ahead.came.count("\n")
+    return [f"line {line}" if count is None else f"line {line} of {max(line, count)}"]
+
+
+def counts_of(editor: Editor, link: Line) -> List[str]:
+    """What waits: in short, or with details."""
+    state, way = editor.terminal.state(), editor.way
+    held = state.held + len(editor.deferred)
+    if not editor.has_details:
+        return ["keys wait"] if held > keys_ahead(editor) else []
+    counts = [f"{name} {count}" for name, count in (("held", held), ("unsent", state.unsent), ("waiting", len(link.waiting))) if count]
+    is_told = way.told > 0 and not editor.is_lost and not way.is_broken
+    return counts + ([f"{way.told} on the way"] if is_told else [])
+
+
+def keys_ahead(editor: Editor) -> int:
+    """How many keys wait of which the screen shows what they do."""
+    if not editor.deferred:
+        return 0
+    return sum(ahead.keys for ahead in (window.shown_ahead for window in editor.windows) if ahead is not None)
 
 
 def locks_of(editor: Editor) -> str:
@@ -440,7 +479,7 @@ def locks_of(editor: Editor) -> str:
 def cursor_of(editor: Editor) -> Optional[Tuple[int, int]]:
     """Where the cursor stands; None where it is not to be seen."""
     window, menu = editor.shown_focus, editor.shown_menu
-    _, _, caret, layout = window.look()
+    _, _, caret, layout = window.shown()
     if (menu is not None and menu.is_box) or layout is None or not layout.shows(caret):
         return None
     row, column = layout.position_of(caret)

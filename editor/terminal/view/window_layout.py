@@ -20,6 +20,7 @@ class WindowLayout:
         self.rows, self.columns = 24, 80
         self.is_small = False  # whether the command window is
         self.has_numbers = False  # whether the lines of files have numbers
+        self.has_details = False  # whether the status line has them
         self.is_tiny = False  # the screen has room for one window alone
 
     def window_of(self, tag: int) -> Window:

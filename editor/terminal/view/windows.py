@@ -76,6 +76,8 @@ class Window:
         self._loaded: Optional[Layout] = None  # what is shown, where all of it is loaded and the terminal was told so
         self._is_shifted = False  # text above it changed, so that it may not begin with a row any more
         self.drawn = None  # its rows as the screen has drawn them
+        self.ahead = None  # its text after keys that wait, where it is known what they do
+        self._shown_ahead: Tuple[tuple, Optional[Layout]] = ((), None)  # by what the layout of that goes, and that
         self._turns = False  # the user turns pages, and those on either side were not asked for yet
 
     # ---- Reading
@@ -114,7 +116,8 @@ class Window:
     @property
     def sight(self) -> tuple:
         """What it shows, but for the text and the selection."""
-        return self.tag, self._top, self.y, self.height, self.width, self.gutter, self.is_row
+        ahead = None if self.ahead is None else self.ahead.change
+        return self.tag, self._top, self.y, self.height, self.width, self.gutter, self.is_row, ahead
 
     def read(self, place: int, count: int) -> str:
         return self.texts.read(self.tag, place, count)
@@ -126,6 +129,32 @@ class Window:
             return Look(file)
         dot = self.dot
         return Look(file, dot, self._moving_end(dot), self._layout_at(file.len))
+
+    def shown(self) -> Look:
+        """What the screen shows of it: also what keys do that wait, where that is known."""
+        look, ahead = self.look(), self.shown_ahead
+        return look if ahead is None else Look(look.file, ahead.dot, ahead.caret, self._shown_ahead[1])
+
+    @property
+    def shown_ahead(self):
+        """The text after keys that wait, where the screen shows that."""
+        layout = None if self.ahead is None else self.look().layout
+        return None if layout is None or self._layout_ahead(layout) is None else self.ahead
+
+    def _layout_ahead(self, layout: Layout) -> Optional[Layout]:
+        """The rows that the window shows once these keys have acted; None where that isn't known."""
+        ahead = self.ahead
+        by = (ahead.change, self.texts.versions.get(self.tag, 0), self._top, self.width, self.height)
+        if self._shown_ahead[0] != by:
+            found: Optional[Layout] = None
+            if ahead.start >= layout.top:
+                found = Layout(ahead.read, layout.top, self.width, self.height)
+            if found is not None and not found.shows(ahead.caret):
+                start, rows = row_start(ahead.read, ahead.caret, self.width), self._rows_above(ahead.caret, found)
+                top, is_known, _ = top_above(ahead.read, start, rows, self.width)
+                found = Layout(ahead.read, top, self.width, self.height) if is_known else None
+            self._shown_ahead = by, found
+        return self._shown_ahead[1]
 
     def layout(self) -> Layout:
         """The rows that the window shows."""
@@ -237,15 +266,15 @@ class Window:
             self._bring(place, layout)
 
     def _bring(self, place: int, layout: Layout) -> None:
-        """Shows a place: at an edge where it is near, else with some rows above it."""
+        """Shows a place that a layout doesn't."""
+        self._show_below(place, self._rows_above(place, layout))
+
+    def _rows_above(self, place: int, layout: Layout) -> int:
+        """How many rows stand above a place that a layout doesn't show: it comes at an edge where it is near, else with some above it."""
         near = 2 * self.width
         if layout.end <= place < layout.end + near:
-            rows = self.height - 1
-        elif place < layout.top <= place + near:
-            rows = 0
-        else:
-            rows = self.height // 3
-        self._show_below(place, rows)
+            return self.height - 1
+        return 0 if place < layout.top <= place + near else self.height // 3
 
     def _show_below(self, place: int, rows: int) -> None:
         """Shows a place below so many rows. Where these are not loaded the place is aimed at: it is shown where it stands if no line ends

@@ -59,7 +59,7 @@ def check_suspend(folder):
         place = folder / str(at)
         place.mkdir()
         made(place, a="one\n")
-        line = f"{SAMTERM_WORD} --host {shlex.quote(SAMHOST_WORD)} a.txt; echo back in the shell; read x; fg"
+        line = f"{SAMTERM_WORD} --details --host {shlex.quote(SAMHOST_WORD)} a.txt; echo back in the shell; read x; fg"
         with Session(place, "a.txt", program=f"bash --norc -ic {shlex.quote('set -m; ' + line)} --") as session:
             session.wait_for("one")
             if key:
@@ -89,7 +89,7 @@ def check_hangup_while_suspended(folder):
     """The user's screen is gone while the program is stopped: it ends as by a hangup, and what came of a paste is saved, by the host if
     that is still there."""
     made(folder, a="one\n")
-    line = f"{SAMTERM_WORD} --host {shlex.quote(SAMHOST_WORD)} a.txt; echo back in the shell; read x; fg"
+    line = f"{SAMTERM_WORD} --details --host {shlex.quote(SAMHOST_WORD)} a.txt; echo back in the shell; read x; fg"
     with Session(folder, "a.txt", program=f"bash --norc -ic {shlex.quote('set -m; ' + line)} --") as session:
         session.wait_for("one")
         session.tmux("send-keys", "-H", *(f"{byte:x}" for byte in b"\x1b[200~pasted "))
@@ -101,7 +101,8 @@ def check_hangup_while_suspended(folder):
         wait_until(lambda: (stat_of(terminal) or "Z")[0] == "Z", "it doesn't end")
         wait_until(lambda: "pasted one\n" in texts_beside(folder / "a.txt"), "what came is saved nowhere")
     told = (folder / "stderr").read_text()
-    expect("a.txt.sam-" in told and "Traceback" not in told, f"it tells {told!r}")
+    has_it = "a.txt.sam-" in told or "the session stays at the host. " in told  # else it says what that may lack
+    expect(has_it and "Traceback" not in told, f"it tells {told!r}")
 
 
 def check_exception(folder):

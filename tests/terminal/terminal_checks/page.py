@@ -1,5 +1,5 @@
 """docs/howto/EDITOR.md."""
-import re
+import json
 import subprocess
 import time
 from importlib.machinery import SourceFileLoader
@@ -11,7 +11,7 @@ from .support import PAGE, ROOT, SAMTERM, Session, expect, made
 def picture(folder):
     """The picture of the page."""
     made(folder, notes="Shopping\n\ttea, rice, 豆腐\n\tpaper\n", todo="call the bank\n")
-    with Session(folder, "notes.txt", "todo.txt", slow=0, width=72, height=20) as session:
+    with Session(folder, "notes.txt", "todo.txt", slow=0, width=72, height=20, details=False) as session:
         session.wait_for("paper")
         session.keys("C-t")
         session.wait_for("call the bank")
@@ -22,8 +22,8 @@ def picture(folder):
         session.type(",x/paper/c/ink/")
         session.keys("Enter")
         session.wait_for("        ink")
-        session.wait_for_quiet()
-        time.sleep(0.3)  # so that the counts of bytes are those of today
+        session.wait_for("line 3 of 3")
+        time.sleep(0.3)
         return "\n".join(line.rstrip() for line in session.screen())
 
 
@@ -32,13 +32,21 @@ def check_page(folder):
     keys = subprocess.run([SAMTERM, "--keys"], capture_output=True, check=True).stdout.decode()
     page = PAGE.read_text()
     expect(keys in page, "the keys of docs/howto/EDITOR.md are not those of `samterm --keys`")
-    drawn, kept = (re.sub(r"up \d+ down \d+", "up N down N", text) for text in (picture(folder), page))
-    expect(drawn in kept, "the picture of docs/howto/EDITOR.md is not what `tests/terminal/terminal --draw` prints")
+    expect(picture(folder) in page, "the picture of docs/howto/EDITOR.md is not what `tests/terminal/terminal --draw` prints")
+
+
+def check_times_of_the_pages(folder):
+    """The times that the pages tell are those of bench/editor.json, which has one for each row."""
     bench = loaded_script(ROOT / "bench" / "editor")
-    found = {what: 1.0 for what in bench.ROWS}
-    table = bench.table_of({delay: {"samterm": found, "vim": {what: 1.0 for what in bench.ROWS_OF_VIM}} for delay in bench.DELAYS})
-    form, kept = (re.sub(r"(?<=\| )[\d,]+(?= \|)", "N", text) for text in ("\n".join(table), page))
-    expect(form in kept, f"the table of docs/howto/EDITOR.md has not the form that bench/editor prints:\n{form}")
+    data = json.loads(bench.RESULT.read_text())
+    for delay, found in data["found"].items():
+        for program, rows in (("samterm", bench.ROWS), ("vim", bench.ROWS_OF_VIM)):
+            wrong = set(found[program]) ^ set(bench.rows_at(int(delay), rows))
+            expect(not wrong, f"at {delay} ms bench/editor.json has of {program} {wrong} too many or too few")
+    told = bench.page_of(data)
+    expect(told in PAGE.read_text(), f"docs/howto/EDITOR.md doesn't say what `bench/editor --page` prints:\n{told}")
+    told = bench.sentence_of(data)
+    expect(told in (ROOT / "README.md").read_text(), f"README.md doesn't say what `bench/editor --page` prints:\n{told}")
 
 
 def loaded_script(path):

@@ -147,7 +147,7 @@ def opened(*texts, has_vault=False, size=(60, 200), key_set="sam"):
     """A pair with a window for each text, and a screen of so many rows and columns."""
     pair = Pair(random.Random(1), texts, has_vault, key_set=key_set)
     pair.editor.arrange(*size)
-    pair.finish()
+    pair.finish(3)  # seconds of rest, in which the command file is opened
     for _ in texts[1:]:
         pair.editor.take(pair.keys.Key("^T"))
         pair.finish()

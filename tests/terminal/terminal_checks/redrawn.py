@@ -66,16 +66,17 @@ def nothing_kept(pair):
     windows = [*editor.all_windows.values()]
     kept = [(window, window._layout, window._layout_of, window._heard, window._change, window.drawn) for window in windows]
     known, editor.numbers._known = editor.numbers._known, {}
+    counts, editor.numbers._counts = editor.numbers._counts, {}
     terminal.runes = lambda *words: Terminal.runes(terminal, *words)
     for window in windows:
-        window._layout, window._layout_of, window.drawn = None, (), None
+        window._layout, window._layout_of, window.drawn, window._shown_ahead = None, (), None, ((), None)
     for file in editor.colours._files.values():
         file._found = None
     try:
         yield
     finally:
         del terminal.runes
-        editor.numbers._known = known
+        editor.numbers._known, editor.numbers._counts = known, counts
         for window, *values in kept:
             window._layout, window._layout_of, window._heard, window._change, window.drawn = values
 

@@ -31,15 +31,15 @@ MOST_WORK = 0.1  # seconds until the host has all, beside two round trips
 class OnTerminal:
     """samterm on a terminal of its own, to a session that stays, over a line that may be stopped."""
 
-    def __init__(self, folder, *files, delay=0, host=None):
+    def __init__(self, folder, *files, delay=0, host=None, program=(SAMTERM,)):
         self.folder, self.block, self.log = folder, folder / "block", folder / "connected"
-        host = host or shlex.join(map(str, (sys.executable, GATE, self.block, self.log, delay, SAMHOST)))
+        host = host or shlex.join(map(str, (sys.executable, GATE, self.block, self.log, *str(delay).split(), SAMHOST)))
         environment = {**os.environ, "SAM_LIBRARY": str(LIBRARY), "LC_ALL": "C.UTF-8", "TERM": "xterm-256color", "TMPDIR": str(folder)}
         environment["XDG_STATE_HOME"] = str(folder / STATE)
         self.end, inner = pty.openpty()
         fcntl.ioctl(inner, termios.TIOCSWINSZ, struct.pack("HHHH", HEIGHT, WIDTH, 0, 0))
         self.process = subprocess.Popen(
-            [sys.executable, SAMTERM, "--host", host, *files], stdin=inner, stdout=inner, stderr=subprocess.DEVNULL, cwd=folder,
+            [sys.executable, *program, "--host", host, *files], stdin=inner, stdout=inner, stderr=subprocess.DEVNULL, cwd=folder,
             env=environment, start_new_session=True, preexec_fn=lambda: fcntl.ioctl(0, termios.TIOCSCTTY, 0),
         )  # fmt: skip
         os.close(inner)
@@ -203,7 +203,7 @@ def check_draws_a_long_answer(folder):
     from terminal import loop
 
     drawn, turns = [], loop.Loop.__new__(loop.Loop)
-    turns.editor, turns.link, turns.drawn_at = None, None, time.monotonic()
+    turns.editor, turns.link, turns.drawn_at, turns._quiet_at = None, None, time.monotonic(), 0.0
     turns.screen = SimpleNamespace(draw=lambda editor, link: drawn.append(time.monotonic()))
     turns._ready = lambda seconds: {0: 1}
     turns._take_keys = turns._take_signals = lambda ready: None

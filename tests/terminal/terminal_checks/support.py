@@ -69,9 +69,11 @@ class Session:
     """A terminal in a tmux of its own."""
 
     def __init__(
-        self, folder, *files, slow=None, width=80, height=24, settings="", program=SAMTERM, host=None, stays=False, take=None
+        self, folder, *files, slow=None, width=80, height=24, settings="", program=SAMTERM, host=None, stays=False, take=None,
+        details=True,
     ):
-        """Where the session stays, it goes on through a line that breaks; with a name it is one that another has left."""
+        """Where the session stays, it goes on through a line that breaks; with a name it is one that another has left. With details the
+        status line says what goes over the line, by which the checks know when it is quiet."""
         self.folder, self.status_file = folder, folder / "status"
         self.ends_staying = True  # else the session is left at the host, for another
         self.tmux_words = ["tmux", "-S", str(folder / ".tmux"), "-f", "/dev/null", "-u"]
@@ -81,6 +83,7 @@ class Session:
         host += "" if stays else " --stay 0"
         if take is not None:
             host = f"--take {shlex.quote(words)} {take}"
+        host += " --details" if details and "samterm" in str(program) else ""
         program = shlex.quote(str(program)) if isinstance(program, Path) else program
         command = f"cd {shlex.quote(str(folder))}; {settings} {program} {host} {' '.join(files)} 2> stderr; echo $? > status; exec sleep 1000"
         own = {"TMPDIR": str(folder), "XDG_STATE_HOME": str(folder / STATE)}
@@ -138,6 +141,12 @@ class Session:
         before = self.goes_to(COMMAND_WINDOW)
         self.keys("Escape")
         wait_until(lambda: self.goes_to(COMMAND_WINDOW) != before, lambda: "Esc doesn't switch:\n" + "\n".join(self.screen()))
+
+    def open_command_file(self):
+        """Goes to the command window and back, so that it is there where the line breaks."""
+        for _ in range(2):
+            self.switch()
+            self.wait_for_quiet()
 
     def command(self, line):
         """Runs a command line, and goes back."""
@@ -254,10 +263,15 @@ class Session:
         return next((process for process in below(terminal) if (stat_of(process) or "Z")[0] != "Z"), None)
 
     def break_line(self, number=signal.SIGKILL):
-        """Ends the process that carries the bytes."""
+        """Ends the process that carries the bytes. Answers which that was."""
         relay = wait_until(self.relay, "there is no line to break")
         with contextlib.suppress(ProcessLookupError):
             os.kill(relay, number)
+        return relay
+
+    def wait_for_another_line(self, relay):
+        """Waits until another process carries the bytes than this one."""
+        wait_until(lambda: self.relay() not in (None, relay), "the line is not tried again")
 
     @contextlib.contextmanager
     def stopped_line(self):

@@ -1,0 +1,515 @@
+"""What a user need not wait for: keys in a file that is being loaded, and what the bottom lines say."""
+import random
+import re
+import shutil
+import struct
+import subprocess
+from pathlib import Path
+
+from checks import Skipped, expect_equal, times_longer
+
+from .breaks import Line
+from .key_times import after_the_start, of_words, until_all_is_loaded
+from .pairs import LONG, Pair, loads_of, opened
+from .stopped import RUNES, OnTerminal, share_of
+from .support import expect
+
+TEXTS = (
+    "".join(f"line {at} {'x' * (at * 37 % 150)}\n" for at in range(900)),
+    "".join(f"{' ' * (at % 5)}{chr(9) * (at % 3)}word {at}\r\n" for at in range(900)),
+    "日本語 é\n" * 700 + "end",
+)
+KEYS = ("x", "yz", "\n", "\n", "\n\n", "a\nb", "日", "e\u0301", "\t", "Backspace", "Backspace", "Backspace")
+OTHERS = ("Left", "^Z", "Down", "Home")
+
+
+def slow(*texts, size=(20, 80), speed=1_000_000, each_way=0.3, seed=1):
+    """A pair in a session that stays, over a line that carries so many bytes a second, so many seconds each way, by a clock of its own."""
+    pair = Pair(random.Random(seed), texts, has_vault=True)
+    pair.editor.arrange(*size)
+    pair.editor.way.line = line = Line()
+    line.round_trip = 2 * each_way
+    pair.speed, pair.each_way, pair.coming, pair.free_at = speed, each_way, [], 0.0
+    return pair
+
+
+def run_until(pair, when):
+    """The clock goes on to a time; bytes take their time on the line each way."""
+    while True:
+        pair.pause()
+        if pair.up:
+            pair.coming.append((pair.now + pair.each_way, "up", bytes(pair.up)))
+            pair.up.clear()
+        wakes = pair.editor.wakes_in()
+        due = [at for at, _, _ in pair.coming] + ([pair.now + max(wakes, 0.001)] if wakes is not None else [])
+        if not due or min(due) > when:
+            pair.now = max(pair.now, when)
+            pair.pause()
+            return
+        pair.now = max(pair.now, min(due))
+        for item in [item for item in pair.coming if item[0] <= pair.now]:
+            pair.coming.remove(item)
+            if item[1] == "up":
+                pair.host.feed(item[2])
+                data = pair.host.take_out()
+                for start in range(0, len(data), 16_384):
+                    piece = data[start : start + 16_384]
+                    pair.free_at = max(pair.free_at, pair.now) + len(piece) / pair.speed
+                    pair.coming.append((pair.free_at + pair.each_way, "down", piece))
+            else:
+                pair.editor.feed(item[2])
+
+
+def shown(pair):
+    """The rows of the windows, and the cursor."""
+    editor = pair.editor
+    rows = {}
+    for window in editor.windows:
+        rows.update(pair.screen.window_rows(editor, window))
+    return rows, pair.screen.cursor_of(editor)
+
+
+def until_text(pair):
+    """The clock goes on until the first text shows."""
+    while not pair.editor.active.is_open or pair.editor.active.read(0, 1) in ("", pair.gap):
+        run_until(pair, pair.now + 0.01)
+        expect(pair.now < 20, "no text comes")
+
+
+def check_command_file_opens_at_rest(folder):
+    """The command file isn't opened while the first text shows, so the first key acts at once; it is after two seconds of rest, and at
+    the first key that needs it: a command line runs all the same."""
+    for name, wanted in ((None, 2.0), ("Esc", 0.0), ("^P", 0.0)):
+        pair = slow("one\ntwo\n")
+        until_text(pair)
+        start, editor = pair.now, pair.editor
+        editor.take(pair.keys.Text("x"))
+        expect(not editor.deferred and pair.terminal.read(1, 0, 1) == ["x"], "the first key waits")
+        if name is None:
+            run_until(pair, start + wanted - 0.1)
+            expect(not pair.terminal.command_locked and not editor.command.is_open, "the command file is opened before")
+            run_until(pair, start + wanted + 0.7)
+        else:
+            editor.take(pair.keys.Key(name))
+            run_until(pair, start + 0.7)
+            expect(editor.command.is_open, f"{name} doesn't open the command file")
+            editor.take(pair.keys.Text("2d\n"))
+            run_until(pair, start + 4)
+            expect_equal(pair.host.text(1), "xone\n")
+        expect(editor.command.is_open, f"the command file is not open after {name or 'a rest'}")
+
+
+def check_find_without_the_command_file(folder):
+    """Enter has the host look for what was sought, also where the command file isn't open yet."""
+    pair = slow("one\ntwo\n")
+    until_text(pair)
+    for key in (pair.keys.Key("^S"), pair.keys.Text("two"), pair.keys.Text("\n")):
+        pair.editor.take(key)
+    run_until(pair, pair.now + 3)
+    expect_equal((pair.terminal.dot(1), pair.terminal.pattern), ((4, 7), "two"))
+
+
+def check_whole_file_at_rest(folder):
+    """Over a line of 1 MB/s, 300 ms each way, a text of 852,000 characters is there within three seconds of the first one; no slice takes
+    the line much longer than a second, also where it is slower, and none begins within two seconds of a key."""
+    text = "".join(f"{at:05} the quick brown fox jumps over the lazy dog and runs away from it\n" for at in range(12_000))
+    for speed, most in ((1_000_000, 3.0), (100_000, 20.0)):
+        pair = slow(text, speed=speed)
+        loads = loads_of(pair)
+        until_text(pair)
+        start = pair.now
+        while pair.terminal.first_gap(1) is not None:
+            run_until(pair, pair.now + 0.05)
+            expect(pair.now - start <= most, f"at {speed} bytes a second it takes more than {most} s: {loads}")
+        longest = max(count for _, _, count in loads) / speed
+        expect(longest < 1.3, f"at {speed} bytes a second a slice takes {longest} s: {loads}")
+    pair = slow(text, speed=200_000)
+    until_text(pair)
+    run_until(pair, pair.now + 3)
+    pair.editor.take(pair.keys.Key("Down"))
+    pressed, loads = pair.now, loads_of(pair)
+    run_until(pair, pressed + 1.9)
+    expect(not loads, f"a slice begins right after a key: {loads}")
+    run_until(pair, pressed + 8)
+    expect(len(loads) > 1, f"it loads no more: {loads}")
+
+
+def check_keys_under_loads(folder):
+    """Typing, Backspace and Enter show at once while the file is loaded or the command file is opened, just as they stand there once they
+    have acted; and nothing shows of other keys, nor of those after them."""
+    seen = 0
+    for seed in range(30):
+        numbers = random.Random(seed)
+        pair = slow(numbers.choice(TEXTS), speed=20_000, seed=seed, size=numbers.choice(((12, 40), (22, 80), (40, 120))))
+        editor, key = pair.editor, pair.keys.Key
+        until_text(pair)
+        if numbers.random() < 0.6:
+            for name in numbers.choice((["Down"] * 4, ["End", "Down"], ["^End"], ["Page Down", "Down"])):
+                editor.take(key(name))
+            run_until(pair, pair.now + numbers.choice((1.0, 3.0, 6.0)))
+        for _ in range(400):
+            if not editor.deferred and pair.terminal.is_kept(1):
+                break
+            run_until(pair, pair.now + 0.02)
+        if editor.deferred or not pair.terminal.is_kept(1):
+            continue
+        for at in range(numbers.randrange(1, 12)):
+            name = numbers.choice(KEYS)
+            editor.take(key(name) if name == "Backspace" else pair.keys.Text(name))
+        editor.update()
+        waiting = len(editor.deferred)
+        before = shown(pair)
+        ahead = editor.active.ahead
+        if ahead is None or ahead.keys < waiting or not pair.terminal.is_kept(1):
+            continue
+        seen += 1
+        text = ahead.read(0, ahead.length)
+        while editor.deferred:
+            run_until(pair, pair.now + 0.01)
+            expect(not editor.is_lost, editor.message)
+        after = shown(pair)
+        window = editor.active
+        loaded = window.read(0, window.length)
+        expect(len(loaded) == len(text), f"seed {seed}: {len(text)} runes were shown ahead, {len(loaded)} are there")
+        differ = [at for at, (one, other) in enumerate(zip(text, loaded)) if one not in (other, pair.gap)]
+        expect(not differ, f"seed {seed}: at {differ[:3]} another text was shown ahead than is there")
+        if "░" not in str(before[0]):  # what is missing may move the window as it comes
+            expect(before[1] == after[1], f"seed {seed}: the cursor stood at {before[1]}, and then at {after[1]}")
+            rows = [(y, before[0][y], after[0].get(y)) for y in before[0] if before[0][y] != after[0].get(y)]
+            expect(not rows, f"seed {seed}: other rows were shown ahead than are there: {rows[:2]}")
+    expect(seen >= 10, f"this test is wrong: it saw keys shown ahead {seen} times")
+
+
+def check_other_keys_under_loads(folder):
+    """Keys of another kind, and those after them, wait under a load and don't show; and nothing is shown ahead under another lock."""
+    pair = slow(LONG, speed=20_000)
+    until_text(pair)
+    editor = pair.editor
+    while not pair.terminal.is_kept(1):
+        run_until(pair, pair.now + 0.02)
+    for name in ("q", "Left", "r"):
+        editor.take(pair.keys.Key(name) if len(name) > 1 else pair.keys.Text(name))
+    editor.update()
+    expect_equal((editor.active.ahead.came, editor.active.ahead.keys, len(editor.deferred)), ("q", 1, 3))
+    run_until(pair, pair.now + 5)
+    expect_equal(pair.host.text(1)[:6], "rqline")
+    editor.take(pair.keys.Key("^W"))
+    editor.take(pair.keys.Text("s"))
+    editor.update()
+    expect(pair.terminal.locked(1) and editor.deferred and editor.active.ahead is None, "a key is shown ahead while the file is written")
+    pair, editor, key, text = opened(LONG, size=(20, 80))
+    pair.terminal.set_snarf("pasted")
+    pair.finish()
+    pair.terminal.load(1, 20_000, 500)
+    pair.finish()
+    editor.take(key("^V"))
+    editor.take(text("s"))
+    editor.update()
+    expect(pair.terminal.locked(1) and editor.deferred and editor.active.ahead is None, "a key is shown ahead while the host pastes")
+
+
+def check_keys_of_a_start(folder):
+    """The keys of one who types from the first text on show at once, over a slow line, while the file is loaded."""
+    most = 0.02 * times_longer()
+    found = of_words(folder, 100)
+    expect(share_of(found, 50) < most, f"half of the keys take {share_of(found, 50) * 1000:.0f} ms and more")
+    late = [seconds for seconds in found if seconds > max(0.1, 4 * most)]
+    expect(len(late) <= 2, f"{len(late)} of {len(found)} keys take {[round(seconds * 1000) for seconds in late]} ms")
+    found = after_the_start(folder, 100)
+    late = {pause: seconds for pause, seconds in found.items() if seconds > max(0.1, 4 * most)}
+    expect(len(late) <= 1, f"keys after so many seconds take {late} s")
+
+
+def check_loaded_over_a_line(folder):
+    """A text of 852,000 characters is loaded whole soon after it shows; the status line says so by the number of its lines."""
+    took = until_all_is_loaded(folder, "50 2000000")
+    expect(took < 3 * times_longer(), f"it takes {took:.1f} s")
+
+
+COUNTING = Path(__file__).with_name("counting.py")
+KEYS_COUNTED = 20
+MOST_SYSTEM_CALLS, MOST_LIBRARY_CALLS = 12, 15  # for a key
+
+
+def typed_apart(session):
+    """Types some keys, each once all is quiet."""
+    for rune in RUNES[:KEYS_COUNTED]:
+        session.type(rune)
+        session.read_until(rune)
+        session.rest(0.3)
+
+
+def in_a_line(folder, **more):
+    (folder / "a.txt").write_text("".join(f"line {number}\n" for number in range(1, 400)))
+    return OnTerminal(folder, "a.txt", **more)
+
+
+def check_library_calls_of_a_key(folder):
+    """A typed key takes few calls of the library, until it is drawn, sent and known to have arrived."""
+    count = folder / "count"
+    with in_a_line(folder, program=(COUNTING, count)) as session:
+        session.read_until("line 1")
+        session.rest(4.0)
+        before = struct.unpack("Q", count.read_bytes())[0]
+        typed_apart(session)
+        calls = (struct.unpack("Q", count.read_bytes())[0] - before) / KEYS_COUNTED
+    expect(0 < calls <= MOST_LIBRARY_CALLS, f"a key takes {calls} calls of the library")
+
+
+def check_system_calls_of_a_key(folder):
+    """The same of system calls."""
+    if shutil.which("strace") is None:
+        raise Skipped("no strace")
+    trace = folder / "trace"
+    with in_a_line(folder) as session:
+        session.read_until("line 1")
+        session.rest(4.0)
+        tracer = subprocess.Popen(["strace", "-o", trace, "-p", str(session.process.pid)], stderr=subprocess.PIPE)
+        try:
+            if b"attached" not in tracer.stderr.readline():
+                raise Skipped("strace may not look at a process")
+            session.type("a")
+            session.read_until("a")
+            session.rest(0.5)
+            before = len(trace.read_text().splitlines())
+            typed_apart(session)
+            lines = trace.read_text().splitlines()[before:]
+        finally:
+            tracer.terminate()
+            tracer.wait()
+            tracer.stderr.close()
+    calls = [line.partition("(")[0] for line in lines]
+    kinds = {call: calls.count(call) / KEYS_COUNTED for call in calls}
+    expect(len(calls) <= MOST_SYSTEM_CALLS * KEYS_COUNTED, f"a key takes {len(calls) / KEYS_COUNTED} system calls: {kinds}")
+
+
+def check_pauses_until_a_line_is_tried_again(folder):
+    """A line that breaks is tried at once, then after 1, 2, 4 seconds and so on."""
+    from terminal.line import persistent_session
+
+    now, pauses = [100.0], []
+    session = persistent_session.PersistentSession(["sleep", "100"], lambda name: [], clock=lambda: now[0])
+    try:
+        for _ in range(8):
+            session._break()
+            pauses.append(session.delay())
+            now[0] += session.delay()
+            session.connect()
+        expect_equal(pauses, [0, 1, 2, 4, 8, 16, 30, 30])
+    finally:
+        session.ends, session.relay = False, session.relay and session.relay.kill()
+
+
+# ---- What the bottom lines say
+
+
+class Counted(Line):
+    waiting, up, down = b"", 0, 0
+
+
+def check_status_line_says(folder):
+    """It says the file, whether it was changed, and the line of how many, wherever that is in a loaded text; with details also selection,
+    locks and bytes."""
+    lines = 60_000
+    pair, editor, key, text = opened("a line of text\n" * lines, "b", size=(20, 80))
+    editor.go_to(editor.files[0])
+    while (gap := pair.terminal.first_gap(1)) is not None:
+        pair.terminal.load(1, gap, min(400_000, pair.terminal.len(1) - gap))
+        pair.finish()
+    say = lambda: pair.screen.status(editor, Counted())  # noqa: E731
+    expect_equal(say(), f"file0 | line 1 of {lines}")
+    pair.press(key("^End"), key("Up"), text("x\n"))
+    expect_equal(say(), f"file0 * | line {lines + 1} of {lines + 1}")
+    pair.press(key("^Home"), key("Down"))
+    expect_equal(say(), f"file0 * | line 2 of {lines + 1}")
+    pair.press(key("F11"))
+    expect(re.fullmatch(rf"file0 \* \| line 2 of {lines + 1} \| \d+,\d+ of \d+ \| free", say()), f"with details it says {say()!r}")
+    pair.press(key("F11"), key("^P"))
+    expect_equal(say(), "file1 | line 1 of 1")
+
+
+def check_number_of_lines(folder):
+    """However a text changes, its number of lines is that of its newlines, and one more where it ends in none."""
+    numbers = random.Random(3)
+    pair, editor, key, text = opened("a\nb\nc", size=(20, 80))
+    keys = [text("x"), text("\n"), *map(key, ("Backspace", "^Home", "^End", "^Z", "^R", "Up"))]
+    for _ in range(200):
+        pair.editor.take(numbers.choice(keys))
+        pair.finish(0.1)
+        window = editor.active
+        whole = window.read(0, window.length)
+        wanted = whole.count("\n") + (not whole.endswith("\n"))
+        expect_equal(editor.numbers.count(1, window.length), wanted)
+
+
+def check_one_line_for_a_key(folder):
+    """A key that is typed in a line leaves the status line as it is."""
+    pair, editor, _, text = opened("some text\n", size=(20, 80))
+    pair.press(text("x"))
+    before = pair.screen.status(editor, Counted())
+    editor.take(text("y"))
+    expect_equal(pair.screen.status(editor, Counted()), before)
+    pair.trip()
+    expect_equal(pair.screen.status(editor, Counted()), before)
+
+
+def check_help_fits(folder):
+    """The help fits a screen of 80 columns."""
+    from terminal.keys.bindings import table
+
+    long = [line for line in table() if len(line) > 78]
+    expect(not long, f"too long: {long}")
+
+
+def check_find_says_what_it_does(folder):
+    """`^S` shows its prompt at once; it goes on from the other end of a loaded text, and says so; and `^F`, `^L` say what they lack."""
+    pair, editor, key, text = opened("one two\nthree two\nend\n", size=(20, 80))
+    pair.press(key("^F"))
+    expect("nothing was searched yet" in editor.message, f"^F says {editor.message!r}")
+    pair.press(key("^L"))
+    expect("nothing is selected" in editor.message, f"^L says {editor.message!r}")
+    editor.take(key("^S"))
+    expect_equal(editor.message, "find: ")
+    down, up = key("Down"), key("Up")
+    first, second = (4, 7), (14, 17)
+    for each, dot, words in ((text("two"), first, ""), (down, second, ""), (down, first, "from the top"), (up, second, "from the end")):
+        editor.take(each)
+        says = words in editor.message and ("from" in editor.message) == (words != "")
+        expect(editor.active.dot == dot and says, f"{editor.active.dot}, {editor.message!r}")
+    editor.take(text("zz"))
+    expect("nowhere" in editor.message and "loaded" not in editor.message, f"of a loaded text it says {editor.message!r}")
+    pair.press(key("Esc"), key("^End"), key("^S"), text("one"))
+    expect(editor.active.dot == (0, 3) and "from the top on" in editor.message, f"{editor.active.dot}, {editor.message!r}")
+
+
+def check_find_in_a_text_with_gaps(folder):
+    """Where text below isn't loaded it doesn't go on from the top: a place might stand there."""
+    pair, editor, key, text = opened(LONG, size=(20, 80))
+    pair.press(key("Down"), key("Down"), key("^S"), text("line 0"))
+    expect("not in what is loaded" in editor.message, f"it says {editor.message!r}")
+
+
+HELPED = (
+    ("w", r"\^W writes"), ("s/a/b/", ",x/a/c/b/"), ("%s/a.b/c/g", r",x/a\\.b/c/c/"), ("/[/", "plain text"), ("zzz", ",x/old/c/new/"),
+    ("/zz/", "nowhere"), ("99", "no such line"), (",x/a/c/\\q/", "after"), ("q!", "q leaves"), ("  w  ", r"\^W writes"),
+)  # fmt: skip
+
+
+def check_errors_help(folder):
+    """The bottom line says what helps where a command line didn't run; nothing is said of one that did."""
+    pair, editor, key, text = opened("a b\n", size=(20, 80))
+    for line, words in HELPED:
+        pair.press(key("Esc"), key("^End"), text(line), text("\n"), seconds=0.1)
+        expect(re.search(words, editor.message), f"{line!r}: it says {editor.message!r}")
+        pair.press(key("Esc"), seconds=0.1)
+    for line in (",p", "1", ",x/b/c/c/"):
+        pair.press(key("Esc"), key("^End"), text(line), text("\n"), seconds=0.1)
+        expect("?" not in editor.message, f"{line!r}: it says {editor.message!r}")
+        pair.press(key("Esc"), seconds=0.1)
+
+
+# ---- Lines that are too long for the host
+
+
+def loaded(*texts):
+    """A pair with all of its texts loaded."""
+    pair, editor, key, text = opened(*texts, has_vault=True, size=(20, 80))
+    while (gap := pair.terminal.first_gap(1)) is not None:
+        pair.terminal.load(1, gap, min(900_000, pair.terminal.len(1) - gap))
+        pair.trip()
+    pair.finish()
+    return pair, editor, key, text
+
+
+def run_line(pair, line):
+    """Runs a command line, and goes back. Answers what the bottom line says of it."""
+    pair.press(pair.keys.Key("Esc"), pair.keys.Key("^End"), pair.keys.Text(line), seconds=0.1)
+    pair.editor.take(pair.keys.Text("\n"))
+    for _ in range(200):
+        pair.trip()
+        if not pair.editor.is_lock_held:
+            break
+    told = pair.editor.message
+    pair.press(pair.keys.Key("Esc"), seconds=0.1)
+    return told
+
+
+def check_long_lines(folder):
+    """A line that changes each place of a pattern runs in parts where it is too long for one: the text is what Python makes of it, the
+    caret stands after the last change, one `^Z` takes all back, and `^R` makes it again."""
+    cases = (
+        ("the quick fox\n" * 60_000, ",x/quick/c/slow/", "quick", "slow"), ("aaaaa" * 180_000, ",x/aa/c/b/", "aa", "b"),
+        ("aba" * 300_000, ",x/aba/c/ab", "aba", "ab"), ("x..y\n" * 180_000, r" , x /\.\./c/\// ", "..", "/"),
+        ("a\n\n" * 300_000, r",x/\n\n/c/\n/", "\n\n", "\n"), ("日本語" * 260_000, ",x/本語/c/語/", "本語", "語"),
+    )  # fmt: skip
+    for before, line, pattern, came in cases:
+        pair, editor, key, _ = loaded(before)
+        told, after = run_line(pair, line), before.replace(pattern, came)
+        expect(pair.host.text(1) == after, f"{line}: the text is another: {told!r}")
+        expect("parts" in told, f"this test is wrong: {line} was not too long: {told!r}")
+        place = after.rfind(came) + len(came)
+        expect_equal(editor.active.dot, (place, place))
+        pair.press(key("^Z"))
+        expect(pair.host.text(1) == before, f"{line}: ^Z doesn't take all of it back")
+        pair.press(key("^R"))
+        expect(pair.host.text(1) == after, f"{line}: ^R doesn't make all of it again")
+
+
+def check_long_lines_of_a_selection(folder):
+    """A line without an address changes what is selected, and no more; keys that come meanwhile act after it."""
+    before = "the quick fox\n" * 64_000
+    pair, editor, key, text = loaded(before)
+    pair.terminal.select(1, 7, 890_007)
+    pair.finish()
+    pair.press(key("Esc"), key("^End"), text("x/quick/c/slow/"), seconds=0.1)
+    for each in (text("\n"), key("Esc"), text("!")):
+        editor.take(each)
+    for _ in range(100):
+        pair.trip()
+    middle = before[7:890_007].replace("quick", "slow")
+    after = before[:7] + middle + before[890_007:]
+    place = 7 + middle.rfind("slow") + 4
+    expect(pair.host.text(1) == after[:place] + "!" + after[place:], f"the text is another: {editor.message!r}")
+
+
+def check_long_lines_that_stay_refused(folder):
+    """What would not fit, has gaps, or is of another form stays refused, with a word; and nothing changes."""
+    before = "ab\n" * 300_000
+    for line, words in ((",x/ab/c/abcdef/", "more than 1,000,000"), (",x/ab/x/a/c/b/", "select a part"), ("1,$x/ab/c/a/", "select a part")):
+        pair, editor, key, _ = loaded(before)
+        told = run_line(pair, line)
+        expect(pair.host.text(1) == before and words in told, f"{line}: it says {told!r}")
+    pair, editor, key, text = opened(before, has_vault=True, size=(20, 80))
+    told = run_line(pair, ",x/ab/c/a/")
+    expect(pair.host.text(1) == before and "loaded" in told, f"of a text that is not loaded it says {told!r}")
+
+
+def check_parts_of_random_lines(folder):
+    """The parts of a line do, one after the other, what the whole line does, whatever overlaps where one part ends."""
+    from terminal.keys import long_lines
+
+    numbers, most = random.Random(7), long_lines.MOST_RUNES
+    long_lines.MOST_RUNES = 60
+    try:
+        for _ in range(3000):
+            text = "".join(numbers.choice("ab") for _ in range(numbers.randrange(1, 60)))
+            pattern = "".join(numbers.choice("ab") for _ in range(numbers.randrange(1, 4)))
+            came = "".join(numbers.choice("abc") for _ in range(numbers.randrange(0, 4)))
+            start, end = sorted(numbers.randrange(len(text) + 1) for _ in range(2))
+            address = numbers.choice((",", "", "."))
+            low, high = (0, len(text)) if address == "," else (start, end)
+            wanted = text[:low] + text[low:high].replace(pattern, came) + text[high:]
+            parts = long_lines.parts_of(f"{address}x/{pattern}/c/{came}/", len(text), (start, end), lambda at, count: text[at : at + count])
+            if parts.why_not:
+                expect(not parts.lines, "it says why not, and runs")
+                continue
+            got = text
+            for part in parts.lines:
+                first, last, sought, put = re.fullmatch(r"#(\d+),#(\d+)x/(.*)/c/(.*)/", part).groups()
+                first, last = int(first), int(last)
+                puts = len(got) + got[first:last].count(sought) * len(put)
+                expect(puts <= 60, f"{part} is too long itself")
+                got = got[:first] + got[first:last].replace(sought, put) + got[last:]
+            expect(got == wanted, f"{address}x/{pattern}/c/{came}/ on {text}, {start, end}: {got}, wanted {wanted}")
+    finally:
+        long_lines.MOST_RUNES = most
