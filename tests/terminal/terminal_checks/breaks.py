@@ -241,7 +241,7 @@ def check_typing_on_a_stopped_line(folder):
     (path,) = made(folder, a=LONG)
     with Session(folder, "a.txt", stays=True, width=160) as session:
         session.wait_for("line 1 ")
-        session.wait_for_quiet()
+        session.open_command_file()
         model = Model(LONG, 160)
         wait_until_loaded(session)
         with session.stopped_line():
