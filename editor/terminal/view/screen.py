@@ -420,11 +420,10 @@ def menu_rows(menu, rows: int, columns: int) -> Dict[int, List[Run]]:
 def status(editor: Editor, link: Line) -> str:
     """Name, mark of a change, the caret's line, and what is wrong; with details also what goes over the line."""
     window, way = editor.active, editor.way
-    name, (file, dot, caret, _) = editor.name(window.tag), window.shown()
+    name, file = editor.name(window.tag), window.look().file
     parts = [("…" + name[-MOST_IN_STATUS:] if len(name) > MOST_IN_STATUS else name) + (" *" if editor.is_changed(window.tag) else "")]
     if file.is_open:
-        parts += line_of(editor, window, caret, file.len)
-        parts += ["{},{} of {}".format(*dot, file.len)] if editor.has_details else []
+        parts += place_of(editor, window, file.len)
     if editor.is_lost:
         parts.append("HOST LOST")
     elif editor.has_details:
@@ -438,13 +437,17 @@ def status(editor: Editor, link: Line) -> str:
     return " | ".join(parts)
 
 
-def line_of(editor: Editor, window: Window, caret: int, length: int) -> List[str]:
-    """The line of the caret, of how many; each as far as it is known."""
-    ahead, tag = window.shown_ahead, window.tag
-    line, count = editor.numbers.line(tag, caret if ahead is None else ahead.start), editor.numbers.count(tag, length)
+def place_of(editor: Editor, window: Window, length: int) -> List[str]:
+    """The line of the caret, of how many; with details the selection, of how many characters, and the line. Each as far as it is known."""
+    ahead, tag, (_, dot, caret, _) = window.shown_ahead, window.tag, window.shown()
+    line = editor.numbers.line(tag, caret if ahead is None else ahead.start)
+    if line is not None and ahead is not None:
+        line += ahead.came.count("\n")
+    if editor.has_details:
+        return [f"{dot[0]},{dot[1]} of {length}" + (f", line {line}" if line is not None else "")]
+    count = editor.numbers.count(tag, length)
     if line is None:
         return []
-    line += 0 if ahead is None else ahead.came.count("\n")
     return [f"line {line}" if count is None else f"line {line} of {max(line, count)}"]
 
 

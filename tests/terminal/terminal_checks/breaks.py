@@ -251,7 +251,7 @@ def check_typing_on_a_stopped_line(folder):
                 start, rune = time.monotonic(), "abcdefghij"[count % 10]
                 session.type(rune)
                 model.type(rune)
-                wait_until(lambda: f" of {len(model.text)} | " in session.status(), lambda: f"{rune} doesn't show: {session.status()}", 2)
+                wait_until(lambda: f"{len(model.text)}, line" in session.status(), lambda: f"{rune} doesn't show: {session.status()}", 2)
                 slowest, count = max(slowest, time.monotonic() - start), count + 1
                 if count == 20:
                     session.keys("C-Home", "S-End", "C-x", "Down", "C-v", "C-z", "C-r")

@@ -129,7 +129,7 @@ def check_status_line(folder):
     def parts(count=0):
         return pair.screen.status(editor, SimpleNamespace(waiting=bytes(count))).split(" | ")
 
-    expect(parts() == ["file2", "line 1 of 1", "0,0 of 2", "free"], f"it has {parts()}")
+    expect(parts() == ["file2", "0,0 of 2, line 1", "free"], f"it has {parts()}")
     expect(parts(12_345)[-1] == "waiting 12345", f"it has {parts(12_345)}")
     editor.take(key("^V"))
     expect("locked: this" in parts(), f"a paste is under way here: it has {parts()}")

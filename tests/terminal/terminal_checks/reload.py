@@ -59,7 +59,7 @@ def check_reload(folder):
         before = path.stat()
         session.keys("C-u")
         session.wait_for("a.txt is reloaded")
-        session.wait_for("| line 3 ")
+        session.wait_for(f"of {len(NEW)}, line 3")
         session.wait_for_quiet()
         expect(session.rows("a.txt")[0].startswith("new 1 "), f"it shows {session.rows('a.txt')[0]!r}")
         expect(not session.shows("* a.txt"), "it counts as changed")
