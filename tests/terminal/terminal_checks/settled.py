@@ -269,7 +269,7 @@ def check_esc_leads_where_it_shows(folder):
 
 
 # The actions that need no settled place, each with what it waits for. All others wait for that.
-FREE = {"help", "switch", "next_window", "menu", "split", "unsplit", "small", "numbers", "redraw", "suspend", "old", "new"}
+FREE = {"help", "switch", "next_window", "menu", "split", "unsplit", "small", "numbers", "details", "redraw", "suspend", "old", "new"}
 
 
 def check_all_actions_wait(folder):
