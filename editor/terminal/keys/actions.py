@@ -1,6 +1,6 @@
 """What each key does. A method `do_NAME` stands for each action of the table of keys, here or in movement.py."""
 from .command_lines import Commands, line_at
-from .search import NOTHING_SOUGHT, Find
+from .search import Find, nothing_sought
 from ..files.open_requests import Files
 from .bindings import Paste, Text
 from ..view.menus import Help, Menu
@@ -302,7 +302,7 @@ class Actions(Commands, Moves):
         elif self.sought_here and self.focus is not self.command:  # which the host has not searched
             Find(self).ask_host(self.sought_here)
         elif not self.terminal.pattern and not self._may_get_a_pattern:
-            self.message = NOTHING_SOUGHT
+            self.message = nothing_sought(self.keys)
         else:
             self.terminal.search(self.focus.tag)
         self.focus.anchor = self.focus.goal = None

@@ -1,7 +1,7 @@
 """Finding as the user types: on what is loaded at once, and by the host at Enter."""
 from typing import Optional, Tuple
 
-from .bindings import PROMPT, Input, Key, Paste, Text
+from .bindings import PROMPT, Input, Key, KeySet, Paste, Text
 from ..text.lines import escaped
 from ..text.texts import GAP
 from ..view.windows import end_of_load
@@ -11,6 +11,11 @@ FIRST_REACH, LONGEST_REACH = 4_096, 32_768  # runes that are loaded for a search
 MOST_RUNES_IN_PATTERN = 128
 NOWHERE = "it stands nowhere"
 AFTER, BEFORE = ("find", "search"), ("search_back",)  # actions whose keys go to the next place, and to the one before; so do arrows
+
+
+def nothing_sought(keys: KeySet) -> str:
+    """What helps where there is no pattern to search again."""
+    return f"nothing was searched yet: {keys.of('find')} finds"
 
 
 def lowered(text: str) -> str:
@@ -77,7 +82,7 @@ class Find:
         if place is not None:
             self._select(place, place + len(pattern))
         elif not pattern:
-            self.editor.message = f"nothing was searched yet: {self.editor.keys.of('find')} finds"
+            self.editor.message = nothing_sought(self.editor.keys)
         elif self._gap == 0 or self.editor.is_alone:
             self.editor.message = "it stands nowhere above" if self._gap == 0 else "not in what is loaded above"
         else:
@@ -98,7 +103,7 @@ class Find:
         elif pattern:
             self.editor.message = "not in what is loaded below" if self._has_gap else NOWHERE
         else:
-            self.editor.message = f"nothing was searched yet: {self.editor.keys.of('find')} finds"
+            self.editor.message = nothing_sought(self.editor.keys)
 
     def _seek(self, pattern: str) -> None:
         """Shows the first place from where the search began."""
