@@ -84,7 +84,7 @@ class UnsavedTexts:
         tags = self._tags_of(told)
         if told.is_taken and not tags:  # one of them is not written, and nobody knows which
             tags = set(self.editor.tags)
-        for tag in () if told.what in ("left", "written", "changed") else tags:
+        for tag in () if told.what in ("left", "written", "changed", "taken back") else tags:
             if told.replaces:
                 name, self.refusals[tag] = self.name(tag), line
                 key = self.editor.keys.of("write")
@@ -104,7 +104,7 @@ class UnsavedTexts:
         """Whether what the host told of files by a line is for the user, and still holds: what was not written may have been since, or been
         read anew."""
         told = said(line)
-        if told.what == "written":
+        if told.what in ("written", "taken back"):
             return False
         tags = self._tags_of(told) & set(self.editor.tags)
         if told.what in ("failed", "failed and saved"):

@@ -25,6 +25,7 @@ CUT_SAVED = re.compile(r"what was cut last is in ")
 REPLACES = re.compile(r": (another program changed it|it is there already), and the next write replaces it; (.*)")
 LEFT = re.compile(r"(.*) has a text that was not written: it is in .*, (?:newer|older) than the file")
 WRITTEN = re.compile(r"(.*) was written last at (\d{1,12})")
+TAKEN_BACK = re.compile(r"(.*) is written")
 CHANGED = re.compile(r"(.*): another program changed it")
 TAKEN = ": it was not written before this terminal took the session over"
 
@@ -49,7 +50,7 @@ class Said(NamedTuple):
     """A line of the host's standard error: its rank, and the file that it is about."""
 
     rank: int  # 3: a text is lost; 2: it was not written, or the line can't go on; 1: other words of the host; 0: of another program
-    what: str = ""  # "lost", "failed", "saved"; "failed and saved"; "cut", "left", "written", "changed"
+    what: str = ""  # "lost", "failed", "saved"; "failed and saved"; "cut", "left", "written", "changed"; "taken back"
     names: Tuple[str, ...] = ()  # what the file's name or path may be, the longest first
     tag: Optional[int] = None  # of a file without a name, whose name here is "file" and the tag
     replaces: str = ""  # why the next write replaces another program's text, and what became of this one
@@ -78,6 +79,8 @@ def said(line: str) -> Said:
         return Said(1, "left", (found[1],))
     if found := CHANGED.fullmatch(words):
         return Said(1, "changed", (found[1],))
+    if found := TAKEN_BACK.fullmatch(words):
+        return Said(1, "taken back", (found[1],))
     if found := WRITTEN.match(words):
         return Said(0, "written", (found[1],), when=int(found[2]))
     return Said(2 if UNSAFE.match(words) or line.startswith(SAMTERM) else int(words != line))

@@ -4,7 +4,7 @@ import subprocess
 
 from checks import GIVEN_UP, expect, wait_until
 
-from .journals import kill
+from .journals import kill, typed
 from .line import Staying
 from .support import SAMHOST, expect_equal, made, text_of
 
@@ -138,9 +138,7 @@ def check_join_of_files(folder):
 
 def check_join_asked_before_a_kill(folder):
     """What the terminal has asked for and was answered isn't answered again where samhost is killed."""
-    made(folder, a="one\n")
-    with Staying(folder, "a.txt") as session:
-        session.type("two\n")
+    with typed(folder) as session:
         expect_equal(asked(session, "open 1 a.txt"), "opened 1 1", "the answer")
         expect_equal(asked(session, "names 2 a.t"), "names 2 0 a.txt", "the answer")
         kill(folder, session)

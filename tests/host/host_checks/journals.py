@@ -1,4 +1,5 @@
 """The journal of a session that stays: where its samhost is killed, another goes on from it."""
+import contextlib
 import os
 import random
 import re
@@ -25,6 +26,24 @@ def kill(folder, session):
     os.kill(pid, signal.SIGKILL)
     wait_until(lambda: not is_running(pid), "it still runs")
     return pid
+
+
+@contextlib.contextmanager
+def typed(folder):
+    """A session on a.txt, which has "one", into which "two" was typed."""
+    made(folder, a="one\n")
+    with Staying(folder, "a.txt") as session:
+        session.type("two\n")
+        yield session
+
+
+@contextlib.contextmanager
+def killed(folder):
+    """The same, whose line was broken and whose samhost was killed then."""
+    with typed(folder) as session:
+        session.drop()
+        kill(folder, session)
+        yield session
 
 
 def records_of(journal):
@@ -173,9 +192,7 @@ def check_journal_with_a_wrong_byte(folder):
 
 def check_journal_behind_garbage(folder):
     """Garbage behind the last record goes."""
-    made(folder, a="one\n")
-    with Staying(folder, "a.txt") as session:
-        session.type("two\n")
+    with typed(folder) as session:
         kill(folder, session)
         journal = home_of(folder, session.name) / "journal"
         data = journal.read_bytes()
@@ -215,9 +232,7 @@ def check_journal_of_another_version(folder):
 
 def check_journal_that_differs(folder):
     """Where the journal has another answer than samhost gives now, nothing is sent; that is told, and the texts are saved aside."""
-    made(folder, a="one\n")
-    with Staying(folder, "a.txt") as session:
-        session.type("two\n")
+    with typed(folder) as session:
         kill(folder, session)
         journal = home_of(folder, session.name) / "journal"
         data = bytearray(journal.read_bytes())
@@ -260,11 +275,7 @@ def check_journal_has_crc_32c(folder):
 
 def check_journal_that_is_ended(folder):
     """--end and --list find a session whose samhost was killed: its texts are saved aside, and its folder goes."""
-    made(folder, a="one\n")
-    with Staying(folder, "a.txt") as session:
-        session.type("two\n")
-        session.drop()
-        kill(folder, session)
+    with killed(folder) as session:
         expect("its samhost is gone" in session.run("--list").stdout, "the list doesn't have it")
         ended = session.run("--end", session.name)
         expect_equal((ended.returncode, ended.stdout), (0, ""), "what comes of --end")
@@ -329,9 +340,7 @@ def check_journal_before_acknowledgements(folder):
     """What is acknowledged is in the journal, and that is on the disk, before the acknowledgement goes out."""
     if shutil.which("strace") is None:
         raise Skipped("no strace")
-    made(folder, a="one\n")
-    with Staying(folder, "a.txt") as session:
-        session.type("two\n")
+    with typed(folder) as session:
         pid, log = pid_of(folder, session.name), folder / "temporary" / "calls"
         words = ("strace", "-qq", "-xx", "-s", "64", "-o", log, "-p", str(pid), "-e", "trace=writev,fdatasync,sendto")
         with subprocess.Popen(words, stderr=subprocess.DEVNULL) as tracer:
@@ -353,9 +362,7 @@ def check_journal_before_acknowledgements(folder):
 
 def check_journal_without_room_for_it(folder):
     """Where the journal can't be written the terminal is told once, and the session goes on without it."""
-    made(folder, a="one\n")
-    with Staying(folder, "a.txt") as session:
-        session.type("two\n")
+    with typed(folder) as session:
         journal = home_of(folder, session.name) / "journal"
         limit = journal.stat().st_size + 20
         resource.prlimit(pid_of(folder, session.name), resource.RLIMIT_FSIZE, (limit, resource.RLIM_INFINITY))
@@ -373,11 +380,7 @@ def check_journal_without_room_for_it(folder):
 
 def check_journal_for_one_alone(folder):
     """Of several that find the same journal one goes on from it, and the others find that one."""
-    made(folder, a="one\n")
-    with Staying(folder, "a.txt") as session:
-        session.type("two\n")
-        session.drop()
-        kill(folder, session)
+    with killed(folder) as session:
         pipe = subprocess.PIPE
         words = [SAMHOST, "--attach", session.name]
         relays = [subprocess.Popen(words, cwd=folder, env=session.environment, stdin=pipe, stdout=pipe, stderr=pipe) for _ in range(6)]

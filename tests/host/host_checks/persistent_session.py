@@ -13,7 +13,7 @@ from pathlib import Path
 from checks import GIVEN_UP, SECONDS, Skipped, expect, times_longer, wait_until
 from link_model import HELLO_BYTES, Read, What, read_whole, spelled
 
-from .journals import UP, kill, records_of
+from .journals import UP, kill, records_of, typed
 from .line import Staying, home_of, is_running, pid_of, state_of, with_calls
 from .support import IDLE, IS_ROOT, LATE, NOBODY, SAMHOST, expect_equal, front_of, made, names_in, text_of
 
@@ -239,9 +239,7 @@ def check_stays_after_a_signal(folder):
 
 def check_stays_after_a_signal_until_it_is_ended(folder):
     """--end ends a session whose samhost a signal has ended, as any other; one that no terminal has come to goes at the signal."""
-    made(folder, a="one\n")
-    with Staying(folder, "a.txt") as session:
-        session.type("two\n")
+    with typed(folder) as session:
         pid = pid_of(folder, session.name)
         os.kill(pid, signal.SIGTERM)
         wait_until(lambda: not is_running(pid), "it doesn't go")
@@ -279,9 +277,7 @@ def check_stays_until_nobody_comes_back(folder):
 
 def check_stays_until_it_is_ended(folder):
     """--end ends a session that has a terminal, which hears of it."""
-    made(folder, a="one\n")
-    with Staying(folder, "a.txt") as session:
-        session.type("two\n")
+    with typed(folder) as session:
         pipe = subprocess.PIPE
         words = [SAMHOST, "--end", session.name]
         with subprocess.Popen(words, cwd=folder, env=session.environment, stdout=pipe, stderr=pipe) as ending:
@@ -333,9 +329,7 @@ def check_stays_where_a_text_can_t_be_saved(folder):
 def check_stays_without_a_state_folder(folder):
     """Where the folder of all sessions isn't there yet, as before a home is mounted, the terminal's connection is refused, and standard
     error says why; else that there is no such session."""
-    made(folder, a="one\n")
-    with Staying(folder, "a.txt") as session:
-        session.type("two\n")
+    with typed(folder) as session:
         state = state_of(folder)
         away = folder / "temporary" / "away"
         for says, hides in ((f"there is no state folder {state}, so no session is found", True), (f"there is no session {OWN}", False)):
@@ -355,9 +349,7 @@ def check_stays_without_a_state_folder(folder):
 
 def check_stays_quiet_after_its_end(folder):
     """A session whose terminal left and never heard of the end sleeps until that is over."""
-    made(folder, a="one\n")
-    with Staying(folder, "a.txt") as session:
-        session.type("two\n")
+    with typed(folder) as session:
         session.write()
         pid = pid_of(folder, session.name)
         session.terminal.exit()
@@ -443,9 +435,7 @@ def check_stays_ended_without_its_folder(folder):
 
 def check_stays_for_the_last_note(folder):
     """The last note waits for a terminal whose line breaks just then."""
-    made(folder, a="one\n")
-    with Staying(folder, "a.txt") as session:
-        session.type("two\n")
+    with typed(folder) as session:
         session.write()
         session.terminal.exit()
         session.send()
@@ -544,9 +534,7 @@ def hello(session, what=What.BEGIN, id=None, attempt=1, received=0):
 
 def check_stays_refuses_hellos(folder):
     """What is no hello, or one that can't be taken, is refused by its name, and changes nothing for the terminal that is there."""
-    made(folder, a="one\n")
-    with Staying(folder, "a.txt") as session:
-        session.type("two\n")
+    with typed(folder) as session:
         attempt, put = session.attempt, session.link.received
         right = hello(session, What.RESUME, attempt=attempt + 1, received=put)
         cases = {
@@ -628,9 +616,7 @@ def check_stays_in_the_list(folder):
 
 def check_stays_is_found_by_serve(folder):
     """--serve of a session that is there goes to it: a terminal that never heard of its begin calls again so."""
-    made(folder, a="one\n")
-    with Staying(folder, "a.txt") as session:
-        session.type("two\n")
+    with typed(folder) as session:
         pid = pid_of(folder, session.name)
         session.drop()
         session.start("--serve", session.name, "--", "a.txt")

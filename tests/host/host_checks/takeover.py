@@ -5,7 +5,7 @@ import signal
 from checks import expect, wait_until
 from link_model import What
 
-from .journals import kill, records_of
+from .journals import kill, killed, records_of, typed
 from .line import Staying, home_of, is_running, pid_of, state_of, with_calls
 from .support import IDLE, expect_equal, made, names_in, text_of
 
@@ -18,9 +18,7 @@ def names_of(session):
 
 def check_taken_by_one_that_only_calls(folder):
     """A terminal that says nothing before its welcome is welcomed at once, also by a session that has nothing left to do."""
-    made(folder, a="one\n")
-    with Staying(folder, "a.txt") as old:
-        old.type("two\n")
+    with typed(folder) as old:
         old.write()
         old.let_pass(IDLE + 1)
         with Staying(folder, takes=old.name, begin=False) as new:
@@ -64,9 +62,7 @@ def check_taken_with_texts_and_marks(folder):
 
 def check_taken_and_killed(folder):
     """A session that was taken over goes on from its own journal where its samhost is killed."""
-    made(folder, a="one\n")
-    with Staying(folder, "a.txt") as old:
-        old.type("two\n")
+    with typed(folder) as old:
         old.drop()
         with Staying(folder, takes="") as new:
             new.type("three\n")
@@ -79,11 +75,7 @@ def check_taken_and_killed(folder):
 
 def check_taken_from_a_journal(folder):
     """A session whose samhost was killed is taken over, too."""
-    made(folder, a="one\n")
-    with Staying(folder, "a.txt") as old:
-        old.type("two\n")
-        old.drop()
-        kill(folder, old)
+    with killed(folder) as old:
         with Staying(folder, takes=old.name) as new:
             expect_equal(new.text(), "one\ntwo\n", "the text")
             new.leave()

@@ -5,7 +5,7 @@ import struct
 import subprocess
 
 from checks import GIVEN_UP, Skipped, expect, times_slower, wait_until
-from host_checks.journals import FRONT, crc, kill, records_of
+from host_checks.journals import FRONT, crc, kill, records_of, typed
 from host_checks.line import Staying, home_of
 from host_checks.power import seconds_of_children
 from host_checks.support import SAMHOST, expect_equal, made, names_in, text_of
@@ -124,9 +124,7 @@ def check_damaged_writes_no_file(folder):
 def check_damaged_behind_the_last_sync(folder):
     """What is wrong behind all that was on the disk is what a power cut has left, also where later records came to the disk before earlier
     ones: the session goes on from what nobody heard more than."""
-    made(folder, a="one\n")
-    with Staying(folder, "a.txt") as session:
-        session.type("two\n")
+    with typed(folder) as session:
         kill(folder, session)
         journal = home_of(folder, session.name) / "journal"
         data = journal.read_bytes()

@@ -10,8 +10,8 @@ import threading
 import time
 
 from checks import GIVEN_UP, Skipped, expect, times_longer, wait_until
-from host_checks.journals import kill
-from host_checks.line import Staying, home_of
+from host_checks.journals import kill, typed
+from host_checks.line import home_of
 from host_checks.support import IS_ROOT, NOBODY, SAMHOST, Session, as_nobody, expect_equal, expect_line, made, names_of, own_lines, text_of
 
 SILENT = 40  # connections that say nothing: more than are taken and wait
@@ -147,9 +147,7 @@ def silent_ones(folder, name):
 
 def check_neighbours_that_say_nothing(folder):
     """Beside 40 connections that say nothing --list ends soon, and says what is true of the session."""
-    made(folder, a="one\n")
-    with Staying(folder, "a.txt") as session:
-        session.type("two\n")
+    with typed(folder) as session:
         with silent_ones(folder, session.name):
             time.sleep(0.5)
             start = time.monotonic()
@@ -174,9 +172,7 @@ def in_another_container(*words):
 
 def check_neighbours_in_a_container(folder):
     """--end from another container, in which the session's process has no number, ends the session, and signals nothing else."""
-    made(folder, a="one\n")
-    with Staying(folder, "a.txt") as session:
-        session.type("two\n")
+    with typed(folder) as session:
         session.drop()
         script = f"trap '' HUP; {SAMHOST} --end {session.name}; echo status $?"
         words = in_another_container("sh", "-c", script)
@@ -234,9 +230,7 @@ def check_neighbours_state_folder(folder):
 def check_neighbours_journal(folder):
     """A journal of another user's in a session's folder makes no session, and stays."""
     another()
-    made(folder, a="one\n")
-    with Staying(folder, "a.txt") as session:
-        session.type("two\n")
+    with typed(folder) as session:
         session.abandon()
         kill(folder, session)
         journal = home_of(folder, session.name) / "journal"

@@ -80,7 +80,7 @@ def check_lexers_that_take_for_ever(folder):
         place = folder / name.partition(".")[0]
         place.mkdir()
         (place / name).write_text(f"{text}static int one = 1;\n")
-        with OnTerminal(place, name) as session:
+        with OnTerminal(place, "--details", name) as session:
             session.read_until("free")
             session.rest(1.0)
             expect_quick(session, MOST_BESIDE_COLOURS, name)
