@@ -291,7 +291,7 @@ class Actions(Commands, Moves):
             self.sought_here = self.focus.read(start, end - start)
             Find(self).go_on(self.sought_here)
         elif self.focus.dot[0] == self.focus.dot[1]:
-            self.message = "nothing is selected: ^L looks for the selected text"
+            self.message = f"nothing is selected: {self.keys.of('look')} looks for the selected text"
         else:
             self.terminal.look(self.focus.tag)
         self.focus.anchor = self.focus.goal = None

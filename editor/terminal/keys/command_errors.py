@@ -2,16 +2,20 @@
 import re
 from typing import Optional
 
+from .bindings import KeySet
+
 SIGNS = ". * + ? [ ] ( ) { } | ^ $ @"
 SUBSTITUTE = re.compile(r"(?:%|[\d.$,]*)s/((?:\\.|[^/\\])+)/((?:\\.|[^/\\])*)(?:/[a-z]*)?")
 LEAVING, WRITING = ("q!", "wq", "x", "exit", "quit"), re.compile(r"(w|wq|x|write|save|e|r)!?( .*)?")
-OTHERS = {"u": "^Z takes back", "undo": "^Z takes back", "help": "F1 shows the keys", "h": "F1 shows the keys", "": "the line is empty"}
+TAKES_BACK, SHOWS = "{undo} takes back", "{help} shows the keys"  # in braces stand actions, whose keys take their place
+OTHERS = {"u": TAKES_BACK, "undo": TAKES_BACK, "help": SHOWS, "h": SHOWS, "": "the line is empty"}
+NAMED = re.compile(r"\{([a-z]+)\}")
 EXAMPLES = "3 goes to line 3, /text/ finds, ,x/old/c/new/ changes all, q leaves"
 
 OF_WORDS = {
     "escape": "after \\ comes n, or a sign as / or .",
     "name": "a name has at most 64 characters",
-    "no file": "no file is open: ^O shows them",
+    "no file": "no file is open: {menu} shows them",
     "search": "the pattern occurs nowhere",
     "address": "the text has no such line or place, or the end comes before the start",
     "long": "the text and all that the line puts in are over 1,000,000 characters together; select a part, and run it on that",
@@ -24,9 +28,19 @@ def word_of(printed: str) -> Optional[str]:
     return found[1] if found else None
 
 
-def help_of(line: str, word: str) -> str:
-    """What the bottom line says of such a line."""
-    return f"? {word}: {_of_pattern(line) if word == 'pattern' else _of_command(line) if word == 'command' else OF_WORDS.get(word, '')}"
+def help_of(line: str, word: str, keys: KeySet) -> str:
+    """What the bottom line says of such a line, with these keys."""
+    if word == "pattern":
+        helps = _of_pattern(line)
+    elif word == "command":
+        helps = _of_command(line.strip(" \t").lstrip(":"), keys)
+    else:
+        helps = _with_keys(OF_WORDS.get(word, ""), keys)
+    return f"? {word}: {helps}"
+
+
+def _with_keys(words: str, keys: KeySet) -> str:
+    return NAMED.sub(lambda action: keys.of(action[1]), words)
 
 
 def _of_pattern(line: str) -> str:
@@ -40,12 +54,13 @@ def _plain(pattern: str) -> str:
     return re.sub(r"\\.|[.*+?\[\](){}|^$@]", lambda sign: sign[0] if len(sign[0]) > 1 else "\\" + sign[0], pattern)
 
 
-def _of_command(line: str) -> str:
-    line = line.strip(" \t").lstrip(":")
+def _of_command(line: str, keys: KeySet) -> str:
     if found := SUBSTITUTE.fullmatch(line):
         return f",x/{_plain(found[1])}/c/{found[2]}/ changes each"
     if line in LEAVING:
-        return "q leaves, ^W writes"
-    if (found := WRITING.fullmatch(line)) is not None:
-        return "^O opens another file" if found[1] in ("e", "r") else "^W writes; f NAME gives the file another name"
-    return OTHERS.get(line, EXAMPLES)
+        helps = "q leaves, {write} writes"
+    elif (found := WRITING.fullmatch(line)) is not None:
+        helps = "{menu} opens another file" if found[1] in ("e", "r") else "{write} writes; f NAME gives the file another name"
+    else:
+        helps = OTHERS.get(line, EXAMPLES)
+    return _with_keys(helps, keys)

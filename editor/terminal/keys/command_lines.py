@@ -103,13 +103,14 @@ class Commands:
         word = word_of(self.texts.read(COMMAND, before, MOST_LOOKED_AT))
         if word is None:
             return False
-        self.message = help_of(line, word)
+        self.message = help_of(line, word, self.keys)
         parts = None
         if word == "long" and self.terminal.is_open(tag):
             parts = parts_of(line, self.terminal.len(tag), self.texts.dot(tag), lambda place, count: self.texts.read(tag, place, count))
         if parts is not None and parts.lines:
             self._run_parts(parts.lines)
-            self.message = f"the line runs in {len(parts.lines)} parts, as it is too long for one; ^Z takes all back"
+            undo = self.keys.of("undo")
+            self.message = f"the line runs in {len(parts.lines)} parts, as it is too long for one; {undo} takes all back"
             return True
         if parts is not None:
             self.message = f"? {word}: {parts.why_not}"

@@ -551,7 +551,7 @@ class PersistentSession:
         while not any(isinstance(item, bytes) for item in self._early) and not self.is_lost and self.relay is not None:
             relay, ready = self.relay, wait_for(self.wanted(), self.delay())
             self._hear_network(ready)
-            for line in relay.listen() if not relay.is_quiet and (relay.messages in ready or relay.has_lines) else []:
+            for line in self._new_lines(relay) if not relay.is_quiet and (relay.messages in ready or relay.has_lines) else []:
                 hear(line)
             if relay.source in ready and not self._has_in and (data := relay.receive()):
                 self._hear(data)

@@ -245,11 +245,15 @@ def in_a_line(folder, **more):
 
 
 def check_library_calls_of_a_key(folder):
-    """A typed key takes few calls of the library, until it is drawn, sent and known to have arrived."""
+    """A typed key takes few calls of the library, until it is drawn, sent and known to have arrived; the first one asks once more what has
+    changed."""
     count = folder / "count"
     with in_a_line(folder, program=(COUNTING, count)) as session:
         session.read_until("line 1")
         session.rest(4.0)
+        session.type("a")
+        session.read_until("a")
+        session.rest(0.5)
         before = struct.unpack("Q", count.read_bytes())[0]
         typed_apart(session)
         calls = (struct.unpack("Q", count.read_bytes())[0] - before) / KEYS_COUNTED
@@ -355,9 +359,9 @@ def check_one_line_for_a_key(folder):
 
 def check_help_fits(folder):
     """The help fits a screen of 80 columns."""
-    from terminal.keys.bindings import table
+    from terminal.keys.bindings import KEY_SETS
 
-    long = [line for line in table() if len(line) > 78]
+    long = [line for key_set in KEY_SETS.values() for line in key_set.table() if len(line) > 78]
     expect(not long, f"too long: {long}")
 
 

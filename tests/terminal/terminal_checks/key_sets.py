@@ -108,8 +108,8 @@ def check_lines_name_keys_of_the_set(folder):
         shows, write, close = keys
         pair, editor, key, text = opened("one\n", key_set=name)
         expect_equal(editor.hint, f"{shows} shows the keys")
-        pair.press(key("F11"))
-        expect_equal(editor.message, f"F11 does nothing; {shows} shows the keys")
+        pair.press(key("Insert"))
+        expect_equal(editor.message, f"Insert does nothing; {shows} shows the keys")
         pair.press(text("x"), key(write))
         expect(not editor.is_changed(1), f"{name}: {write} doesn't write")
         pair.press(text("y"))
@@ -144,10 +144,10 @@ def check_find_with_usual_keys(folder):
     pair, editor, key, text = opened("one two one two one\n", key_set="usual")
     pair.press(key("^F"), text("one"))
     places = [editor.focus.dot]
-    for name in ("^F", "^G", "^B", "F3", "Shift-F3", "F7", "Down", "Up"):
+    for name in ("^F", "^G", "^B", "F3", "Shift-F3", "F7", "Down", "Up", "Up"):
         pair.press(key(name))
         places.append(editor.focus.dot)
-    expect_equal(places, [(at, at + 3) for at in (0, 8, 16, 8, 16, 8, 16, 16, 8)])
+    expect_equal(places, [(at, at + 3) for at in (0, 8, 16, 8, 16, 8, 16, 0, 16, 8)])  # Down goes on from the top, Up from the end
     pair.press(text("\n"))
     expect(editor.menu is None, "Enter doesn't end it")
     for name, at in (("^G", 16), ("F3", 0), ("Shift-F3", 0), ("^G", 8), ("^B", 0)):
