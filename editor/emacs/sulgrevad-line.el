@@ -63,6 +63,10 @@ Each time after that they are twice as many.")
   "What the name of a session is like.
 The host says it, and it becomes a word of a command.")
 (defconst sulgrevad-line--open 2 "The phase in which both sides have said hello.")
+(defconst sulgrevad-line--no-session 20 "The refusal of a host that does not find the session.")
+(defvar sulgrevad-line-seconds-missing 60
+  "Seconds for which a session that the host does not find is tried.
+Its folder may come later, as a home that is mounted late does.")
 (defconst sulgrevad-line--refused
   '((18 . "the host knows another version of the link")
     (20 . "the session is not there any more")
@@ -88,6 +92,7 @@ The host says it, and it becomes a word of a command.")
   (told "") last-told      ; of standard error: a line that has begun, and the last one
   (asks "")                ; what stands on the terminal
   ended-with is-taken      ; the status with which the session has ended; whether another terminal has it
+  is-met missing-since     ; whether a host has welcomed us; since when none finds the session
   why                      ; why no connection comes any more
   timer)
 
@@ -316,15 +321,29 @@ Other programs may have written something before its hello."
            (condition-case nil
                (let ((what (sulgrevad--link-welcomed (sulgrevad-line-link line) (substring begun start end))))
                  (cond ((null what) (sulgrevad-line--welcomed line))
+                       ((and (eql what sulgrevad-line--no-session) (sulgrevad-line--may-come-back line)) (sulgrevad-line--break line))
                        ((assq what sulgrevad-line--refused)
                         (sulgrevad-line--lose line (cdr (assq what sulgrevad-line--refused))))
                        (t (sulgrevad-line--break line))))
              (sulgrevad-error (sulgrevad-line--break line))))
           ((< sulgrevad-line--most-noise (or start (length begun))) (sulgrevad-line--break line)))))
 
+(defun sulgrevad-line--may-come-back (line)
+  "Whether a session that the host does not find may be found later.
+It was there, the user does not wait for LINE, and some seconds are left.
+The first time that is told."
+  (when (and (sulgrevad-line-is-met line) (not (sulgrevad-line-tty line)))
+    (unless (sulgrevad-line-missing-since line)
+      (setf (sulgrevad-line-missing-since line) (float-time))
+      (funcall (sulgrevad-line-receive line) 'told
+               (format "the host doesn't find the session. It is tried for %d s" sulgrevad-line-seconds-missing)))
+    (< (- (float-time) (sulgrevad-line-missing-since line)) sulgrevad-line-seconds-missing)))
+
 (defun sulgrevad-line--welcomed (line)
   "The newest connection of LINE carries the session."
   (setf (sulgrevad-line-failures line) 0
+        (sulgrevad-line-is-met line) t
+        (sulgrevad-line-missing-since line) nil
         (sulgrevad-line-to-connect line) sulgrevad-line-seconds-to-connect
         (sulgrevad-line-lost-at line) nil
         (sulgrevad-line-asked-at line) (float-time))

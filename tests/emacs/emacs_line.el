@@ -237,6 +237,26 @@
     (same "and may be edited")
     (asked t (sulgrevad-quit))))
 
+(defun check-missing ()
+  "A session that the host does not find is told of, and tried on: its folder may come a little later."
+  (let ((file (made "n.txt" "text\n")) (sulgrevad-line-pauses '(0.1)) (sulgrevad-line-seconds-missing 60) (away (path "away")))
+    (sulgrevad-start (list samhost) file)
+    (sulgrevad--wait (lambda () (sulgrevad-line-has-all sulgrevad--line)))
+    (let* ((home (home))
+           (words (said (lambda ()
+                          (signal-host)
+                          (rename-file home away)
+                          (wait-for (lambda () (sulgrevad-line-missing-since sulgrevad--line)))))))
+      (check "a session that is missing is told of"
+             (cl-some (lambda (word) (string-search "doesn't find the session" word)) words) words)
+      (keys "t y p e d SPC")
+      (rename-file away home)
+      (check "the line comes back" (wait-for (lambda () (sulgrevad-line-is-open sulgrevad--line))))
+      (check "then nothing is missing" (null (sulgrevad-line-missing-since sulgrevad--line)))
+      (sulgrevad-save)
+      (check "what was typed meanwhile is in the file" (wait-for (lambda () (equal (disk file) "typed text\n"))) (disk file)))
+    (sulgrevad-quit)))
+
 (defun completed (path)
   "The names that complete PATH."
   (sort (all-completions path (lambda (string predicate action) (sulgrevad--complete string predicate action #'sulgrevad--names-at)))
@@ -458,7 +478,7 @@ exec \"$@\"" "sh") (relayed))))
     (setq command-line-args-left nil)
     (if (equal what "long")
         (dolist (one '(check-long check-places)) (funcall one (append words (list samhost))))
-      (dolist (one '(check-breaks check-many-breaks check-random check-stalled check-take check-one-buffer check-paths check-wishes
+      (dolist (one '(check-breaks check-many-breaks check-random check-stalled check-take check-one-buffer check-missing check-paths check-wishes
                                   check-keys check-steps check-hostile check-passwords check-sources))
         (when (memq one (or (bound-and-true-p only) (list one)))
           (funcall one))))

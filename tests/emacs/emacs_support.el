@@ -60,10 +60,14 @@
   "The folder of the session at the host."
   (expand-file-name (sulgrevad-line-name sulgrevad--line) (expand-file-name "sulgrevad" (getenv "XDG_STATE_HOME"))))
 
+(defun signal-host ()
+  "Kill the host, which can begin again from its journal."
+  (let ((host (string-to-number (disk (expand-file-name "lock" (home))))))
+    (when (equal "samhost" (alist-get 'comm (process-attributes host))) (signal-process host 'KILL))))
+
 (defun kill-host ()
   "Have the host and all that it has of the session be gone."
-  (let ((host (string-to-number (disk (expand-file-name "lock" (home))))))
-    (when (equal "samhost" (alist-get 'comm (process-attributes host))) (signal-process host 'KILL)))
+  (signal-host)
   (delete-directory (home) t))
 
 (defun lose-host ()
@@ -79,5 +83,6 @@
 (defun begin (folder)
   "Have FOLDER be where the sessions begin and temporary files are.  A session of a killed Emacs stays but for a minute."
   (random "sulgrevad")
+  (setq sulgrevad-line-seconds-missing 0) ; no session of `kill-host' comes back
   (setq room (file-name-as-directory folder) temporary-file-directory room sulgrevad-stay-hours 0.02 sulgrevad-patience 30)
   (dolist (buffer (buffer-list)) (with-current-buffer buffer (setq default-directory room))))

@@ -17,6 +17,8 @@ const MOST_TO_CONNECT = 960000;
 const PAUSES = [0, 1000, 2000, 4000, 8000, 16000, 30000]; // until another connection is tried; the last one from then on
 const LATE_AFTER = 1000; // and two round trips, after which an answer counts as late
 
+const TIME_MISSING = 60000; // for which a session that the host doesn't find may come back: its folder may be mounted late
+
 const STATUS_NO_SESSION = 7; // of samhost
 const SESSION_NAME = /^[0-9a-f]{16}$/; // what the host says becomes a word of a command
 const CLOSED_WITH = 4000; // the code with which samweb closes a socket: this, and the status of the host
@@ -57,6 +59,7 @@ export class Line {
   #early = []; // what was put before a connection was welcomed, as what puts it into an end
   #unput = []; // what the end had no memory for yet, in order, likewise
   #lastTold = "";
+  #missingSince = null; // since when no host finds the session
   #connection = null; // the newest connection; null between two
   #attempt = 0;
   #begun = new Uint8Array(0); // what has come of a connection before it was welcomed
@@ -323,17 +326,29 @@ export class Line {
     } catch (error) {
       if (!(error instanceof SamError)) throw error;
       if (what === What.NO_SESSION && !this.#hasBegun) this.#seek();
+      else if (what === What.NO_SESSION && this.#mayComeBack()) this.#break();
       else if (what in REFUSED) this.#lose(REFUSED[what]);
       else this.#break();
       return;
     }
     this.#hasBegun = true;
+    this.#missingSince = null;
     this.#early = [];
     this.#failures = 0;
     this.#connecting = TIME_TO_CONNECT;
     this.#lostAt = null;
     this.#askedAt = performance.now();
     this.#feed(rest);
+  }
+
+  /** Whether a session that was there, and that the host doesn't find, may be found later. The first time that is told. */
+  #mayComeBack() {
+    const now = performance.now();
+    if (this.#missingSince === null) {
+      this.#missingSince = now;
+      this.#tell("told", `samweb: the host doesn't find the session. It is tried for ${TIME_MISSING / 1000} s`);
+    }
+    return now - this.#missingSince < TIME_MISSING;
   }
 
   #feed(bytes) {
