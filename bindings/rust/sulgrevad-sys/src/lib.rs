@@ -342,11 +342,14 @@ extern "C" {
     pub fn sam_term_dclick(term: *mut sam_term, tag: u16, place: u32) -> sam_status;
     /// Shows the file from that many lines further up.
     pub fn sam_term_scroll(term: *mut sam_term, tag: u16, lines: u32) -> sam_status;
-    /// Shows at most len runes from a place on, and asks for those that are not loaded: at most 512 at a time, and then for the next.
+    /// Shows at most len runes from a place on, and asks for those that are not loaded: at most 512 at a time, and then for the next. It
+    /// goes on so whenever a change brings gaps into what is shown. An empty view, of len 0, asks for nothing by itself.
     pub fn sam_term_view(term: *mut sam_term, tag: u16, place: u32, len: u32) -> sam_status;
     /// Shows the same, and asks for all that is not loaded at once, in at most 1,954 stretches of 512 runes: so the longest text comes in
     /// one round trip. Each is a message of 11 bytes, and the file is locked until all are answered: ask for a long text in parts where the
-    /// user may want to type meanwhile.
+    /// user may want to type meanwhile. What is shown goes on to ask, as sam_term_view says: where a command line puts more than 512 runes
+    /// in at many places, a file that is shown whole stays locked for a round trip a place. So once all is loaded, call sam_term_view(term,
+    /// tag, 0, 0): then the next sam_term_load asks for all gaps in one round trip.
     pub fn sam_term_load(term: *mut sam_term, tag: u16, place: u32, len: u32) -> sam_status;
     /// Opens a file; command lines work on it then. All other events that name a file want it open.
     pub fn sam_term_open(term: *mut sam_term, tag: u16) -> sam_status;
@@ -399,8 +402,8 @@ extern "C" {
     pub fn sam_term_step_edits(term: *mut sam_term, first: u32, did: *mut sam_did, most: usize, got: *mut usize) -> sam_status;
     /// All of these at once, with sam_term_pending, sam_term_snarf_len and sam_term_tags.
     pub fn sam_term_state(term: *mut sam_term, state: *mut sam_state) -> sam_status;
-    /// Of a tag at once: sam_term_is_known, _is_open, _is_dirty, _is_changed, _locked, _len, _dot and _view_of. A tag without a file is no
-    /// error.
+    /// Of a tag at once: sam_term_is_known, _is_open, _is_dirty, _is_changed, _locked, _len, _dot and _view_of, and whether an edit would
+    /// act at once. A tag without a file is no error.
     pub fn sam_term_file(term: *mut sam_term, tag: u16, file: *mut sam_file) -> sam_status;
     /// Whether the host's stream may end here: to be asked once the terminal's input has ended. It changes nothing. SAM_OK, SAM_NO_HANDLE,
     /// why the terminal has stopped before (SAM_STREAM.., SAM_TERM_REFUSED..), SAM_UNFINISHED if some of what came or was composed still
@@ -419,7 +422,8 @@ extern "C" {
     /// The oldest refused event that was not handed out yet: which one, counted from 1 over all event calls that were taken, and why
     /// (SAM_REFUSAL..). SAM_NONE if there is none. Refusals that nobody asks for are kept.
     pub fn sam_term_next_refusal(term: *mut sam_term, event: *mut u64, why: *mut sam_status) -> sam_status;
-    /// How many event calls were taken.
+    /// How many event calls were taken: right after one that was taken (SAM_OK, SAM_UNFINISHED) it is that event's number, by which
+    /// sam_term_next_refusal names it.
     pub fn sam_term_events(term: *mut sam_term, events: *mut u64) -> sam_status;
     /// How many of them have acted or were refused. Events are done in order: the event that was taken last, whose number sam_term_events
     /// hands out, has acted or was refused if both numbers are the same, and is held if this one is smaller.
@@ -467,8 +471,8 @@ extern "C" {
     /// from U+10000 on, else one), and how many of its runes there are not loaded. What is after the end of the text counts as nothing, and
     /// so does all if `end` is not after `start`.
     pub fn sam_term_units(term: *mut sam_term, tag: u16, start: u32, end: u32, units: *mut u32, gaps: *mut u32) -> sam_status;
-    /// The place after the loaded runes of an open file from the place `start` on that `units` code units of UTF-16 hold whole: a gap or the
-    /// end of the text is the last place that it hands out. It is `start` if that is after the end.
+    /// The place after the loaded runes of an open file from the place `start` on that `units` code units of UTF-16 hold whole: a gap or
+    /// the end of the text is the last place that it hands out. It is `start` if that is after the end.
     pub fn sam_term_unit_place(term: *mut sam_term, tag: u16, start: u32, units: u32, place: *mut u32) -> sam_status;
     /// The place after that many line ends (U+000A) of an open file from the place `start` on, where a line begins; for 0 of them it is
     /// `start`, wherever that is. SAM_NONE also if a gap or the end of the text comes before.
