@@ -3,11 +3,14 @@ import os
 import signal
 import time
 
+from checks import times_longer
+
 from .pairs import in_a_small_window, opened
 from .local_backup import Kept
 from .support import LINK, SAMHOST, STATE, Session, expect, made, stat_of, wait_for_text, wait_until
 
 LINES = [f"line {number} {'x' * 60}\n" for number in range(1, 2001)]
+SECONDS_TO_SAVE = 2.5  # after a message, as long as no other comes
 CUT, REST = "".join(LINES[99:1500]), "".join(LINES[:99] + LINES[1500:])
 
 
@@ -592,6 +595,7 @@ def check_taken_from_a_stale_host(folder):
         os.kill(line, signal.SIGSTOP)  # so that the host's input stays open
         os.kill(terminal, signal.SIGKILL)
         session.wait_for_end(128 + signal.SIGKILL)
+        time.sleep(SECONDS_TO_SAVE * times_longer())  # a message that came just after the copy has the host look once more
         (folder / "next").mkdir()
         with Session(folder / "next", "../a.txt", width=140) as another:
             another.wait_for("newer than the file; F9 takes it")
