@@ -8,7 +8,6 @@ from ..text.texts import GAP, Change, Changes, Texts, received
 # Kinds of frames.
 BINDNAME, NEWNAME, GROW, UNLOCK, DATA, UNLOCKFILE, SETDOT, GROWDATA, MOVETO, CLEAN = 66, 68, 70, 72, 73, 75, 76, 77, 78, 79
 CUT, DELNAME, CLOSE = 81, 83, 84
-FIRST = bytes.fromhex("41000a00000000000000010002")  # the frame that answers the first message, which offers version 2
 
 Told = Dict[int, Callable[[int], None]]
 

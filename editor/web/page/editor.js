@@ -343,7 +343,6 @@ export class Editor {
     const { terminal } = this;
     if (this.isOver) return;
     this.#bring();
-    this.unwritten.goOn();
     if (this.active === null) this.#begin();
     this.waiting.goOn();
     this.#step();
