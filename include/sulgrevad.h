@@ -227,6 +227,58 @@ enum sam_step {
 };
 typedef enum sam_step sam_step;
 
+/* The kinds of messages and frames: those of a terminal's messages begin with T, those of a host's frames with H. docs/reference/PROTOCOL.md
+ * says what each means. */
+enum sam_kind {
+    SAM_KIND_TVERSION = 1,
+    SAM_KIND_TSTARTCMDFILE = 2,
+    SAM_KIND_TCHECK = 3,
+    SAM_KIND_TREQUEST = 4,
+    SAM_KIND_TORIGIN = 5,
+    SAM_KIND_TSTARTFILE = 6,
+    SAM_KIND_TWORKFILE = 7,
+    SAM_KIND_TTYPE = 8,
+    SAM_KIND_TCUT = 9,
+    SAM_KIND_TPASTE = 10,
+    SAM_KIND_TSNARF = 11,
+    SAM_KIND_TSTARTNEWFILE = 12,
+    SAM_KIND_TWRITE = 13,
+    SAM_KIND_TCLOSE = 14,
+    SAM_KIND_TLOOK = 15,
+    SAM_KIND_TSEARCH = 16,
+    SAM_KIND_TSEND = 17,
+    SAM_KIND_TDCLICK = 18,
+    SAM_KIND_TSTARTSNARF = 19,
+    SAM_KIND_TSETSNARF = 20,
+    SAM_KIND_TACK = 21,
+    SAM_KIND_TEXIT = 22,
+
+    SAM_KIND_HVERSION = 65,
+    SAM_KIND_HBINDNAME = 66,
+    SAM_KIND_HCURRENT = 67,
+    SAM_KIND_HNEWNAME = 68,
+    SAM_KIND_HMOVNAME = 69,
+    SAM_KIND_HGROW = 70,
+    SAM_KIND_HCHECK = 71,
+    SAM_KIND_HUNLOCK = 72,
+    SAM_KIND_HDATA = 73,
+    SAM_KIND_HORIGIN = 74,
+    SAM_KIND_HUNLOCKFILE = 75,
+    SAM_KIND_HSETDOT = 76,
+    SAM_KIND_HGROWDATA = 77,
+    SAM_KIND_HMOVETO = 78,
+    SAM_KIND_HCLEAN = 79,
+    SAM_KIND_HDIRTY = 80,
+    SAM_KIND_HCUT = 81,
+    SAM_KIND_HSETPAT = 82,
+    SAM_KIND_HDELNAME = 83,
+    SAM_KIND_HCLOSE = 84,
+    SAM_KIND_HSETSNARF = 85,
+    SAM_KIND_HSNARFLEN = 86,
+    SAM_KIND_HACK = 87,
+    SAM_KIND_HEXIT = 88
+};
+
 /* What a step did, in full. A field that its step doesn't say is 0, and so is the tag where the message, frame or event names no file. */
 struct sam_did {
     uint64_t event; /* the event's number, counted from 1 over all event calls that were taken */
@@ -237,7 +289,7 @@ struct sam_did {
     uint32_t gone;
     uint32_t came;
     uint16_t tag; /* the file */
-    uint8_t kind; /* the kind of the message or frame, by the numbers of docs/reference/PROTOCOL.md */
+    uint8_t kind; /* the kind of the message or frame: enum sam_kind */
     bool loads;   /* whether the frame loads runes in the place of gaps (Hdata): more of the text is known, and nothing changed */
 };
 typedef struct sam_did sam_did;
@@ -312,8 +364,8 @@ SAM_MUST_USE sam_status sam_host_feed(sam_host *host, const uint8_t *bytes, size
  * until a step has handed out SAM_STEP_IDLE; SAM_COUNT_FULL; SAM_NO_MEMORY. The bytes are then not taken, and the host is as it was. */
 SAM_MUST_USE sam_status sam_host_bring(sam_host *host, const uint8_t *bytes, size_t len);
 
-/* The kind of the oldest message that waits, by the numbers of docs/reference/PROTOCOL.md, and the file that it names, or 0: the next
- * step that takes a message begins with it. SAM_NONE if none waits. */
+/* The kind of the oldest message that waits (enum sam_kind), and the file that it names, or 0: the next step that takes a message begins
+ * with it. SAM_NONE if none waits. */
 SAM_MUST_USE sam_status sam_host_next_message(sam_host *host, uint8_t *kind, uint16_t *tag);
 
 /* Does one thing of what waits, and says what: it writes what was answered last, if that is left over; or the host takes edits of one

@@ -5,6 +5,56 @@
 export type Text = string | Uint8Array;
 export type Range = { start: number; end: number };
 
+/** The kinds of messages and frames; docs/reference/PROTOCOL.md says what each means. */
+export declare const Kind: {
+  readonly TVERSION: 1;
+  readonly TSTARTCMDFILE: 2;
+  readonly TCHECK: 3;
+  readonly TREQUEST: 4;
+  readonly TORIGIN: 5;
+  readonly TSTARTFILE: 6;
+  readonly TWORKFILE: 7;
+  readonly TTYPE: 8;
+  readonly TCUT: 9;
+  readonly TPASTE: 10;
+  readonly TSNARF: 11;
+  readonly TSTARTNEWFILE: 12;
+  readonly TWRITE: 13;
+  readonly TCLOSE: 14;
+  readonly TLOOK: 15;
+  readonly TSEARCH: 16;
+  readonly TSEND: 17;
+  readonly TDCLICK: 18;
+  readonly TSTARTSNARF: 19;
+  readonly TSETSNARF: 20;
+  readonly TACK: 21;
+  readonly TEXIT: 22;
+  readonly HVERSION: 65;
+  readonly HBINDNAME: 66;
+  readonly HCURRENT: 67;
+  readonly HNEWNAME: 68;
+  readonly HMOVNAME: 69;
+  readonly HGROW: 70;
+  readonly HCHECK: 71;
+  readonly HUNLOCK: 72;
+  readonly HDATA: 73;
+  readonly HORIGIN: 74;
+  readonly HUNLOCKFILE: 75;
+  readonly HSETDOT: 76;
+  readonly HGROWDATA: 77;
+  readonly HMOVETO: 78;
+  readonly HCLEAN: 79;
+  readonly HDIRTY: 80;
+  readonly HCUT: 81;
+  readonly HSETPAT: 82;
+  readonly HDELNAME: 83;
+  readonly HCLOSE: 84;
+  readonly HSETSNARF: 85;
+  readonly HSNARFLEN: 86;
+  readonly HACK: 87;
+  readonly HEXIT: 88;
+};
+
 /** What a call answers (enum sam_status of sulgrevad.h). */
 export declare const Status: {
   readonly OK: 0;

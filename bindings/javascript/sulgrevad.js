@@ -8,6 +8,7 @@ export {
   CountFull,
   HandleFault,
   HostRefused,
+  Kind,
   LinkFault,
   Missing,
   NoMemory,

@@ -18,8 +18,8 @@ from .view.status_line import REPEAT, Notes, rank_of, words_of
 from .keys.mouse import Pointer
 from .files.reload import Reload
 from .text.prefetch import Prefetch
-from sulgrevad import Note, NoteCode, NoteKind, Refusal, SamError, Status, Terminal
-from .line.stream import CLEAN, CLOSE, DELNAME, MOVETO, NEWNAME, SETDOT, UNLOCK, UNLOCKFILE, Stream
+from sulgrevad import Kind, Note, NoteCode, NoteKind, Refusal, SamError, Status, Terminal
+from .line.stream import Stream
 from .text.texts import COMMAND, COMMAND_NAME, Texts
 from .text.undo import Undo
 from .text.undo_store import UndoStore
@@ -73,9 +73,9 @@ class Editor(WindowLayout, KeyQueue, Actions):
         self.vault = UndoStore(terminal, self.texts)
         self.log, self.numbers, self.keeping = Undo(terminal, self.texts, self.vault), Numbers(self.texts), UnsavedTexts(self)
         self.left, self.slices, self.joining, self.reloading = Recovery(self), Prefetch(self), OpenRequests(self), Reload(self)
-        told = {CLEAN: self._meet_clean, CLOSE: self._meet_close, MOVETO: self._meet_move, SETDOT: self._meet_dot}
-        told.update({NEWNAME: self._meet_name, DELNAME: self._meet_name})
-        settled = {UNLOCK: self._meet_unlock, UNLOCKFILE: self._meet_pasted}
+        told = {Kind.HCLEAN: self._meet_clean, Kind.HCLOSE: self._meet_close, Kind.HMOVETO: self._meet_move, Kind.HSETDOT: self._meet_dot}
+        told.update({Kind.HNEWNAME: self._meet_name, Kind.HDELNAME: self._meet_name})
+        settled = {Kind.HUNLOCK: self._meet_unlock, Kind.HUNLOCKFILE: self._meet_pasted}
         self.colours = Colours(self.name, tell=lambda line: self.notes.keep(1, line))
         self.stream = Stream(terminal, self.texts, told, settled)
         hear = self.log.hear, self.numbers.hear, self.keeping.hear_changes, self.hear_changes, self.hear_run, self.colours.hear

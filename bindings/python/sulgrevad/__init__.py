@@ -55,6 +55,7 @@ from sulgrevad.status import (
     CountFull,
     HandleFault,
     HostRefused,
+    Kind,
     LinkFault,
     Missing,
     NoMemory,
@@ -76,7 +77,7 @@ __version__ = "0.1.0"
 
 __all__ = [
     "HELLO_BYTES", "MOST_NOTE", "AddRefused", "Change", "CountFull", "Edit", "Edits", "FileState", "HandleFault", "Hello", "Host",
-    "HostDid", "HostRefused", "Link", "LinkFault", "Missing", "NextFrame", "NoMemory", "NotText", "Pieces", "Refusal", "SamError",
+    "HostDid", "HostRefused", "Kind", "Link", "LinkFault", "Missing", "NextFrame", "NoMemory", "NotText", "Pieces", "Refusal", "SamError",
     "ScriptFault", "Status", "Step", "StreamFault", "Terminal", "TerminalDid", "TerminalRefused", "TerminalState", "Unfinished", "Waiting",
     "What", "error_of", "library_version", "read_hello", "replay", "status_text", "write_refusal",
 ]  # fmt: skip

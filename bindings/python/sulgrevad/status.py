@@ -65,6 +65,57 @@ class Status(enum.IntEnum):
     LINK_NO_ROOM = 206
 
 
+class Kind(enum.IntEnum):
+    """A kind of message or frame (enum sam_kind of sulgrevad.h); docs/reference/PROTOCOL.md says what each means."""
+
+    TVERSION = 1
+    TSTARTCMDFILE = 2
+    TCHECK = 3
+    TREQUEST = 4
+    TORIGIN = 5
+    TSTARTFILE = 6
+    TWORKFILE = 7
+    TTYPE = 8
+    TCUT = 9
+    TPASTE = 10
+    TSNARF = 11
+    TSTARTNEWFILE = 12
+    TWRITE = 13
+    TCLOSE = 14
+    TLOOK = 15
+    TSEARCH = 16
+    TSEND = 17
+    TDCLICK = 18
+    TSTARTSNARF = 19
+    TSETSNARF = 20
+    TACK = 21
+    TEXIT = 22
+    HVERSION = 65
+    HBINDNAME = 66
+    HCURRENT = 67
+    HNEWNAME = 68
+    HMOVNAME = 69
+    HGROW = 70
+    HCHECK = 71
+    HUNLOCK = 72
+    HDATA = 73
+    HORIGIN = 74
+    HUNLOCKFILE = 75
+    HSETDOT = 76
+    HGROWDATA = 77
+    HMOVETO = 78
+    HCLEAN = 79
+    HDIRTY = 80
+    HCUT = 81
+    HSETPAT = 82
+    HDELNAME = 83
+    HCLOSE = 84
+    HSETSNARF = 85
+    HSNARFLEN = 86
+    HACK = 87
+    HEXIT = 88
+
+
 class Step(enum.IntEnum):
     """What a step did (enum sam_step of sulgrevad.h)."""
 

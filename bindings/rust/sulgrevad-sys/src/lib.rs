@@ -91,6 +91,54 @@ pub const SAM_STEP_RECEIVED: sam_step = 5;
 pub const SAM_STEP_ACTED: sam_step = 6;
 pub const SAM_STEP_REFUSED: sam_step = 7;
 
+/// The kinds of messages and frames; docs/reference/PROTOCOL.md says what each means.
+pub const SAM_KIND_TVERSION: u8 = 1;
+pub const SAM_KIND_TSTARTCMDFILE: u8 = 2;
+pub const SAM_KIND_TCHECK: u8 = 3;
+pub const SAM_KIND_TREQUEST: u8 = 4;
+pub const SAM_KIND_TORIGIN: u8 = 5;
+pub const SAM_KIND_TSTARTFILE: u8 = 6;
+pub const SAM_KIND_TWORKFILE: u8 = 7;
+pub const SAM_KIND_TTYPE: u8 = 8;
+pub const SAM_KIND_TCUT: u8 = 9;
+pub const SAM_KIND_TPASTE: u8 = 10;
+pub const SAM_KIND_TSNARF: u8 = 11;
+pub const SAM_KIND_TSTARTNEWFILE: u8 = 12;
+pub const SAM_KIND_TWRITE: u8 = 13;
+pub const SAM_KIND_TCLOSE: u8 = 14;
+pub const SAM_KIND_TLOOK: u8 = 15;
+pub const SAM_KIND_TSEARCH: u8 = 16;
+pub const SAM_KIND_TSEND: u8 = 17;
+pub const SAM_KIND_TDCLICK: u8 = 18;
+pub const SAM_KIND_TSTARTSNARF: u8 = 19;
+pub const SAM_KIND_TSETSNARF: u8 = 20;
+pub const SAM_KIND_TACK: u8 = 21;
+pub const SAM_KIND_TEXIT: u8 = 22;
+pub const SAM_KIND_HVERSION: u8 = 65;
+pub const SAM_KIND_HBINDNAME: u8 = 66;
+pub const SAM_KIND_HCURRENT: u8 = 67;
+pub const SAM_KIND_HNEWNAME: u8 = 68;
+pub const SAM_KIND_HMOVNAME: u8 = 69;
+pub const SAM_KIND_HGROW: u8 = 70;
+pub const SAM_KIND_HCHECK: u8 = 71;
+pub const SAM_KIND_HUNLOCK: u8 = 72;
+pub const SAM_KIND_HDATA: u8 = 73;
+pub const SAM_KIND_HORIGIN: u8 = 74;
+pub const SAM_KIND_HUNLOCKFILE: u8 = 75;
+pub const SAM_KIND_HSETDOT: u8 = 76;
+pub const SAM_KIND_HGROWDATA: u8 = 77;
+pub const SAM_KIND_HMOVETO: u8 = 78;
+pub const SAM_KIND_HCLEAN: u8 = 79;
+pub const SAM_KIND_HDIRTY: u8 = 80;
+pub const SAM_KIND_HCUT: u8 = 81;
+pub const SAM_KIND_HSETPAT: u8 = 82;
+pub const SAM_KIND_HDELNAME: u8 = 83;
+pub const SAM_KIND_HCLOSE: u8 = 84;
+pub const SAM_KIND_HSETSNARF: u8 = 85;
+pub const SAM_KIND_HSNARFLEN: u8 = 86;
+pub const SAM_KIND_HACK: u8 = 87;
+pub const SAM_KIND_HEXIT: u8 = 88;
+
 /// What a step did, in full.
 #[derive(Clone, Copy, Debug, Default, PartialEq, Eq)]
 #[repr(C)]
@@ -238,8 +286,8 @@ extern "C" {
     /// sam_host_step. Refused, in this order: SAM_NO_HANDLE; why the host has stopped before, SAM_STREAM.., SAM_HOST_REFUSED..; SAM_WAITING
     /// until a step has handed out SAM_STEP_IDLE; SAM_COUNT_FULL; SAM_NO_MEMORY. The bytes are then not taken, and the host is as it was.
     pub fn sam_host_bring(host: *mut sam_host, bytes: *const u8, len: usize) -> sam_status;
-    /// The kind of the oldest message that waits, by the numbers of docs/reference/PROTOCOL.md, and the file that it names, or 0: the next
-    /// step that takes a message begins with it. SAM_NONE if none waits.
+    /// The kind of the oldest message that waits (enum sam_kind), and the file that it names, or 0: the next step that takes a message
+    /// begins with it. SAM_NONE if none waits.
     pub fn sam_host_next_message(host: *mut sam_host, kind: *mut u8, tag: *mut u16) -> sam_status;
     /// Does one thing of what waits, and says what: it writes what was answered last, if that is left over; or the host takes edits of one
     /// file that follow each other, and the checks (Tcheck) among them, or else answers the oldest message. sam_host_feed makes such steps
