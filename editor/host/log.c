@@ -164,22 +164,28 @@ void set_listener(listener *listens, void *at)
     heard_at = at;
 }
 
+void say_aloud(const char *words)
+{
+    char count[COUNT_ROOM];
+
+    if (unheard > 0 && has_room(false)) {
+        snprintf(count, sizeof count, "lines missing before this one, since nobody read them: %u", unheard);
+        say_words(count);
+    }
+    say_words(words);
+}
+
 void say(const char *format, ...)
 {
-    char words[LINE_ROOM], count[COUNT_ROOM];
+    char words[LINE_ROOM];
     va_list list;
 
     va_start(list, format);
     vsnprintf(words, sizeof words, format, list);
     va_end(list);
     make_printable(words);
-    if (heard_by != NULL) {
+    if (heard_by != NULL)
         heard_by(heard_at, words);
-        return;
-    }
-    if (unheard > 0 && has_room(false)) {
-        snprintf(count, sizeof count, "lines missing before this one, since nobody read them: %u", unheard);
-        say_words(count);
-    }
-    say_words(words);
+    else
+        say_aloud(words);
 }

@@ -9,6 +9,9 @@ void make_printable(char *words);
 /* Writes a line to standard error, unless nobody reads there; as printable words. */
 void say(const char *format, ...);
 
+/* Writes a line of printable words to standard error, also where lines go to a function. */
+void say_aloud(const char *words);
+
 /* Has lines go to a function, without their front and newline, in place of standard error; NULL: no longer. */
 typedef void listener(void *at, const char *line);
 void set_listener(listener *listens, void *at);

@@ -78,7 +78,7 @@ int64_t watch_is_due_in(const struct session *session)
 {
     int64_t left = session->watched_at + PERIOD - now();
 
-    if (!session->has_open || (session->stay != NULL && session->stay->line < 0))
+    if (!session->has_open || session->stay->line < 0)
         return -1;
     return left > 0 ? left : 0;
 }

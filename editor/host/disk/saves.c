@@ -146,8 +146,7 @@ static int put_text(struct session *session, uint16_t tag, const char *path)
     char *end = NULL;
     int error = end_of_links(path, &end);
 
-    if (session->stay != NULL)
-        flush_line(session);
+    flush_line(session);
     if (error == 0) {
         owner = owner_at(session, end);
         request.path = end;

@@ -143,8 +143,6 @@ void note_document(struct session *session, uint16_t tag)
 {
     struct body body = {0};
 
-    if (session->stay == NULL)
-        return;
     note_mark(&session->documents[tag].aside, &session->documents[tag].noted);
     add_document(&body, tag, &session->documents[tag]);
     add_body(session, STEP_KEPT, &body);
@@ -155,8 +153,6 @@ void note_copies(struct session *session)
     struct cut *cut = &session->cut;
     size_t tags = count_tags(session);
 
-    if (session->stay == NULL)
-        return;
     for (size_t tag = 1; tag < tags; tag++) {
         if (!is_noted(&session->documents[tag].aside, &session->documents[tag].noted))
             note_document(session, (uint16_t)tag);
@@ -179,8 +175,6 @@ void note_done(struct session *session, enum doing doing, uint16_t tag, bool is_
 {
     struct body body = {0};
 
-    if (session->stay == NULL)
-        return;
     add_number(&body, doing);
     add_number(&body, is_held);
     add_document(&body, tag, &session->documents[tag]);
@@ -204,7 +198,7 @@ void note_file(struct session *session, uint16_t tag)
     char name[NAME_ROOM];
     size_t len = 0;
 
-    if (session->stay == NULL || session->stay->journal.file < 0)
+    if (session->stay->journal.file < 0)
         return;
     body.is_short = sam_host_name(&session->host, tag, (uint8_t *)name, NAME_ROOM, &len) != SAM_OK;
     add_data(&body, name, len);

@@ -55,7 +55,7 @@ static const struct carrier by_journal = {take_in, hold_out};
 
 bool is_done_already(struct session *session, enum doing doing, uint16_t tag)
 {
-    struct replay *replay = session->stay == NULL ? NULL : session->stay->replay;
+    struct replay *replay = session->stay->replay;
 
     if (replay == NULL)
         return false;

@@ -60,7 +60,7 @@ struct session *make_staying(const struct home *home, int64_t longest_alone)
         return NULL;
     }
     stay->home = *home;
-    stay->listener = stay->line = stay->journal.file = -1;
+    stay->listener = stay->line = stay->line_out = stay->journal.file = -1;
     stay->longest_alone = longest_alone;
     for (int at = 0; at < MOST_CALLERS; at++)
         stay->callers[at].socket = -1;
@@ -178,15 +178,6 @@ static int part(struct session *session)
 
 /* ---- Beginning ---- */
 
-/* Says on standard error what was said so far. */
-static void say_gathered(struct stay *stay)
-{
-    set_listener(NULL, NULL);
-    for (const struct note *note = stay->notes; note != NULL; note = note->next)
-        say("%s", note->words + strlen("told "));
-    say_missing(stay);
-}
-
 /* Begins a session in its folder, which is locked. Returns the exit status. */
 static int begin_in(struct home *home, char **paths, int count, const struct options *options)
 {
@@ -211,8 +202,48 @@ static int begin_in(struct home *home, char **paths, int count, const struct opt
         report_others(session);
         return part(session);
     }
-    say_gathered(session->stay);
+    say_gathered(session);
     remove_home(home);
+    free_staying(session);
+    return status;
+}
+
+/* ---- A session that ends with its line ---- */
+
+/* Serves a session over standard input and output. Returns the exit status. */
+static int serve_session(struct session *session)
+{
+    sigset_t mask;
+    int flags = fcntl(STDOUT_FILENO, F_GETFL);
+
+    set_signals(&mask);
+    int status = hear_streams(session, &mask);
+    if (status == STATUS_OK && session->stay->attempt > 0) {
+        fcntl(STDOUT_FILENO, F_SETFL, flags | O_NONBLOCK);
+        status = stay_and_serve(session);
+        fcntl(STDOUT_FILENO, F_SETFL, flags);
+    }
+    return status;
+}
+
+int serve_streams(char **paths, int count, const struct options *options)
+{
+    struct home nowhere = {.all = -1, .folder = -1, .lock = -1};
+    if (options->name != NULL)
+        memcpy(nowhere.name, options->name, sizeof nowhere.name);
+    struct session *session = make_staying(&nowhere, 0);
+
+    if (session == NULL) {
+        say("out of memory");
+        return STATUS_MEMORY;
+    }
+    session->stay->has_streams = true;
+    listen_for_notes(session);
+    int status = open_session(session, paths, count, options);
+    if (status == STATUS_OK)
+        status = serve_session(session);
+    else
+        say_gathered(session);
     free_staying(session);
     return status;
 }
@@ -278,7 +309,7 @@ static int give_up(struct session *session, enum replay_fault fault, bool is_att
     bool is_known = session->documents != NULL && (fault == REPLAY_OTHER || is_wrong);
     bool is_for_ever = is_known || is_wrong || fault == REPLAY_NOTHING;
 
-    say_gathered(session->stay);
+    say_gathered(session);
     say("session %s can't go on: %s", home->name, why_not_again(fault));
     bool is_saved = !is_known || close_session(session, INPUT_ENDED) == STATUS_OK;
     if (is_wrong)

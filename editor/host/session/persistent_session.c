@@ -1,9 +1,12 @@
-/* persistent_session.c: serves a session that stays when its line breaks.
+/* persistent_session.c: serves a session over its link: one that stays when its line breaks, or one that ends with it.
  *
- * The bytes of the session go through a link, which gives each of them once and in order over connections that may break anywhere. What the
- * plain samhost writes to standard error goes to the terminal as notes, in order with them. It ends when the terminal leaves, when somebody
- * asks for that, and when no connection was there for as long as the words say; before that it saves all that is not written. At a signal
- * it does that, too, but the session stays in its folder, for another samhost to go on: the machine may begin anew.
+ * The bytes of the session go through a link, which gives each of them once and in order over connections that may break anywhere. What
+ * there is to say goes to the terminal as notes, in order with them. It ends when the terminal leaves, when somebody asks for that, and
+ * when no connection was there for as long as the words say; before that it saves all that is not written. At a signal it does that, too,
+ * but a session that has a folder stays there, for another samhost to go on: the machine may begin anew.
+ *
+ * A session that ends with its line has standard input and output for that. What it says once the input has ended stands on standard error,
+ * too, since its terminal may be gone.
  */
 #define _GNU_SOURCE
 #include <errno.h>
@@ -19,6 +22,7 @@
 #include "disk/autosave.h"
 #include "disk/file_watcher.h"
 #include "disk/paths.h"
+#include "disk/saves.h"
 #include "journal/journal.h"
 #include "journal/journal_records.h"
 #include "limits.h"
@@ -35,6 +39,7 @@ enum {
     UNASKED_END = 5000,    /* milliseconds that it is where the terminal has not asked for the end, and is there */
     LONGEST_UNMET = 60000, /* milliseconds that a session stays alone to which no terminal came: nothing can be lost with it */
     PAUSE = 100,           /* milliseconds until memory is asked for again */
+    LONGEST_GONE = 5000,   /* milliseconds after which it isn't, where the terminal is gone and can't come back */
     MOST_PIECES_LEFT = 64, /* pieces of input that are still taken after a signal */
 };
 
@@ -116,17 +121,34 @@ bool say_note(struct session *session, const char *format, ...)
     return true;
 }
 
+/* Whether nobody may be there to hear, and nobody will come back. */
+static bool is_cut_off(const struct stay *stay)
+{
+    return stay->has_streams && stay->attempt > 0 && (stay->line < 0 || stay->line_out < 0);
+}
+
 static void hear_line(void *at, const char *line)
 {
     struct session *session = at;
+    bool is_said = say_note(session, "told %s", line);
 
-    if (!say_note(session, "told %s", line))
+    if (is_cut_off(session->stay) || (!is_said && session->stay->has_streams))
+        say_aloud(line);
+    else if (!is_said)
         session->stay->missing++;
 }
 
 void listen_for_notes(struct session *session)
 {
     set_listener(hear_line, session);
+}
+
+void say_gathered(struct session *session)
+{
+    set_listener(NULL, NULL);
+    for (const struct note *note = session->stay->notes; note != NULL; note = note->next)
+        say("%s", note->words + strlen("told "));
+    say_missing(session->stay);
 }
 
 /* How many bytes a link counts; none where there is no link yet. */
@@ -210,7 +232,54 @@ static enum ending take_packets(struct session *session)
 
 /* ---- The connection ---- */
 
-/* Reads what has come over the newest connection. What can't be taken, since memory is out, is given to the link again later. */
+/* No more comes over the newest connection. Standard output may still take what is due. */
+static void end_line(struct stay *stay)
+{
+    if (stay->has_streams)
+        stay->line = -1;
+    else
+        drop_line(stay);
+}
+
+/* No more goes over it. The end of standard input will come, and what stands before it still counts. */
+static void stop_sending(struct stay *stay, int error)
+{
+    if (!stay->has_streams) {
+        drop_line(stay);
+        return;
+    }
+    stay->line_out = -1;
+    if (error == EPIPE) /* the terminal has gone */
+        return;
+    stay->ending = LINE_BROKE;
+    say("standard output can't be written: %s", cause(error));
+}
+
+/* Gives the link what was read. What can't be taken, since memory is out, is given again later. */
+static void feed_link(struct session *session)
+{
+    struct stay *stay = session->stay;
+    struct piece *in = &stay->in;
+    uint32_t code = sam_link_feed(&stay->link, stay->attempt, in->bytes, in->len);
+
+    if (code == SAM_OK)
+        add_record(session, STEP_UP, in->bytes, in->len);
+    if (code == SAM_NO_MEMORY && !stay->is_short)
+        say("out of memory; it is tried again");
+    stay->is_short = code == SAM_NO_MEMORY;
+    if (stay->is_short)
+        return;
+    in->len = 0;
+    if (code == SAM_OK)
+        return;
+    if (stay->has_streams) { /* else the next connection brings all of it again */
+        stay->ending = FAULT;
+        say("the terminal's stream is wrong (status %u)", (unsigned)code);
+    }
+    end_line(stay);
+}
+
+/* Reads what has come over the newest connection. */
 static void read_line(struct session *session)
 {
     struct stay *stay = session->stay;
@@ -218,19 +287,20 @@ static void read_line(struct session *session)
 
     if (in->len == 0) {
         ssize_t count = read(stay->line, in->bytes, PIECE);
-        if (count == 0 || (count < 0 && errno != EAGAIN && errno != EINTR))
-            drop_line(stay);
-        in->len = count > 0 ? (size_t)count : 0;
+        if (count < 0 && (errno == EAGAIN || errno == EINTR))
+            return;
+        if (count < 0 && stay->has_streams) {
+            stay->ending = LINE_BROKE;
+            stay->line = -1;
+            say("standard input can't be read: %s", cause(errno));
+        }
+        if (count <= 0) {
+            end_line(stay);
+            return;
+        }
+        in->len = (size_t)count;
     }
-    if (in->len == 0)
-        return;
-    uint32_t code = sam_link_feed(&stay->link, stay->attempt, in->bytes, in->len);
-    if (code == SAM_OK)
-        add_record(session, STEP_UP, in->bytes, in->len);
-    if (code != SAM_NO_MEMORY)
-        in->len = 0;
-    if (code != SAM_OK && code != SAM_NO_MEMORY) /* a wrong packet ends the connection, and the next brings all of it again */
-        drop_line(stay);
+    feed_link(session);
 }
 
 /* Sends what the link has for the newest connection, as much as goes without waiting. All of it rests on records, so the disk has these
@@ -240,18 +310,18 @@ static void write_line(struct session *session)
     struct stay *stay = session->stay;
     struct piece *out = &stay->out;
 
-    while (stay->line >= 0) {
+    while (stay->line_out >= 0) {
         if (out->sent == out->len) {
             out->sent = out->len = 0;
             if (sam_link_take_out(&stay->link, stay->attempt, out->bytes, PIECE, &out->len) != SAM_OK || out->len == 0)
                 return;
         }
         sync_journal(session);
-        ssize_t count = send(stay->line, out->bytes + out->sent, out->len - out->sent, MSG_NOSIGNAL | MSG_DONTWAIT);
+        ssize_t count = write(stay->line_out, out->bytes + out->sent, out->len - out->sent);
         if (count < 0 && (errno == EAGAIN || errno == EINTR))
             return;
         if (count < 0)
-            drop_line(stay);
+            stop_sending(stay, errno);
         else
             out->sent += (size_t)count;
     }
@@ -272,10 +342,10 @@ void say_the_last(struct session *session, const char *machine)
 
 void drop_line(struct stay *stay)
 {
-    if (stay->line < 0)
+    if (stay->line < 0 || stay->has_streams)
         return;
     close(stay->line);
-    stay->line = -1;
+    stay->line = stay->line_out = -1;
     stay->in.len = stay->out.len = stay->out.sent = 0;
     stay->alone_since = now();
     (void)!sam_link_broken(&stay->link, stay->attempt); /* it takes no memory */
@@ -311,23 +381,23 @@ static int64_t time_to_wait(const struct session *session, int64_t longest)
 static void carry(struct session *session, const sigset_t *mask, int64_t longest)
 {
     struct stay *stay = session->stay;
-    struct pollfd ends[2 + MOST_CALLERS];
+    struct pollfd ends[3 + MOST_CALLERS];
     int64_t wait = time_to_wait(session, longest);
     struct timespec pause = {wait / 1000, wait % 1000 * 1000000};
     int free_ones = 0;
 
     for (int at = 0; at < MOST_CALLERS; at++) {
-        ends[2 + at] = (struct pollfd){stay->callers[at].socket, POLLIN, 0};
+        ends[3 + at] = (struct pollfd){stay->callers[at].socket, POLLIN, 0};
         free_ones += stay->callers[at].socket < 0;
     }
     ends[0] = (struct pollfd){free_ones > 0 ? stay->listener : -1, POLLIN, 0};
-    short awaited = (short)((stay->in.len == 0 ? POLLIN : 0) | (stay->out.sent < stay->out.len ? POLLOUT : 0));
-    ends[1] = (struct pollfd){stay->line, awaited, 0};
-    if (ppoll(ends, 2 + MOST_CALLERS, wait < 0 ? NULL : &pause, mask) < 0)
+    ends[1] = (struct pollfd){stay->in.len == 0 ? stay->line : -1, POLLIN, 0};
+    ends[2] = (struct pollfd){stay->out.sent < stay->out.len ? stay->line_out : -1, POLLOUT, 0};
+    if (ppoll(ends, 3 + MOST_CALLERS, wait < 0 ? NULL : &pause, mask) < 0)
         return;
     int line = stay->line;
     for (int at = 0; at < MOST_CALLERS && stay->heir == NULL; at++) { /* first, as the host has taken by now all that the link has */
-        if (ends[2 + at].revents != 0)
+        if (ends[3 + at].revents != 0)
             hear_caller(session, &stay->callers[at]);
     }
     if (stay->heir != NULL)
@@ -355,17 +425,45 @@ static enum ending take_what_is_there(struct session *session, const sigset_t *m
             ending = take_again(session, &tries);
         write_line(session);
         carry(session, mask, 0);
+        while (ending == GOES_ON && session->stay->has_streams && session->stay->in.len > 0 && is_tried_again(ENOMEM, &tries))
+            feed_link(session);
         after = count_of(session->stay, sam_link_received);
     } while (ending == GOES_ON && after != before && ++pieces <= MOST_PIECES_LEFT);
+    if (ending == GOES_ON && session->stay->has_streams && session->stay->in.len > 0)
+        lose_the_last(session);
     return ending;
+}
+
+/* Why a session ends that its terminal has not left: its line tells, where that is all that it has. */
+static enum ending ending_of_line(struct session *session)
+{
+    struct stay *stay = session->stay;
+
+    if (stay->ending == GOES_ON && stay->has_streams && stay->line < 0 && sam_host_finish(&session->host) == SAM_TRUNCATED) {
+        say("standard input ends inside a message");
+        return LINE_BROKE;
+    }
+    return stay->ending == GOES_ON ? INPUT_ENDED : stay->ending;
+}
+
+/* Whether memory is out for what a terminal has sent that is gone, and has been for a while: nobody will send it once more. */
+static bool is_given_up(struct stay *stay)
+{
+    struct pollfd end = {.fd = stay->line};
+
+    if (!stay->has_streams || stay->in.len == 0 || poll(&end, 1, 0) <= 0)
+        stay->gone = 0;
+    else if (stay->gone == 0)
+        stay->gone = now();
+    return stay->gone != 0 && now() - stay->gone > LONGEST_GONE;
 }
 
 static enum ending serve_line(struct session *session, const sigset_t *mask)
 {
     struct stay *stay = session->stay;
-    enum ending ending = stay->ending;
+    enum ending ending = GOES_ON;
 
-    while (ending == GOES_ON && !is_signalled() && !stay->is_to_end && time_left_alone(session) != 0) {
+    while (ending == GOES_ON && !is_signalled() && !stay->is_to_end && time_left_alone(session) != 0 && !is_given_up(stay)) {
         carry(session, mask, -1);
         if (stay->heir != NULL)
             return GOES_ON;
@@ -381,7 +479,18 @@ static enum ending serve_line(struct session *session, const sigset_t *mask)
     if (ending == GOES_ON)
         ending = take_what_is_there(session, mask);
     send_pending(session);
-    return ending == GOES_ON ? INPUT_ENDED : ending;
+    return ending == GOES_ON ? ending_of_line(session) : ending;
+}
+
+/* Whether the terminal has the last note, before which so many bytes were put, or can't hear of it. It has what standard output took. */
+static bool has_heard_all(struct stay *stay, uint64_t wanted)
+{
+    size_t unsent = 0;
+
+    if (!stay->has_streams)
+        return wanted > 0 && count_of(stay, sam_link_acknowledged) >= wanted;
+    bool is_sent = stay->out.sent == stay->out.len && (sam_link_unsent(&stay->link, &unsent) != SAM_OK || unsent == 0);
+    return stay->line_out < 0 || (wanted > 0 && is_sent);
 }
 
 /* Puts the last note, and keeps it until the terminal has acknowledged it: for a while where that has left, and for a moment where it may
@@ -391,7 +500,8 @@ static void say_the_end(struct session *session, const sigset_t *mask, int statu
     struct stay *stay = session->stay;
     bool was_signalled = is_signalled(), was_to_end = stay->is_to_end;
     uint64_t wanted = 0;
-    int64_t until = now() + (has_left ? LONGEST_END : stay->line >= 0 ? UNASKED_END : 0);
+    bool is_awaited = has_left || (stay->has_streams && !was_signalled);
+    int64_t until = now() + (is_awaited ? LONGEST_END : stay->line >= 0 ? UNASKED_END : 0);
 
     stay->longest_alone = -1;
     session->has_open = session->due.is_waiting = false; /* nobody is told of files any more, and all is saved */
@@ -402,10 +512,10 @@ static void say_the_end(struct session *session, const sigset_t *mask, int statu
         put_notes(session);
         if (stay->has_ended && stay->notes == NULL && wanted == 0)
             wanted = count_of(stay, sam_link_put_count);
-        if (wanted > 0 && count_of(stay, sam_link_acknowledged) >= wanted)
-            return;
         sync_journal(session);
         write_line(session);
+        if (has_heard_all(stay, wanted))
+            return;
         carry(session, mask, wanted > 0 ? until - now() : PAUSE);
         while (read_bytes(session)) /* nothing counts any more */
             session->wire.taken = session->wire.input_len;

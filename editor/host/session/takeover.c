@@ -110,7 +110,7 @@ static void hand_stay(struct session *session, struct session *heir, struct call
     name_machine(machine);
     say_the_last(session, machine);
     drop_line(stay);
-    next->line = caller->socket;
+    next->line = next->line_out = caller->socket;
     caller->socket = -1;
     next->listener = stay->listener;
     memcpy(next->callers, stay->callers, sizeof next->callers);
