@@ -13,6 +13,7 @@
 #include "journal/journal.h"
 #include "limits.h"
 #include "session/document.h"
+#include "session/messages.h"
 #include "session/persistent_session.h"
 #include "session/session.h"
 #include "sulgrevad.h"
@@ -171,12 +172,13 @@ void take_cut_copy(struct session *session, struct record *record)
     note_mark(&session->cut.aside, &session->cut.noted);
 }
 
-void note_done(struct session *session, enum doing doing, uint16_t tag, bool is_held)
+void note_done(struct session *session, enum doing doing, uint16_t tag, const struct message *answer, bool is_held)
 {
     struct body body = {0};
 
     add_number(&body, doing);
     add_number(&body, is_held);
+    add_data(&body, answer == NULL ? NULL : answer->bytes, answer == NULL ? 0 : answer->len);
     add_document(&body, tag, &session->documents[tag]);
     note_mark(&session->documents[tag].aside, &session->documents[tag].noted);
     add_body(session, STEP_DONE, &body);

@@ -12,6 +12,7 @@
 #include "disk/autosave.h"
 #include "disk/cut_backup.h"
 #include "disk/file_watcher.h"
+#include "disk/errors.h"
 #include "disk/saves.h"
 #include "limits.h"
 #include "log.h"

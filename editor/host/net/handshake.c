@@ -12,6 +12,7 @@
 #include <unistd.h>
 
 #include "net/handshake.h"
+#include "disk/errors.h"
 #include "disk/file_reader.h"
 #include "disk/saves.h"
 #include "journal/journal.h"
@@ -19,6 +20,7 @@
 #include "net/event_loop.h"
 #include "session/ending.h"
 #include "session/file_requests.h"
+#include "session/messages.h"
 #include "session/persistent_session.h"
 #include "session/session.h"
 #include "session/session_directory.h"
@@ -85,24 +87,7 @@ void name_of_id(const uint8_t id[SAM_LINK_ID_BYTES], char name[NAME_DIGITS + 1])
         snprintf(name + 2 * at, 3, "%02x", id[at]);
 }
 
-bool say_first(struct session *session)
-{
-    struct stay *stay = session->stay;
-    struct note *others = stay->notes;
-    char machine[MACHINE_ROOM], name[NAME_DIGITS + 1];
-
-    name_machine(machine);
-    name_of_id(stay->id, name);
-    stay->notes = NULL;
-    bool is_said = say_note(session, "session %s %s", name, machine);
-    if (is_said)
-        stay->notes->next = others;
-    else
-        stay->notes = others;
-    return is_said;
-}
-
-/* Makes the link and the first note, at the first hello, which says how the session is named in full. */
+/* Makes the link and the first message, at the first hello, which says how the session is named in full. */
 static uint32_t make_link(struct session *session, const uint8_t *id)
 {
     struct stay *stay = session->stay;
@@ -117,18 +102,7 @@ static uint32_t make_link(struct session *session, const uint8_t *id)
     if (code != SAM_OK)
         return code;
     memcpy(stay->id, id, SAM_LINK_ID_BYTES);
-    return say_first(session) ? SAM_OK : SAM_NO_MEMORY;
-}
-
-/* Takes the link and its first note back. */
-static void drop_link(struct stay *stay)
-{
-    struct note *first = stay->notes;
-
-    stay->notes = first->next;
-    free(first->words);
-    free(first);
-    (void)sam_link_free(&stay->link);
+    return put_first_message(session) ? SAM_OK : SAM_NO_MEMORY;
 }
 
 /* Has the link take a connection. What it refuses changes nothing. */
@@ -147,7 +121,8 @@ static uint32_t answer(struct session *session, const struct caller *caller, con
         stay->attempt = attempt;
         add_record(session, STEP_HELLO, caller->bytes, caller->len);
     } else if (is_first) {
-        drop_link(stay);
+        drop_first_message(&stay->messages);
+        (void)sam_link_free(&stay->link);
     }
     return code;
 }
@@ -176,7 +151,7 @@ static void take_hello(struct session *session, struct caller *caller)
             close(stay->line);
         stay->in.len = stay->out.len = stay->out.sent = 0;
         stay->line = stay->line_out = line;
-        put_notes(session);
+        put_messages(session);
     } else if (sam_link_write_refusal(code, caller->bytes, caller->len, refusal) == SAM_OK) {
         (void)send(caller->socket, refusal, sizeof refusal, MSG_NOSIGNAL | MSG_DONTWAIT); /* where it doesn't go, nobody is there */
     }
@@ -354,14 +329,15 @@ static void answer_open(struct session *session, struct caller *caller, const ch
     char answer[ANSWER_ROOM], *folder = getcwd(NULL, 0);
 
     path = seen_from_here(path, folder);
-    const char *why = is_short ? cause(ENOMEM) : is_folder(path) ? cause(EISDIR) : join_file(session, path, &tag, &is_short);
+    int error = is_short ? ENOMEM : is_folder(path) ? EISDIR : join_file(session, path, &tag);
+    struct event shown = {.kind = SAM_NOTE_SHOWN, .tag = tag, .number = strtoull(line, NULL, 10)};
 
-    if (why == NULL && !say_note(session, "wish %u %s", (unsigned)tag, *line == '\0' ? "0" : line))
-        why = cause(ENOMEM);
+    if (error == 0 && !put_message(session, &shown, NULL))
+        error = ENOMEM;
     free(folder);
-    snprintf(answer, sizeof answer, why == NULL ? "opened\n" : "refused %s\n", why);
+    snprintf(answer, sizeof answer, error == 0 ? "opened\n" : "refused %s\n", cause(error));
     answer_line(caller->socket, answer);
-    struct waiter *waiter = why == NULL && waits ? free_waiter(stay) : NULL;
+    struct waiter *waiter = error == 0 && waits ? free_waiter(stay) : NULL;
     if (waiter != NULL) {
         *waiter = (struct waiter){.socket = caller->socket, .tag = tag};
         caller->socket = -1;

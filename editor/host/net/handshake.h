@@ -68,7 +68,4 @@ void drop_line(struct stay *stay);
 /* The name of the session whose link has an id. */
 void name_of_id(const uint8_t id[SAM_LINK_ID_BYTES], char name[NAME_DIGITS + 1]);
 
-/* Has the first note stand before all that wait; it says where the terminal has come to. Returns whether there is memory for it. */
-bool say_first(struct session *session);
-
 #endif

@@ -14,7 +14,7 @@
 #include <unistd.h>
 
 #include "session/daemon.h"
-#include "disk/saves.h"
+#include "disk/errors.h"
 #include "journal/journal.h"
 #include "journal/journal_records.h"
 #include "journal/replay.h"
@@ -23,6 +23,7 @@
 #include "net/handshake.h"
 #include "net/relay.h"
 #include "session/ending.h"
+#include "session/messages.h"
 #include "session/persistent_session.h"
 #include "session/session.h"
 #include "session/session_control.h"
@@ -75,11 +76,7 @@ void free_staying(struct session *session)
     struct stay *stay = session->stay;
 
     set_listener(NULL, NULL);
-    for (struct note *note = stay->notes, *next; note != NULL; note = next) {
-        next = note->next;
-        free(note->words);
-        free(note);
-    }
+    free_messages(&stay->messages);
     if (stay->journal.file >= 0)
         close(stay->journal.file);
     for (int at = 0; at < MOST_CALLERS; at++) {
@@ -123,7 +120,7 @@ static int serve_alone(struct session *session, int begun)
         status = stay_and_serve(session);
         for (struct session *heir; (heir = session->stay->heir) != NULL; session = heir) {
             free_staying(session);
-            listen_for_notes(heir);
+            listen_for_messages(heir);
             status = stay_and_serve(heir);
         }
         if (!session->stay->is_kept)
@@ -189,7 +186,7 @@ static int begin_in(struct home *home, char **paths, int count, const struct opt
         close_home(home);
         return STATUS_MEMORY;
     }
-    listen_for_notes(session);
+    listen_for_messages(session);
     int status = open_session(session, paths, count, options);
     if (status == STATUS_OK) {
         int error = make_journal(session->stay, JOURNAL);
@@ -197,7 +194,7 @@ static int begin_in(struct home *home, char **paths, int count, const struct opt
             note_start(session);
             sync_home(&session->stay->home);
         } else /* one that is not whole is none */
-            say("there is no journal: %s; if samhost ends unasked, the session ends with it", cause(error));
+            tell_no_journal(session, error);
         note_about(session);
         report_others(session);
         return part(session);
@@ -238,7 +235,7 @@ int serve_streams(char **paths, int count, const struct options *options)
         return STATUS_MEMORY;
     }
     session->stay->has_streams = true;
-    listen_for_notes(session);
+    listen_for_messages(session);
     int status = open_session(session, paths, count, options);
     if (status == STATUS_OK)
         status = serve_session(session);
@@ -344,7 +341,7 @@ static int go_on(struct home *home)
         return STATUS_MEMORY;
     }
     session->stay->is_again = true;
-    listen_for_notes(session);
+    listen_for_messages(session);
     enum replay_fault fault = begin_again(session);
     if (fault != REPLAY_OK)
         return give_up(session, fault, true);

@@ -1,7 +1,7 @@
 /* persistent_session.c: serves a session over its link: one that stays when its line breaks, or one that ends with it.
  *
  * The bytes of the session go through a link, which gives each of them once and in order over connections that may break anywhere. What
- * there is to say goes to the terminal as notes, in order with them. It ends when the terminal leaves, when somebody asks for that, and
+ * there is to say goes to the terminal as messages, in order with them. It ends when the terminal leaves, when somebody asks for that, and
  * when no connection was there for as long as the words say; before that it saves all that is not written. At a signal it does that, too,
  * but a session that has a folder stays there, for another samhost to go on: the machine may begin anew.
  *
@@ -11,8 +11,6 @@
 #define _GNU_SOURCE
 #include <errno.h>
 #include <poll.h>
-#include <stdarg.h>
-#include <stdio.h>
 #include <stdlib.h>
 #include <string.h>
 #include <sys/socket.h>
@@ -21,7 +19,7 @@
 #include "session/persistent_session.h"
 #include "disk/autosave.h"
 #include "disk/file_watcher.h"
-#include "disk/paths.h"
+#include "disk/errors.h"
 #include "disk/saves.h"
 #include "journal/journal.h"
 #include "journal/journal_records.h"
@@ -35,121 +33,13 @@
 #include "sulgrevad.h"
 
 enum {
-    LONGEST_END = 60000,   /* milliseconds that the last note is kept for a terminal that has left */
+    LONGEST_END = 60000,   /* milliseconds that the last message is kept for a terminal that has left */
     UNASKED_END = 5000,    /* milliseconds that it is where the terminal has not asked for the end, and is there */
     LONGEST_UNMET = 60000, /* milliseconds that a session stays alone to which no terminal came: nothing can be lost with it */
     PAUSE = 100,           /* milliseconds until memory is asked for again */
     LONGEST_GONE = 5000,   /* milliseconds after which it isn't, where the terminal is gone and can't come back */
     MOST_PIECES_LEFT = 64, /* pieces of input that are still taken after a signal */
 };
-
-/* ---- Notes ---- */
-
-/* The length of a note, cut to whole runes where it is too long. */
-static size_t note_len(const char *note)
-{
-    size_t len = strlen(note);
-
-    if (len > SAM_LINK_MOST_NOTE) {
-        len = SAM_LINK_MOST_NOTE;
-        while (len > 0 && ((unsigned char)note[len] & 0xC0) == 0x80)
-            len--;
-    }
-    return len;
-}
-
-void say_missing(struct stay *stay)
-{
-    unsigned missing = stay->missing;
-
-    stay->missing = 0;
-    if (missing > 0)
-        say("lines missing before this one, since memory was out: %u", missing);
-}
-
-/* Puts the notes that wait. What was put goes into the body of a record, or where that is NULL into records of its own. */
-static void put_waiting(struct session *session, struct body *body)
-{
-    struct stay *stay = session->stay;
-
-    while (stay->notes != NULL) {
-        struct note *note = stay->notes;
-        const uint8_t *bytes = (const uint8_t *)note->words;
-        size_t len = note_len(note->words);
-        if (sam_link_put_note(&stay->link, bytes, len) != SAM_OK)
-            return;
-        stay->notes = note->next;
-        if (body != NULL)
-            add_data(body, bytes, len);
-        else
-            add_record(session, STEP_NOTE, bytes, len);
-        free(note->words);
-        free(note);
-    }
-}
-
-void put_notes(struct session *session)
-{
-    struct stay *stay = session->stay;
-
-    if (stay->attempt == 0 || stay->replay != NULL || stay->is_answering) /* there is no link yet, or it is not where it was */
-        return;
-    put_waiting(session, NULL);
-    say_missing(stay);
-}
-
-bool say_note(struct session *session, const char *format, ...)
-{
-    struct note **last = &session->stay->notes, *note = malloc(sizeof *note);
-    char words[2 * SAM_LINK_MOST_NOTE];
-    va_list list;
-
-    va_start(list, format);
-    vsnprintf(words, sizeof words, format, list);
-    va_end(list);
-    char *own = formatted("%s", words);
-    if (note == NULL || own == NULL) {
-        free(note);
-        free(own);
-        return false;
-    }
-    while (*last != NULL)
-        last = &(*last)->next;
-    *note = (struct note){NULL, own};
-    *last = note;
-    put_notes(session);
-    return true;
-}
-
-/* Whether nobody may be there to hear, and nobody will come back. */
-static bool is_cut_off(const struct stay *stay)
-{
-    return stay->has_streams && stay->attempt > 0 && (stay->line < 0 || stay->line_out < 0);
-}
-
-static void hear_line(void *at, const char *line)
-{
-    struct session *session = at;
-    bool is_said = say_note(session, "told %s", line);
-
-    if (is_cut_off(session->stay) || (!is_said && session->stay->has_streams))
-        say_aloud(line);
-    else if (!is_said)
-        session->stay->missing++;
-}
-
-void listen_for_notes(struct session *session)
-{
-    set_listener(hear_line, session);
-}
-
-void say_gathered(struct session *session)
-{
-    set_listener(NULL, NULL);
-    for (const struct note *note = session->stay->notes; note != NULL; note = note->next)
-        say("%s", note->words + strlen("told "));
-    say_missing(session->stay);
-}
 
 /* How many bytes a link counts; none where there is no link yet. */
 static uint64_t count_of(struct stay *stay, sam_status (*reader)(sam_link *link, uint64_t *count))
@@ -176,8 +66,8 @@ static ssize_t put_out(struct session *session, const uint8_t *bytes, size_t len
 {
     uint32_t code = SAM_NO_MEMORY;
 
-    put_notes(session);
-    if (session->stay->notes == NULL)
+    put_messages(session);
+    if (session->stay->messages.waiting == NULL)
         code = sam_link_put(&session->stay->link, bytes, len);
     if (code == SAM_OK) {
         add_record(session, STEP_DOWN, bytes, len);
@@ -200,15 +90,14 @@ static bool take_note(struct session *session)
         stay->has_note = sam_link_next_note(&stay->link, stay->note, SAM_LINK_MOST_NOTE, &stay->note_len) == SAM_OK;
         if (!stay->has_note)
             return false;
-        stay->note[stay->note_len] = '\0';
     }
     stay->is_answering = true;
-    bool is_done = do_note(session, (const char *)stay->note);
+    bool is_done = do_message(session, stay->note, stay->note_len);
     stay->is_answering = false;
     if (!is_done)
         return false;
     stay->has_note = false;
-    put_waiting(session, &answers);
+    put_answers(session, &answers);
     add_body(session, STEP_NOTED, &answers);
     return true;
 }
@@ -335,7 +224,7 @@ void flush_line(struct session *session)
 
 void say_the_last(struct session *session, const char *machine)
 {
-    if (session->stay->line < 0 || !say_note(session, "gone %s", machine))
+    if (session->stay->line < 0 || !put_message(session, &(struct event){.kind = SAM_NOTE_TAKEN_OVER}, machine))
         return;
     write_line(session);
 }
@@ -372,7 +261,7 @@ static int64_t time_to_wait(const struct session *session, int64_t longest)
     int64_t wait = earlier(earlier(longest, save_is_due_in(session)), earlier(drop_callers(stay), watch_is_due_in(session)));
 
     wait = earlier(wait, time_left_alone(session));
-    bool is_short = stay->in.len > 0 || stay->has_note || session->wire.sent < session->wire.output_len || stay->notes != NULL;
+    bool is_short = stay->in.len > 0 || stay->has_note || session->wire.sent < session->wire.output_len || stay->messages.waiting != NULL;
     return is_short && stay->attempt > 0 ? earlier(wait, PAUSE) : wait;
 }
 
@@ -406,7 +295,7 @@ static void carry(struct session *session, const sigset_t *mask, int64_t longest
         accept_callers(stay);
     if (stay->line >= 0 && stay->line == line && (ends[1].revents != 0 || stay->in.len > 0))
         read_line(session);
-    put_notes(session);
+    put_messages(session);
 }
 
 /* ---- The session ---- */
@@ -482,7 +371,7 @@ static enum ending serve_line(struct session *session, const sigset_t *mask)
     return ending == GOES_ON ? ending_of_line(session) : ending;
 }
 
-/* Whether the terminal has the last note, before which so many bytes were put, or can't hear of it. It has what standard output took. */
+/* Whether the terminal has the last message, before which so many bytes were put, or can't hear of it. It has what standard output took. */
 static bool has_heard_all(struct stay *stay, uint64_t wanted)
 {
     size_t unsent = 0;
@@ -493,7 +382,7 @@ static bool has_heard_all(struct stay *stay, uint64_t wanted)
     return stay->line_out < 0 || (wanted > 0 && is_sent);
 }
 
-/* Puts the last note, and keeps it until the terminal has acknowledged it: for a while where that has left, and for a moment where it may
+/* Puts the last message, and keeps it until the terminal has acknowledged it: for a while where that has left, and for a moment where it may
  * not know. */
 static void say_the_end(struct session *session, const sigset_t *mask, int status, bool has_left)
 {
@@ -506,11 +395,11 @@ static void say_the_end(struct session *session, const sigset_t *mask, int statu
     stay->longest_alone = -1;
     session->has_open = session->due.is_waiting = false; /* nobody is told of files any more, and all is saved */
     while (stay->attempt > 0 && now() < until && is_signalled() == was_signalled && stay->is_to_end == was_to_end) {
-        say_missing(stay); /* no line comes after the last note */
-        if (!stay->has_ended && stay->missing == 0)
-            stay->has_ended = say_note(session, "ended %d", status);
-        put_notes(session);
-        if (stay->has_ended && stay->notes == NULL && wanted == 0)
+        say_missing(&stay->messages); /* no line comes after the last message */
+        if (!stay->has_ended && stay->messages.missing == 0)
+            stay->has_ended = put_message(session, &(struct event){.kind = SAM_NOTE_ENDED, .number = (uint64_t)status}, NULL);
+        put_messages(session);
+        if (stay->has_ended && stay->messages.waiting == NULL && wanted == 0)
             wanted = count_of(stay, sam_link_put_count);
         sync_journal(session);
         write_line(session);
@@ -566,7 +455,7 @@ int stay_and_serve(struct session *session)
     session->wire.carrier = &by_link;
     stay->alone_since = now();
     stay->begun = stay->begun == 0 ? stay->alone_since : stay->begun;
-    put_notes(session);
+    put_messages(session);
     write_line(session); /* the welcome of a terminal that has taken the session over: it may say nothing before */
     if (stay->has_ended) /* another samhost has done all but to wait */
         status = stay->is_kept ? STATUS_LOST : STATUS_OK;
