@@ -206,7 +206,9 @@ static void write_line(struct session *session)
                 return;
         }
         sync_journal(session);
-        ssize_t count = write(stay->line_out, out->bytes + out->sent, out->len - out->sent);
+        const uint8_t *rest = out->bytes + out->sent;
+        size_t len = out->len - out->sent;
+        ssize_t count = stay->has_streams ? write(stay->line_out, rest, len) : send(stay->line_out, rest, len, MSG_NOSIGNAL | MSG_DONTWAIT);
         if (count < 0 && (errno == EAGAIN || errno == EINTR))
             return;
         if (count < 0)
