@@ -31,10 +31,10 @@ int64_t watch_is_due_in(const struct session *session);
 /* If that is due, looks at the files, and tells of those that another program has changed. */
 void watch_files(struct session *session);
 
-/* Adds what the file of a tag has on disk now as a file of its own, and answers by a note. Returns whether there was memory for it. */
-bool reload_file(struct session *session, const char *id, const char *words);
+/* Adds what the file of a tag has on disk now as a file of its own, and answers by a message. Returns whether there was memory for it. */
+bool reload_file(struct session *session, uint32_t request, uint16_t tag);
 
-/* The terminal has put such a file, the second tag, in the place of the first one's text. Returns whether there was memory for it. */
-bool note_reloaded(struct session *session, const char *words);
+/* The terminal has put such a file, `anew`, in the place of the text of `tag`. Returns whether there was memory for it. */
+bool note_reloaded(struct session *session, uint16_t tag, uint64_t anew);
 
 #endif

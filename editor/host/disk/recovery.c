@@ -15,6 +15,7 @@
 #include "disk/recovery.h"
 #include "disk/autosave.h"
 #include "disk/cut_backup.h"
+#include "disk/errors.h"
 #include "disk/fallback_directories.h"
 #include "disk/file_reader.h"
 #include "disk/file_writer.h"
@@ -24,6 +25,7 @@
 #include "limits.h"
 #include "log.h"
 #include "session/document.h"
+#include "session/messages.h"
 #include "session/session.h"
 #include "sulgrevad.h"
 
@@ -189,8 +191,11 @@ static void report_saved(struct search *search, size_t tag, const char *place, c
     if (look_at(search, place, entry, document->path, &left)) {
         bool is_written = left.is_read && is_same(content_of(&left.text), content_at(document->path));
         if (!is_written || left.status.st_uid != geteuid() || unlink(left.path) != 0) {
-            const char *age = left.is_newer ? "newer" : "older";
-            say("%s has a text that was not written: it is in %s, of %s, %s than the file", document->path, left.path, left.when, age);
+            tell(search->session,
+                 &(struct event){.kind = SAM_NOTE_EARLIER, .code = left.is_newer ? SAM_NOTE_NEWER : SAM_NOTE_OLDER, .tag = (uint16_t)tag,
+                                 .number = (uint64_t)left.status.st_mtim.tv_sec, .path = document->path, .copy = left.path},
+                 "%s has a text that was not written: it is in %s, of %s, %s than the file", document->path, left.path, left.when,
+                 left.is_newer ? "newer" : "older");
             if (search->offers)
                 offer(search, tag, &left);
         }
@@ -199,12 +204,16 @@ static void report_saved(struct search *search, size_t tag, const char *place, c
 }
 
 /* Reports what a file was before a write that may have been broken off. */
-static void report_old(struct search *search, const struct document *document, const char *place, const char *entry)
+static void report_old(struct search *search, size_t tag, const char *place, const char *entry)
 {
+    const struct document *document = &search->session->documents[tag];
     struct left left = {0};
 
     if (look_at(search, place, entry, document->path, &left))
-        say("%s may be broken: what it was before a write is in %s", document->path, left.path);
+        tell(search->session,
+             &(struct event){.kind = SAM_NOTE_EARLIER, .code = SAM_NOTE_BROKEN, .tag = (uint16_t)tag,
+                             .number = (uint64_t)left.status.st_mtim.tv_sec, .path = document->path, .copy = left.path},
+             "%s may be broken: what it was before a write is in %s", document->path, left.path);
     free_left(&left);
 }
 
@@ -218,11 +227,26 @@ static void report_copy(struct search *search, const struct folder *folder, cons
             !is_copy_of(search, document->known->path, folder, entry, len, &place))
             continue;
         if (is_old)
-            report_old(search, document, place, entry);
+            report_old(search, tag, place, entry);
         else
             report_saved(search, tag, place, entry);
         free(place);
     }
+}
+
+static void report_unnamed(struct search *search, const struct folder *folder, const char *entry)
+{
+    struct stat status;
+    char *path = formatted("%s%s", folder->path, entry);
+    bool is_there = path != NULL && lstat(path, &status) == 0;
+
+    search->is_short |= path == NULL;
+    if (path != NULL)
+        tell(search->session,
+             &(struct event){.kind = SAM_NOTE_EARLIER, .code = SAM_NOTE_UNNAMED, .number = is_there ? (uint64_t)status.st_mtim.tv_sec : 0,
+                             .copy = path},
+             "a file without a name was not written: its text is in %s", path);
+    free(path);
 }
 
 /* Reports a text that is of no file: one without a name, or what was cut last. */
@@ -233,9 +257,12 @@ static void report_other(struct search *search, const struct folder *folder, con
     bool is_cut = len - front == strlen(CUT) && strncmp(entry + front, CUT, strlen(CUT)) == 0;
 
     if (strncmp(entry + front, UNNAMED, strlen(UNNAMED)) == 0)
-        say("a file without a name was not written: its text is in %s%s", folder->path, entry);
+        report_unnamed(search, folder, entry);
     else if (is_cut && look_at(search, folder->path, entry, NULL, &left)) {
-        say("what was cut last in an earlier session is in %s, of %s", left.path, left.when);
+        tell(search->session,
+             &(struct event){.kind = SAM_NOTE_EARLIER, .code = SAM_NOTE_CUT, .number = (uint64_t)left.status.st_mtim.tv_sec,
+                             .copy = left.path},
+             "what was cut last in an earlier session is in %s, of %s", left.path, left.when);
         if (search->offers)
             offer(search, 0, &left);
     }

@@ -2,13 +2,12 @@
 import os
 import shutil
 import struct
-import subprocess
 
-from checks import GIVEN_UP, Skipped, expect
+from checks import Skipped, expect
 
 from .support import (
     AGE, IS_ROOT, NOBODY, OPEN, SAMHOST, WRITE, Session, as_nobody, expect_equal, expect_line, expect_only, files_below, made,
-    names_in, names_of, on_file, own_copy, text_of, typed, with_mount,
+    names_in, names_of, on_file, own_copy, run_host, text_of, typed, with_mount,
 )  # fmt: skip
 
 ACCESS_LIST = "system.posix_acl_access"
@@ -261,9 +260,9 @@ def check_unreadable_link(folder):
     ):  # fmt: skip
         fault = f"inject=readlink:error=EIO:when={first}+"
         words = ("strace", "-qq", "-o", "/dev/null", "-P", "d/link", "-e", fault, SAMHOST, word)
-        ended = subprocess.run(words, cwd=folder, input=given, capture_output=True, timeout=GIVEN_UP)
-        expect_equal(ended.returncode, status, f"{word}, from call {first}: the status")
-        expect(f"samhost: {said}\n" in ended.stderr.decode(), f"{word}, from call {first}: it says {ended.stderr}")
+        got, lines = run_host(folder, words, given)
+        expect_equal(got, status, f"{word}, from call {first}: the status")
+        expect(f"samhost: {said}" in lines, f"{word}, from call {first}: it says {lines}")
         expect((folder / "d" / "link").is_symlink() and text_of(path) == "one\n", f"{word}, from call {first}: the link is gone")
     expect_equal(text_of(folder / "d" / "link.sam-saved"), "two one\n", "the copy")
 

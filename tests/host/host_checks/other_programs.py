@@ -1,12 +1,11 @@
 """Files that other programs change meanwhile, and files under several names."""
 import os
 import shutil
-import subprocess
 import time
 
-from checks import GIVEN_UP, Skipped, wait_until
+from checks import Skipped, wait_until
 
-from .support import IDLE, SAMHOST, Session, expect_equal, expect_line, expect_only, made, names_in, text_of
+from .support import IDLE, SAMHOST, Session, expect_equal, expect_line, expect_only, made, names_in, run_host, text_of
 
 
 def check_changed_by_another(folder):
@@ -244,10 +243,8 @@ def check_two_names(folder):
     (folder / "soft").symlink_to("a.txt")
     (folder / "nowhere").symlink_to("./new")
     for names in (("a.txt", "a.txt"), ("a.txt", "./a.txt"), ("a.txt", "hard"), ("soft", "a.txt"), ("new", "./new"), ("nowhere", "new")):
-        ended = subprocess.run([SAMHOST, *names], cwd=folder, input=b"", capture_output=True, timeout=GIVEN_UP)
-        expect_equal(ended.returncode, 0, f"the status of {names}")
-        wanted = f"samhost: {names[1]}: it stands twice among the words, first as {names[0]}\n"
-        expect_equal(ended.stderr.decode(), wanted, f"what it says of {names}")
+        wanted = (0, [f"samhost: {names[1]}: it stands twice among the words, first as {names[0]}"])
+        expect_equal(run_host(folder, [SAMHOST, *names]), wanted, f"status and lines of {names}")
     (folder / "d").mkdir()
     with Session(folder, "a.txt", "new", "d/new", "d/a.txt") as session:
         expect_equal(len(session.terminal.files()), 5, "how many files it knows")
