@@ -157,9 +157,9 @@ static bool save_closed(struct session *session, bool is_last)
             error = keep(&closed->text, closed->name, closed->name, SAVED, &copy);
         while (is_last && is_tried_again(error, &tries));
         if (error == 0)
-            tell_aside(session, 0, closed->name, copy.path);
+            tell_aside(session, closed->tag, closed->name, copy.path);
         else if (is_last)
-            tell_lost(session, 0, closed->name, error);
+            tell_lost(session, closed->tag, closed->name, error);
         all &= error == 0;
         free(copy.path);
         if (error == 0 || is_last) {
@@ -226,7 +226,7 @@ bool save_changed(struct session *session)
         int error = secure(session, (uint16_t)tag, &place);
         if (error != 0 && !document->is_reported) {
             char *name = name_of(session, (uint16_t)tag);
-            tell(session, &(struct event){.kind = SAM_NOTE_LOST, .code = code_of(error), .tag = (uint16_t)tag, .path = name},
+            tell(session, &(struct event){.kind = SAM_NOTE_ASIDE, .code = code_of(error), .tag = (uint16_t)tag, .path = name},
                  "the text of %s can't be saved aside: %s", name == NULL ? "a file" : name, cause(error));
             free(name);
         }
@@ -301,7 +301,7 @@ static void hold_closed(struct session *session, uint16_t tag, const char *name)
         return;
     }
     memcpy(bytes, session->text.bytes, session->text.len);
-    *closed = (struct closed){.next = session->closed, .name = own, .text = {bytes, session->text.len}};
+    *closed = (struct closed){.next = session->closed, .tag = tag, .name = own, .text = {bytes, session->text.len}};
     session->closed = closed;
 }
 
@@ -315,7 +315,7 @@ void save_closing(struct session *session, uint16_t tag)
     int error = save_for_good(session, tag, known);
 
     if (error != 0) {
-        tell(session, &(struct event){.kind = SAM_NOTE_LOST, .code = code_of(error), .tag = tag, .path = known},
+        tell(session, &(struct event){.kind = SAM_NOTE_ASIDE, .code = code_of(error), .tag = tag, .path = known},
              "%s is closed, and its text can't be saved: %s", known, cause(error));
         hold_closed(session, tag, known);
     }

@@ -169,14 +169,14 @@ static struct message *answer_unwritten(struct session *session, uint16_t tag, c
     struct event event = {.kind = SAM_NOTE_NOT_SAVED, .code = code_of(why), .tag = tag, .path = path};
     struct message *answer;
 
-    if (error == 0 && place == ASIDE)
-        event.copy = session->documents[tag].aside.path;
+    if (error == 0) /* the text is on the disk, if it is not in the file itself */
+        event.copy = place == ASIDE ? session->documents[tag].aside.path : path;
     if (error != 0)
-        answer = answer_write(session, event, "? write %s: %s; its text could not be saved: %s", name, cause(why), cause(error));
+        answer = answer_write(session, event, "not written: %s: %s; its text could not be saved: %s", name, cause(why), cause(error));
     else if (place == ASIDE)
-        answer = answer_write(session, event, "? write %s: %s; its text is in %s", name, cause(why), event.copy);
+        answer = answer_write(session, event, "not written: %s: %s; its text is in %s", name, cause(why), event.copy);
     else
-        answer = answer_write(session, event, "? write %s: %s; it has this text already", name, cause(why));
+        answer = answer_write(session, event, "not written: %s: %s; it has this text already", name, cause(why));
     free(unnamed);
     return answer;
 }

@@ -97,6 +97,8 @@ static void hand_documents(struct session *session, struct session *heir)
         document->is_taken = document->is_unsaved;
     }
     heir->closed = session->closed;
+    for (struct closed *closed = heir->closed; closed != NULL; closed = closed->next)
+        closed->tag = 0;
     session->closed = NULL;
     heir->due = session->due;
     heir->mode_of_new_files = session->mode_of_new_files;

@@ -88,15 +88,15 @@ class UnsavedTexts:
 
     def meet(self, note: Note) -> None:
         """A message of the host about a text: whether it is written, and where a copy of it is."""
-        tag, is_cut = note.tag, note.code == NoteCode.CUT
+        tag, is_of_file = note.tag, note.code == NoteCode.NO_CODE and note.copy != b""
         if note.kind == NoteKind.LOST:
             self.is_hopeless = True
             self._saved.pop(tag, None)
         elif note.kind == NoteKind.NOT_SAVED:
             self._meet_failure(note)
-        elif note.kind == NoteKind.ASIDE and is_cut:
+        elif note.kind == NoteKind.ASIDE and note.code == NoteCode.CUT:
             self.is_cut_saved = True
-        elif note.kind == NoteKind.ASIDE:
+        elif note.kind == NoteKind.ASIDE and is_of_file:
             self._saved[tag] = self._changes[tag]
             self._dropped.pop(tag, None)
 

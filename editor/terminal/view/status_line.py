@@ -12,7 +12,7 @@ SAMHOST, SAMTERM = "samhost: ", "samterm: "  # what the lines of these begin wit
 
 UNSAFE_KINDS = ("Cc", "Cs", "Zl", "Zp")  # controls, halves of runes, and ends of lines and paragraphs
 
-RANKS = {NoteKind.LOST: 3, NoteKind.NO_JOURNAL: 2, NoteKind.SAVED: 0}  # of other messages of the host 1
+RANKS = {NoteKind.LOST: 3, NoteKind.NO_JOURNAL: 2}  # of other messages of the host 1
 
 
 def printable(line: str) -> str:
@@ -36,7 +36,9 @@ def rank_of(told: Union[str, Note]) -> int:
         return 2 if told.startswith(SAMTERM) else int(told.startswith(SAMHOST))
     if told.kind == NoteKind.NOT_SAVED:
         return 2 if told.copy else 3
-    return RANKS.get(told.kind, 1) if told.code == NoteCode.NO_CODE or told.kind != NoteKind.SAVED else 1
+    if told.kind == NoteKind.ASIDE:
+        return 1 if told.copy else 2
+    return 0 if told.kind == NoteKind.SAVED and told.code == NoteCode.NO_CODE else RANKS.get(told.kind, 1)
 
 
 class Notes:

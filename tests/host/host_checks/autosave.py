@@ -336,7 +336,7 @@ def check_own_folder(folder):
             copy = place / (front_of(folder / f"nowhere/{at}.txt") + ".sam-saved")
             lines, text, mode = session.told(), text_of(copy), place.stat().st_mode & 0o777
             copy.unlink(missing_ok=True)
-            expect_line(lines, rf"\? write nowhere/{at}.txt: .*; its text is in {copy}")
+            expect_line(lines, rf"not written: nowhere/{at}.txt: .*; its text is in {copy}")
             expect_equal((text, mode), ("one\ntwo\n", 0o700), f"{environment}: the copy, and the mode of the folder")
         with contextlib.suppress(OSError):  # another check's host has a copy there
             if not is_there and place.parent == Path("/tmp"):

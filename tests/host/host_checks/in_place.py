@@ -139,7 +139,7 @@ def check_no_place_for_the_old(folder):
     with Session(folder, "a.txt", limit=50) as session:
         session.replace("short")
         session.write()
-        expect_line(session.told(), r"\? write a.txt: File too large; its text is in a.txt.sam-saved")
+        expect_line(session.told(), r"not written: a.txt: File too large; its text is in a.txt.sam-saved")
         expect_equal(session.end(), 0, "the status")
     expect_equal(text_of(path), "o" * 100, "the file")
     expect_equal(text_of(folder / "a.txt.sam-saved"), "short", "the copy")
@@ -204,11 +204,11 @@ def check_may_not_write(folder):
     path.chmod(0o444)
     with Session(folder, "a.txt", prefix=prefix) as session:
         session.write()
-        expect_line(session.told(), r"\? write a.txt: Permission denied; it has this text already")
+        expect_line(session.told(), r"not written: a.txt: Permission denied; it has this text already")
         expect_only(folder, "a.txt")
         session.type("two\n")
         session.write()
-        expect_line(session.told(), r"\? write a.txt: Permission denied; its text is in a.txt.sam-saved")
+        expect_line(session.told(), r"not written: a.txt: Permission denied; its text is in a.txt.sam-saved")
         session.end()
     expect_equal(text_of(path), "one\n", "the file")
 
@@ -238,7 +238,7 @@ def check_links(folder):
         for tag in (1, 2, 3):
             session.type("two\n", tag)
             session.write(tag)
-        expect_line(session.told(), r"\? write far: No such file or directory; its text is in far.sam-saved")
+        expect_line(session.told(), r"not written: far: No such file or directory; its text is in far.sam-saved")
         session.end()
     expect_equal(text_of(path), "one\ntwo\n", "the file at the end of two links")
     expect_equal(text_of(folder / "d" / "new.txt"), "two\n", "the file that a link led to before it was there")
@@ -256,7 +256,7 @@ def check_unreadable_link(folder):
     # The link is read to find it twice among the words, then to note what was read there, and then for the write.
     for first, word, given, status, said in (
         (2, "d/link", b"", 1, "d/link: Input/output error"), (1, "d", b"", 0, "d has no text files"),
-        (3, "d/link", stream, 0, "? write d/link: Input/output error; its text is in d/link.sam-saved"),
+        (3, "d/link", stream, 0, "not written: d/link: Input/output error; its text is in d/link.sam-saved"),
     ):  # fmt: skip
         fault = f"inject=readlink:error=EIO:when={first}+"
         words = ("strace", "-qq", "-o", "/dev/null", "-P", "d/link", "-e", fault, SAMHOST, word)
@@ -323,7 +323,7 @@ def check_long_path(folder):
         session.type("two\n")
         session.write()
         copy = own_copy(folder, absent)
-        expect_line(session.told(), rf"\? write {absent}: File name too long; its text is in {copy}")
+        expect_line(session.told(), rf"not written: {absent}: File name too long; its text is in {copy}")
         expect_equal(text_of(copy), "two\n", "the copy")
 
 
@@ -334,7 +334,7 @@ def check_failed_in_place(folder):
     with Session(folder, "a.txt", limit=1000) as session:
         session.type("x" * 2000)
         session.write()
-        expect_line(session.told(), r"\? write a.txt: File too large; its text could not be saved: File too large")
+        expect_line(session.told(), r"not written: a.txt: File too large; its text could not be saved: File too large")
         expect_equal(text_of(path), "one\n" + "o" * 100, "the file")
         expect_equal(session.end(), 5, "the status")
     expect_only(folder, "a.txt", "b.txt")
@@ -353,7 +353,7 @@ def check_broken_in_place(folder):
         session.write()
         lines = session.told()
         expect_line(lines, r"a.txt is broken; what it was is in a.txt.sam-old")
-        expect_line(lines, r"\? write a.txt: Input/output error; its text is in a.txt.sam-saved")
+        expect_line(lines, r"not written: a.txt: Input/output error; its text is in a.txt.sam-saved")
         expect_equal(session.end(), 0, "the status")
     expect_equal(text_of(folder / "a.txt.sam-old"), "one\n", "what the file was")
     expect_equal(text_of(folder / "a.txt.sam-saved"), "one\ntwo\n", "the copy")

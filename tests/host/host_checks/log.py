@@ -61,7 +61,7 @@ def check_nobody_reads_what_it_says(folder):
         expect_equal(process.wait(GIVEN_UP), 0, "the status")
         lines = os.read(source, 65536).decode().splitlines()
     expect_line(lines, r"lines missing before this one, since nobody read them: [1-9]\d*")
-    expect_line(lines, rf"\? write no/c.txt: No such file or directory; its text is in {copy}")
+    expect_line(lines, rf"not written: no/c.txt: No such file or directory; its text is in {copy}")
     expect_line(lines, f"no/c.txt was not written; its text is in {copy}")
     expect_equal(len(lines), 3, f"in {lines} the number")
     expect_equal(text_of(copy), "232one\n", "the copy")

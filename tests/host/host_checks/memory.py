@@ -131,7 +131,7 @@ def judge_refused(place, scene, status, lines):
         expect_equal(status, 0, f"the status, after {lines}")
         expect(scene.typed_texts <= set(found.values()), f"a text is lost: there is {found}, and it says {lines}")
         unwritten = sum(len(texts) > 1 and found[name] == texts[0] for name, texts in scene.files.items())
-        told = [line for line in lines if re.match(r"samhost: \? write .*: Cannot allocate memory; its text (is|could)", line)]
+        told = [line for line in lines if re.match(r"samhost: not written: .*: Cannot allocate memory; its text (is|could)", line)]
         expect_equal(len(told), unwritten, f"in {lines} the number of those that a file is not written")
         is_told = any(re.search("left of earlier sessions was looked for|a text that was not written", line) for line in lines)
         expect(is_told or "a.txt.sam-saved" not in scene.files, f"it doesn't tell of the copy that was there: {lines}")

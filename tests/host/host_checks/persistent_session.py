@@ -37,7 +37,7 @@ def check_stays_and_ends(folder):
         path.write_text("other\n")
         session.type("three\n")
         session.write()
-        told = [said for said in session.said() if said.startswith("? write a.txt: another program changed it")]
+        told = [said for said in session.said() if said.startswith("not written: a.txt: another program changed it")]
         expect_equal(len(told), 1, f"how often it says so, in {session.said()}: it")
         first = session.messages[0]
         expect_equal((first.kind, first.number, first.path), (sulgrevad.NoteKind.SESSION, 1, session.name.encode()), "the first message")

@@ -223,7 +223,7 @@ def check_power_cut_at_the_last_sync(folder):
             path.write_text(f"of another program {number}\n")
             session.type(f"refused {number}\n")
             session.write()
-            told = [said for said in session.said() if said.startswith("? write a.txt: another program changed it")]
+            told = [said for said in session.said() if said.startswith("not written: a.txt: another program changed it")]
             expect_equal(len(told), number + 1, f"how often it says so, in {session.said()}: it")
             power.cut()
             session.type(f"after {number}\n")

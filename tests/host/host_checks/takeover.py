@@ -43,7 +43,7 @@ def check_taken_with_texts_and_marks(folder):
             expect_equal((new.messages[0], new.messages[0].path), (new.of("SESSION")[0], new.name.encode()), "the first message")
             expect_equal(names_of(new), ["a.txt", "c.txt", "~~undo~~"], "the names")
             expect_equal((new.text(1), new.text(2)), ("one\ntwo\n", "other\nmore\n"), "the texts")
-            line = "? write a.txt: it was not written before this terminal took the session over; its text is in a.txt.sam-saved"
+            line = "not written: a.txt: it was not written before this terminal took the session over; its text is in a.txt.sam-saved"
             expect_equal(new.said(), [line], "what it says")
             taken = new.of("NOT_SAVED", tag=1, request=0, code=sulgrevad.NoteCode.TAKEN_UNSAVED, path=b"a.txt", copy=b"a.txt.sam-saved")
             expect_equal(len(taken), 1, f"how often it tells so, in {new.messages}: it")
@@ -144,7 +144,7 @@ def check_taken_back_once_it_is_written(folder):
             old.type("two\n")
             old.drop()
             with Staying(place, takes=old.name) as new:
-                expect(any(said.startswith("? write a.txt: it was not written before") for said in new.said()), f"it says {new.said()}")
+                expect(any(said.startswith("not written: a.txt: it was not written before") for said in new.said()), f"it says {new.said()}")
                 if is_killed:
                     kill(place, new)
                 new.write(2)

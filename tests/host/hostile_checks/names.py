@@ -79,7 +79,7 @@ def check_names_that_front_ends_take_for_theirs(folder):
         old.type("three\n")
         old.write()
         why = "another program changed it, and the next write replaces it"
-        told = f"? write ./{names[0]}: {why}; its text is in ./{names[0]}.sam-saved"
+        told = f"not written: ./{names[0]}: {why}; its text is in ./{names[0]}.sam-saved"
         expect(told in old.said(), f"no {told!r} in {old.said()}")
         with Staying(folder, takes=old.name) as new:
             expect_equal(names_of(new)[:4], [f"./{name}" for name in names[:4]], "the names for the new terminal")

@@ -117,7 +117,7 @@ def check_neighbours_link_at_the_last_moment(folder):
         session.settle()
         expect_equal(text_of(target), "one\n", "what the link leads to")
         expect_equal(text_of(folder / "b.txt"), "one\n", "the file by its other name")
-        expect(any("a.txt" in line and line.startswith("samhost: ? write ") for line in session.told()), "it says nothing")
+        expect(any("a.txt" in line and line.startswith("samhost: not written: ") for line in session.told()), "it says nothing")
     expect_equal(text_of(folder / "a.txt.sam-saved"), "one\ntwo\n", "the copy")
 
 
