@@ -264,8 +264,8 @@ static struct message *write_text(struct session *session, uint16_t tag)
         if (path != NULL && !has_it_anew(session, tag))
             attempt = put_text(session, tag, path);
         session->documents[tag].is_unsaved = attempt.error != 0;
-        answer = attempt.error != 0 ? answer_unwritten(session, tag, path, attempt.error)
-                                    : answer_written(session, tag, path, attempt.theirs);
+        answer =
+            attempt.error != 0 ? answer_unwritten(session, tag, path, attempt.error) : answer_written(session, tag, path, attempt.theirs);
     }
     free(attempt.theirs);
     free(path);

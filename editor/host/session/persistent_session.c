@@ -18,9 +18,8 @@
 
 #include "session/persistent_session.h"
 #include "disk/autosave.h"
-#include "disk/file_watcher.h"
 #include "disk/errors.h"
-#include "disk/saves.h"
+#include "disk/file_watcher.h"
 #include "journal/journal.h"
 #include "journal/journal_records.h"
 #include "limits.h"
@@ -114,7 +113,7 @@ static enum ending take_packets(struct session *session)
             has_come = true;
         if (has_come)
             ending = take_input(session);
-        has_come = ending == GOES_ON && !wire->is_short && take_note(session);
+        has_come = ending == GOES_ON && !wire->is_short && (read_bytes(session) || take_note(session));
     } while (has_come);
     return ending;
 }
@@ -340,7 +339,7 @@ static enum ending ending_of_line(struct session *session)
 /* Whether memory is out for what a terminal has sent that is gone, and has been for a while: nobody will send it once more. */
 static bool is_given_up(struct stay *stay)
 {
-    struct pollfd end = {.fd = stay->line};
+    struct pollfd end = {stay->line, POLLRDHUP, 0};
 
     if (!stay->has_streams || stay->in.len == 0 || poll(&end, 1, 0) <= 0)
         stay->gone = 0;
@@ -352,7 +351,7 @@ static bool is_given_up(struct stay *stay)
 static enum ending serve_line(struct session *session, const sigset_t *mask)
 {
     struct stay *stay = session->stay;
-    enum ending ending = GOES_ON;
+    enum ending ending = stay->ending;
 
     while (ending == GOES_ON && !is_signalled() && !stay->is_to_end && time_left_alone(session) != 0 && !is_given_up(stay)) {
         carry(session, mask, -1);
