@@ -53,7 +53,8 @@ class Line:
     """A terminal's end of a link whose only connection are the streams of a host."""
 
     def __init__(self):
-        self.link, self.messages, self._came = Link(Link.TERMINAL, os.urandom(16)), [], b""
+        self.id, self.messages, self._came = os.urandom(16), [], b""
+        self.link = Link(Link.TERMINAL, self.id)
         self._attempt = self.link.call()
 
     def carried(self, stream=b""):
