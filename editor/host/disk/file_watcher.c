@@ -59,7 +59,7 @@ static void look_at_gone(struct session *session, uint16_t tag, const char *path
     struct watch *watch = &session->documents[tag].watch;
 
     if (watch->gone < LOOKS_GONE && ++watch->gone == LOOKS_GONE)
-        tell(session, &(struct event){.kind = SAM_NOTE_CHANGED, .code = SAM_NOTE_NOT_FOUND, .tag = tag, .path = path},
+        tell(&(struct event){.kind = SAM_NOTE_CHANGED, .code = SAM_NOTE_NOT_FOUND, .tag = tag, .path = path},
              "%s: another program removed it", path);
 }
 
@@ -80,7 +80,7 @@ static void look_at(struct session *session, uint16_t tag, const char *path)
         if (!was_told && !is_same(content_at(end), known->content)) {
             watch->is_told = true;
             watch->told = known->content;
-            tell(session, &(struct event){.kind = SAM_NOTE_CHANGED, .tag = tag, .path = path}, "%s: another program changed it", path);
+            tell(&(struct event){.kind = SAM_NOTE_CHANGED, .tag = tag, .path = path}, "%s: another program changed it", path);
         }
     }
     free(end);

@@ -206,8 +206,8 @@ static void report_saved(struct search *search, size_t tag, const char *place, c
         if (!is_written || left.status.st_uid != geteuid() || unlink(left.path) != 0) {
             struct event event = earlier_text(left.is_newer ? SAM_NOTE_NEWER : SAM_NOTE_OLDER, tag, document->path, &left);
             const char *age = left.is_newer ? "newer" : "older";
-            tell(search->session, &event, "%s has a text that was not written: it is in %s, of %s, %s than the file", document->path,
-                 left.path, left.when, age);
+            tell(&event, "%s has a text that was not written: it is in %s, of %s, %s than the file", document->path, left.path, left.when,
+                 age);
             if (search->offers)
                 offer(search, tag, &left);
         }
@@ -223,7 +223,7 @@ static void report_old(struct search *search, size_t tag, const char *place, con
 
     if (look_at(search, place, entry, document->path, &left)) {
         struct event event = earlier_text(SAM_NOTE_BROKEN, tag, document->path, &left);
-        tell(search->session, &event, "%s may be broken: what it was before a write is in %s", document->path, left.path);
+        tell(&event, "%s may be broken: what it was before a write is in %s", document->path, left.path);
     }
     free_left(&left);
 }
@@ -252,7 +252,7 @@ static void report_unnamed(struct search *search, const struct folder *folder, c
     search->is_short |= left.path == NULL;
     if (left.path != NULL && lstat(left.path, &left.status) == 0) {
         struct event event = earlier_text(SAM_NOTE_UNNAMED, 0, NULL, &left);
-        tell(search->session, &event, "a file without a name was not written: its text is in %s", left.path);
+        tell(&event, "a file without a name was not written: its text is in %s", left.path);
     }
     free_left(&left);
 }
@@ -268,7 +268,7 @@ static void report_other(struct search *search, const struct folder *folder, con
         report_unnamed(search, folder, entry);
     else if (is_cut && look_at(search, folder->path, entry, NULL, &left)) {
         struct event event = earlier_text(SAM_NOTE_CUT, 0, NULL, &left);
-        tell(search->session, &event, "what was cut last in an earlier session is in %s, of %s", left.path, left.when);
+        tell(&event, "what was cut last in an earlier session is in %s, of %s", left.path, left.when);
         if (search->offers)
             offer(search, 0, &left);
     }

@@ -390,6 +390,7 @@ static void say_the_end(struct session *session, const sigset_t *mask, int statu
     struct stay *stay = session->stay;
     bool was_signalled = is_signalled(), was_to_end = stay->is_to_end;
     uint64_t wanted = 0;
+    int tries = 0;
     bool is_awaited = has_left || (stay->has_streams && !was_signalled);
     int64_t until = now() + (is_awaited ? LONGEST_END : stay->line >= 0 ? UNASKED_END : 0);
 
@@ -404,7 +405,7 @@ static void say_the_end(struct session *session, const sigset_t *mask, int statu
             wanted = count_of(stay, sam_link_put_count);
         sync_journal(session);
         write_line(session);
-        if (has_heard_all(stay, wanted))
+        if (has_heard_all(stay, wanted) || (stay->has_streams && wanted == 0 && !is_tried_again(ENOMEM, &tries)))
             return;
         carry(session, mask, wanted > 0 ? until - now() : PAUSE);
         while (read_bytes(session)) /* nothing counts any more */
