@@ -174,8 +174,9 @@ void free_messages(struct messages *messages)
 static bool is_said_aloud(const struct stay *stay, bool is_put)
 {
     bool is_cut_off = stay->attempt > 0 && (stay->line < 0 || stay->line_out < 0);
+    bool is_stuck = stay->attempt > 0 && !stay->is_answering && stay->messages.waiting != NULL;
 
-    return who_listens() == NULL || (stay->has_streams && (is_cut_off || !is_put));
+    return who_listens() == NULL || (stay->has_streams && (is_cut_off || is_stuck || !is_put));
 }
 
 static void hear(struct session *session, const struct event *event, const char *words)

@@ -328,8 +328,9 @@ static enum ending take_what_is_there(struct session *session, const sigset_t *m
 static enum ending ending_of_line(struct session *session)
 {
     struct stay *stay = session->stay;
+    bool is_at_its_end = stay->has_streams && stay->line < 0 && stay->ending == GOES_ON && !session->wire.is_short;
 
-    if (stay->ending == GOES_ON && stay->has_streams && stay->line < 0 && sam_host_finish(&session->host) == SAM_TRUNCATED) {
+    if (is_at_its_end && sam_host_finish(&session->host) == SAM_TRUNCATED) {
         say("standard input ends inside a message");
         return LINE_BROKE;
     }
