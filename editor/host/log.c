@@ -8,6 +8,7 @@
 #include <poll.h>
 #include <signal.h>
 #include <stdarg.h>
+#include <stdbool.h>
 #include <stdint.h>
 #include <stdio.h>
 #include <string.h>
@@ -162,9 +163,9 @@ void set_listener(listener *listens, void *at)
     heard_at = at;
 }
 
-bool has_listener(void)
+void *who_listens(void)
 {
-    return heard_by != NULL;
+    return heard_at;
 }
 
 void spell_line(char line[LINE_ROOM], const char *format, va_list list)

@@ -3,7 +3,6 @@
 #define SAMHOST_LOG_H
 
 #include <stdarg.h>
-#include <stdbool.h>
 
 /* Puts question marks in words for what a screen would not show as it stands: control characters, format characters that show nowhere (but
  * for the two joiners, which scripts and emoji need), line and paragraph separators, and bytes that are no UTF-8. */
@@ -23,6 +22,8 @@ void say_aloud(const char *words);
 /* Has lines go to a function, without their front and newline, in place of standard error; NULL: no longer. */
 typedef void listener(void *at, const char *line);
 void set_listener(listener *listens, void *at);
-bool has_listener(void);
+
+/* The listener's session; NULL where lines go to standard error. */
+void *who_listens(void);
 
 #endif

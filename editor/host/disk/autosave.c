@@ -121,16 +121,16 @@ bool is_tried_again(int error, int *tries)
 
 /* ---- What is told ---- */
 
-static void tell_aside(struct session *session, uint16_t tag, const char *name, const char *copy)
+static void tell_aside(uint16_t tag, const char *name, const char *copy)
 {
-    tell(session, &(struct event){.kind = SAM_NOTE_ASIDE, .tag = tag, .path = name, .copy = copy}, "%s was not written; its text is in %s",
-         name, copy);
+    tell(&(struct event){.kind = SAM_NOTE_ASIDE, .tag = tag, .path = name, .copy = copy}, "%s was not written; its text is in %s", name,
+         copy);
 }
 
-static void tell_lost(struct session *session, uint16_t tag, const char *name, int error)
+static void tell_lost(uint16_t tag, const char *name, int error)
 {
-    tell(session, &(struct event){.kind = SAM_NOTE_LOST, .code = code_of(error), .tag = tag, .path = name}, "the text of %s is lost: %s",
-         name, cause(error));
+    tell(&(struct event){.kind = SAM_NOTE_LOST, .code = code_of(error), .tag = tag, .path = name}, "the text of %s is lost: %s", name,
+         cause(error));
 }
 
 /* ---- Texts of closed files ---- */
@@ -157,9 +157,9 @@ static bool save_closed(struct session *session, bool is_last)
             error = keep(&closed->text, closed->name, closed->name, SAVED, &copy);
         while (is_last && is_tried_again(error, &tries));
         if (error == 0)
-            tell_aside(session, closed->tag, closed->name, copy.path);
+            tell_aside(closed->tag, closed->name, copy.path);
         else if (is_last)
-            tell_lost(session, closed->tag, closed->name, error);
+            tell_lost(closed->tag, closed->name, error);
         all &= error == 0;
         free(copy.path);
         if (error == 0 || is_last) {
@@ -226,7 +226,7 @@ bool save_changed(struct session *session)
         int error = secure(session, (uint16_t)tag, &place);
         if (error != 0 && !document->is_reported) {
             char *name = name_of(session, (uint16_t)tag);
-            tell(session, &(struct event){.kind = SAM_NOTE_ASIDE, .code = code_of(error), .tag = (uint16_t)tag, .path = name},
+            tell(&(struct event){.kind = SAM_NOTE_ASIDE, .code = code_of(error), .tag = (uint16_t)tag, .path = name},
                  "the text of %s can't be saved aside: %s", name == NULL ? "a file" : name, cause(error));
             free(name);
         }
@@ -280,7 +280,7 @@ static int save_for_good(struct session *session, uint16_t tag, const char *name
         error = secure(session, tag, &place);
     while (is_tried_again(error, &tries));
     if (error == 0 && place == ASIDE)
-        tell_aside(session, tag, name, session->documents[tag].aside.path);
+        tell_aside(tag, name, session->documents[tag].aside.path);
     return error;
 }
 
@@ -296,7 +296,7 @@ static void hold_closed(struct session *session, uint16_t tag, const char *name)
         free(closed);
         free(bytes);
         free(own);
-        tell_lost(session, tag, name, ENOMEM);
+        tell_lost(tag, name, ENOMEM);
         session->is_lost = true;
         return;
     }
@@ -315,7 +315,7 @@ void save_closing(struct session *session, uint16_t tag)
     int error = save_for_good(session, tag, known);
 
     if (error != 0) {
-        tell(session, &(struct event){.kind = SAM_NOTE_ASIDE, .code = code_of(error), .tag = tag, .path = known},
+        tell(&(struct event){.kind = SAM_NOTE_ASIDE, .code = code_of(error), .tag = tag, .path = known},
              "%s is closed, and its text can't be saved: %s", known, cause(error));
         hold_closed(session, tag, known);
     }
@@ -360,7 +360,7 @@ bool save_last(struct session *session, bool is_alone)
         const char *known = name == NULL ? "a file" : name;
         int error = save_for_good(session, (uint16_t)tag, known);
         if (error != 0)
-            tell_lost(session, (uint16_t)tag, known, error);
+            tell_lost((uint16_t)tag, known, error);
         all &= error == 0;
         free(name);
     }

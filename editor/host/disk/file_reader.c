@@ -250,7 +250,7 @@ void tell_times(struct session *session)
     for (size_t tag = 1; tag < tags; tag++) {
         const char *path = session->documents[tag].path;
         if (stat(path, &status) == 0)
-            tell(session, &(struct event){.kind = SAM_NOTE_DATED, .tag = (uint16_t)tag, .number = (uint64_t)status.st_mtim.tv_sec, .path = path},
+            tell(&(struct event){.kind = SAM_NOTE_DATED, .tag = (uint16_t)tag, .number = (uint64_t)status.st_mtim.tv_sec, .path = path},
                  "");
     }
 }

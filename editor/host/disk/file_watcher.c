@@ -1,10 +1,11 @@
-/* file_watcher.c: notices that another program has changed a file which the terminal has open, and reads a file anew where a note asks
- * for it.
+/* file_watcher.c: notices that another program has changed or removed a file which the terminal has open, and reads a file anew where a
+ * message asks for it.
  *
  * Every two seconds the marks of these files are looked at; only a file whose marks have changed is read. The terminal is told once for
- * each text that the session has read or written, so a file that grows all the time is told once.
+ * each text that the session has read or written, so a file that grows all the time is told once; and where a file is gone for longer than
+ * another program takes to put a new one in its place.
  *
- * A file that is read anew joins as a file of its own, whose text the terminal puts in the old one's place. It says so by another note:
+ * A file that is read anew joins as a file of its own, whose text the terminal puts in the old one's place. It says so by another message:
  * from then on the new text is what the file is known to have.
  */
 #define _XOPEN_SOURCE 700
@@ -29,7 +30,10 @@
 #include "session/session.h"
 #include "sulgrevad.h"
 
-enum { PERIOD = 2000 }; /* milliseconds between two looks */
+enum {
+    PERIOD = 2000, /* milliseconds between two looks */
+    LOOKS_GONE = 2 /* looks at which a file is gone until that is told: programs remove one to put another in its place */
+};
 
 /* ---- Watching ---- */
 
@@ -41,7 +45,7 @@ static bool is_same_time(struct timespec one, struct timespec other)
 /* Whether a file has other marks than at the last look, or there was none; notes them. */
 static bool has_new_marks(struct watch *watch, const struct stat *now)
 {
-    struct watch seen = {now->st_dev, now->st_ino, now->st_size, now->st_mtim, now->st_ctim, watch->is_told, watch->told};
+    struct watch seen = {now->st_dev, now->st_ino, now->st_size, now->st_mtim, now->st_ctim, watch->is_told, watch->told, 0};
     bool is_same = watch->device == seen.device && watch->inode == seen.inode && watch->size == seen.size &&
                    is_same_time(watch->written, seen.written) && is_same_time(watch->marked, seen.marked);
 
@@ -49,7 +53,17 @@ static bool has_new_marks(struct watch *watch, const struct stat *now)
     return !is_same;
 }
 
-/* Looks whether a file has what the session knows of it. One that is gone may be about to be replaced: it is looked at again. */
+/* A file that the session has read is not there. */
+static void look_at_gone(struct session *session, uint16_t tag, const char *path)
+{
+    struct watch *watch = &session->documents[tag].watch;
+
+    if (watch->gone < LOOKS_GONE && ++watch->gone == LOOKS_GONE)
+        tell(&(struct event){.kind = SAM_NOTE_CHANGED, .code = SAM_NOTE_NOT_FOUND, .tag = tag, .path = path},
+             "%s: another program removed it", path);
+}
+
+/* Looks whether a file has what the session knows of it. */
 static void look_at(struct session *session, uint16_t tag, const char *path)
 {
     struct document *document = &session->documents[tag];
@@ -57,13 +71,16 @@ static void look_at(struct session *session, uint16_t tag, const char *path)
     struct stat status;
     char *end = NULL;
     const struct known *known = end_of_links(path, &end) == 0 ? find_known(document, end) : NULL;
+    bool is_there = known != NULL && stat(end, &status) == 0;
 
-    if (known != NULL && stat(end, &status) == 0 && has_new_marks(watch, &status)) {
+    if (known != NULL && !is_there && errno == ENOENT && known->content.kind != NOT_THERE)
+        look_at_gone(session, tag, path);
+    if (is_there && has_new_marks(watch, &status)) {
         bool was_told = watch->is_told && is_same(watch->told, known->content);
         if (!was_told && !is_same(content_at(end), known->content)) {
             watch->is_told = true;
             watch->told = known->content;
-            tell(session, &(struct event){.kind = SAM_NOTE_CHANGED, .tag = tag, .path = path}, "%s: another program changed it", path);
+            tell(&(struct event){.kind = SAM_NOTE_CHANGED, .tag = tag, .path = path}, "%s: another program changed it", path);
         }
     }
     free(end);

@@ -1,5 +1,5 @@
-/* file_watcher.h: notices that another program has changed a file which the terminal has open, and reads a file anew where a note asks
- * for it. */
+/* file_watcher.h: notices that another program has changed or removed a file which the terminal has open, and reads a file anew where a
+ * message asks for it. */
 #ifndef SAMHOST_DISK_FILE_WATCHER_H
 #define SAMHOST_DISK_FILE_WATCHER_H
 
@@ -20,6 +20,7 @@ struct watch {
     struct timespec written, marked;
     bool is_told;
     struct content told;
+    int gone; /* at how many looks the file was gone since it was there last: the second is told */
 };
 
 /* Notes that the terminal has opened a file: it is watched from then on. */
@@ -28,7 +29,7 @@ void note_opened(struct session *session, uint16_t tag);
 /* In how many milliseconds files are to be looked at; -1 where none is watched, or nobody is there to be told. */
 int64_t watch_is_due_in(const struct session *session);
 
-/* If that is due, looks at the files, and tells of those that another program has changed. */
+/* If that is due, looks at the files, and tells of those that another program has changed or removed. */
 void watch_files(struct session *session);
 
 /* Adds what the file of a tag has on disk now as a file of its own, and answers by a message. Returns whether there was memory for it. */

@@ -182,6 +182,19 @@ static bool look_at(struct search *search, const char *place, const char *entry,
     return true;
 }
 
+/* What is told of a copy. */
+static struct event earlier_text(enum sam_note_code code, size_t tag, const char *path, const struct left *left)
+{
+    return (struct event){
+        .kind = SAM_NOTE_EARLIER,
+        .code = code,
+        .tag = (uint16_t)tag,
+        .number = (uint64_t)left->status.st_mtim.tv_sec,
+        .path = path,
+        .copy = left->path,
+    };
+}
+
 /* Reports a text that was not written. One that its file has already is of no use any more. */
 static void report_saved(struct search *search, size_t tag, const char *place, const char *entry)
 {
@@ -191,11 +204,10 @@ static void report_saved(struct search *search, size_t tag, const char *place, c
     if (look_at(search, place, entry, document->path, &left)) {
         bool is_written = left.is_read && is_same(content_of(&left.text), content_at(document->path));
         if (!is_written || left.status.st_uid != geteuid() || unlink(left.path) != 0) {
-            tell(search->session,
-                 &(struct event){.kind = SAM_NOTE_EARLIER, .code = left.is_newer ? SAM_NOTE_NEWER : SAM_NOTE_OLDER, .tag = (uint16_t)tag,
-                                 .number = (uint64_t)left.status.st_mtim.tv_sec, .path = document->path, .copy = left.path},
-                 "%s has a text that was not written: it is in %s, of %s, %s than the file", document->path, left.path, left.when,
-                 left.is_newer ? "newer" : "older");
+            struct event event = earlier_text(left.is_newer ? SAM_NOTE_NEWER : SAM_NOTE_OLDER, tag, document->path, &left);
+            const char *age = left.is_newer ? "newer" : "older";
+            tell(&event, "%s has a text that was not written: it is in %s, of %s, %s than the file", document->path, left.path, left.when,
+                 age);
             if (search->offers)
                 offer(search, tag, &left);
         }
@@ -209,11 +221,10 @@ static void report_old(struct search *search, size_t tag, const char *place, con
     const struct document *document = &search->session->documents[tag];
     struct left left = {0};
 
-    if (look_at(search, place, entry, document->path, &left))
-        tell(search->session,
-             &(struct event){.kind = SAM_NOTE_EARLIER, .code = SAM_NOTE_BROKEN, .tag = (uint16_t)tag,
-                             .number = (uint64_t)left.status.st_mtim.tv_sec, .path = document->path, .copy = left.path},
-             "%s may be broken: what it was before a write is in %s", document->path, left.path);
+    if (look_at(search, place, entry, document->path, &left)) {
+        struct event event = earlier_text(SAM_NOTE_BROKEN, tag, document->path, &left);
+        tell(&event, "%s may be broken: what it was before a write is in %s", document->path, left.path);
+    }
     free_left(&left);
 }
 
@@ -236,17 +247,14 @@ static void report_copy(struct search *search, const struct folder *folder, cons
 
 static void report_unnamed(struct search *search, const struct folder *folder, const char *entry)
 {
-    struct stat status;
-    char *path = formatted("%s%s", folder->path, entry);
-    bool is_there = path != NULL && lstat(path, &status) == 0;
+    struct left left = {.path = formatted("%s%s", folder->path, entry)};
 
-    search->is_short |= path == NULL;
-    if (path != NULL)
-        tell(search->session,
-             &(struct event){.kind = SAM_NOTE_EARLIER, .code = SAM_NOTE_UNNAMED, .number = is_there ? (uint64_t)status.st_mtim.tv_sec : 0,
-                             .copy = path},
-             "a file without a name was not written: its text is in %s", path);
-    free(path);
+    search->is_short |= left.path == NULL;
+    if (left.path != NULL && lstat(left.path, &left.status) == 0) {
+        struct event event = earlier_text(SAM_NOTE_UNNAMED, 0, NULL, &left);
+        tell(&event, "a file without a name was not written: its text is in %s", left.path);
+    }
+    free_left(&left);
 }
 
 /* Reports a text that is of no file: one without a name, or what was cut last. */
@@ -259,10 +267,8 @@ static void report_other(struct search *search, const struct folder *folder, con
     if (strncmp(entry + front, UNNAMED, strlen(UNNAMED)) == 0)
         report_unnamed(search, folder, entry);
     else if (is_cut && look_at(search, folder->path, entry, NULL, &left)) {
-        tell(search->session,
-             &(struct event){.kind = SAM_NOTE_EARLIER, .code = SAM_NOTE_CUT, .number = (uint64_t)left.status.st_mtim.tv_sec,
-                             .copy = left.path},
-             "what was cut last in an earlier session is in %s, of %s", left.path, left.when);
+        struct event event = earlier_text(SAM_NOTE_CUT, 0, NULL, &left);
+        tell(&event, "what was cut last in an earlier session is in %s, of %s", left.path, left.when);
         if (search->offers)
             offer(search, 0, &left);
     }

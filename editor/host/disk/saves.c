@@ -124,10 +124,10 @@ struct attempt {
 };
 
 /* Has the disk broken a file while it was written in place: tells where what it was is now. */
-static void tell_broken(struct session *session, uint16_t tag, const char *path, const char *old)
+static void tell_broken(uint16_t tag, const char *path, const char *old)
 {
     if (old != NULL)
-        tell(session, &(struct event){.kind = SAM_NOTE_ASIDE, .code = SAM_NOTE_BROKEN, .tag = tag, .path = path, .copy = old},
+        tell(&(struct event){.kind = SAM_NOTE_ASIDE, .code = SAM_NOTE_BROKEN, .tag = tag, .path = path, .copy = old},
              "%s is broken; what it was is in %s", path, old);
 }
 
@@ -153,7 +153,7 @@ static struct attempt put_text(struct session *session, uint16_t tag, const char
         error = put_file(&request);
         note_put(document, &request, error, owner == document);
     }
-    tell_broken(session, tag, path, request.old);
+    tell_broken(tag, path, request.old);
     free(request.old);
     free(end);
     return (struct attempt){error == IS_CHANGED && request.known.kind == NOT_THERE ? IS_THERE : error, request.theirs};
@@ -264,8 +264,8 @@ static struct message *write_text(struct session *session, uint16_t tag)
         if (path != NULL && !has_it_anew(session, tag))
             attempt = put_text(session, tag, path);
         session->documents[tag].is_unsaved = attempt.error != 0;
-        answer = attempt.error != 0 ? answer_unwritten(session, tag, path, attempt.error)
-                                    : answer_written(session, tag, path, attempt.theirs);
+        answer =
+            attempt.error != 0 ? answer_unwritten(session, tag, path, attempt.error) : answer_written(session, tag, path, attempt.theirs);
     }
     free(attempt.theirs);
     free(path);

@@ -189,9 +189,9 @@ char *take_words(struct record *record)
 
 /* ---- Writing ---- */
 
-void tell_no_journal(struct session *session, int error)
+void tell_no_journal(int error)
 {
-    tell(session, &(struct event){.kind = SAM_NOTE_NO_JOURNAL, .code = code_of(error)},
+    tell(&(struct event){.kind = SAM_NOTE_NO_JOURNAL, .code = code_of(error)},
          "there is no journal: %s; if samhost ends unasked, the session ends with it", cause(error));
 }
 
@@ -204,7 +204,7 @@ static void lose_journal(struct session *session, int error)
     stay->journal = (struct journal){.file = -1};
     (void)unlinkat(stay->home.folder, JOURNAL, 0);
     sync_home(&stay->home); /* else a power cut could bring it back */
-    tell(session, &(struct event){.kind = SAM_NOTE_NO_JOURNAL, .code = code_of(error)},
+    tell(&(struct event){.kind = SAM_NOTE_NO_JOURNAL, .code = code_of(error)},
          "the journal can't be written: %s; if samhost ends unasked, the session ends with it", cause(error));
 }
 

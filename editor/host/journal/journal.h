@@ -69,7 +69,7 @@ bool is_left_alone(const struct home *home);
 int cut_journal(struct stay *stay, const struct text *all, size_t len);
 
 /* Tells that there is no journal, and why. */
-void tell_no_journal(struct session *session, int error);
+void tell_no_journal(int error);
 
 /* Adds a record. Where that can't be, there is no journal from then on, and the terminal is told so. */
 void add_record(struct session *session, enum step step, const uint8_t *bytes, size_t len);

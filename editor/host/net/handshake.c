@@ -192,11 +192,33 @@ static uint32_t take_first(struct session *session, const struct caller *caller)
     return code;
 }
 
+/* Refuses a hello, or what is none, as far as there is somebody to hear that. Returns the exit status. */
+static int refuse_streams(const struct caller *caller, uint32_t code)
+{
+    uint8_t refusal[SAM_LINK_HELLO_BYTES];
+
+    if (code == SAM_NO_MEMORY)
+        say("out of memory");
+    else if (code == SAM_NONE || code == SAM_LINK_NOT_A_LINK)
+        say("standard input has no hello of a terminal; samterm, samweb and Emacs start samhost, and samterm FILE edits a file");
+    if (!isatty(STDOUT_FILENO) && sam_link_write_refusal(code, caller->bytes, caller->len, refusal) == SAM_OK)
+        (void)!write(STDOUT_FILENO, refusal, sizeof refusal); /* where it doesn't go, the status says it */
+    switch (code) {
+    case SAM_NO_MEMORY:
+        return STATUS_MEMORY;
+    case SAM_NONE:
+        return STATUS_BROKEN;
+    case SAM_LINK_NOT_A_LINK:
+        return STATUS_FAULT;
+    default:
+        return STATUS_NO_SESSION;
+    }
+}
+
 int hear_streams(struct session *session, const sigset_t *mask)
 {
     struct stay *stay = session->stay;
     struct caller *caller = &stay->callers[0];
-    uint8_t refusal[SAM_LINK_HELLO_BYTES];
     uint32_t code;
     int error = read_hello(caller, mask, &code);
 
@@ -210,15 +232,10 @@ int hear_streams(struct session *session, const sigset_t *mask)
     say_gathered(session);
     if (is_signalled())
         return STATUS_OK;
-    if (error != 0)
-        say("standard input can't be read: %s", cause(error));
-    else if (code == SAM_NO_MEMORY)
-        say("out of memory");
-    else if (code == SAM_NONE || code == SAM_LINK_NOT_A_LINK)
-        say("standard input has no hello of a terminal; samterm, samweb and Emacs start samhost, and samterm FILE edits a file");
-    if (!isatty(STDOUT_FILENO) && sam_link_write_refusal(code, caller->bytes, caller->len, refusal) == SAM_OK)
-        (void)!write(STDOUT_FILENO, refusal, sizeof refusal); /* where it doesn't go, the status says it */
-    return code == SAM_NO_MEMORY ? STATUS_MEMORY : code == SAM_NONE ? STATUS_BROKEN : code == SAM_LINK_NOT_A_LINK ? STATUS_FAULT : STATUS_NO_SESSION;
+    if (error == 0)
+        return refuse_streams(caller, code);
+    say("standard input can't be read: %s", cause(error));
+    return STATUS_BROKEN;
 }
 
 /* ---- What another samhost asks for ---- */

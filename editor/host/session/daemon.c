@@ -194,7 +194,7 @@ static int begin_in(struct home *home, char **paths, int count, const struct opt
             note_start(session);
             sync_home(&session->stay->home);
         } else /* one that is not whole is none */
-            tell_no_journal(session, error);
+            tell_no_journal(error);
         note_about(session);
         report_others(session);
         return part(session);

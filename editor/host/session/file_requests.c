@@ -138,7 +138,8 @@ static bool find_names(struct session *session, uint32_t request, const char *pa
     bool is_short = folder == NULL || (count < 0 && errno == ENOMEM);
     free(folder);
     enum sam_note_code code = has_more ? SAM_NOTE_HAS_MORE : SAM_NOTE_NO_CODE;
-    return !is_short && put_message(session, &(struct event){.kind = SAM_NOTE_NAMES, .request = request, .code = code, .path = names}, NULL);
+    return !is_short &&
+           put_message(session, &(struct event){.kind = SAM_NOTE_NAMES, .request = request, .code = code, .path = names}, NULL);
 }
 
 /* ---- Messages ---- */

@@ -174,8 +174,9 @@ void free_messages(struct messages *messages)
 static bool is_said_aloud(const struct stay *stay, bool is_put)
 {
     bool is_cut_off = stay->attempt > 0 && (stay->line < 0 || stay->line_out < 0);
+    bool is_stuck = stay->attempt > 0 && !stay->is_answering && stay->messages.waiting != NULL;
 
-    return !has_listener() || (stay->has_streams && (is_cut_off || !is_put));
+    return who_listens() == NULL || (stay->has_streams && (is_cut_off || is_stuck || !is_put));
 }
 
 static void hear(struct session *session, const struct event *event, const char *words)
@@ -198,7 +199,7 @@ void listen_for_messages(struct session *session)
     set_listener(hear_line, session);
 }
 
-void tell(struct session *session, const struct event *event, const char *format, ...)
+void tell(const struct event *event, const char *format, ...)
 {
     char words[LINE_ROOM];
     va_list list;
@@ -206,8 +207,8 @@ void tell(struct session *session, const struct event *event, const char *format
     va_start(list, format);
     spell_line(words, format, list);
     va_end(list);
-    if (has_listener())
-        hear(session, event, words);
+    if (who_listens() != NULL)
+        hear(who_listens(), event, words);
     else
         say_aloud(words);
 }

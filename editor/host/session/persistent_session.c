@@ -18,9 +18,8 @@
 
 #include "session/persistent_session.h"
 #include "disk/autosave.h"
-#include "disk/file_watcher.h"
 #include "disk/errors.h"
-#include "disk/saves.h"
+#include "disk/file_watcher.h"
 #include "journal/journal.h"
 #include "journal/journal_records.h"
 #include "limits.h"
@@ -114,7 +113,7 @@ static enum ending take_packets(struct session *session)
             has_come = true;
         if (has_come)
             ending = take_input(session);
-        has_come = ending == GOES_ON && !wire->is_short && take_note(session);
+        has_come = ending == GOES_ON && !wire->is_short && (read_bytes(session) || take_note(session));
     } while (has_come);
     return ending;
 }
@@ -329,8 +328,9 @@ static enum ending take_what_is_there(struct session *session, const sigset_t *m
 static enum ending ending_of_line(struct session *session)
 {
     struct stay *stay = session->stay;
+    bool is_at_its_end = stay->has_streams && stay->line < 0 && stay->ending == GOES_ON && !session->wire.is_short;
 
-    if (stay->ending == GOES_ON && stay->has_streams && stay->line < 0 && sam_host_finish(&session->host) == SAM_TRUNCATED) {
+    if (is_at_its_end && sam_host_finish(&session->host) == SAM_TRUNCATED) {
         say("standard input ends inside a message");
         return LINE_BROKE;
     }
@@ -340,7 +340,7 @@ static enum ending ending_of_line(struct session *session)
 /* Whether memory is out for what a terminal has sent that is gone, and has been for a while: nobody will send it once more. */
 static bool is_given_up(struct stay *stay)
 {
-    struct pollfd end = {.fd = stay->line};
+    struct pollfd end = {stay->line, POLLRDHUP, 0};
 
     if (!stay->has_streams || stay->in.len == 0 || poll(&end, 1, 0) <= 0)
         stay->gone = 0;
@@ -352,7 +352,7 @@ static bool is_given_up(struct stay *stay)
 static enum ending serve_line(struct session *session, const sigset_t *mask)
 {
     struct stay *stay = session->stay;
-    enum ending ending = GOES_ON;
+    enum ending ending = stay->ending;
 
     while (ending == GOES_ON && !is_signalled() && !stay->is_to_end && time_left_alone(session) != 0 && !is_given_up(stay)) {
         carry(session, mask, -1);
@@ -391,6 +391,7 @@ static void say_the_end(struct session *session, const sigset_t *mask, int statu
     struct stay *stay = session->stay;
     bool was_signalled = is_signalled(), was_to_end = stay->is_to_end;
     uint64_t wanted = 0;
+    int tries = 0;
     bool is_awaited = has_left || (stay->has_streams && !was_signalled);
     int64_t until = now() + (is_awaited ? LONGEST_END : stay->line >= 0 ? UNASKED_END : 0);
 
@@ -405,7 +406,7 @@ static void say_the_end(struct session *session, const sigset_t *mask, int statu
             wanted = count_of(stay, sam_link_put_count);
         sync_journal(session);
         write_line(session);
-        if (has_heard_all(stay, wanted))
+        if (has_heard_all(stay, wanted) || (stay->has_streams && wanted == 0 && !is_tried_again(ENOMEM, &tries)))
             return;
         carry(session, mask, wanted > 0 ? until - now() : PAUSE);
         while (read_bytes(session)) /* nothing counts any more */

@@ -26,9 +26,9 @@ struct piece {
 
 /* What a session has beside its files. Times are those of now(). */
 struct stay {
-    struct home home;  /* without a folder where the session ends with its line */
-    bool has_streams;  /* its line is standard input and output, and it ends with that */
-    sam_link link; /* empty before the first hello */
+    struct home home; /* without a folder where the session ends with its line */
+    bool has_streams; /* its line is standard input and output, and it ends with that */
+    sam_link link;    /* empty before the first hello */
     uint8_t id[SAM_LINK_ID_BYTES];
     int listener;
     struct caller callers[MOST_CALLERS];
@@ -37,13 +37,13 @@ struct stay {
     int line_out; /* the same, as bytes go over it */
     uint64_t attempt;
     struct piece in, out;
-    bool is_short;      /* memory is out for what was read */
+    bool is_short; /* memory is out for what was read */
     struct messages messages;
     struct journal journal;
-    struct replay *replay; /* NULL but while it is made again */
-    enum ending ending;                   /* why it ends; LINE_BROKE and FAULT while what has come is still to be taken */
-    struct session *heir;                 /* what another terminal has made of the session; else NULL */
-    uint8_t note[SAM_LINK_MOST_NOTE];     /* of the terminal, that is to be done */
+    struct replay *replay;            /* NULL but while it is made again */
+    enum ending ending;               /* why it ends; LINE_BROKE and FAULT while what has come is still to be taken */
+    struct session *heir;             /* what another terminal has made of the session; else NULL */
+    uint8_t note[SAM_LINK_MOST_NOTE]; /* of the terminal, that is to be done */
     size_t note_len;
     bool has_note;
     bool is_answering; /* that is being done, and messages wait for it */

@@ -154,7 +154,7 @@ static void put_journal(struct session *session, struct session *heir, const str
     (void)unlinkat(home->folder, JOURNAL, 0);
     (void)unlinkat(home->folder, NEW_JOURNAL, 0);
     if (!is_told)
-        tell_no_journal(heir, error);
+        tell_no_journal(error);
 }
 
 /* Writes the journal of the new session, and names its folder by its link. Both names lead to the folder from the first step on, so a kill

@@ -79,7 +79,8 @@ def check_read_anew_and_not_put_in(folder):
         asks = session.of("NOT_SAVED", tag=1, code=sulgrevad.NoteCode.CHANGED_SINCE)
         expect_equal(len(asks), 1, f"how often it asks, in {session.messages}: it")
         refused = asked(session, "RELOAD", 8, tag=77)
-        expect_equal((refused.code, refused.text), (sulgrevad.NoteCode.NO_SUCH_FILE, "there is no such file"), "what it says of another tag")
+        wanted = (sulgrevad.NoteCode.NO_SUCH_FILE, "there is no such file")
+        expect_equal((refused.code, refused.text), wanted, "what it says of another tag")
         expect_equal(text_of(path), "other\n", "the file")
         session.leave()
 

@@ -202,7 +202,7 @@ def check_faults(folder):
 
 def check_without_a_hello(folder):
     """A host that no terminal greets says what to use, and by its status what came; where another session is meant, or one is resumed or
-    taken over, the terminal's hello is refused. A packet that is wrong is a wrong stream, and what came before it counts."""
+    taken over, the terminal's hello is refused. A packet that is wrong is a wrong stream."""
     made(folder, a="one\n")
     hello = carried(b"")
 
@@ -216,9 +216,9 @@ def check_without_a_hello(folder):
     for what in (What.RESUME, What.TAKE_OVER):
         expect_equal(ran(hello[:9] + bytes([what]) + hello[10:]), (7, [], bytes([What.NO_SESSION])), f"with {what.name}")
     expect_equal(ran(hello, "--serve", "0123456789abcdef", "--stay", "0"), (7, [], bytes([What.OTHER_SESSION])), "with another id")
-    status, lines, _ = ran(carried(on_file(OPEN) + typed(1, 0, b"two ")) + b"\x09\0\0")
-    expect_equal((status, len(lines)), (3, 2), f"with a wrong packet, after {lines}")
-    expect_equal(text_of(folder / "a.txt.sam-saved"), "two one\n", "the copy")
+    wanted = (3, ["samhost: the terminal's stream is wrong (status 203)"], bytes([What.WELCOME]))
+    expect_equal(ran(hello + b"\x09\0\0"), wanted, "with a wrong packet")
+    expect_only(folder, "a.txt")
 
 
 def check_bytes_kept(folder):

@@ -53,7 +53,8 @@ class Line:
     """A terminal's end of a link whose only connection are the streams of a host."""
 
     def __init__(self):
-        self.link, self.messages, self._came = Link(Link.TERMINAL, os.urandom(16)), [], b""
+        self.id, self.messages, self._came = os.urandom(16), [], b""
+        self.link = Link(Link.TERMINAL, self.id)
         self._attempt = self.link.call()
 
     def carried(self, stream=b""):
@@ -108,7 +109,8 @@ class Session:
     """A host's process, and a terminal that has opened its files; without `begin` a terminal that hears only what is said."""
 
     def __init__(self, folder, *files, prefix=(), options=(), environment=None, begin=True, limit=None):
-        self.folder, self.lines, self._line, self.terminal, self.line = folder, [], b"", sulgrevad.Terminal(), Line()
+        self.folder, self.terminal, self.line = folder, sulgrevad.Terminal(), Line()
+        self.lines, self.aloud, self._line = [], [], b""  # lines that it has said; those of standard error, and the one that isn't whole
         more = {"TMPDIR": str(folder / "temporary"), "XDG_STATE_HOME": str(folder / "temporary"), **(environment or {})}
         pipe = subprocess.PIPE
         set_limit = (lambda: resource.setrlimit(resource.RLIMIT_FSIZE, (limit, resource.RLIM_INFINITY))) if limit else None
@@ -162,16 +164,20 @@ class Session:
                 self.hear(data)
             else:
                 *lines, self._line = (self._line + data).split(b"\n")
+                self.aloud += own_lines(b"\n".join(lines))
                 self.lines += own_lines(b"\n".join(lines))
         return bool(ready)
 
     def hear(self, data):
-        """Takes what the host sends. What it says once its input has ended stands on standard error, too."""
+        """Takes what the host sends. What it says once its input has ended, or while memory is out, stands on standard error, too."""
         stream, messages = self.line.heard(data)
         if self.has_begun:
             self.terminal.feed(stream)
-        if not self.process.stdin.closed:
-            self.lines += own_lines("".join(f"samhost: {text}\n" for text in said_in(messages)).encode())
+        for line in own_lines("".join(f"samhost: {text}\n" for text in said_in(messages)).encode()):
+            if line in self.aloud:
+                self.aloud.remove(line)
+            elif not self.process.stdin.closed:
+                self.lines.append(line)
 
     def is_quiet(self):
         terminal = self.terminal
