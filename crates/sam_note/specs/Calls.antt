@@ -1,5 +1,5 @@
 -- What reading and writing a message may answer.
-use Rattle.std.specs.Prelude.{◌≡◌, ◌≢◌, ℕ, ◌+◌, ◌<◌, ◌≤◌, List, [], ◌∷◌, ◌++◌, length, take, drop, min, Result, Ok, Err}
+use Rattle.std.specs.Prelude.{◌≡◌, ◌≢◌, ℕ, ◌+◌, ◌<◌, ◌≤◌, List, [], ◌∷◌, ◌++◌, length, take, drop, min, Option, None, Some, Result, Ok, Err}
 use Rattle.std.specs.Str.{IsUtf8}
 use Rattle.sam_note.specs.declared.fault.NoteFault.{NoteFault}
 use Rattle.sam_note.specs.declared.fault.NoteFault.TheVariants.{BadKind, BadField, BadLength, BadPath, BadText}
@@ -51,17 +51,21 @@ Reads bytes (Err BadPath) = (m : Message) × Spells m bytes × (ArePaths m → �
 Reads bytes (Err BadText) = (m : Message) × Spells m bytes × ArePaths m × (IsUtf8 m.text → ⊥)
 
 -- the message has no more bytes than it may have, nor than there is room for
-abbrev pub Fits : Message → ℕ → Type 0
+unfoldable pub Fits : Message → ℕ → Type 0
 Fits m room = length (spelled m) ≤ min most_bytes room
 
--- what writing may answer, into a buffer with these bytes before and after: the message stands at the front; or the first fault that it
--- has, and nothing has changed
+-- why the message is not written where there is so much room: the first fault that it has; or that it has none
+abbrev pub Refuses : Message → ℕ → Option NoteFault → Type 0
+Refuses m room None = IsPlain m × Fits m room × ArePaths m × IsUtf8 m.text
+Refuses m room (Some BadKind) = ⊥
+Refuses m room (Some BadField) = IsPlain m → ⊥
+Refuses m room (Some BadLength) = IsPlain m × (Fits m room → ⊥)
+Refuses m room (Some BadPath) = IsPlain m × Fits m room × (ArePaths m → ⊥)
+Refuses m room (Some BadText) = IsPlain m × Fits m room × ArePaths m × (IsUtf8 m.text → ⊥)
+
+-- what writing may answer, into a buffer with these bytes before and after: the message stands at the front, and behind it what stood
+-- there; or a fault, and nothing has changed
 abbrev pub Writes : Message → List ℕ → Result ℕ NoteFault → List ℕ → Type 0
 Writes m before (Ok len) after =
-    IsPlain m × Fits m (length before) × ArePaths m × IsUtf8 m.text × (len ≡ length (spelled m))
-    × (after ≡ spelled m ++ drop len before)
-Writes m before (Err BadKind) after = ⊥
-Writes m before (Err BadField) after = (IsPlain m → ⊥) × (after ≡ before)
-Writes m before (Err BadLength) after = IsPlain m × (Fits m (length before) → ⊥) × (after ≡ before)
-Writes m before (Err BadPath) after = IsPlain m × Fits m (length before) × (ArePaths m → ⊥) × (after ≡ before)
-Writes m before (Err BadText) after = IsPlain m × Fits m (length before) × ArePaths m × (IsUtf8 m.text → ⊥) × (after ≡ before)
+    Refuses m (length before) None × (len ≡ length (spelled m)) × (after ≡ spelled m ++ drop len before)
+Writes m before (Err fault) after = Refuses m (length before) (Some fault) × (after ≡ before)

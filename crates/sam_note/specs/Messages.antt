@@ -61,7 +61,7 @@ IsVacant m Copy = m.copy ≡ []
 IsVacant m Text = m.text ≡ []
 
 -- what the kind has not is 0 or empty
-abbrev pub IsPlain : Message → Type 0
+unfoldable pub IsPlain : Message → Type 0
 IsPlain m = (field : Field) → among field (fields m.kind) ≡ false → IsVacant m field
 
 abbrev pub has_zero : List ℕ → Bool

@@ -14,7 +14,7 @@ abbrev pub wide : Bool → ℕ → ℕ
 wide there bytes = if there then bytes else 0
 
 -- how many bytes the kind, the numbers and the lengths take
-abbrev pub fixed : Fields → ℕ
+unfoldable pub fixed : Fields → ℕ
 fixed has =
     1 + wide has.request 4 + wide has.tag 2 + wide has.code 1 + wide has.number 8 + wide has.path 2 + wide has.copy 2 + wide has.text 2
 
@@ -31,7 +31,7 @@ note_bytes head path copy text =
     ++ part (has head.kind).text (piece text)
 
 -- what the kind has not is 0 or empty
-abbrev pub has_only : Fields → Message → Bool
+unfoldable pub has_only : Fields → Message → Bool
 has_only has m =
     (has.request || (m.request == 0)) && (has.tag || (m.tag == 0)) && (has.code || (m.code == 0)) && (has.number || (m.number == 0))
     && (has.path || (length m.path == 0)) && (has.copy || (length m.copy == 0)) && (has.text || (length m.text == 0))

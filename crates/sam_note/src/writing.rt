@@ -1,7 +1,7 @@
 //! How a message is written as bytes.
 
 ghost use Rattle.std.specs.Prelude.{◌≡◌, ◌≤◌, ◌<◌, ◌+◌, ◌++◌, ◌^◌, ℕ, List, length, take, drop, IsTrue, ◌↔◌};
-ghost use Rattle.sam_note.specs.Calls.{Writes, message};
+ghost use Rattle.sam_note.specs.Calls.{Refuses, Writes, message};
 ghost use Rattle.sam_note.specs.Kinds.{has};
 ghost use Rattle.sam_note.specs.Messages.{IsPlain, spelled, piece};
 ghost use Rattle.sam_note.specs.Writing.{Puts, fixed, has_only, head_bytes, note_bytes, part, wide};
@@ -12,6 +12,7 @@ use crate::note::{Head, MOST_BYTES};
 use std::str;
 
 /// Returns whether what the kind has not is 0 or empty.
+#[tactic(auto, unfolding(crate::specs::Writing::has_only))]
 fn is_plain(head: &Head, path: &[u8], copy: &[u8], text: &[u8]) -> bool
     ensures { result ≡ has_only (has head.now.kind) (message head.now path.now copy.now text.now) }
 {
@@ -33,6 +34,7 @@ fn width(there: bool, bytes: usize) -> usize
 }
 
 /// Returns how many bytes the kind, the numbers and the lengths take.
+#[tactic(auto, unfolding(crate::specs::Writing::fixed))]
 fn fixed_len(has: Fields) -> usize
     ensures len { result ≡ fixed has }
     ensures most { result ≤ 22 }
@@ -122,6 +124,26 @@ fn put_note(head: &Head, path: &[u8], copy: &[u8], text: &[u8], into: &mut [u8])
     put_piece(has.text, text, into, at)
 }
 
+/// Returns why a message is not written where there is so much room, if it isn't.
+#[tactic(auto, using(crate::proofs::Spelling::refusals))]
+fn fault_of(head: &Head, path: &[u8], copy: &[u8], text: &[u8], room: usize) -> Option<NoteFault>
+    ensures { Refuses (message head.now path.now copy.now text.now) room result }
+{
+    if !is_plain(head, path, copy, text) {
+        return Some(NoteFault::BadField);
+    }
+    if !fits(head.kind.fields(), path, copy, text, MOST_BYTES.min(room)) {
+        return Some(NoteFault::BadLength);
+    }
+    if path.contains(&0) || copy.contains(&0) {
+        return Some(NoteFault::BadPath);
+    }
+    match str::from_utf8(text) {
+        Ok(_) => None,
+        Err(_) => Some(NoteFault::BadText),
+    }
+}
+
 /// Writes the message at the front of `into`, and returns how many bytes it has. What stands after them is as before.
 ///
 /// Errors, in this order, `into` is then as before: `BadField` if a field that the kind has not is not 0 or not empty; `BadLength` if the
@@ -136,17 +158,8 @@ pub fn write_note(
 ) -> Result<usize, NoteFault>
     ensures { Writes (message head.now path.now copy.now text.now) into.old result into.new }
 {
-    if !is_plain(head, path, copy, text) {
-        return Err(NoteFault::BadField);
+    match fault_of(head, path, copy, text, into.len()) {
+        Some(fault) => Err(fault),
+        None => Ok(put_note(head, path, copy, text, into)),
     }
-    if !fits(head.kind.fields(), path, copy, text, MOST_BYTES.min(into.len())) {
-        return Err(NoteFault::BadLength);
-    }
-    if path.contains(&0) || copy.contains(&0) {
-        return Err(NoteFault::BadPath);
-    }
-    if str::from_utf8(text).is_err() {
-        return Err(NoteFault::BadText);
-    }
-    Ok(put_note(head, path, copy, text, into))
 }
