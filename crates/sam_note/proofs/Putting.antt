@@ -1,10 +1,11 @@
 -- Writing one field after the other.
 use Rattle.std.proofs.Common.{◌≡◌, ℕ, ◌+◌, ◌≤◌, List, [], ◌∷◌, ◌++◌, length, take, drop, Bool, true, false, refl, sym, ap, ◌∙◌, arith, append_assoc, append-nil, length-append, take-append-drop}
 use Rattle.std.proofs.lemmas.List.{drop-drop, drop_at}
+use Rattle.sam_mesg.specs.Spelling.{two, four, eight}
 use Rattle.sam_note.specs.declared.kind.Fields.{Fields}
 use Rattle.sam_note.specs.declared.note.Head.{Head}
 use Rattle.sam_note.specs.Kinds.{has, number}
-use Rattle.sam_note.specs.Messages.{two, four, eight, piece}
+use Rattle.sam_note.specs.Messages.{piece}
 use Rattle.sam_note.specs.Writing.{Puts, part}
 unfoldable pub use Rattle.sam_note.specs.Writing.{head_bytes, note_bytes}
 

@@ -1,8 +1,8 @@
 -- A message and its bytes.
 use Rattle.std.specs.Prelude.{◌≡◌, ◌≢◌, ℕ, ◌<◌, ◌≤◌, ◌^◌, List, [], ◌∷◌, ◌++◌, length, take, drop, Bool, true, false, ◌==◌, Result, Ok, Err}
-use Rattle.std.specs.Int.{w16, w32, w64, to_be_bytes}
 use Rattle.std.specs.List.{list_any}
 use Rattle.std.specs.Str.{IsUtf8}
+use Rattle.sam_mesg.specs.Spelling.{two, four, eight}
 use Rattle.sam_note.specs.declared.fault.NoteFault.{NoteFault}
 use Rattle.sam_note.specs.declared.fault.NoteFault.TheVariants.{BadKind, BadField, BadLength, BadPath, BadText}
 use Rattle.sam_note.specs.declared.kind.NoteKind.{NoteKind}
@@ -17,16 +17,6 @@ pub record Message : Type 0 where
   pub path : List ℕ
   pub copy : List ℕ
   pub text : List ℕ
-
--- numbers of two, four and eight bytes, the highest first
-abbrev pub two : ℕ → List ℕ
-two n = to_be_bytes w16 n
-
-abbrev pub four : ℕ → List ℕ
-four n = to_be_bytes w32 n
-
-abbrev pub eight : ℕ → List ℕ
-eight n = to_be_bytes w64 n
 
 -- so many bytes, and they
 abbrev pub piece : List ℕ → List ℕ

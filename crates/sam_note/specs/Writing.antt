@@ -1,9 +1,10 @@
 -- The fields of a message from left to right, each with whether it is there.
 use Rattle.std.specs.Prelude.{◌≡◌, ℕ, ◌+◌, List, [], ◌∷◌, ◌++◌, length, take, drop, Bool, ◌&&◌, ◌||◌, ◌==◌, if◌then◌else◌}
+use Rattle.sam_mesg.specs.Spelling.{two, four, eight}
 use Rattle.sam_note.specs.declared.kind.Fields.{Fields}
 use Rattle.sam_note.specs.declared.note.Head.{Head}
 use Rattle.sam_note.specs.Kinds.{has, number}
-use Rattle.sam_note.specs.Messages.{Message, two, four, eight, piece}
+use Rattle.sam_note.specs.Messages.{Message, piece}
 
 -- the bytes of a field, if it is there
 abbrev pub part : Bool → List ℕ → List ℕ

@@ -1,10 +1,11 @@
 //! How a message is read from bytes.
 
-ghost use Rattle.std.specs.Prelude.{◌≡◌, ◌≤◌, ◌<◌, ◌+◌, ℕ, List, length, take, drop, IfSome, OnSome};
+ghost use Rattle.std.specs.Prelude.{◌≡◌, ◌≤◌, ◌<◌, ◌+◌, ℕ, List, [], length, take, drop, IfSome, OnSome};
 ghost use Rattle.std.specs.Int.{from_be_bytes, w8, w16, w32, w64};
 ghost use Rattle.sam_note.specs.Kinds.{has};
 ghost use Rattle.sam_note.specs.Calls.{IsWithin, Reads, at_place, message_in};
-ghost use Rattle.sam_note.specs.Reading.{Takes, message_at, number_at, numbers_at, piece_at};
+ghost use Rattle.sam_note.specs.Reading.{if_there, message_at, numbers_at, piece_at};
+ghost use Rattle.sam_mesg.specs.Reading.{Takes, number_at};
 
 use crate::fault::NoteFault;
 use crate::kind::NoteKind;
@@ -12,10 +13,10 @@ use crate::note::{Head, MOST_BYTES, Note, Place};
 use std::str;
 
 /// Reads a number of one byte at a place, if it is there, and says where it ends.
-#[tactic(auto, unfolding(crate::specs::Reading::number_at))]
+#[tactic(auto, unfolding(crate::specs::Reading::if_there, sam_mesg::specs::Reading::number_at))]
 fn byte_at(there: bool, bytes: &[u8], at: usize) -> Option<(u8, usize)>
     requires { at ≤ length bytes.now }
-    ensures read { Takes (λ x. (x.0, drop x.1 bytes.now)) result (number_at w8 there (drop at bytes.now)) }
+    ensures read { Takes (λ x. (x.0, drop x.1 bytes.now)) result (if_there there 0 (number_at w8) (drop at bytes.now)) }
     ensures within { IfSome result (λ x. x.1 ≤ length bytes.now) }
 {
     if !there {
@@ -28,10 +29,10 @@ fn byte_at(there: bool, bytes: &[u8], at: usize) -> Option<(u8, usize)>
 }
 
 /// Reads a number of two bytes at a place, if it is there, and says where it ends.
-#[tactic(auto, unfolding(crate::specs::Reading::number_at))]
+#[tactic(auto, unfolding(crate::specs::Reading::if_there, sam_mesg::specs::Reading::number_at))]
 fn short_at(there: bool, bytes: &[u8], at: usize) -> Option<(u16, usize)>
     requires { at ≤ length bytes.now }
-    ensures read { Takes (λ x. (x.0, drop x.1 bytes.now)) result (number_at w16 there (drop at bytes.now)) }
+    ensures read { Takes (λ x. (x.0, drop x.1 bytes.now)) result (if_there there 0 (number_at w16) (drop at bytes.now)) }
     ensures within { IfSome result (λ x. x.1 ≤ length bytes.now) }
 {
     if !there {
@@ -45,10 +46,10 @@ fn short_at(there: bool, bytes: &[u8], at: usize) -> Option<(u16, usize)>
 }
 
 /// Reads a number of four bytes at a place, if it is there, and says where it ends.
-#[tactic(auto, unfolding(crate::specs::Reading::number_at))]
+#[tactic(auto, unfolding(crate::specs::Reading::if_there, sam_mesg::specs::Reading::number_at))]
 fn long_at(there: bool, bytes: &[u8], at: usize) -> Option<(u32, usize)>
     requires { at ≤ length bytes.now }
-    ensures read { Takes (λ x. (x.0, drop x.1 bytes.now)) result (number_at w32 there (drop at bytes.now)) }
+    ensures read { Takes (λ x. (x.0, drop x.1 bytes.now)) result (if_there there 0 (number_at w32) (drop at bytes.now)) }
     ensures within { IfSome result (λ x. x.1 ≤ length bytes.now) }
 {
     if !there {
@@ -73,10 +74,10 @@ fn wide_of(bytes: &[u8]) -> u64
 }
 
 /// Reads a number of eight bytes at a place, if it is there, and says where it ends.
-#[tactic(auto, unfolding(crate::specs::Reading::number_at))]
+#[tactic(auto, unfolding(crate::specs::Reading::if_there, sam_mesg::specs::Reading::number_at))]
 fn wide_at(there: bool, bytes: &[u8], at: usize) -> Option<(u64, usize)>
     requires { at ≤ length bytes.now }
-    ensures read { Takes (λ x. (x.0, drop x.1 bytes.now)) result (number_at w64 there (drop at bytes.now)) }
+    ensures read { Takes (λ x. (x.0, drop x.1 bytes.now)) result (if_there there 0 (number_at w64) (drop at bytes.now)) }
     ensures within { IfSome result (λ x. x.1 ≤ length bytes.now) }
 {
     if !there {
@@ -89,10 +90,10 @@ fn wide_at(there: bool, bytes: &[u8], at: usize) -> Option<(u64, usize)>
 }
 
 /// Reads a path or a text at a place, if it is there, and says where it ends.
-#[tactic(auto, unfolding(crate::specs::Reading::piece_at, crate::specs::Reading::counted_at, crate::specs::Reading::number_at))]
+#[tactic(auto, unfolding(crate::specs::Reading::if_there, crate::specs::Reading::counted_at, sam_mesg::specs::Reading::number_at))]
 fn piece_at(there: bool, bytes: &[u8], at: usize) -> Option<(Place, usize)>
     requires { at ≤ length bytes.now }
-    ensures read { Takes (λ x. (at_place bytes.now x.0, drop x.1 bytes.now)) result (piece_at there (drop at bytes.now)) }
+    ensures read { Takes (λ x. (at_place bytes.now x.0, drop x.1 bytes.now)) result (if_there there [] piece_at (drop at bytes.now)) }
     ensures within { IfSome result (λ x. x.1 ≤ length bytes.now) }
     ensures place { IfSome result (λ x. IsWithin bytes.now x.0) }
 {
