@@ -39,11 +39,24 @@ abbrev pub HasNoKind : List ℕ → Type 0
 HasNoKind [] = ⊥
 HasNoKind (first ∷ bytes) = (kind : NoteKind) → number kind ≢ first
 
+-- where what was read stands
+abbrev pub AreWithin : List ℕ → Note → Type 0
+AreWithin bytes note = IsWithin bytes note.path × IsWithin bytes note.copy × IsWithin bytes note.text
+
+-- what is read before path, copy and text are looked at
+abbrev pub Shapes : List ℕ → Result Note NoteFault → Type 0
+Shapes bytes (Ok note) = Spells (message_in bytes note) bytes × AreWithin bytes note
+Shapes bytes (Err BadKind) = HasNoKind bytes
+Shapes bytes (Err BadField) = ⊥
+Shapes bytes (Err BadLength) = (HasNoKind bytes → ⊥) × ((m : Message) → Spells m bytes → ⊥)
+Shapes bytes (Err BadPath) = ⊥
+Shapes bytes (Err BadText) = ⊥
+
 -- what reading may answer: the message that has these bytes, or the first fault that they show
 abbrev pub Reads : List ℕ → Result Note NoteFault → Type 0
 Reads bytes (Ok note) =
     Spells (message_in bytes note) bytes × ArePaths (message_in bytes note) × IsUtf8 (message_in bytes note).text
-    × IsWithin bytes note.path × IsWithin bytes note.copy × IsWithin bytes note.text
+    × AreWithin bytes note
 Reads bytes (Err BadKind) = HasNoKind bytes
 Reads bytes (Err BadField) = ⊥
 Reads bytes (Err BadLength) = (HasNoKind bytes → ⊥) × ((m : Message) → Spells m bytes → ⊥)

@@ -3,7 +3,7 @@
 ghost use Rattle.std.specs.Prelude.{◌≡◌, ◌≤◌, ◌<◌, ◌+◌, ℕ, List, [], length, take, drop, IfSome, OnSome};
 ghost use Rattle.std.specs.Int.{from_be_bytes, w8, w16, w32, w64};
 ghost use Rattle.sam_note.specs.Kinds.{has};
-ghost use Rattle.sam_note.specs.Calls.{IsWithin, Reads, at_place, message_in};
+ghost use Rattle.sam_note.specs.Calls.{IsWithin, Reads, Shapes, at_place, message_in};
 ghost use Rattle.sam_note.specs.Reading.{if_there, message_at, numbers_at, piece_at};
 ghost use Rattle.sam_mesg.specs.Reading.{Takes, number_at};
 
@@ -163,13 +163,9 @@ fn bytes_at(bytes: &[u8], place: Place) -> &[u8]
     &bytes[place.start..place.start + place.len]
 }
 
-/// Reads the message that the bytes spell, all of them. Where its path, copy and text stand it says in bytes.
-///
-/// Errors, in this order: `BadKind` if the first byte is the number of no kind; `BadLength` if there is no byte, if there are too few or
-/// too many for the fields of that kind, or more than `MOST_BYTES`; `BadPath` if a byte of the path or of the copy is 0; `BadText` if the
-/// text is not UTF-8.
-pub fn read_note(bytes: &[u8]) -> Result<Note, NoteFault>
-    ensures { Reads bytes.now result }
+/// Reads the message that the bytes spell, whatever bytes its path, copy and text have. Errors, in this order: `BadKind`, `BadLength`.
+fn shape_of(bytes: &[u8]) -> Result<Note, NoteFault>
+    ensures { Shapes bytes.now result }
 {
     let Some(number) = bytes.first() else {
         return Err(NoteFault::BadLength);
@@ -180,8 +176,23 @@ pub fn read_note(bytes: &[u8]) -> Result<Note, NoteFault>
     if bytes.len() > MOST_BYTES {
         return Err(NoteFault::BadLength);
     }
-    let Some(note) = fields_of(kind, bytes) else {
-        return Err(NoteFault::BadLength);
+    match fields_of(kind, bytes) {
+        Some(note) => Ok(note),
+        None => Err(NoteFault::BadLength),
+    }
+}
+
+/// Reads the message that the bytes spell, all of them. Where its path, copy and text stand it says in bytes.
+///
+/// Errors, in this order: `BadKind` if the first byte is the number of no kind; `BadLength` if there is no byte, if there are too few or
+/// too many for the fields of that kind, or more than `MOST_BYTES`; `BadPath` if a byte of the path or of the copy is 0; `BadText` if the
+/// text is not UTF-8.
+pub fn read_note(bytes: &[u8]) -> Result<Note, NoteFault>
+    ensures { Reads bytes.now result }
+{
+    let note = match shape_of(bytes) {
+        Ok(note) => note,
+        Err(fault) => return Err(fault),
     };
     if bytes_at(bytes, note.path).contains(&0) || bytes_at(bytes, note.copy).contains(&0) {
         return Err(NoteFault::BadPath);
