@@ -58,8 +58,7 @@ piece_takes : (bytes : List ℕ) (x : List ℕ × List ℕ) → IsBytes bytes �
 piece_takes bytes x fits e =
     let a = bind_some (number_at w16 bytes) counted_at x e in
     let t = front16.takes bytes a.0 fits a.1 in
-    let u = counted_takes a.0 x a.2 in
-    (
+    let u = counted_takes a.0 x a.2 in (
       t.0 ∙ ap (λ n. two n ++ a.0.1) u.0 ∙ ap (λ l. two (length x.0) ++ l) u.1 ∙ sym (append_assoc (two (length x.0)) x.0 x.1),
       subst (λ n. n < 2 ^ 16) u.0 t.1,
       subst IsBytes (sym u.2) (IsBytes-drop a.0.0 a.0.1 t.2),

@@ -45,14 +45,14 @@ length_piece there bytes = sym (length-append (part there (two (length bytes))) 
 
 pub length_head : (h : Head)
     → length (head_bytes h)
-      ≡ 1 + length (part (has h.kind).request (four h.request)) + length (part (has h.kind).tag (two h.tag)) + length (part (has h.kind).code (h.code ∷ []))
-      + length (part (has h.kind).number (eight h.number))
+    ≡ 1 + length (part (has h.kind).request (four h.request)) + length (part (has h.kind).tag (two h.tag)) + length (part (has h.kind).code (h.code ∷ []))
+    + length (part (has h.kind).number (eight h.number))
 unfolding head_bytes
 length_head h = grind (arith, length-append)
 
 pub length_note : (h : Head) (path copy text : List ℕ)
     → length (note_bytes h path copy text)
-      ≡ length (head_bytes h) + length (part (has h.kind).path (piece path)) + length (part (has h.kind).copy (piece copy)) + length (part (has h.kind).text (piece text))
+    ≡ length (head_bytes h) + length (part (has h.kind).path (piece path)) + length (part (has h.kind).copy (piece copy)) + length (part (has h.kind).text (piece text))
 unfolding note_bytes
 length_note h path copy text = grind (arith, length-append)
 

@@ -113,8 +113,7 @@ good_parts : (m : Message) (bytes : List ℕ) → Spells m bytes → GoodNumbers
 unfolding IsPlain
 good_parts m bytes is =
     let s = shorts m bytes is in
-    let p = is.is_plain in
-    (
+    let p = is.is_plain in (
       ((is.request_fits, p Request), ((is.tag_fits, p Tag), ((is.code_fits, p Code), (is.number_fits, p Number)))),
       ((s.0, p Path), ((s.1, p Copy), (s.2, p Text))),
     )
@@ -124,11 +123,10 @@ again m n rest is =
     let f = has m.kind in
     let x = parts_of m in
     let same = same_tail (number m.kind) n (body f x) rest (sym (made_spelled m.kind x) ∙ is.bytes_are) in
-    let read = (fields_front f).again x [] (good_parts m (n ∷ rest) is) in
-    (
+    let read = (fields_front f).again x [] (good_parts m (n ∷ rest) is) in (
       same.0,
       ap (message_at m.kind) (sym same.1 ∙ sym (append-nil (body f x)))
-      ∙ ap (λ (r : Option (Parts × List ℕ)). option_map (made m.kind) (option_and_then ended r)) read,
+          ∙ ap (λ (r : Option (Parts × List ℕ)). option_map (made m.kind) (option_and_then ended r)) read,
     )
 
 -- no bytes are those of two messages

@@ -20,7 +20,7 @@ message head path copy text = record {
   number = head.number;
   path = path;
   copy = copy;
-  text = text
+  text = text;
 }
 
 -- the bytes at a place

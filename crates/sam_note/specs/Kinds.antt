@@ -92,5 +92,5 @@ has kind = record {
   number = among Number (fields kind);
   path = among Path (fields kind);
   copy = among Copy (fields kind);
-  text = among Text (fields kind)
+  text = among Text (fields kind);
 }

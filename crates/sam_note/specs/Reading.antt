@@ -44,7 +44,7 @@ made kind x = record {
   number = x.0.1.1.1;
   path = x.1.0;
   copy = x.1.1.0;
-  text = x.1.1.1
+  text = x.1.1.1;
 }
 
 -- the message whose bytes after the kind these are

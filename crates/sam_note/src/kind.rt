@@ -97,21 +97,87 @@ impl NoteKind {
         ensures { result ≡ has self }
     {
         match self {
-            NoteKind::Open | NoteKind::Complete => Fields { request: true, path: true, ..NO_FIELDS },
-            NoteKind::Reload | NoteKind::Write | NoteKind::Opened => Fields { request: true, tag: true, ..NO_FIELDS },
-            NoteKind::Reloaded | NoteKind::Shown => Fields { tag: true, number: true, ..NO_FIELDS },
-            NoteKind::Session => Fields { number: true, path: true, text: true, ..NO_FIELDS },
-            NoteKind::Said | NoteKind::TakenOver => Fields { text: true, ..NO_FIELDS },
-            NoteKind::Ended => Fields { code: true, number: true, ..NO_FIELDS },
-            NoteKind::Refused => Fields { request: true, code: true, text: true, ..NO_FIELDS },
-            NoteKind::Names => Fields { request: true, code: true, path: true, ..NO_FIELDS },
-            NoteKind::Anew => Fields { request: true, number: true, ..NO_FIELDS },
-            NoteKind::Saved | NoteKind::NotSaved => Fields { number: false, ..ALL_FIELDS },
-            NoteKind::Changed | NoteKind::Lost => Fields { tag: true, code: true, path: true, text: true, ..NO_FIELDS },
-            NoteKind::Dated => Fields { tag: true, number: true, path: true, ..NO_FIELDS },
-            NoteKind::Earlier => Fields { request: false, ..ALL_FIELDS },
-            NoteKind::Aside => Fields { tag: true, code: true, path: true, copy: true, text: true, ..NO_FIELDS },
-            NoteKind::NoJournal => Fields { code: true, text: true, ..NO_FIELDS },
+            NoteKind::Open | NoteKind::Complete => Fields {
+                request: true,
+                path: true,
+                ..NO_FIELDS
+            },
+            NoteKind::Reload | NoteKind::Write | NoteKind::Opened => Fields {
+                request: true,
+                tag: true,
+                ..NO_FIELDS
+            },
+            NoteKind::Reloaded | NoteKind::Shown => Fields {
+                tag: true,
+                number: true,
+                ..NO_FIELDS
+            },
+            NoteKind::Session => Fields {
+                number: true,
+                path: true,
+                text: true,
+                ..NO_FIELDS
+            },
+            NoteKind::Said | NoteKind::TakenOver => Fields {
+                text: true,
+                ..NO_FIELDS
+            },
+            NoteKind::Ended => Fields {
+                code: true,
+                number: true,
+                ..NO_FIELDS
+            },
+            NoteKind::Refused => Fields {
+                request: true,
+                code: true,
+                text: true,
+                ..NO_FIELDS
+            },
+            NoteKind::Names => Fields {
+                request: true,
+                code: true,
+                path: true,
+                ..NO_FIELDS
+            },
+            NoteKind::Anew => Fields {
+                request: true,
+                number: true,
+                ..NO_FIELDS
+            },
+            NoteKind::Saved | NoteKind::NotSaved => Fields {
+                number: false,
+                ..ALL_FIELDS
+            },
+            NoteKind::Changed | NoteKind::Lost => Fields {
+                tag: true,
+                code: true,
+                path: true,
+                text: true,
+                ..NO_FIELDS
+            },
+            NoteKind::Dated => Fields {
+                tag: true,
+                number: true,
+                path: true,
+                ..NO_FIELDS
+            },
+            NoteKind::Earlier => Fields {
+                request: false,
+                ..ALL_FIELDS
+            },
+            NoteKind::Aside => Fields {
+                tag: true,
+                code: true,
+                path: true,
+                copy: true,
+                text: true,
+                ..NO_FIELDS
+            },
+            NoteKind::NoJournal => Fields {
+                code: true,
+                text: true,
+                ..NO_FIELDS
+            },
         }
     }
 }

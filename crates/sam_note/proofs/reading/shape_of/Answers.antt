@@ -13,8 +13,7 @@ returns-in-Some-fields_of c =
     let got : slice_get bytes 0 ≡ Some first = grind arith in
     let fits : IsBytes bytes = grind arith in
     let short : length bytes ≤ most_bytes = grind arith in
-    let read = c.in-Some-fields_of.ensures in
-    (
+    let read = c.in-Some-fields_of.ensures in (
       shaped bytes (drop 1 bytes) first c.in-Some-of_number.kind (message_in bytes note) fits (begins bytes first got) c.in-Some-of_number.ensures read.read short,
       (read.path, read.copy, read.text),
     )
@@ -25,8 +24,7 @@ returns-in-None c =
     let first = c.in-Some.number.now in
     let kind = c.in-Some-of_number.kind in
     let got : slice_get bytes 0 ≡ Some first = grind arith in
-    let starts = begins bytes first got in
-    (
+    let starts = begins bytes first got in (
       has_kind bytes (drop 1 bytes) first kind starts c.in-Some-of_number.ensures,
       λ m. shapeless bytes (drop 1 bytes) first kind m starts c.in-Some-of_number.ensures c.in-None.ensures.read,
     )
