@@ -2,6 +2,7 @@
 
 It opens a path, types, sees a write succeed and one fail, is taken over by another of its kind, which ends the session.
 """
+import contextlib
 import os
 import struct
 import subprocess
@@ -14,13 +15,13 @@ MARK = bytes.fromhex("8973616d6c696e6b")
 BEGIN, TAKE_OVER, WELCOME = 1, 3, 4
 DATA, NOTE, ACKNOWLEDGEMENT, ASK = 1, 2, 3, 4
 MOST_BODY = 4096
-# Messages of the core, by their numbers: those that this end makes, and those of which it knows the end of an answer.
-VERSION, START_COMMAND, START_FILE, TYPE, WRITE, EXIT = 1, 2, 6, 8, 13, 22
-MOVED_NAME, UNLOCKED, UNLOCKED_FILE, EXITED = 69, 72, 75, 88
+# Messages of the core, by their numbers: those that this end makes, and the last ones of their answers.
+VERSION, START_FILE, TYPE, WRITE, EXIT = 1, 6, 8, 13, 22
+UNLOCKED, EXITED = 72, 88
 # Messages of the session, and their fields.
-OPEN, WRITES, SESSION, SAID, TAKEN_OVER, ENDED, OPENED, SAVED, NOT_SAVED = 1, 5, 65, 66, 68, 69, 70, 74, 75
+OPEN, WRITES, SESSION, TAKEN_OVER, ENDED, OPENED, SAVED, NOT_SAVED = 1, 5, 65, 68, 69, 70, 74, 75
 FIELDS = {
-    OPEN: "rp", 2: "rp", 3: "rt", 4: "tn", WRITES: "rt", SESSION: "npw", SAID: "w", 67: "tn", TAKEN_OVER: "w", ENDED: "cn", OPENED: "rt",
+    OPEN: "rp", 2: "rp", 3: "rt", 4: "tn", WRITES: "rt", SESSION: "npw", 66: "w", 67: "tn", TAKEN_OVER: "w", ENDED: "cn", OPENED: "rt",
     71: "rcw", 72: "rcp", 73: "rn", SAVED: "rtcpkw", NOT_SAVED: "rtcpkw", 76: "tcpw", 77: "tnp", 78: "tcnpkw", 79: "tcpkw", 80: "tcpw",
     81: "cw",
 }  # fmt: skip
@@ -88,7 +89,7 @@ class End:
         self.send(struct.pack(">BH", kind, len(body)) + body)
 
     def hear(self):
-        """The next packet. Each is acknowledged at once, but for acknowledgements."""
+        """The next packet. Each is acknowledged at once, but for acknowledgements, and for the last one of a connection that is over."""
         kind, length = struct.unpack(">BH", self.take(3))
         body = self.take(length)
         self.came += 3 + length
@@ -96,8 +97,9 @@ class End:
             self.core += body
         elif kind == NOTE:
             self.messages.append(read(body))
-        if kind != ACKNOWLEDGEMENT:
-            self.put(ACKNOWLEDGEMENT, struct.pack(">Q", self.came))
+        with contextlib.suppress(BrokenPipeError):
+            if kind != ACKNOWLEDGEMENT:
+                self.put(ACKNOWLEDGEMENT, struct.pack(">Q", self.came))
 
     def message(self, *kinds):
         """The next message of one of these kinds; those before it are dropped."""
@@ -129,7 +131,7 @@ class End:
     def open(self, tag):
         """Has the host open a file, whose name the answer to a Tversion tells."""
         self.ask(VERSION, struct.pack(">H", 2), UNLOCKED)
-        self.ask(START_FILE, struct.pack(">H", tag), UNLOCKED_FILE)
+        self.ask(START_FILE, struct.pack(">H", tag), UNLOCKED)
 
     def write(self, tag, request):
         """Has the host write a file. Returns what became of that."""
