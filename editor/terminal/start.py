@@ -48,7 +48,7 @@ class Wish(NamedTuple):
             line = PersistentSession(self.command, lambda name: self._quoted("--take", *self.files), takes_over=True)
         else:
             line = PersistentSession(self.command, lambda name: ["--serve", name, *self.words()])
-        line.keys = self.keys
+        line.keys, line.stays = self.keys, self.takes_over or self.hours is None or float(self.hours) > 0
         return line
 
 

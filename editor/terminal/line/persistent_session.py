@@ -139,7 +139,10 @@ class PersistentSession:
             self._old.append(relay)
 
     def _break(self, why: str = "") -> None:
-        """The newest connection is broken: another is tried after a pause. Where several end alike, why is told."""
+        """The newest connection is broken: another is tried after a pause, if the session stays. Where several end alike, why is told."""
+        if self._is_met and not self.stays:
+            self._lose("the host is gone")
+            return
         self._is_measured = True
         if self._lost_at is None:
             self._lost_at = max(self._asked_at, self._heard_at) if self._is_answer_due else self.clock()
@@ -186,7 +189,7 @@ class PersistentSession:
             if now >= self._again_at:
                 self.connect()
         elif self.is_open:
-            if self._is_answer_due and now >= self._breaks_at:
+            if self._is_answer_due and now >= self._breaks_at and self.stays:
                 self._break()
         elif now - self._called_at >= self._connecting:
             self._connecting = min(2 * self._connecting, MOST_TO_CONNECT)
@@ -223,7 +226,7 @@ class PersistentSession:
         if self.relay is None:
             return max(0.0, self._again_at - now)
         if self.is_open:
-            return max(0.0, self._breaks_at - now) if self._is_answer_due else None
+            return max(0.0, self._breaks_at - now) if self._is_answer_due and self.stays else None
         return max(0.0, self._called_at + self._connecting - now)
 
     # ---- Bytes
@@ -593,4 +596,5 @@ class PersistentSession:
         return self.ended_with
 
     ends = False  # whether the user has left, so that the session ends
+    stays = True  # whether the session goes on where the line breaks
 

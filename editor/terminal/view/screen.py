@@ -13,7 +13,7 @@ from typing import Dict, Iterable, List, NamedTuple, Optional, Sequence, Tuple
 from .colours import Spans, painted
 from ..editor import Editor
 from .layout import Row, Strip, fitted, has_wide, line_start
-from ..line.persistent_session import Line
+from ..line.persistent_session import PersistentSession
 from .status_line import printable
 from .windows import Window
 
@@ -140,7 +140,7 @@ class Screen:
         self.drawn.clear()
         self._shown = None
 
-    def draw(self, editor: Editor, link: Line) -> Optional[float]:
+    def draw(self, editor: Editor, link: PersistentSession) -> Optional[float]:
         """Draws what changed. Where that is the count of bytes alone it is drawn a little later: returns in how many seconds."""
         rows, columns = self.screen.getmaxyx()
         sight = sight_of(editor)
@@ -417,7 +417,7 @@ def menu_rows(menu, rows: int, columns: int) -> Dict[int, List[Run]]:
     return frame
 
 
-def status(editor: Editor, link: Line) -> str:
+def status(editor: Editor, link: PersistentSession) -> str:
     """Name, mark of a change, the caret's line, and what is wrong; with details also what goes over the line."""
     window, way = editor.active, editor.way
     name, file = editor.name(window.tag), window.look().file
@@ -451,7 +451,7 @@ def place_of(editor: Editor, window: Window, length: int) -> List[str]:
     return [f"line {line}" if count is None else f"line {line} of {max(line, count)}"]
 
 
-def counts_of(editor: Editor, link: Line) -> List[str]:
+def counts_of(editor: Editor, link: PersistentSession) -> List[str]:
     """What waits: in short, or with details."""
     state, way = editor.terminal.state(), editor.way
     held = state.held + len(editor.deferred)
