@@ -1,10 +1,10 @@
-//! The calls of `sulgrevad.h`, as they are: the header says what each does, and what its caller owes. The crate `sulgrevad` has safe ones.
+//! The calls of `sulgrevad.h`, as they are, with its words: its top says what the caller owes. The crate `sulgrevad` has safe ones.
 
 #![allow(non_camel_case_types)]
 
 use std::os::raw::{c_char, c_void};
 
-/// What a call returns: one of the numbers below, or one that this crate doesn't know.
+/// The status of a call: one of the numbers below, or one that this crate doesn't know.
 pub type sam_status = u32;
 
 pub const SAM_OK: sam_status = 0;
@@ -62,14 +62,14 @@ pub const SAM_LINK_BAD_LENGTH: sam_status = 204;
 pub const SAM_LINK_ACK_AHEAD: sam_status = 205;
 pub const SAM_LINK_NO_ROOM: sam_status = 206;
 
-/// The sides of a link, and how a connection stands.
+/// The sides of a link, and the states of a connection.
 pub const SAM_LINK_TERMINAL: u32 = 0;
 pub const SAM_LINK_HOST: u32 = 1;
 pub const SAM_LINK_DOWN: u32 = 0;
 pub const SAM_LINK_ASKING: u32 = 1;
 pub const SAM_LINK_OPEN: u32 = 2;
 
-/// What the hello of a link says, but for the refusals, which are 17 to 23.
+/// The kinds of a link's hello, but for the refusals, which are 17 to 23.
 pub const SAM_LINK_BEGIN: u32 = 1;
 pub const SAM_LINK_RESUME: u32 = 2;
 pub const SAM_LINK_TAKE_OVER: u32 = 3;
@@ -79,7 +79,7 @@ pub const SAM_LINK_ID_BYTES: usize = 16;
 pub const SAM_LINK_HELLO_BYTES: usize = 42;
 pub const SAM_LINK_MOST_NOTE: usize = 4096;
 
-/// What a step did: one of the numbers below, or one that this crate doesn't know.
+/// The kind of a step: one of the numbers below, or one that this crate doesn't know.
 pub type sam_step = u32;
 
 pub const SAM_STEP_IDLE: sam_step = 0;
@@ -91,7 +91,7 @@ pub const SAM_STEP_RECEIVED: sam_step = 5;
 pub const SAM_STEP_ACTED: sam_step = 6;
 pub const SAM_STEP_REFUSED: sam_step = 7;
 
-/// What a step did, in full.
+/// The result of a step.
 #[derive(Clone, Copy, Debug, Default, PartialEq, Eq)]
 #[repr(C)]
 pub struct sam_did {
@@ -107,7 +107,7 @@ pub struct sam_did {
     pub loads: bool,
 }
 
-/// What a terminal holds.
+/// The state of a terminal.
 #[derive(Clone, Copy, Debug, Default, PartialEq, Eq)]
 #[repr(C)]
 pub struct sam_state {
@@ -125,7 +125,7 @@ pub struct sam_state {
     pub exited: bool,
 }
 
-/// What a terminal knows of a tag.
+/// The state of a terminal's file.
 #[derive(Clone, Copy, Debug, Default, PartialEq, Eq)]
 #[repr(C)]
 pub struct sam_file {
@@ -142,7 +142,7 @@ pub struct sam_file {
     pub is_free: bool,
 }
 
-/// Where bytes lie in a piece.
+/// The place of bytes in a piece.
 #[derive(Clone, Copy, Debug, Default, PartialEq, Eq)]
 #[repr(C)]
 pub struct sam_place {
@@ -150,10 +150,10 @@ pub struct sam_place {
     pub len: usize,
 }
 
-/// What `sam_term_read` hands out for a rune that is not loaded.
+/// The number by which `sam_term_read` stands for a rune that is not loaded.
 pub const SAM_GAP: u32 = u32::MAX;
 
-/// The handle of a host. It is empty where all its bytes are zero.
+/// The handle of a host. It is empty if all its bytes are zero.
 #[derive(Debug)]
 #[repr(C)]
 pub struct sam_host {
@@ -161,7 +161,7 @@ pub struct sam_host {
     pub made: u64,
 }
 
-/// The handle of a terminal. It is empty where all its bytes are zero.
+/// The handle of a terminal. It is empty if all its bytes are zero.
 #[derive(Debug)]
 #[repr(C)]
 pub struct sam_term {
@@ -169,7 +169,7 @@ pub struct sam_term {
     pub made: u64,
 }
 
-/// The handle of a link's end. It is empty where all its bytes are zero.
+/// The handle of a link's end. It is empty if all its bytes are zero.
 #[derive(Debug)]
 #[repr(C)]
 pub struct sam_link {
