@@ -16,11 +16,11 @@ parts that it has loaded. Neither of them reads or writes anything, because the 
             terminal.flush_now()
         assert host.text(tag) == "Xhello"
 
-Words: the dot is the selection, a place an offset in runes, the snarf buffer the clipboard, which the host holds. A message goes to the
-host, a frame to the terminal. docs/reference/GLOSSARY.md has the other words.
-
 Units: places and lengths count runes (Unicode scalar values, the characters of a `str`), and a text has at most 1,000,000. A text that a
 program gives may be a `str`, or its UTF-8 as `bytes`.
+
+Words: the dot is the selection, a place an offset in runes, the snarf buffer the clipboard, which the host holds. A message goes to the
+host, a frame to the terminal. docs/reference/GLOSSARY.md has the other words.
 
 A `Link` carries the bytes of both, and notes of the program, over connections that may break at any byte: docs/howto/EMBEDDING.md has a
 loop.
