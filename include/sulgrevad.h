@@ -474,10 +474,10 @@ SAM_MUST_USE sam_status sam_term_pending(sam_term *term, size_t *len);
 /* Moves the first pending bytes into the buffer, as many as fit, and hands out their number. */
 SAM_MUST_USE sam_status sam_term_take_out(sam_term *term, uint8_t *into, size_t room, size_t *count);
 
-/* Composes the typed runes that are not sent yet. Call it when the user pauses, before the program sleeps. Refused, in this order, and the
- * runes are then not composed: why the terminal has stopped before, SAM_STREAM.. or SAM_TERM_REFUSED..; SAM_NO_MEMORY, or why the terminal
- * stops, as it goes on with earlier input; SAM_TERM_COUNT_FULL after 2^64-1 messages; SAM_NO_MEMORY. Two statuses come after the runes were
- * composed: SAM_UNFINISHED if memory is short, and why the terminal stops at an event. */
+/* Composes the typed runes that are not sent yet. Call it when the user pauses, before the program sleeps. Refused, in this order: why the
+ * terminal has stopped before, SAM_STREAM.. or SAM_TERM_REFUSED..; SAM_NO_MEMORY, or why the terminal stops, as it goes on with earlier
+ * input; SAM_TERM_COUNT_FULL after 2^64-1 messages, and then SAM_NO_MEMORY: the runes are as they were. Two statuses come after the runes
+ * were composed: SAM_UNFINISHED if memory is short, and why the terminal stops at an event. */
 SAM_MUST_USE sam_status sam_term_flush_now(sam_term *term);
 
 /* ---- Events of the user ----

@@ -330,18 +330,18 @@ export declare class Terminal extends Side {
   flush(): void;
   /** Ends the session. */
   exit(): void;
-  /** Composes the typed runes that are not sent yet. Call it when the user pauses. Throws, in this order, and the runes are then not
-   * composed: the fault by which the terminal has stopped before; NoMemory, or a fault, as it goes on with earlier input; TerminalRefused
-   * with the code TERM_COUNT_FULL after 2^64-1 messages; NoMemory. Two come after the runes were composed: Unfinished, and the fault by
-   * which the terminal stops. */
+  /** Composes the typed runes that are not sent yet. Call it when the user pauses. Throws, in this order: the fault by which the terminal
+   * has stopped before; NoMemory, or a fault, as it goes on with earlier input; TerminalRefused with the code TERM_COUNT_FULL after 2^64-1
+   * messages, and then NoMemory: the runes are as they were. Two come after the runes were composed: Unfinished, and the fault by which
+   * the terminal stops. */
   flushNow(): void;
   /** Returns the oldest frame that waits, as the step that receives it will say it: its kind, its file or 0, and the place in its text from
    * which on `gone` runes or gaps will give way; null if no frame waits. So a program can read the runes that will go. */
   nextFrame(): { kind: number; tag: number; start: number; gone: number; loads: boolean } | null;
-  /** Makes steps as long as the next frame edits a text, at most `most` and some hundred, and returns their results. All edits are of one
-   * file. None begins before the place `first`, and none ends after the place where the one before it began. So a program can read the
-   * runes that go before the call, and the runes that came after it. If no edit was received it throws as `step` does; else the next step
-   * does. */
+  /** Makes steps as long as the next frame edits a text, at most `most` and never more than 1,638, and returns their results. All edits are
+   * of one file. None begins before the place `first`, and none ends after the place where the one before it began. So a program can read
+   * the runes that go before the call, and the runes that came after it. If no edit was received it throws as `step` does; else the next
+   * step does. */
   stepEdits(first: number, most: number): { kind: number; tag: number; change: Change }[];
   /** Makes one step with the frames and events that wait, and returns its result. If messages that were composed last are left over, the
    * step makes them pending. Else the terminal receives the oldest frame. If no frame waits, the oldest event acts or is refused. `feed`

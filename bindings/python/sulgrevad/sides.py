@@ -564,10 +564,10 @@ class Terminal(_Side):
     # ---- The program's own
 
     def flush_now(self) -> None:
-        """Composes the typed runes that are not sent yet. Call it when the user pauses, before the program sleeps. Raises, in this order,
-        and the runes are then not composed: the fault by which the terminal has stopped before; NoMemory, or a fault, as it goes on with
-        earlier input; TerminalRefused with the code TERM_COUNT_FULL after 2**64-1 messages; NoMemory. Two come after the runes were
-        composed: Unfinished, and the fault by which the terminal stops."""
+        """Composes the typed runes that are not sent yet. Call it when the user pauses, before the program sleeps. Raises, in this order:
+        the fault by which the terminal has stopped before; NoMemory, or a fault, as it goes on with earlier input; TerminalRefused with the
+        code TERM_COUNT_FULL after 2**64-1 messages, and then NoMemory: the runes are as they were. Two come after the runes were composed:
+        Unfinished, and the fault by which the terminal stops."""
         self._call("flush_now")
 
     def next_frame(self) -> Optional[NextFrame]:

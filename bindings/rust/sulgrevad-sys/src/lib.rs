@@ -442,10 +442,10 @@ extern "C" {
     /// Hands out the number of bytes of the host's stream before the frame that is wrong, if the terminal has stopped at a fault of the
     /// stream (SAM_STREAM..). Returns SAM_NONE if the terminal goes on, or has stopped because of a refusal.
     pub fn sam_term_fault_place(term: *mut sam_term, place: *mut u64) -> sam_status;
-    /// Composes the typed runes that are not sent yet. Call it when the user pauses, before the program sleeps. Refused, in this order, and
-    /// the runes are then not composed: why the terminal has stopped before, SAM_STREAM.. or SAM_TERM_REFUSED..; SAM_NO_MEMORY, or why the
-    /// terminal stops, as it goes on with earlier input; SAM_TERM_COUNT_FULL after 2^64-1 messages; SAM_NO_MEMORY. Two statuses come after
-    /// the runes were composed: SAM_UNFINISHED if memory is short, and why the terminal stops at an event.
+    /// Composes the typed runes that are not sent yet. Call it when the user pauses, before the program sleeps. Refused, in this order: why
+    /// the terminal has stopped before, SAM_STREAM.. or SAM_TERM_REFUSED..; SAM_NO_MEMORY, or why the terminal stops, as it goes on with
+    /// earlier input; SAM_TERM_COUNT_FULL after 2^64-1 messages, and then SAM_NO_MEMORY: the runes are as they were. Two statuses come
+    /// after the runes were composed: SAM_UNFINISHED if memory is short, and why the terminal stops at an event.
     pub fn sam_term_flush_now(term: *mut sam_term) -> sam_status;
     /// Hands out the number of pending bytes, which are for the host.
     pub fn sam_term_pending(term: *mut sam_term, len: *mut usize) -> sam_status;

@@ -292,9 +292,9 @@ impl Terminal {
         told(|place| unsafe { sys::sam_term_fault_place(self.at(), place) })
     }
 
-    /// Composes the typed runes that are not sent yet. Call it when the user pauses, before the program sleeps. Errors, in this order, and
-    /// the runes are then not composed: why the terminal has stopped before; `NoMemory`, or why the terminal stops, as it goes on with
-    /// earlier input; `TermRefused(CountFull)` after 2^64-1 messages; `NoMemory`. Two come after the runes were composed: `Unfinished`, and
+    /// Composes the typed runes that are not sent yet. Call it when the user pauses, before the program sleeps. Errors, in this order: why
+    /// the terminal has stopped before; `NoMemory`, or why the terminal stops, as it goes on with earlier input; `TermRefused(CountFull)`
+    /// after 2^64-1 messages, and then `NoMemory`: the runes are as they were. Two come after the runes were composed: `Unfinished`, and
     /// why the terminal stops at an event.
     pub fn flush_now(&mut self) -> Result<(), Error> {
         done(unsafe { sys::sam_term_flush_now(self.at()) })
