@@ -9,6 +9,56 @@
 export type Text = string | Uint8Array;
 export type Range = { start: number; end: number };
 
+/** The kinds of messages and frames; docs/reference/PROTOCOL.md says what each means. */
+export declare const Kind: {
+  readonly TVERSION: 1;
+  readonly TSTARTCMDFILE: 2;
+  readonly TCHECK: 3;
+  readonly TREQUEST: 4;
+  readonly TORIGIN: 5;
+  readonly TSTARTFILE: 6;
+  readonly TWORKFILE: 7;
+  readonly TTYPE: 8;
+  readonly TCUT: 9;
+  readonly TPASTE: 10;
+  readonly TSNARF: 11;
+  readonly TSTARTNEWFILE: 12;
+  readonly TWRITE: 13;
+  readonly TCLOSE: 14;
+  readonly TLOOK: 15;
+  readonly TSEARCH: 16;
+  readonly TSEND: 17;
+  readonly TDCLICK: 18;
+  readonly TSTARTSNARF: 19;
+  readonly TSETSNARF: 20;
+  readonly TACK: 21;
+  readonly TEXIT: 22;
+  readonly HVERSION: 65;
+  readonly HBINDNAME: 66;
+  readonly HCURRENT: 67;
+  readonly HNEWNAME: 68;
+  readonly HMOVNAME: 69;
+  readonly HGROW: 70;
+  readonly HCHECK: 71;
+  readonly HUNLOCK: 72;
+  readonly HDATA: 73;
+  readonly HORIGIN: 74;
+  readonly HUNLOCKFILE: 75;
+  readonly HSETDOT: 76;
+  readonly HGROWDATA: 77;
+  readonly HMOVETO: 78;
+  readonly HCLEAN: 79;
+  readonly HDIRTY: 80;
+  readonly HCUT: 81;
+  readonly HSETPAT: 82;
+  readonly HDELNAME: 83;
+  readonly HCLOSE: 84;
+  readonly HSETSNARF: 85;
+  readonly HSNARFLEN: 86;
+  readonly HACK: 87;
+  readonly HEXIT: 88;
+};
+
 /** The status of a call (enum sam_status of sulgrevad.h). */
 export declare const Status: {
   readonly OK: 0;
@@ -65,6 +115,11 @@ export declare const Status: {
   readonly LINK_BAD_LENGTH: 204;
   readonly LINK_ACK_AHEAD: 205;
   readonly LINK_NO_ROOM: 206;
+  readonly NOTE_BAD_KIND: 225;
+  readonly NOTE_BAD_FIELD: 226;
+  readonly NOTE_BAD_LENGTH: 227;
+  readonly NOTE_BAD_PATH: 228;
+  readonly NOTE_BAD_TEXT: 229;
 };
 
 /** Returns the name of a status and a sentence about it, or "unknown status" for any other number. */
@@ -115,6 +170,8 @@ export declare class HostRefused extends SamError {}
 export declare class TerminalRefused extends SamError {}
 /** A call of a link was refused, or bytes are no hello. The link goes on. */
 export declare class LinkFault extends SamError {}
+/** Bytes are no message of a session, or a message can't be written. */
+export declare class NoteFault extends SamError {}
 /** A script can't be replayed; `line` is the line that is wrong or can't be done, counted from 1; null if a count is full. */
 export declare class ScriptFault extends SamError {
   line: number | null;
@@ -542,3 +599,81 @@ export declare class Link extends Held {
   /** Returns the number of bytes of the other side's stream that have come. */
   readonly received: number;
 }
+
+// What follows is written by tools/session_messages, from the tables of docs/reference/SESSION.md.
+/** The kinds of messages: up to 64 those from the terminal. */
+export declare const NoteKind: {
+  readonly OPEN: 1;
+  readonly COMPLETE: 2;
+  readonly RELOAD: 3;
+  readonly RELOADED: 4;
+  readonly WRITE: 5;
+  readonly SESSION: 65;
+  readonly SAID: 66;
+  readonly SHOWN: 67;
+  readonly TAKEN_OVER: 68;
+  readonly ENDED: 69;
+  readonly OPENED: 70;
+  readonly REFUSED: 71;
+  readonly NAMES: 72;
+  readonly ANEW: 73;
+  readonly SAVED: 74;
+  readonly NOT_SAVED: 75;
+  readonly CHANGED: 76;
+  readonly DATED: 77;
+  readonly EARLIER: 78;
+  readonly ASIDE: 79;
+  readonly LOST: 80;
+  readonly NO_JOURNAL: 81;
+};
+
+/** What happened, or why. A number that isn't here comes from a later version, and counts as OTHER. */
+export declare const NoteCode: {
+  readonly NO_CODE: 0;
+  readonly NO_SPACE: 1;
+  readonly NO_PERMISSION: 2;
+  readonly READ_ONLY: 3;
+  readonly NOT_FOUND: 4;
+  readonly IS_FOLDER: 5;
+  readonly NOT_TEXT: 6;
+  readonly TOO_LONG: 7;
+  readonly TOO_MANY: 8;
+  readonly NO_MEMORY: 9;
+  readonly NO_NAME: 10;
+  readonly CHANGED_SINCE: 11;
+  readonly EXISTS_ALREADY: 12;
+  readonly TAKEN_UNSAVED: 13;
+  readonly NO_SUCH_FILE: 14;
+  readonly OTHER: 15;
+  readonly HAS_MORE: 16;
+  readonly REPLACED: 17;
+  readonly BROKEN: 18;
+  readonly NEWER: 19;
+  readonly OLDER: 20;
+  readonly CUT: 21;
+  readonly UNNAMED: 22;
+  readonly FAILED: 23;
+};
+// Up to here by tools/session_messages.
+
+/** A message of a session, which samhost and its front ends exchange as a note of a link. A field that its kind has not is 0 or empty. A
+ * number of 64 bits is exact up to 2^53. */
+export type Note = {
+  kind: number;
+  request: number;
+  tag: number;
+  code: number;
+  number: number;
+  path: Uint8Array;
+  copy: Uint8Array;
+  text: string;
+};
+
+/** Reads the message that the bytes spell, all of them, and returns it. Throws NoteFault, with the code NOTE_BAD_KIND for a kind that isn't
+ * in the table (skip such a message: it comes from a later version), NOTE_BAD_LENGTH, NOTE_BAD_PATH or NOTE_BAD_TEXT; NoMemory. */
+export declare function readNote(bytes: Uint8Array): Note;
+
+/** Returns the bytes of a message. Throws NoteFault, with the code NOTE_BAD_KIND, NOTE_BAD_FIELD if a field that the kind has not is not 0
+ * or not empty, NOTE_BAD_LENGTH for more than 4,096 bytes, NOTE_BAD_PATH for a zero byte in a path, or NOTE_BAD_TEXT for a lone surrogate
+ * in the text; NoMemory. */
+export declare function writeNote(note: Partial<Note> & { kind: number }): Uint8Array;

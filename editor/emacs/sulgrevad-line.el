@@ -28,7 +28,7 @@
 (declare-function sulgrevad--link-phase "ext:sulgrevad-module" (link))
 (declare-function sulgrevad--link-put "ext:sulgrevad-module" (link bytes))
 (declare-function sulgrevad--link-put-count "ext:sulgrevad-module" (link))
-(declare-function sulgrevad--link-put-note "ext:sulgrevad-module" (link bytes))
+(declare-function sulgrevad--link-put-request "ext:sulgrevad-module" (link kind number path))
 (declare-function sulgrevad--link-take-in "ext:sulgrevad-module" (link))
 (declare-function sulgrevad--link-take-out "ext:sulgrevad-module" (link attempt most))
 (declare-function sulgrevad--link-unsent "ext:sulgrevad-module" (link))
@@ -74,6 +74,15 @@ Its folder may come later, as a home that is mounted late does.")
     (23 . "the host has begun again, and lacks some of what it said: M-x sulgrevad-take goes on with the texts that it has"))
   "Refusals of the host after which no connection comes any more.")
 
+(defconst sulgrevad-line--messages 1 "The version of the session's messages.")
+
+(cl-defstruct (sulgrevad-note (:type list) (:copier nil))
+  "A message of the session, by the table of SESSION.md; what its kind has not is 0 or empty."
+  kind                     ; a symbol
+  request tag code number  ; numbers
+  path copy                ; strings of bytes
+  text)                    ; words for people
+
 (cl-defstruct (sulgrevad-line (:constructor sulgrevad-line--make) (:copier nil))
   "A line to a session that stays."
   command                  ; a function that makes a list of words of others, which stand after it: the host's command
@@ -92,15 +101,15 @@ Its folder may come later, as a home that is mounted late does.")
   (told "") last-told      ; of standard error: a line that has begun, and the last one
   (asks "")                ; what stands on the terminal
   ended-with is-taken      ; the status with which the session has ended; whether another terminal has it
-  is-met missing-since     ; whether a host has welcomed us; since when none finds the session
+  is-met is-named missing-since ; whether a host has welcomed us, and has said the first message; since when none finds the session
   why                      ; why no connection comes any more
   timer)
 
 (defun sulgrevad-line-make (command receive &optional takes-over)
   "Make a line to a host of COMMAND, a list of words or a shell's line.
 RECEIVE is called with what comes: `bytes' and a string, with a character
-for each byte; `note' and a string; `told' and a line of a program's
-standard error; `state' when the line was lost or is back; `lost' and
+for each byte; `note' and a `sulgrevad-note'; `told' and a line of a
+program's standard error; `state' when the line was lost or is back; `lost' and
 why, once no connection comes any more.  With TAKES-OVER the session was
 another terminal's."
   (let ((link (sulgrevad--make-link)))
@@ -259,13 +268,14 @@ It is a second at most, since the mode line has the time."
     (sulgrevad-line--push line)
     (sulgrevad-line--schedule line)))
 
-(defun sulgrevad-line-put-note (line &rest words)
-  "Have LINE send a note of WORDS, in its order with the stream.
-It may signal `sulgrevad-no-memory'."
+(defun sulgrevad-line-put-request (line kind number path)
+  "Have LINE send a request of KIND, in its order with the stream.
+NUMBER is repeated by its answer.  PATH is what it is about.  It may signal
+`sulgrevad-no-memory', or `sulgrevad-error' for a path that is too long."
   (let ((link (sulgrevad-line-link line)))
     (sulgrevad-line-put line "")
     (unless (string-empty-p (sulgrevad-line-unput line)) (signal 'sulgrevad-no-memory '("out of memory")))
-    (sulgrevad--link-put-note link (decode-coding-string (encode-coding-string (string-join words " ") 'utf-8) 'latin-1))
+    (sulgrevad--link-put-request link kind number (decode-coding-string (encode-coding-string path 'utf-8) 'latin-1))
     (setf (sulgrevad-line-due line) (sulgrevad--link-put-count link))
     (sulgrevad-line-put line "")))
 
@@ -368,24 +378,37 @@ The first time that is told."
     (while (and (null (sulgrevad-line-why line))
                 (or (not (string-empty-p (setq bytes (sulgrevad--link-take-in link)))) (setq note (sulgrevad--link-next-note link))))
       (if (string-empty-p bytes)
-          (sulgrevad-line--meet line (decode-coding-string (encode-coding-string note 'latin-1) 'utf-8))
+          (sulgrevad-line--meet line note)
         (funcall (sulgrevad-line-receive line) 'bytes bytes)))))
 
+(defun sulgrevad-line-path (bytes)
+  "The path or name whose BYTES a message has."
+  (decode-coding-string (encode-coding-string bytes 'latin-1) 'utf-8))
+
 (defun sulgrevad-line--meet (line note)
-  "A NOTE has come on LINE."
-  (pcase (split-string note " ")
-    (`("session" ,name . ,_)
-     (if (string-match-p sulgrevad-line--name-form name) (setf (sulgrevad-line-name line) name)
-       (funcall (sulgrevad-line-receive line) 'told "the host's name for the session is none, and is not taken")))
-    (`("ended" ,status . ,_)
-     (setf (sulgrevad-line-ended-with line) (string-to-number status))
+  "A NOTE has come on LINE; one of a later version is the symbol `unknown'."
+  (pcase (if (consp note) (sulgrevad-note-kind note) note)
+    ('session (sulgrevad-line--meet-name line note))
+    ((guard (not (sulgrevad-line-is-named line))) (sulgrevad-line--lose-later line "samhost there is of another version"))
+    ('unknown)
+    ('ended
+     (setf (sulgrevad-line-ended-with line) (sulgrevad-note-number note))
      (ignore-errors (sulgrevad--link-acknowledge (sulgrevad-line-link line))) ; so that the host need not wait
      (sulgrevad-line--push line)
      (sulgrevad-line--lose-later line "the session is over"))
-    (`("gone" . ,machine)
+    ('taken-over
      (setf (sulgrevad-line-is-taken line) t)
-     (sulgrevad-line--lose-later line (concat "another terminal has taken the session over: " (string-join machine " "))))
+     (sulgrevad-line--lose-later line (concat "another terminal has taken the session over: " (sulgrevad-note-text note))))
     (_ (funcall (sulgrevad-line-receive line) 'note note))))
+
+(defun sulgrevad-line--meet-name (line note)
+  "The first NOTE has come on LINE, which names the session."
+  (let ((name (sulgrevad-line-path (sulgrevad-note-path note))))
+    (setf (sulgrevad-line-is-named line) t)
+    (cond ((/= sulgrevad-line--messages (sulgrevad-note-number note))
+           (sulgrevad-line--lose-later line "samhost there is of another version"))
+          ((string-match-p sulgrevad-line--name-form name) (setf (sulgrevad-line-name line) name))
+          (t (funcall (sulgrevad-line-receive line) 'told "the host's name for the session is none, and is not taken")))))
 
 (defun sulgrevad-line--lose-later (line why)
   "Lose LINE because of WHY, and let its process pass the last bytes on."

@@ -513,7 +513,7 @@ static emacs_value link_take_out(emacs_env *env, ptrdiff_t count, emacs_value *w
     return status == SAM_OK ? string_of(env, bytes, len) : error_of(env, status);
 }
 
-/* What came for the program: bytes, "" where there are none; a note, or nil. */
+/* What came for the program: bytes, "" where there are none; a message, or nil. */
 static emacs_value link_take_in(emacs_env *env, ptrdiff_t count, emacs_value *words, void *data)
 {
     (void)count, (void)data;
@@ -523,13 +523,59 @@ static emacs_value link_take_in(emacs_env *env, ptrdiff_t count, emacs_value *wo
     return status == SAM_OK ? string_of(env, bytes, len) : error_of(env, status);
 }
 
+/* What kinds and codes of messages are called in Lisp. */
+static const char *const kinds[] = {
+    [SAM_NOTE_OPEN] = "open",         [SAM_NOTE_COMPLETE] = "complete",  [SAM_NOTE_RELOAD] = "reload",
+    [SAM_NOTE_RELOADED] = "reloaded", [SAM_NOTE_WRITE] = "write",        [SAM_NOTE_SESSION] = "session",
+    [SAM_NOTE_SAID] = "said",         [SAM_NOTE_SHOWN] = "shown",        [SAM_NOTE_TAKEN_OVER] = "taken-over",
+    [SAM_NOTE_ENDED] = "ended",       [SAM_NOTE_OPENED] = "opened",      [SAM_NOTE_REFUSED] = "refused",
+    [SAM_NOTE_NAMES] = "names",       [SAM_NOTE_ANEW] = "anew",          [SAM_NOTE_SAVED] = "saved",
+    [SAM_NOTE_NOT_SAVED] = "not-saved", [SAM_NOTE_CHANGED] = "changed",  [SAM_NOTE_DATED] = "dated",
+    [SAM_NOTE_EARLIER] = "earlier",   [SAM_NOTE_ASIDE] = "aside",        [SAM_NOTE_LOST] = "lost",
+    [SAM_NOTE_NO_JOURNAL] = "no-journal",
+};
+
+/* A message as Lisp has it: a list of its kind and fields, paths as strings of bytes; or `unknown' for one of a later version. */
+static emacs_value message_of(emacs_env *env, const uint8_t *bytes, size_t len)
+{
+    struct sam_note note;
+    if (sam_note_read(bytes, len, &note) != SAM_OK)
+        return env->intern(env, "unknown");
+    emacs_value fields[] = {
+        env->intern(env, kinds[note.kind]),
+        env->make_integer(env, note.request),
+        env->make_integer(env, note.tag),
+        env->make_integer(env, note.code),
+        env->make_integer(env, (intmax_t)note.number),
+        string_of(env, bytes + note.path_at, note.path_len),
+        string_of(env, bytes + note.copy_at, note.copy_len),
+        env->make_string(env, (const char *)bytes + note.text_at, (ptrdiff_t)note.text_len),
+    };
+    return call(env, "list", sizeof fields / sizeof fields[0], fields);
+}
+
 static emacs_value link_next_note(emacs_env *env, ptrdiff_t count, emacs_value *words, void *data)
 {
     (void)count, (void)data;
     uint8_t note[SAM_LINK_MOST_NOTE];
     size_t len = 0;
     sam_status status = sam_link_next_note(&end_of(env, words[0])->link, note, sizeof note, &len);
-    return status == SAM_OK ? string_of(env, note, len) : number(env, status, 0);
+    return status == SAM_OK ? message_of(env, note, len) : number(env, status, 0);
+}
+
+/* Puts a request of a kind, a number, and a path, which is a string of bytes. */
+static emacs_value link_put_request(emacs_env *env, ptrdiff_t count, emacs_value *words, void *data)
+{
+    (void)count, (void)data;
+    bool opens = env->eq(env, words[1], env->intern(env, kinds[SAM_NOTE_OPEN]));
+    struct sam_note note = {.kind = opens ? SAM_NOTE_OPEN : SAM_NOTE_COMPLETE, .request = u32(env, words[2], UINT32_MAX)};
+    uint8_t bytes[SAM_LINK_MOST_NOTE], *path = bytes_of(env, words[3], &note.path_len);
+    size_t len = 0;
+    if (path == NULL)
+        return nil(env);
+    sam_status status = sam_note_write(&note, path, NULL, NULL, bytes, sizeof bytes, &len);
+    free(path);
+    return done(env, status == SAM_OK ? sam_link_put_note(&end_of(env, words[0])->link, bytes, len) : status);
 }
 
 /* Other calls of an end, by what they take and hand out: nothing, bytes, or a number. */
@@ -546,7 +592,6 @@ static const struct link_call link_calls[] = {
     {.name = "link-ask", .plain = sam_link_ask},
     {.name = "link-acknowledge", .plain = sam_link_acknowledge},
     {.name = "link-put", .of_bytes = sam_link_put},
-    {.name = "link-put-note", .of_bytes = sam_link_put_note},
     {.name = "link-put-count", .counts = sam_link_put_count},
     {.name = "link-acknowledged", .counts = sam_link_acknowledged},
     {.name = "link-unsent", .sizes = sam_link_unsent},
@@ -615,6 +660,7 @@ int emacs_module_init(struct emacs_runtime *runtime)
     define(env, "link-take-out", 3, 3, link_take_out, NULL);
     define(env, "link-take-in", 1, 1, link_take_in, NULL);
     define(env, "link-next-note", 1, 1, link_next_note, NULL);
+    define(env, "link-put-request", 4, 4, link_put_request, NULL);
     for (size_t i = 0; i < sizeof link_calls / sizeof link_calls[0]; i++) {
         ptrdiff_t count = link_calls[i].of_bytes != NULL ? 2 : 1;
         define(env, link_calls[i].name, count, count, link_other, &link_calls[i]);

@@ -123,15 +123,14 @@ Those of four bytes have room, too.")
 (defvar sulgrevad--line nil "The line to its host.")
 (defvar sulgrevad--inbox nil
   "What came from the host and is not taken in yet, oldest first.
-Each is a string of bytes, or a pair: `note' or `lost', and a text.")
+Each is a string of bytes, or a pair: `note' and that, or `lost' and why.")
 (defvar sulgrevad--told nil "What was told last, the last first.")
 (defvar sulgrevad--writes nil "Tags of files to be written, oldest first.")
 (defvar sulgrevad--writing nil "The tag of the file that is being written.")
-(defvar sulgrevad--complaint nil "Why it is not written, as the host told.")
+(defvar sulgrevad--complaint nil "What the host told where it is not written.")
 (defvar sulgrevad--unwritten nil
-  "Why files were not written which the terminal takes for written.
-Each is a pair of a tag and what the host told, or of nil and that, where
-no file of the name is known.")
+  "Files that were not written which the terminal takes for written.
+Each is a pair of a tag and what the host told.")
 (defvar sulgrevad--number 0 "The number of the last question to the host.")
 (defvar sulgrevad--answers nil "Answers, in pairs with such numbers.")
 (defvar sulgrevad--copies nil
@@ -482,25 +481,13 @@ So they will in the buffer, once the file is free."
   (let ((base (file-name-nondirectory (directory-file-name name))))
     (if (string-empty-p base) "unnamed" base)))
 
-(defconst sulgrevad--not-shown
-  (concat "[\x00-\x1f\x7f-\x9f\u00ad\u061c\u180e\u200b\u200e\u200f\u2028-\u202e\u2060-\u2064\u2066-\u206f\ufeff"
-          "\ufff9-\ufffb\U0001bca0-\U0001bca3\U0001d173-\U0001d17a\U000e0001\U000e0020-\U000e007f]")
-  "What a host puts a question mark for where it tells a name.
-Controls, ends of lines and paragraphs, and formats that show nowhere.")
-
-(defun sulgrevad--is-about (told name)
-  "Whether what the host has TOLD of a write is about the file NAME.
-Of a long path NAME is only the end, after three dots."
-  (let ((name (replace-regexp-in-string sulgrevad--not-shown "?" name t t)))
-    (if (string-prefix-p "…" name)
-        (string-search (concat (substring name 1) ": ") told)
-      (string-prefix-p (concat "? write " name ": ") told))))
+(defconst sulgrevad--is-folder 5 "The code of a path that is a folder's.")
+(defconst sulgrevad--replacing '((11 . "another program changed it") (12 . "it is there already"))
+  "Codes of writes that would have replaced what stands in the file.")
 
 (defun sulgrevad--is-unwritten (tag)
   "Whether the file TAG may differ from what the host has written."
-  (or (sulgrevad--is-changed sulgrevad--term tag)
-      (cl-some (lambda (told) (if (car told) (eql tag (car told)) (sulgrevad--is-about (cdr told) (sulgrevad--name sulgrevad--term tag))))
-               sulgrevad--unwritten)))
+  (or (sulgrevad--is-changed sulgrevad--term tag) (assq tag sulgrevad--unwritten)))
 
 ;;; What can't go to the host
 
@@ -798,31 +785,31 @@ Return whether there was any."
 
 (defun sulgrevad--meet (note)
   "Do as a NOTE of the host has told."
-  (pcase-let* ((`(,verb ,rest) (sulgrevad--cut note)) (`(,word ,more) (sulgrevad--cut rest)))
-    (pcase verb
-      ("told" (sulgrevad--hear rest))
-      ((or "names" "opened" "folder" "refused") (push (list (string-to-number word) verb more) sulgrevad--answers))
-      ("wish" (setq sulgrevad--wishes (append sulgrevad--wishes (list (cons (string-to-number word) (string-to-number more)))))
-              (run-with-idle-timer sulgrevad-rest nil #'sulgrevad--show-wished)))))
+  (let ((text (sulgrevad-note-text note)))
+    (unless (string-empty-p text) (sulgrevad--note-told text))
+    (pcase (sulgrevad-note-kind note)
+      ((or 'names 'opened 'refused) (push (cons (sulgrevad-note-request note) note) sulgrevad--answers))
+      ('shown (setq sulgrevad--wishes
+                    (append sulgrevad--wishes (list (cons (sulgrevad-note-tag note) (sulgrevad-note-number note)))))
+              (run-with-idle-timer sulgrevad-rest nil #'sulgrevad--show-wished))
+      ('not-saved (sulgrevad--meet-failure note))
+      ('lost (display-warning 'sulgrevad (concat "samhost: " text) :error)) ; in a buffer that stays
+      ((guard (not (or (string-empty-p text) (sulgrevad--is-plain-save note)))) (message "samhost: %s" text)))))
 
-(defun sulgrevad--cut (text)
-  "The first word of TEXT, and what stands after the blank behind it."
-  (let ((blank (string-search " " text)))
-    (if blank (list (substring text 0 blank) (substring text (1+ blank))) (list text ""))))
+(defun sulgrevad--is-plain-save (note)
+  "Whether NOTE tells of a write that replaced nobody's text."
+  (and (eq 'saved (sulgrevad-note-kind note)) (= 0 (sulgrevad-note-code note))))
+
+(defun sulgrevad--meet-failure (note)
+  "Keep in mind that a write failed, of which NOTE tells."
+  (let ((tag (sulgrevad-note-tag note)))
+    (if (eql tag sulgrevad--writing) (setq sulgrevad--complaint note)
+      (push (cons tag note) sulgrevad--unwritten)
+      (message "samhost: %s" (sulgrevad-note-text note)))))
 
 (defun sulgrevad--note-told (told)
   "Note what was TOLD, for an error that may come."
   (setq sulgrevad--told (seq-take (cons told sulgrevad--told) sulgrevad-most-told)))
-
-(defun sulgrevad--hear (told)
-  "Show what the host has TOLD, and note what it has not written."
-  (sulgrevad--note-told told)
-  (cond ((and (string-prefix-p "the text of " told) (string-search " is lost: " told))
-         (display-warning 'sulgrevad (concat "samhost: " told) :error)) ; in a buffer that stays
-        ((not (string-prefix-p "? write " told)) (message "samhost: %s" told))
-        (sulgrevad--writing (setq sulgrevad--complaint told))
-        (t (push (cons nil told) sulgrevad--unwritten)
-           (message "samhost: %s" told))))
 
 (defun sulgrevad--is-late ()
   "Whether the line is lost, or an answer of the host is late."
@@ -1086,13 +1073,12 @@ Its hooks run where no file is visited: that of this path is elsewhere."
     (let ((buffer-file-name name)) (set-auto-mode)))
   (run-mode-hooks))
 
-(defun sulgrevad--ask (verb rest)
-  "Ask the host by a note, VERB and REST, and wait for its answer.
-Return a list of what it answers and what stands after that."
+(defun sulgrevad--ask (kind path)
+  "Ask the host by a request of KIND about PATH, and return its answer."
   (let ((number (cl-incf sulgrevad--number)))
     (sulgrevad--send)
-    (sulgrevad-line-put-note sulgrevad--line verb (format "%d" number) rest)
-    (when (equal verb "open") (sulgrevad--offer-version sulgrevad--term sulgrevad-version-offered))
+    (sulgrevad-line-put-request sulgrevad--line kind number path)
+    (when (eq kind 'open) (sulgrevad--offer-version sulgrevad--term sulgrevad-version-offered))
     (prog1 (or (sulgrevad--wait (lambda () (cdr (assq number sulgrevad--answers))))
                (sulgrevad--refuse "That"))
       (setq sulgrevad--answers (assq-delete-all number sulgrevad--answers)))))
@@ -1103,13 +1089,12 @@ Return a list of what it answers and what stands after that."
 
 (defun sulgrevad--open-path (path)
   "Have the host open PATH.  Return its tag."
-  (pcase (sulgrevad--ask "open" path)
-    (`("opened" ,word)
-     (let ((tag (string-to-number word)))
-       (unless (sulgrevad--wait (lambda () (sulgrevad--is-named tag))) (sulgrevad--refuse "That"))
-       tag))
-    (`("refused" ,why) (user-error "%s is not opened: %s" path why))
-    (_ (user-error "%s is a folder" path))))
+  (let* ((answer (sulgrevad--ask 'open path)) (tag (sulgrevad-note-tag answer)))
+    (cond ((eq 'opened (sulgrevad-note-kind answer))
+           (unless (sulgrevad--wait (lambda () (sulgrevad--is-named tag))) (sulgrevad--refuse "That"))
+           tag)
+          ((= sulgrevad--is-folder (sulgrevad-note-code answer)) (user-error "%s is a folder" path))
+          (t (user-error "%s is not opened: %s" path (sulgrevad-note-text answer))))))
 
 ;;;###autoload
 (defun sulgrevad-find-file (path)
@@ -1205,17 +1190,8 @@ NAMES-AT gives the names that complete a path, without their folder."
 
 (defun sulgrevad--names-at (path)
   "The names at the host that complete PATH; those of folders end in a slash."
-  (pcase (and sulgrevad--term (not (sulgrevad--is-late)) (sulgrevad--ask "names" path))
-    (`("names" ,answer) (sulgrevad--names-of (cadr (sulgrevad--cut answer))))))
-
-(defun sulgrevad--names-of (names)
-  "The NAMES of a note, which stand between slashes.
-An empty one says that the one before is a folder."
-  (let (found)
-    (dolist (name (split-string names "/"))
-      (cond ((not (string-empty-p name)) (push name found))
-            (found (setcar found (concat (car found) "/")))))
-    (nreverse found)))
+  (let ((answer (and sulgrevad--term (not (sulgrevad--is-late)) (sulgrevad--ask 'complete path))))
+    (and answer (split-string (sulgrevad-line-path (sulgrevad-note-path answer)) "\n" t))))
 
 ;;; Command lines
 
@@ -1290,11 +1266,10 @@ One is written after the other, so that what the host tells is of that."
   (let* ((tag sulgrevad--writing) (told sulgrevad--complaint) (buffer (sulgrevad--buffer-of tag))
          (name (or (sulgrevad--name sulgrevad--term tag) "the file")))
     (setq sulgrevad--writing nil
-          sulgrevad--unwritten (cl-remove-if (lambda (old) (if (car old) (eql tag (car old)) (sulgrevad--is-about (cdr old) name)))
-                                             sulgrevad--unwritten))
+          sulgrevad--unwritten (assq-delete-all tag sulgrevad--unwritten))
     (when told (push (cons tag told) sulgrevad--unwritten))
     (when buffer (with-current-buffer buffer (sulgrevad--take-over)))
-    (message "%s" (or told (format "The host has written %s" name)))))
+    (message "%s" (if told (sulgrevad-note-text told) (format "The host has written %s" name)))))
 
 (defun sulgrevad-save ()
   "Have the host write the buffer's file, and wait until it has.
@@ -1312,9 +1287,8 @@ Where it does not answer, the file is written once it does."
 
 (defun sulgrevad--offer-again (tag)
   "Where another program has changed the file TAG, ask, and write it."
-  (let ((told (cdr (assq tag sulgrevad--unwritten))))
-    (when (and told (not noninteractive) (string-match "\\(another program changed it\\|it is there already\\), and the next write" told)
-               (yes-or-no-p (format "%s: %s; replace it? " (buffer-name) (match-string 1 told))))
+  (let* ((told (cdr (assq tag sulgrevad--unwritten))) (why (and told (cdr (assq (sulgrevad-note-code told) sulgrevad--replacing)))))
+    (when (and why (not noninteractive) (yes-or-no-p (format "%s: %s; replace it? " (buffer-name) why)))
       (sulgrevad-save))))
 
 (defun sulgrevad--write-contents ()

@@ -18,7 +18,6 @@
 #include "log.h"
 
 enum {
-    LINE_ROOM = 16384,    /* bytes of the longest line */
     COUNT_ROOM = 100,     /* bytes of the line that has a number */
     LONGEST_WAIT = 500000 /* microseconds that a line waits for room */
 };
@@ -164,22 +163,40 @@ void set_listener(listener *listens, void *at)
     heard_at = at;
 }
 
-void say(const char *format, ...)
+void *who_listens(void)
 {
-    char words[LINE_ROOM], count[COUNT_ROOM];
-    va_list list;
+    return heard_at;
+}
 
-    va_start(list, format);
-    vsnprintf(words, sizeof words, format, list);
-    va_end(list);
-    make_printable(words);
-    if (heard_by != NULL) {
-        heard_by(heard_at, words);
+void spell_line(char line[LINE_ROOM], const char *format, va_list list)
+{
+    vsnprintf(line, LINE_ROOM, format, list);
+    make_printable(line);
+}
+
+void say_aloud(const char *words)
+{
+    char count[COUNT_ROOM];
+
+    if (*words == '\0')
         return;
-    }
     if (unheard > 0 && has_room(false)) {
         snprintf(count, sizeof count, "lines missing before this one, since nobody read them: %u", unheard);
         say_words(count);
     }
     say_words(words);
+}
+
+void say(const char *format, ...)
+{
+    char words[LINE_ROOM];
+    va_list list;
+
+    va_start(list, format);
+    spell_line(words, format, list);
+    va_end(list);
+    if (heard_by != NULL)
+        heard_by(heard_at, words);
+    else
+        say_aloud(words);
 }

@@ -1,4 +1,4 @@
-/* samhost [--undo] [--times] [--] [FILE ..]: serves files to a terminal, over standard input and output.
+/* samhost [--undo] [--times] [--] [FILE ..]: serves files to a terminal, over a link on standard input and output.
  *
  * A FILE may be a folder, which stands for the text files below it. With --undo it has one more file, ~~undo~~, that is nowhere on disk:
  * there a terminal keeps text for undo. Before that stand the texts that earlier sessions saved, for the terminal to offer.
@@ -9,7 +9,8 @@
  *
  * It reads the files, answers the terminal's messages, and writes a file when the terminal says so. It ends when the terminal leaves, at
  * the end of its input, and at a signal that asks it to end (SIGTERM and others), which does as the end of the input. Texts that were not
- * written are then in FILE.sam-saved; so they are while it runs, a few seconds after they were changed.
+ * written are then in FILE.sam-saved; so they are while it runs, a few seconds after they were changed. What it has to say goes to the
+ * terminal; to standard error before there is one, and once the input has ended.
  *
  * Exit status: 0; 1 where a file can't be read; 2 where the words are wrong; 3 where the terminal's stream is wrong; 4 where it is out of
  * memory at the start; 5 where a text could not be saved anywhere; 6 where its line broke. What went wrong it says on standard error.
@@ -19,15 +20,10 @@
  * otherwise.
  */
 #define _XOPEN_SOURCE 700
-#include <fcntl.h>
 #include <stdio.h>
 #include <stdlib.h>
 #include <string.h>
-#include <sys/stat.h>
-#include <unistd.h>
 
-#include "log.h"
-#include "net/event_loop.h"
 #include "session/daemon.h"
 #include "session/ending.h"
 #include "session/session.h"
@@ -49,36 +45,6 @@ enum {
     "       samhost --attach NAME | --take [NAME] | --end NAME | --list\n"                                                                 \
     "       samhost --open [--wait] [--session NAME] [--] FILE [+LINE]\n"                                                                  \
     "       samhost --version\n"
-
-/* Serves the files of a session that was opened. Returns the exit status. */
-static int run(struct session *session)
-{
-    sigset_t mask;
-    int flags = fcntl(STDOUT_FILENO, F_GETFL);
-
-    set_signals(&mask);
-    fcntl(STDOUT_FILENO, F_SETFL, flags | O_NONBLOCK);
-    int status = close_session(session, serve(session, &mask));
-    send_the_rest(session, &mask);
-    fcntl(STDOUT_FILENO, F_SETFL, flags);
-    return status;
-}
-
-/* Opens a session and serves it, over standard input and output. Returns the exit status. */
-static int serve_files(char **paths, int count, const struct options *options)
-{
-    struct session *session = calloc(1, sizeof *session);
-
-    if (session == NULL) {
-        say("out of memory");
-        return STATUS_MEMORY;
-    }
-    int status = open_session(session, paths, count, options);
-    if (status == STATUS_OK)
-        status = run(session);
-    free_session(session);
-    return status;
-}
 
 /* ---- Words ---- */
 
@@ -185,5 +151,5 @@ int main(int count, char **words)
     case PLAIN:
         break;
     }
-    return serve_files(words + first, count - first, &options);
+    return serve_streams(words + first, count - first, &options);
 }

@@ -3,24 +3,23 @@ keys/key_queue.py, and what a key does in keys/actions.py."""
 import time
 from bisect import bisect_left
 from collections import deque
-from typing import Callable, Container, FrozenSet, Iterable, List, NamedTuple, Optional, Sequence, Set, Tuple
+from typing import Callable, Container, FrozenSet, Iterable, List, NamedTuple, Optional, Sequence, Set, Tuple, Union
 
 from .keys.actions import TOO_LONG, Actions
 from .view.colours import Colours
 from .view.window_layout import WindowLayout
 from .files.open_requests import OpenRequests
-from .files.unsaved_texts import UnsavedTexts, shown_name
+from .files.unsaved_texts import REPLACING, UnsavedTexts, shown_name
 from .keys.bindings import PLACE, SAM, Input, Key, KeySet, Mouse, Paste, Text
 from .files.recovery import Recovery
 from .text.lines import Numbers
 from .line.host_process import SECONDS_TO_END
-from .view.status_line import REPEAT, Notes, Said, for_people, said
+from .view.status_line import REPEAT, Notes, rank_of, words_of
 from .keys.mouse import Pointer
 from .files.reload import Reload
 from .text.prefetch import Prefetch
-from sulgrevad import Refusal, SamError, Status, Terminal
-from .line.persistent_session import Note
-from .line.stream import CLEAN, CLOSE, DELNAME, MOVETO, NEWNAME, SETDOT, UNLOCK, UNLOCKFILE, Stream
+from sulgrevad import Kind, Note, NoteCode, NoteKind, Refusal, SamError, Status, Terminal
+from .line.stream import Stream
 from .text.texts import COMMAND, COMMAND_NAME, Texts
 from .text.undo import Undo
 from .text.undo_store import UndoStore
@@ -32,7 +31,8 @@ COMMAND_AFTER = 2.0  # seconds of rest after which the command file is opened, i
 
 
 OWN = "~~"  # what names of hidden files begin with
-MOST_EARLY = 10_000  # lines of texts that are told before their names
+ANSWERS = (NoteKind.OPENED, NoteKind.REFUSED, NoteKind.NAMES, NoteKind.ANEW, NoteKind.SHOWN)
+AGES = (NoteCode.NEWER, NoteCode.OLDER)  # of a text that an earlier session left, beside that of its file
 RESTED = 1.0  # seconds since the last key from which on a question is no surprise
 
 WHY = {
@@ -57,7 +57,7 @@ class Known(NamedTuple):
 
 
 class Editor(WindowLayout, KeyQueue, Actions):
-    """The terminal with its windows. Keys come in by `take`, bytes of the host by `feed`, lines of its standard error by `hear`."""
+    """The terminal with its windows. Keys come in by `take`, bytes of the host by `feed`, its messages and lines by `hear`."""
 
     def __init__(
         self, terminal: Terminal, clock: Callable[[], float] = time.monotonic, indents: bool = True,
@@ -69,14 +69,13 @@ class Editor(WindowLayout, KeyQueue, Actions):
         self.terminal, self.clock, self.indents = terminal, clock, indents
         # The names that the files have whose paths the user gave; None where he goes on with a session.
         self.asked_for = None if asked_for is None else {shown_name(path) for path in asked_for}
-        self._early_lines: List[Tuple[Said, str]] = []  # of texts that were not written, told before their names
         self.way, self.notes = Delivery(terminal, clock), Notes(clock, self.hint)
         self.vault = UndoStore(terminal, self.texts)
         self.log, self.numbers, self.keeping = Undo(terminal, self.texts, self.vault), Numbers(self.texts), UnsavedTexts(self)
         self.left, self.slices, self.joining, self.reloading = Recovery(self), Prefetch(self), OpenRequests(self), Reload(self)
-        told = {CLEAN: self._meet_clean, CLOSE: self._meet_close, MOVETO: self._meet_move, SETDOT: self._meet_dot}
-        told.update({NEWNAME: self._meet_name, DELNAME: self._meet_name})
-        settled = {UNLOCK: self._meet_unlock, UNLOCKFILE: self._meet_pasted}
+        told = {Kind.HCLEAN: self._meet_clean, Kind.HCLOSE: self._meet_close, Kind.HMOVETO: self._meet_move, Kind.HSETDOT: self._meet_dot}
+        told.update({Kind.HNEWNAME: self._meet_name, Kind.HDELNAME: self._meet_name})
+        settled = {Kind.HUNLOCK: self._meet_unlock, Kind.HUNLOCKFILE: self._meet_pasted}
         self.colours = Colours(self.name, tell=lambda line: self.notes.keep(1, line))
         self.stream = Stream(terminal, self.texts, told, settled)
         hear = self.log.hear, self.numbers.hear, self.keeping.hear_changes, self.hear_changes, self.hear_run, self.colours.hear
@@ -176,25 +175,36 @@ class Editor(WindowLayout, KeyQueue, Actions):
         if data:
             self.way.hear()
 
-    def hear(self, line: str) -> None:
-        """A line of the host's standard error. What it says of a text stays on the screen until it is read. Where the user waits for a
-        write, and it may replace another program's text, this asks; else the next such key does."""
-        told, line = said(line), for_people(line)
-        if not self.has_begun and "failed" in told.what and len(self._early_lines) < MOST_EARLY:
-            self._early_lines.append((told, line))  # the files that it is about have no names yet
-        tags = self.keeping.hear_host(told, line)
-        for tag in tags if told.replaces else ():
-            self.reloading.forget(tag)
-        if told.what == "written":
-            self.left.hear_written(told.names[0], told.when)
-        elif told.replaces and self.asks_to_write(tags):
-            pass
-        elif told.what == "changed":
-            self.reloading.meet_changed(tags, line)
-        elif told.rank:
-            self.notes.keep(told.rank, line + self.left.offer if told.what == "left" else line)
+    def hear(self, told: Union[str, Note]) -> None:
+        """A line of standard error, or a message of the host. What that says of a text stays on the screen until it is read."""
+        if isinstance(told, str):
+            self._keep(told)
+        elif told.kind in ANSWERS:
+            if not self.reloading.meet(told):
+                self.joining.meet(told)
+        elif told.kind == NoteKind.DATED:
+            self.left.hear_written(told.tag, told.number)
+        elif told.kind == NoteKind.CHANGED:
+            self.reloading.meet_changed(told.tag, words_of(told))
         else:
+            self.keeping.meet(told)
+            if not self._asks_of(told):
+                self._keep(told, self.left.offer if told.kind == NoteKind.EARLIER and told.code in AGES else "")
+
+    def _keep(self, told: Union[str, Note], offer: str = "") -> None:
+        """Shows words: what matters until it is read."""
+        line, rank = words_of(told), rank_of(told)
+        if rank:
+            self.notes.keep(rank, line + offer)
+        elif isinstance(told, str):
             self.message = line
+
+    def _asks_of(self, told: Note) -> bool:
+        """Whether a write would replace another program's text, and this asks now, since the user waits for it; else the next such key does."""
+        if told.kind != NoteKind.NOT_SAVED or told.code not in REPLACING:
+            return False
+        self.reloading.forget(told.tag)
+        return self.asks_to_write({told.tag})
 
     def asks_to_write(self, tags: Container[int]) -> bool:
         """Asks before another program's text is replaced, where one of these files is the one used last, and its user waits for a write: no
@@ -205,11 +215,6 @@ class Editor(WindowLayout, KeyQueue, Actions):
             return False
         self._ask(self.keeping.question(tag), Key(self.keys.of("write")))
         return True
-
-    def meet_note(self, note: Note) -> None:
-        """A note of the host that is no line to tell."""
-        if not self.reloading.meet(note):
-            self.joining.meet(note)
 
     def give_back_typed(self, why: str) -> None:
         """What was typed for a file that doesn't come is put in nowhere: `^V` has it, or else a file here."""
@@ -350,8 +355,6 @@ class Editor(WindowLayout, KeyQueue, Actions):
         else:
             self.message = f"no file: {self.keys.of('new')} makes one, {self.keys.of('help')} shows the keys"
             self.has_command_file()
-        for told, line in self._early_lines:
-            self.keeping.hear_host(told, line)
         if self._has_others(known):
             self.do_menu()  # of a folder the host has the files below it
 

@@ -17,7 +17,7 @@ from .text.cached_terminal import CachedTerminal
 from .keys.bindings import Input
 from .line.host_process import poll_of, polled
 from .view.status_line import printable
-from .line.persistent_session import Line
+from .line.persistent_session import Item, PersistentSession
 from sulgrevad import SamError
 from .view.screen import Screen, sequences
 
@@ -42,7 +42,7 @@ class HeldUp(Exception):
 class Loop:
     """One session at a screen."""
 
-    def __init__(self, terminal: CachedTerminal, link: Line, screen: Screen, editor: Editor, hear: Callable[[str], None]):
+    def __init__(self, terminal: CachedTerminal, link: PersistentSession, screen: Screen, editor: Editor, hear: Callable[[Item], None]):
         self.terminal, self.link, self.screen, self.editor, self.hear = terminal, link, screen, editor, hear
         self.decoder = Decoder(sequences())
         self.keys: Deque[Input] = deque()  # those that the editor has not taken
@@ -243,15 +243,13 @@ class Loop:
     def _take_bytes(self, ready: Dict[int, int]) -> None:
         for item in self.link.take(ready):
             self._is_updated = False
-            if isinstance(item, str):
-                self.hear(item)
-            elif isinstance(item, bytes):
+            if isinstance(item, bytes):
                 self._do(functools.partial(self.editor.feed, item))
                 deeds = self.terminal.deeds
                 self._do(self.editor.update)
                 self._is_updated = deeds == self.terminal.deeds and not (self.editor.deferred or self.is_short)
             else:
-                self.editor.meet_note(item)
+                self.hear(item)
         if self.link.is_lost and not self.editor.is_over:
             self._is_updated = False
             self.editor.lose(self.link.why)

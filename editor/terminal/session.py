@@ -15,14 +15,13 @@ from .keys.bindings import SAM
 from .view import layout
 from .line.host_process import SECONDS_OF_SILENCE, SECONDS_TO_END
 from .loop import KEYBOARD, Loop
-from .view.status_line import for_people, printable, said
+from .view.status_line import printable, words_of
 from .view.screen import FOOT, Screen
 from .text.texts import COMMAND
-from .line.persistent_session import Line, PersistentSession
-from .line.stream import FIRST
+from .line.persistent_session import Item, PersistentSession
 from sulgrevad import SamError, Terminal
 
-USAGE = "usage: "  # the words of a samhost that knows of no session that stays: it is run without then
+TOO_OLD = "that samhost is too old: both have to be of one release"
 MOST_TOLD = 1_000  # lines of the host that are told again at the end, the last ones
 STATUS_LOST, STATUS_UNSAVED, STATUS_SIGNAL = 3, 5, 128
 
@@ -41,11 +40,10 @@ def say_all(lines: Iterable[str]) -> None:
 class Session:
     """The terminal, the editor and the link to the host."""
 
-    def __init__(self, terminal: Terminal, link: Line, editor: Editor):
+    def __init__(self, terminal: Terminal, link: PersistentSession, editor: Editor):
         self.terminal, self.link, self.editor = terminal, link, editor
-        if isinstance(link, PersistentSession):
-            editor.way.line = link
-        self.told: Deque[str] = deque(maxlen=MOST_TOLD)  # what the host told while the screen hid standard error
+        editor.way.line = link
+        self.told: Deque[Item] = deque(maxlen=MOST_TOLD)  # what the host told while the screen hid standard error
         self.ended_by = 0
         self.has_colours = False
 
@@ -56,16 +54,14 @@ class Session:
         self.editor.arrange(max(1, rows - FOOT), columns)
         self.editor.begin()
         self.link.send(self.terminal.take_out())
-        is_there = self.link.wait_for_stream(FIRST, self._hear_early)
+        is_there = self.link.wait_for_stream(self._hear_early)
         for line in self.link.noise:
             say(f"samterm: the host's command printed: {line}")
         for item in self.link.take_early() if is_there else []:
-            if isinstance(item, str):
-                self._hear(item)
-            elif isinstance(item, bytes):
+            if isinstance(item, bytes):
                 is_there = is_there and self._takes(item)
             else:
-                self.editor.meet_note(item)
+                self._hear(item)
         if is_there and self.link.noise:
             self.editor.notes.keep(1, f"the host's command printed: {self.link.noise[-1]}")
         return is_there
@@ -83,13 +79,13 @@ class Session:
         return True
 
     def _hear_early(self, line: str) -> None:
-        if said(line).what != "written" and not (isinstance(self.link, PersistentSession) and line.startswith(USAGE)):
-            say(for_people(line))
+        say(line)
         self.editor.hear(line)
 
-    def _hear(self, line: str) -> None:
-        self.told.append(line)
-        self.editor.hear(line)
+    def _hear(self, told: Item) -> None:
+        if words_of(told):
+            self.told.append(told)
+        self.editor.hear(told)
 
     def _take_last(self, data: bytes) -> None:
         """The screen is closed, and the host's answers still say what has arrived. Whatever goes wrong with them, the texts are kept."""
@@ -126,8 +122,6 @@ class Session:
             if self.editor.typed_ahead:
                 say(f"samterm: typed while the host was left, and put in nowhere: {self.editor.typed_ahead!r}")
             self.editor.deferred.clear()
-        elif not self.editor.is_lost and not self.ended_by and not isinstance(self.link, PersistentSession):
-            say(f"samterm: the host has {self._seconds_to_end} seconds to save what it got; ^C doesn't wait for it")
 
     @property
     def _seconds_to_end(self) -> int:
@@ -139,7 +133,7 @@ class Session:
     @property
     def _stays(self) -> bool:
         """Whether the session goes on at the host without us."""
-        return isinstance(self.link, PersistentSession) and self.link.ended_with is None and not self.link.is_lost
+        return self.link.ended_with is None and not self.link.is_lost
 
     def _tell_of_staying(self) -> None:
         """How the user comes back to a session that stays, and what that lacks."""
@@ -172,12 +166,12 @@ class Session:
     def say_told(self) -> None:
         """What the host told since, as far as it still holds."""
         while self.told:
-            line = self.told.popleft()
+            told = self.told.popleft()
             holds = True
             with contextlib.suppress(SamError):  # of a terminal that has stopped
-                holds = self.editor.keeping.is_so(line)
+                holds = self.editor.keeping.is_so(told)
             if holds:
-                say(for_people(line))
+                say(words_of(told))
 
     def _end_link(self) -> Optional[int]:
         """Sends what was typed, and waits for the host's end. Returns its status; None where it doesn't end, or the user doesn't wait."""
@@ -190,8 +184,7 @@ class Session:
             try:
                 signal.signal(signal.SIGINT, signal.default_int_handler)
                 self._tell_of_leaving()  # from here on `^C` counts
-                if isinstance(self.link, PersistentSession):
-                    self.link.ends = self.terminal.exited or self.editor.is_leaving
+                self.link.ends = self.terminal.exited or self.editor.is_leaving
                 return self.link.close(self._hear, self._take_last, self._seconds_to_end)
             finally:
                 signal.signal(signal.SIGINT, signal.SIG_IGN)  # one more is not to stop what is written here
@@ -207,8 +200,8 @@ class Session:
             say_all(keeping.keep_late())
 
 
-def run_session(wish: Wish, link: Line) -> Optional[int]:
-    """Edits over a link to a host that has begun. Returns the exit status; None where the host knows of no session that stays."""
+def run_session(wish: Wish, link: PersistentSession) -> int:
+    """Edits over a link to a host that has begun. Returns the exit status."""
     layout.TAB = wish.shows.tab
     with CachedTerminal() as terminal:
         editor = Editor(terminal, indents=wish.indents, asked_for=None if wish.takes_over else wish.files, keys=wish.keys)
@@ -216,12 +209,11 @@ def run_session(wish: Wish, link: Line) -> Optional[int]:
         session = Session(terminal, link, editor)
         session.has_colours = not wish.shows.plain and not os.environ.get("NO_COLOR")
         if not session.begin():
-            if isinstance(link, PersistentSession) and link.refused_words and not wish.takes_over:
-                return None
             session.say_told()
             ended_with = link.early_status
             link.close(say)
             why = f"it ended with status {ended_with}, and no session has begun" if ended_with else "the host doesn't answer"
+            why = TOO_OLD if link.refused_words and not wish.takes_over else why
             say(f"samterm: {shlex.join(wish.command)}: {why}")
             return STATUS_NO_HOST
         session.run()

@@ -3,8 +3,7 @@ from typing import List, NamedTuple, Optional
 
 from .files import local_backup
 from .keys.bindings import KeySet
-from .line.host_process import HostProcess
-from .line.persistent_session import Line, PersistentSession
+from .line.persistent_session import PersistentSession
 from .line.shells import for_shells, shells_of
 
 STATUS_NO_HOST = 1
@@ -33,14 +32,10 @@ class Wish(NamedTuple):
     shells: Optional[int]
     keys: KeySet
 
-    @property
-    def stays(self) -> bool:
-        return self.takes_over or self.hours is None or float(self.hours) > 0
-
-    def words(self, stays: bool) -> List[str]:
+    def words(self) -> List[str]:
         """The words for a host after those of the session."""
         times = ["--times"] if any(local_backup.left(self.files).values()) else []  # whether these are newer only the host can tell
-        hours = ["--stay", self.hours] if stays and self.hours is not None else []
+        hours = ["--stay", self.hours] if self.hours is not None else []
         dash = ["--"] if any(name.startswith("-") for name in self.files) else []
         return self._quoted("--undo", *times, *hours, *dash, *self.files)
 
@@ -48,13 +43,11 @@ class Wish(NamedTuple):
         """Words that come after those of the command."""
         return for_shells(words, shells_of(self.command) if self.shells is None else self.shells)
 
-    def link(self, stays: bool) -> Line:
-        if not stays:
-            return HostProcess([*self.command, *self.words(False)])
+    def link(self) -> PersistentSession:
         if self.takes_over:
             line = PersistentSession(self.command, lambda name: self._quoted("--take", *self.files), takes_over=True)
         else:
-            line = PersistentSession(self.command, lambda name: ["--serve", name, *self.words(True)])
+            line = PersistentSession(self.command, lambda name: ["--serve", name, *self.words()])
         line.keys = self.keys
         return line
 
@@ -62,19 +55,8 @@ class Wish(NamedTuple):
 def edit(wish: Wish) -> int:
     """Runs a host, and edits files. Returns the exit status."""
     local_backup.host = (*wish.command, "--undo")
-    status = _edit(wish, wish.stays)
-    if status is None:
-        from .session import say
-
-        say("samterm: that samhost is too old for a session that stays: a line that breaks ends this one")
-        status = _edit(wish, False)
-    return STATUS_NO_HOST if status is None else status
-
-
-def _edit(wish: Wish, stays: bool) -> Optional[int]:
-    """The same; None where the host knows of no session that stays."""
     try:
-        link = wish.link(stays)
+        link = wish.link()
     except OSError as error:
         from .session import say
 

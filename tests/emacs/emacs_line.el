@@ -380,14 +380,31 @@
                text new changes (buffer-string)))))
   (asked t (sulgrevad-quit)))
 
+(defun sulgrevad--message (kind number path)
+  "A message of KIND with a NUMBER and a PATH."
+  (list kind 0 0 0 number path "" "box"))
+
+(defun check-other-versions ()
+  "A host whose first message is none of this version is left, and that is told."
+  (dolist (first (list 'unknown (sulgrevad--message 'said 0 "") (sulgrevad--message 'session 2 "0123456789abcdef")))
+    (let ((line (sulgrevad-line-make '("true") #'ignore)))
+      (sulgrevad-line--meet line first)
+      (check (format "a host of another version is left, %s" first)
+             (string-search "another version" (or (sulgrevad-line-why line) "")) (sulgrevad-line-why line)))))
+
 (defun check-hostile ()
   "What a host says is believed no more than it has to be."
   (sulgrevad-start (list samhost "--undo") (made "hostile.txt" "text\n"))
   (let ((line sulgrevad--line) (name (sulgrevad-line-name sulgrevad--line)) (told nil))
     (dolist (word '("$(touch${IFS}OWNED)" "0123456789abcdeg" "0123456789abcdef0" ""))
-      (setq told (said (lambda () (sulgrevad-line--meet line (concat "session " word " box")))))
+      (setq told (said (lambda () (sulgrevad-line--meet line (sulgrevad--message 'session 1 word)))))
       (check (format "a name of a session that is none is not taken, %s" word) (equal name (sulgrevad-line-name line)) told)
       (check "that is said" (cl-some (lambda (one) (string-search "name for the session" one)) told) told))
+    (dolist (note (list 'unknown (list 'shown 0 65535 0 (ash 1 62) "" "" "") (list 'opened 9 7 0 0 "" "" "")
+                        (list 'changed 0 9 255 0 "\377" "" "x\e[31m") (list 'aside 0 65535 9 0 "" "" "")))
+      (sulgrevad-line--meet line note))
+    (check "messages of wrong files and of later versions end nothing" (and sulgrevad--term (null (sulgrevad-line-why line)))
+           (sulgrevad-line-why line))
     (sulgrevad-line--tell line (make-string 1000000 ?x))
     (check "a line without an end is cut" (<= (length (sulgrevad-line-told line)) 4096))
     (setq told (said (lambda () (sulgrevad-line--tell line "\n"))))
@@ -395,7 +412,7 @@
   (check "a file that a terminal keeps for itself is not offered"
          (equal (mapcar (lambda (one) (file-name-nondirectory (car one))) (sulgrevad--names)) '("hostile.txt"))
          (sulgrevad--names))
-  (sulgrevad--meet "told the text of hostile.txt is lost: No space left on device")
+  (sulgrevad--meet (list 'lost 0 1 1 0 "hostile.txt" "" "the text of hostile.txt is lost: No space left on device"))
   (message "another message")
   (check "a text that is lost is told in a buffer that stays"
          (with-current-buffer "*Warnings*" (string-search "the text of hostile.txt is lost: No space" (buffer-string))))
@@ -479,7 +496,7 @@ exec \"$@\"" "sh") (relayed))))
     (if (equal what "long")
         (dolist (one '(check-long check-places)) (funcall one (append words (list samhost))))
       (dolist (one '(check-breaks check-many-breaks check-random check-stalled check-take check-one-buffer check-missing check-paths check-wishes
-                                  check-keys check-steps check-hostile check-passwords check-sources))
+                                  check-keys check-steps check-other-versions check-hostile check-passwords check-sources))
         (when (memq one (or (bound-and-true-p only) (list one)))
           (funcall one))))
     (princ (format "%d passed, %d failed\n" passed failed))))

@@ -10,9 +10,9 @@ from operator import add, sub
 from typing import Any, Iterator, List, NamedTuple, Optional, Sequence, Tuple
 
 from sulgrevad._library import LIBRARY, Did, Handle
-from sulgrevad.status import Status, Step, error_of
+from sulgrevad.status import Kind, Status, Step, error_of
 
-EDITING = (77, 81)  # the kinds Hgrowdata and Hcut
+EDITING = (Kind.HGROWDATA, Kind.HCUT)
 MOST = 4096  # edits that one call receives
 WINDOW = 65_536  # runes that are read before it, since it may cut them
 FEW = 16  # edits for which that doesn't pay

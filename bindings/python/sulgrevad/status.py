@@ -63,6 +63,62 @@ class Status(enum.IntEnum):
     LINK_BAD_LENGTH = 204
     LINK_ACK_AHEAD = 205
     LINK_NO_ROOM = 206
+    NOTE_BAD_KIND = 225
+    NOTE_BAD_FIELD = 226
+    NOTE_BAD_LENGTH = 227
+    NOTE_BAD_PATH = 228
+    NOTE_BAD_TEXT = 229
+
+
+class Kind(enum.IntEnum):
+    """A kind of message or frame (enum sam_kind of sulgrevad.h); docs/reference/PROTOCOL.md says what each means."""
+
+    TVERSION = 1
+    TSTARTCMDFILE = 2
+    TCHECK = 3
+    TREQUEST = 4
+    TORIGIN = 5
+    TSTARTFILE = 6
+    TWORKFILE = 7
+    TTYPE = 8
+    TCUT = 9
+    TPASTE = 10
+    TSNARF = 11
+    TSTARTNEWFILE = 12
+    TWRITE = 13
+    TCLOSE = 14
+    TLOOK = 15
+    TSEARCH = 16
+    TSEND = 17
+    TDCLICK = 18
+    TSTARTSNARF = 19
+    TSETSNARF = 20
+    TACK = 21
+    TEXIT = 22
+    HVERSION = 65
+    HBINDNAME = 66
+    HCURRENT = 67
+    HNEWNAME = 68
+    HMOVNAME = 69
+    HGROW = 70
+    HCHECK = 71
+    HUNLOCK = 72
+    HDATA = 73
+    HORIGIN = 74
+    HUNLOCKFILE = 75
+    HSETDOT = 76
+    HGROWDATA = 77
+    HMOVETO = 78
+    HCLEAN = 79
+    HDIRTY = 80
+    HCUT = 81
+    HSETPAT = 82
+    HDELNAME = 83
+    HCLOSE = 84
+    HSETSNARF = 85
+    HSNARFLEN = 86
+    HACK = 87
+    HEXIT = 88
 
 
 class Step(enum.IntEnum):
@@ -169,6 +225,10 @@ class LinkFault(SamError):
     """A call of a link was refused, or bytes are no hello (SAM_LINK_..). The link goes on."""
 
 
+class NoteFault(SamError, ValueError):
+    """Bytes are no message of a session, or a message can't be written (SAM_NOTE_..)."""
+
+
 class ScriptFault(SamError, ValueError):
     """A script can't be replayed (SAM_SCRIPT_..). `line` is its first wrong line, counted from 1, or if none is wrong the line at
     which nothing is there to take; None if a count is full."""
@@ -193,6 +253,7 @@ FAMILIES = (
     (range(96, 128), TerminalRefused),
     (range(160, 192), ScriptFault),
     (range(192, 224), LinkFault),
+    (range(224, 256), NoteFault),
 )
 
 

@@ -12,6 +12,7 @@
 
 #include "disk/autosave.h"
 #include "disk/cut_backup.h"
+#include "disk/errors.h"
 #include "disk/file_writer.h"
 #include "disk/paths.h"
 #include "disk/saves.h"
@@ -23,6 +24,7 @@
 #include "net/event_loop.h"
 #include "net/handshake.h"
 #include "session/document.h"
+#include "session/messages.h"
 #include "session/session.h"
 #include "sulgrevad.h"
 
@@ -117,6 +119,20 @@ bool is_tried_again(int error, int *tries)
     return true;
 }
 
+/* ---- What is told ---- */
+
+static void tell_aside(uint16_t tag, const char *name, const char *copy)
+{
+    tell(&(struct event){.kind = SAM_NOTE_ASIDE, .tag = tag, .path = name, .copy = copy}, "%s was not written; its text is in %s", name,
+         copy);
+}
+
+static void tell_lost(uint16_t tag, const char *name, int error)
+{
+    tell(&(struct event){.kind = SAM_NOTE_LOST, .code = code_of(error), .tag = tag, .path = name}, "the text of %s is lost: %s", name,
+         cause(error));
+}
+
 /* ---- Texts of closed files ---- */
 
 static void free_closed(struct closed *closed)
@@ -141,9 +157,9 @@ static bool save_closed(struct session *session, bool is_last)
             error = keep(&closed->text, closed->name, closed->name, SAVED, &copy);
         while (is_last && is_tried_again(error, &tries));
         if (error == 0)
-            say("%s was not written; its text is in %s", closed->name, copy.path);
+            tell_aside(closed->tag, closed->name, copy.path);
         else if (is_last)
-            say("the text of %s is lost: %s", closed->name, cause(error));
+            tell_lost(closed->tag, closed->name, error);
         all &= error == 0;
         free(copy.path);
         if (error == 0 || is_last) {
@@ -210,7 +226,8 @@ bool save_changed(struct session *session)
         int error = secure(session, (uint16_t)tag, &place);
         if (error != 0 && !document->is_reported) {
             char *name = name_of(session, (uint16_t)tag);
-            say("the text of %s can't be saved aside: %s", name == NULL ? "a file" : name, cause(error));
+            tell(&(struct event){.kind = SAM_NOTE_ASIDE, .code = code_of(error), .tag = (uint16_t)tag, .path = name},
+                 "the text of %s can't be saved aside: %s", name == NULL ? "a file" : name, cause(error));
             free(name);
         }
         document->is_reported = error != 0;
@@ -263,7 +280,7 @@ static int save_for_good(struct session *session, uint16_t tag, const char *name
         error = secure(session, tag, &place);
     while (is_tried_again(error, &tries));
     if (error == 0 && place == ASIDE)
-        say("%s was not written; its text is in %s", name, session->documents[tag].aside.path);
+        tell_aside(tag, name, session->documents[tag].aside.path);
     return error;
 }
 
@@ -279,12 +296,12 @@ static void hold_closed(struct session *session, uint16_t tag, const char *name)
         free(closed);
         free(bytes);
         free(own);
-        say("the text of %s is lost: %s", name, cause(ENOMEM));
+        tell_lost(tag, name, ENOMEM);
         session->is_lost = true;
         return;
     }
     memcpy(bytes, session->text.bytes, session->text.len);
-    *closed = (struct closed){.next = session->closed, .name = own, .text = {bytes, session->text.len}};
+    *closed = (struct closed){.next = session->closed, .tag = tag, .name = own, .text = {bytes, session->text.len}};
     session->closed = closed;
 }
 
@@ -298,11 +315,12 @@ void save_closing(struct session *session, uint16_t tag)
     int error = save_for_good(session, tag, known);
 
     if (error != 0) {
-        say("%s is closed, and its text can't be saved: %s", known, cause(error));
+        tell(&(struct event){.kind = SAM_NOTE_ASIDE, .code = code_of(error), .tag = tag, .path = known},
+             "%s is closed, and its text can't be saved: %s", known, cause(error));
         hold_closed(session, tag, known);
     }
     free(name);
-    note_done(session, DOING_CLOSE, tag, error != 0);
+    note_done(session, DOING_CLOSE, tag, NULL, error != 0);
 }
 
 void free_document(struct document *document)
@@ -342,7 +360,7 @@ bool save_last(struct session *session, bool is_alone)
         const char *known = name == NULL ? "a file" : name;
         int error = save_for_good(session, (uint16_t)tag, known);
         if (error != 0)
-            say("the text of %s is lost: %s", known, cause(error));
+            tell_lost((uint16_t)tag, known, error);
         all &= error == 0;
         free(name);
     }

@@ -14,6 +14,7 @@ struct session;
 /* A text that could not be saved when its file was closed. */
 struct closed {
     struct closed *next;
+    uint16_t tag; /* that the file had; 0 where another terminal knew it */
     char *name;
     struct text text;
 };

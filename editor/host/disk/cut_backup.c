@@ -10,12 +10,13 @@
 
 #include "disk/cut_backup.h"
 #include "disk/autosave.h"
+#include "disk/errors.h"
 #include "disk/file_writer.h"
 #include "disk/paths.h"
 #include "disk/saves.h"
 #include "limits.h"
-#include "log.h"
 #include "net/event_loop.h"
+#include "session/messages.h"
 #include "session/session.h"
 #include "sulgrevad.h"
 
@@ -161,7 +162,7 @@ bool keep_cut(struct session *session)
     int error = secure_cut(session);
 
     if (error != 0 && !session->cut.is_reported)
-        say("what was cut last can't be saved aside: %s", cause(error));
+        tell(&(struct event){.kind = SAM_NOTE_LOST, .code = SAM_NOTE_CUT}, "what was cut last can't be saved aside: %s", cause(error));
     session->cut.is_reported = error != 0;
     return error == 0;
 }
@@ -177,8 +178,8 @@ bool save_cut(struct session *session, bool is_alone)
         error = secure_cut(session);
     while (is_tried_again(error, &tries));
     if (error != 0)
-        say("the text of " CUT " is lost: %s", cause(error));
+        tell(&(struct event){.kind = SAM_NOTE_LOST, .code = SAM_NOTE_CUT}, "the text of " CUT " is lost: %s", cause(error));
     else if (aside->path != NULL)
-        say("what was cut last is in %s", aside->path);
+        tell(&(struct event){.kind = SAM_NOTE_ASIDE, .code = SAM_NOTE_CUT, .copy = aside->path}, "what was cut last is in %s", aside->path);
     return error == 0;
 }

@@ -11,6 +11,7 @@
 
 #include "disk/file_reader.h"
 #include "disk/autosave.h"
+#include "disk/errors.h"
 #include "disk/folder_reader.h"
 #include "disk/paths.h"
 #include "disk/saves.h"
@@ -18,6 +19,7 @@
 #include "log.h"
 #include "session/document.h"
 #include "session/ending.h"
+#include "session/messages.h"
 #include "session/session.h"
 #include "sulgrevad.h"
 
@@ -79,37 +81,21 @@ static char *shown_name(const char *path)
     return formatted("\xE2\x80\xA6%s", at); /* U+2026, three dots */
 }
 
-const char *why_not_added(uint32_t code)
-{
-    switch (code) {
-    case SAM_NOT_TEXT:
-        return "it is not UTF-8";
-    case SAM_ADD_TOO_LONG:
-        return "it is longer than 1,000,000 characters";
-    case SAM_ADD_NO_TAG:
-        return "there are too many files";
-    case SAM_NO_MEMORY:
-        return "out of memory";
-    default:
-        return "the host doesn't take it";
-    }
-}
-
-int add_text(struct session *session, const char *path, const struct text *text, uint32_t *code, uint16_t *tag)
+int add_text(struct session *session, const char *path, const struct text *text, uint16_t *tag)
 {
     struct document document = {.path = own_path(path)};
     struct content content = access(path, F_OK) == 0 ? content_of(text) : (struct content){.kind = NOT_THERE};
     char *end = NULL;
     int error = document.path == NULL ? ENOMEM : end_of_links(document.path, &end);
 
-    *code = SAM_NO_MEMORY;
     if (error == 0)
         document.shown = shown_name(document.path);
     if (error == 0)
         error = document.shown == NULL ? ENOMEM : note_known(&document, end, content);
     if (error == 0) /* from here on nothing takes memory */
-        *code = sam_host_add_file(&session->host, (const uint8_t *)document.shown, strlen(document.shown), text->bytes, text->len, tag);
-    if (*code == SAM_OK)
+        error = error_of_status(
+            sam_host_add_file(&session->host, (const uint8_t *)document.shown, strlen(document.shown), text->bytes, text->len, tag));
+    if (error == 0)
         session->documents[*tag] = document;
     else
         free_document(&document);
@@ -121,20 +107,19 @@ int add_text(struct session *session, const char *path, const struct text *text,
 static int add_file(struct session *session, const char *path)
 {
     struct text text;
-    uint32_t code = SAM_OK;
     uint16_t tag;
     int error = read_whole(path, &text);
 
     if (error == 0)
-        error = add_text(session, path, &text, &code, &tag);
+        error = add_text(session, path, &text, &tag);
     free(text.bytes);
-    if (error == 0 && code == SAM_OK) {
+    if (error == 0) {
         if (access(path, F_OK) == 0 && access(path, W_OK) != 0)
             say("%s can only be read: %s", path, cause(errno));
         return STATUS_OK;
     }
-    say("%s: %s", path, error == EFBIG ? why_not_added(SAM_ADD_TOO_LONG) : error != 0 ? cause(error) : why_not_added(code));
-    return error == ENOMEM || (error == 0 && code == SAM_NO_MEMORY) ? STATUS_MEMORY : STATUS_UNREADABLE;
+    say("%s: %s", path, cause(error));
+    return error == ENOMEM ? STATUS_MEMORY : STATUS_UNREADABLE;
 }
 
 /* ---- Two names of one file ---- */
@@ -263,8 +248,10 @@ void tell_times(struct session *session)
     struct stat status;
 
     for (size_t tag = 1; tag < tags; tag++) {
-        if (stat(session->documents[tag].path, &status) == 0)
-            say("%s was written last at %lld", session->documents[tag].path, (long long)status.st_mtim.tv_sec);
+        const char *path = session->documents[tag].path;
+        if (stat(path, &status) == 0)
+            tell(&(struct event){.kind = SAM_NOTE_DATED, .tag = (uint16_t)tag, .number = (uint64_t)status.st_mtim.tv_sec, .path = path},
+                 "");
     }
 }
 
@@ -273,6 +260,6 @@ int add_vault(struct session *session)
     uint32_t code = sam_host_add_file(&session->host, (const uint8_t *)VAULT, strlen(VAULT), (const uint8_t *)"", 0, &session->vault);
 
     if (code != SAM_OK)
-        say("%s: %s", VAULT, why_not_added(code));
+        say("%s: %s", VAULT, cause(error_of_status(code)));
     return code == SAM_OK ? STATUS_OK : code == SAM_NO_MEMORY ? STATUS_MEMORY : STATUS_UNREADABLE;
 }

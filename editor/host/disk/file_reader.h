@@ -13,7 +13,7 @@ struct text;
 /* Reads the files, and those below the folders, into the host. Returns the exit status: 0, or why the session can't begin. */
 int add_files(struct session *session, char **paths, int count);
 
-/* Says when the files were written last. */
+/* Tells when the files were written last. */
 void tell_times(struct session *session);
 
 /* Adds the file for undo, which is never written or saved. Returns the exit status. */
@@ -25,11 +25,8 @@ int read_whole(const char *path, struct text *text);
 /* The same of a file that is there and no symbolic link; hands out its marks, too. */
 int read_unlinked(const char *path, struct text *text, struct stat *status);
 
-/* Adds a file that was read to the host, whose status it hands out, and its tag. After an error nothing is added. */
-int add_text(struct session *session, const char *path, const struct text *text, uint32_t *code, uint16_t *tag);
-
-/* Why the host doesn't take a file, by its status. */
-const char *why_not_added(uint32_t code);
+/* Adds a file that was read to the host, and hands out its tag. After an error nothing is added. */
+int add_text(struct session *session, const char *path, const struct text *text, uint16_t *tag);
 
 /* What two names of one file have in common: its device and inode, or where it isn't there those of its folder, and its name there. */
 struct identity {

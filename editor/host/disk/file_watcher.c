@@ -1,10 +1,11 @@
-/* file_watcher.c: notices that another program has changed a file which the terminal has open, and reads a file anew where a note asks
- * for it.
+/* file_watcher.c: notices that another program has changed or removed a file which the terminal has open, and reads a file anew where a
+ * message asks for it.
  *
  * Every two seconds the marks of these files are looked at; only a file whose marks have changed is read. The terminal is told once for
- * each text that the session has read or written, so a file that grows all the time is told once.
+ * each text that the session has read or written, so a file that grows all the time is told once; and where a file is gone for longer than
+ * another program takes to put a new one in its place.
  *
- * A file that is read anew joins as a file of its own, whose text the terminal puts in the old one's place. It says so by another note:
+ * A file that is read anew joins as a file of its own, whose text the terminal puts in the old one's place. It says so by another message:
  * from then on the new text is what the file is known to have.
  */
 #define _XOPEN_SOURCE 700
@@ -16,18 +17,23 @@
 
 #include "disk/file_watcher.h"
 #include "disk/autosave.h"
+#include "disk/errors.h"
 #include "disk/file_reader.h"
 #include "disk/paths.h"
 #include "disk/saves.h"
 #include "journal/journal_records.h"
-#include "log.h"
 #include "net/event_loop.h"
 #include "session/document.h"
+#include "session/file_requests.h"
+#include "session/messages.h"
 #include "session/persistent_session.h"
 #include "session/session.h"
 #include "sulgrevad.h"
 
-enum { PERIOD = 2000 }; /* milliseconds between two looks */
+enum {
+    PERIOD = 2000, /* milliseconds between two looks */
+    LOOKS_GONE = 2 /* looks at which a file is gone until that is told: programs remove one to put another in its place */
+};
 
 /* ---- Watching ---- */
 
@@ -39,7 +45,7 @@ static bool is_same_time(struct timespec one, struct timespec other)
 /* Whether a file has other marks than at the last look, or there was none; notes them. */
 static bool has_new_marks(struct watch *watch, const struct stat *now)
 {
-    struct watch seen = {now->st_dev, now->st_ino, now->st_size, now->st_mtim, now->st_ctim, watch->is_told, watch->told};
+    struct watch seen = {now->st_dev, now->st_ino, now->st_size, now->st_mtim, now->st_ctim, watch->is_told, watch->told, 0};
     bool is_same = watch->device == seen.device && watch->inode == seen.inode && watch->size == seen.size &&
                    is_same_time(watch->written, seen.written) && is_same_time(watch->marked, seen.marked);
 
@@ -47,20 +53,34 @@ static bool has_new_marks(struct watch *watch, const struct stat *now)
     return !is_same;
 }
 
-/* Looks whether a file has what the session knows of it. One that is gone may be about to be replaced: it is looked at again. */
-static void look_at(struct document *document, const char *path)
+/* A file that the session has read is not there. */
+static void look_at_gone(struct session *session, uint16_t tag, const char *path)
 {
+    struct watch *watch = &session->documents[tag].watch;
+
+    if (watch->gone < LOOKS_GONE && ++watch->gone == LOOKS_GONE)
+        tell(&(struct event){.kind = SAM_NOTE_CHANGED, .code = SAM_NOTE_NOT_FOUND, .tag = tag, .path = path},
+             "%s: another program removed it", path);
+}
+
+/* Looks whether a file has what the session knows of it. */
+static void look_at(struct session *session, uint16_t tag, const char *path)
+{
+    struct document *document = &session->documents[tag];
     struct watch *watch = &document->watch;
     struct stat status;
     char *end = NULL;
     const struct known *known = end_of_links(path, &end) == 0 ? find_known(document, end) : NULL;
+    bool is_there = known != NULL && stat(end, &status) == 0;
 
-    if (known != NULL && stat(end, &status) == 0 && has_new_marks(watch, &status)) {
+    if (known != NULL && !is_there && errno == ENOENT && known->content.kind != NOT_THERE)
+        look_at_gone(session, tag, path);
+    if (is_there && has_new_marks(watch, &status)) {
         bool was_told = watch->is_told && is_same(watch->told, known->content);
         if (!was_told && !is_same(content_at(end), known->content)) {
             watch->is_told = true;
             watch->told = known->content;
-            say("%s: another program changed it", path);
+            tell(&(struct event){.kind = SAM_NOTE_CHANGED, .tag = tag, .path = path}, "%s: another program changed it", path);
         }
     }
     free(end);
@@ -78,7 +98,7 @@ int64_t watch_is_due_in(const struct session *session)
 {
     int64_t left = session->watched_at + PERIOD - now();
 
-    if (!session->has_open || (session->stay != NULL && session->stay->line < 0))
+    if (!session->has_open || session->stay->line < 0)
         return -1;
     return left > 0 ? left : 0;
 }
@@ -91,7 +111,7 @@ void watch_files(struct session *session)
     for (size_t tag = 1; tag < tags; tag++) {
         char *path = is_watched(session, tag) ? path_of(session, (uint16_t)tag, &error) : NULL;
         if (path != NULL)
-            look_at(&session->documents[tag], path);
+            look_at(session, (uint16_t)tag, path);
         free(path);
     }
     if (tags > 0)
@@ -105,19 +125,16 @@ void note_opened(struct session *session, uint16_t tag)
 
 /* ---- Reading a file anew ---- */
 
-/* The tag that digits are; 0 where they are none of a file. */
-static uint16_t tag_of(struct session *session, const char *digits, char **rest)
+/* Whether a number is the tag of a file, other than the command file. */
+static bool is_tag(struct session *session, uint64_t tag)
 {
-    unsigned long tag = strtoul(digits, rest, 10);
     bool has = false;
 
-    if (*rest == digits || tag == 0 || tag >= count_tags(session))
-        return 0;
-    return sam_host_has_file(&session->host, (uint16_t)tag, &has) == SAM_OK && has ? (uint16_t)tag : 0;
+    return tag > 0 && tag < count_tags(session) && sam_host_has_file(&session->host, (uint16_t)tag, &has) == SAM_OK && has;
 }
 
 /* Adds what stands at a path as a file of its own. */
-static uint32_t add_anew(struct session *session, uint16_t tag, const char *end, const struct text *text, uint16_t *anew)
+static int add_anew(struct session *session, uint16_t tag, const char *end, const struct text *text, uint16_t *anew)
 {
     struct document document = {.is_left = true};
     char *name = formatted(ANEW "%u", (unsigned)tag);
@@ -130,53 +147,45 @@ static uint32_t add_anew(struct session *session, uint16_t tag, const char *end,
     else
         free_document(&document);
     free(name);
-    return code;
+    return error_of_status(code);
 }
 
-/* Reads a file anew. Returns NULL, or why that can't be. */
-static const char *read_anew(struct session *session, uint16_t tag, uint16_t *anew, bool *is_short)
+/* Reads a file anew. */
+static int read_anew(struct session *session, uint16_t tag, uint16_t *anew)
 {
     struct text text = {0};
     char *end = NULL;
     int error = 0;
     char *path = path_of(session, tag, &error);
-    uint32_t code = SAM_OK;
 
     if (error == 0)
         error = end_of_links(path, &end);
     if (error == 0)
         error = access(end, F_OK) != 0 ? errno : read_whole(end, &text);
     if (error == 0)
-        code = add_anew(session, tag, end, &text, anew);
+        error = add_anew(session, tag, end, &text, anew);
     free(text.bytes);
     free(end);
     free(path);
-    *is_short = error == ENOMEM || code == SAM_NO_MEMORY;
-    if (error != 0)
-        return error == EFBIG ? why_not_added(SAM_ADD_TOO_LONG) : cause(error);
-    return code == SAM_OK ? NULL : why_not_added(code);
+    return error;
 }
 
-bool reload_file(struct session *session, const char *id, const char *words)
+bool reload_file(struct session *session, uint32_t request, uint16_t tag)
 {
-    char *rest;
-    uint16_t tag = tag_of(session, words, &rest), anew = 0;
-    bool is_short = false;
-    const char *why = tag == 0 ? "there is no such file" : read_anew(session, tag, &anew, &is_short);
+    uint16_t anew = 0;
+    int error = is_tag(session, tag) ? read_anew(session, tag, &anew) : NO_FILE;
 
-    if (is_short)
+    if (error == ENOMEM)
         return false;
-    if (why != NULL)
-        return say_note(session, "refused %s %s", id, why);
+    if (error != 0)
+        return refuse(session, request, error);
     note_file(session, anew);
-    return say_note(session, "anew %s %u", id, (unsigned)anew);
+    return put_message(session, &(struct event){.kind = SAM_NOTE_ANEW, .request = request, .number = anew}, NULL);
 }
 
-bool note_reloaded(struct session *session, const char *words)
+bool note_reloaded(struct session *session, uint16_t tag, uint64_t anew)
 {
-    char *rest;
-    uint16_t tag = tag_of(session, words, &rest), anew = tag_of(session, rest, &rest);
-    const struct known *known = tag == 0 || anew == 0 ? NULL : session->documents[anew].known;
+    const struct known *known = is_tag(session, tag) && is_tag(session, anew) ? session->documents[anew].known : NULL;
 
     if (known == NULL)
         return true;

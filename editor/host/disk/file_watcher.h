@@ -1,5 +1,5 @@
-/* file_watcher.h: notices that another program has changed a file which the terminal has open, and reads a file anew where a note asks
- * for it. */
+/* file_watcher.h: notices that another program has changed or removed a file which the terminal has open, and reads a file anew where a
+ * message asks for it. */
 #ifndef SAMHOST_DISK_FILE_WATCHER_H
 #define SAMHOST_DISK_FILE_WATCHER_H
 
@@ -20,6 +20,7 @@ struct watch {
     struct timespec written, marked;
     bool is_told;
     struct content told;
+    int gone; /* at how many looks the file was gone since it was there last: the second is told */
 };
 
 /* Notes that the terminal has opened a file: it is watched from then on. */
@@ -28,13 +29,13 @@ void note_opened(struct session *session, uint16_t tag);
 /* In how many milliseconds files are to be looked at; -1 where none is watched, or nobody is there to be told. */
 int64_t watch_is_due_in(const struct session *session);
 
-/* If that is due, looks at the files, and tells of those that another program has changed. */
+/* If that is due, looks at the files, and tells of those that another program has changed or removed. */
 void watch_files(struct session *session);
 
-/* Adds what the file of a tag has on disk now as a file of its own, and answers by a note. Returns whether there was memory for it. */
-bool reload_file(struct session *session, const char *id, const char *words);
+/* Adds what the file of a tag has on disk now as a file of its own, and answers by a message. Returns whether there was memory for it. */
+bool reload_file(struct session *session, uint32_t request, uint16_t tag);
 
-/* The terminal has put such a file, the second tag, in the place of the first one's text. Returns whether there was memory for it. */
-bool note_reloaded(struct session *session, const char *words);
+/* The terminal has put such a file, `anew`, in the place of the text of `tag`. Returns whether there was memory for it. */
+bool note_reloaded(struct session *session, uint16_t tag, uint64_t anew);
 
 #endif

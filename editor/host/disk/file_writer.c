@@ -19,6 +19,7 @@
 #endif
 
 #include "disk/file_writer.h"
+#include "disk/errors.h"
 #include "disk/fallback_directories.h"
 #include "disk/file_reader.h"
 #include "disk/paths.h"

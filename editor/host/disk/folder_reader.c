@@ -10,9 +10,9 @@
 #include <sys/stat.h>
 
 #include "disk/folder_reader.h"
+#include "disk/errors.h"
 #include "disk/file_reader.h"
 #include "disk/paths.h"
-#include "disk/saves.h"
 #include "log.h"
 #include "session/ending.h"
 #include "session/session.h"
@@ -59,7 +59,6 @@ int add_mark(struct marks *marks, dev_t device, ino_t inode)
 static void offer_file(struct offer *offer, const char *path)
 {
     struct stat status;
-    uint32_t code = SAM_NOT_TEXT;
     uint16_t tag;
     struct text text = {0};
 
@@ -70,14 +69,14 @@ static void offer_file(struct offer *offer, const char *path)
         return;
     offer->seen++;
     int error = S_ISREG(status.st_mode) ? read_whole(path, &text) : NOT_REGULAR;
-    if (error == 0 && (text.len == 0 || memchr(text.bytes, '\0', text.len) == NULL))
-        error = add_text(offer->session, path, &text, &code, &tag);
+    if (error == 0)
+        error = text.len > 0 && memchr(text.bytes, '\0', text.len) != NULL ? NOT_TEXT : add_text(offer->session, path, &text, &tag);
     free(text.bytes);
-    if (error == 0 && code == SAM_OK)
+    if (error == 0)
         error = add_mark(offer->marks, status.st_dev, status.st_ino);
-    if (error == ENOMEM || (error == 0 && code == SAM_NO_MEMORY))
+    if (error == ENOMEM)
         offer->status = STATUS_MEMORY;
-    else if (error == 0 && code == SAM_OK)
+    else if (error == 0)
         offer->taken++;
     else
         offer->left_out++;

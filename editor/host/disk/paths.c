@@ -10,6 +10,7 @@
 #include <unistd.h>
 
 #include "disk/paths.h"
+#include "disk/errors.h"
 #include "limits.h"
 
 enum {
@@ -167,7 +168,7 @@ int read_all(int file, size_t most, struct text *text)
         if (count < 0)
             error = errno;
         else if ((text->len += (size_t)count) > most)
-            error = EFBIG;
+            error = TEXT_TOO_LONG;
     }
     if (error != 0) {
         free(text->bytes);

@@ -8,9 +8,6 @@
 
 #include "limits.h"
 
-#define NOT_REGULAR EINVAL   /* the error number of what is there and is no regular file */
-#define IS_CHANGED ECANCELED /* the error number of a file that another program changed */
-
 struct text {
     uint8_t *bytes;
     size_t len;
@@ -39,7 +36,7 @@ struct content content_of(const struct text *text);
 struct content content_at(const char *path);
 bool is_same(struct content one, struct content other);
 
-/* Reads all of an open file, of at most `most` bytes, into memory of the caller's. EFBIG where it has more. */
+/* Reads all of an open file, of at most `most` bytes, into memory of the caller's. TEXT_TOO_LONG where it has more. */
 int read_all(int file, size_t most, struct text *text);
 
 #endif

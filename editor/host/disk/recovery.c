@@ -15,6 +15,7 @@
 #include "disk/recovery.h"
 #include "disk/autosave.h"
 #include "disk/cut_backup.h"
+#include "disk/errors.h"
 #include "disk/fallback_directories.h"
 #include "disk/file_reader.h"
 #include "disk/file_writer.h"
@@ -24,6 +25,7 @@
 #include "limits.h"
 #include "log.h"
 #include "session/document.h"
+#include "session/messages.h"
 #include "session/session.h"
 #include "sulgrevad.h"
 
@@ -180,6 +182,19 @@ static bool look_at(struct search *search, const char *place, const char *entry,
     return true;
 }
 
+/* What is told of a copy. */
+static struct event earlier_text(enum sam_note_code code, size_t tag, const char *path, const struct left *left)
+{
+    return (struct event){
+        .kind = SAM_NOTE_EARLIER,
+        .code = code,
+        .tag = (uint16_t)tag,
+        .number = (uint64_t)left->status.st_mtim.tv_sec,
+        .path = path,
+        .copy = left->path,
+    };
+}
+
 /* Reports a text that was not written. One that its file has already is of no use any more. */
 static void report_saved(struct search *search, size_t tag, const char *place, const char *entry)
 {
@@ -189,8 +204,10 @@ static void report_saved(struct search *search, size_t tag, const char *place, c
     if (look_at(search, place, entry, document->path, &left)) {
         bool is_written = left.is_read && is_same(content_of(&left.text), content_at(document->path));
         if (!is_written || left.status.st_uid != geteuid() || unlink(left.path) != 0) {
+            struct event event = earlier_text(left.is_newer ? SAM_NOTE_NEWER : SAM_NOTE_OLDER, tag, document->path, &left);
             const char *age = left.is_newer ? "newer" : "older";
-            say("%s has a text that was not written: it is in %s, of %s, %s than the file", document->path, left.path, left.when, age);
+            tell(&event, "%s has a text that was not written: it is in %s, of %s, %s than the file", document->path, left.path, left.when,
+                 age);
             if (search->offers)
                 offer(search, tag, &left);
         }
@@ -199,12 +216,15 @@ static void report_saved(struct search *search, size_t tag, const char *place, c
 }
 
 /* Reports what a file was before a write that may have been broken off. */
-static void report_old(struct search *search, const struct document *document, const char *place, const char *entry)
+static void report_old(struct search *search, size_t tag, const char *place, const char *entry)
 {
+    const struct document *document = &search->session->documents[tag];
     struct left left = {0};
 
-    if (look_at(search, place, entry, document->path, &left))
-        say("%s may be broken: what it was before a write is in %s", document->path, left.path);
+    if (look_at(search, place, entry, document->path, &left)) {
+        struct event event = earlier_text(SAM_NOTE_BROKEN, tag, document->path, &left);
+        tell(&event, "%s may be broken: what it was before a write is in %s", document->path, left.path);
+    }
     free_left(&left);
 }
 
@@ -218,11 +238,23 @@ static void report_copy(struct search *search, const struct folder *folder, cons
             !is_copy_of(search, document->known->path, folder, entry, len, &place))
             continue;
         if (is_old)
-            report_old(search, document, place, entry);
+            report_old(search, tag, place, entry);
         else
             report_saved(search, tag, place, entry);
         free(place);
     }
+}
+
+static void report_unnamed(struct search *search, const struct folder *folder, const char *entry)
+{
+    struct left left = {.path = formatted("%s%s", folder->path, entry)};
+
+    search->is_short |= left.path == NULL;
+    if (left.path != NULL && lstat(left.path, &left.status) == 0) {
+        struct event event = earlier_text(SAM_NOTE_UNNAMED, 0, NULL, &left);
+        tell(&event, "a file without a name was not written: its text is in %s", left.path);
+    }
+    free_left(&left);
 }
 
 /* Reports a text that is of no file: one without a name, or what was cut last. */
@@ -233,9 +265,10 @@ static void report_other(struct search *search, const struct folder *folder, con
     bool is_cut = len - front == strlen(CUT) && strncmp(entry + front, CUT, strlen(CUT)) == 0;
 
     if (strncmp(entry + front, UNNAMED, strlen(UNNAMED)) == 0)
-        say("a file without a name was not written: its text is in %s%s", folder->path, entry);
+        report_unnamed(search, folder, entry);
     else if (is_cut && look_at(search, folder->path, entry, NULL, &left)) {
-        say("what was cut last in an earlier session is in %s, of %s", left.path, left.when);
+        struct event event = earlier_text(SAM_NOTE_CUT, 0, NULL, &left);
+        tell(&event, "what was cut last in an earlier session is in %s, of %s", left.path, left.when);
         if (search->offers)
             offer(search, 0, &left);
     }

@@ -12,39 +12,18 @@
 
 #include "disk/saves.h"
 #include "disk/autosave.h"
+#include "disk/errors.h"
 #include "disk/file_writer.h"
 #include "disk/paths.h"
 #include "journal/journal.h"
 #include "journal/journal_records.h"
 #include "journal/replay.h"
 #include "limits.h"
-#include "log.h"
 #include "session/document.h"
+#include "session/messages.h"
 #include "session/persistent_session.h"
 #include "session/session.h"
 #include "sulgrevad.h"
-
-#define NO_NAME EDOM           /* the error number of a file that has no name yet, or one that no file can have */
-#define NOT_WRITTEN EOWNERDEAD /* the error number of a file that an earlier terminal has changed */
-#define IS_THERE EALREADY      /* the error number of a file that is there, and that nobody has asked for */
-
-const char *cause(int error)
-{
-    switch (error) {
-    case NOT_REGULAR:
-        return "it is not a regular file";
-    case NO_NAME:
-        return "it has no name yet, or one that no file can have";
-    case IS_THERE:
-        return "it is there already, and the next write replaces it";
-    case NOT_WRITTEN:
-        return "it was not written before this terminal took the session over";
-    case IS_CHANGED:
-        return "another program changed it, and the next write replaces it";
-    default:
-        return strerror(error);
-    }
-}
 
 char *from_folder(const struct session *session, const char *path)
 {
@@ -138,16 +117,29 @@ static void note_put(struct document *document, const struct request *request, i
         drop_copy(&document->aside);
 }
 
+/* What came of an attempt to write a file. */
+struct attempt {
+    int error;
+    char *theirs; /* where what another program had written there is now; NULL where nothing was */
+};
+
+/* Has the disk broken a file while it was written in place: tells where what it was is now. */
+static void tell_broken(uint16_t tag, const char *path, const char *old)
+{
+    if (old != NULL)
+        tell(&(struct event){.kind = SAM_NOTE_ASIDE, .code = SAM_NOTE_BROKEN, .tag = tag, .path = path, .copy = old},
+             "%s is broken; what it was is in %s", path, old);
+}
+
 /* Puts the text of a file where its path leads to. */
-static int put_text(struct session *session, uint16_t tag, const char *path)
+static struct attempt put_text(struct session *session, uint16_t tag, const char *path)
 {
     struct document *document = &session->documents[tag], *owner = NULL;
     struct request request = {.text = &session->text, .mode = session->mode_of_new_files};
     char *end = NULL;
     int error = end_of_links(path, &end);
 
-    if (session->stay != NULL)
-        flush_line(session);
+    flush_line(session);
     if (error == 0) {
         owner = owner_at(session, end);
         request.path = end;
@@ -161,31 +153,32 @@ static int put_text(struct session *session, uint16_t tag, const char *path)
         error = put_file(&request);
         note_put(document, &request, error, owner == document);
     }
-    if (request.old != NULL)
-        say("%s is broken; what it was is in %s", path, request.old);
-    if (request.theirs != NULL)
-        say("%s is replaced; what another program had written there is in %s", path, request.theirs);
+    tell_broken(tag, path, request.old);
     free(request.old);
-    free(request.theirs);
     free(end);
-    return error == IS_CHANGED && request.known.kind == NOT_THERE ? IS_THERE : error;
+    return (struct attempt){error == IS_CHANGED && request.known.kind == NOT_THERE ? IS_THERE : error, request.theirs};
 }
 
-/* Saves a text that was not written, and reports why it was not, and where it is. */
-static void report_unwritten(struct session *session, uint16_t tag, const char *path, int why)
+/* Saves a text that was not written, and answers why it was not, and where it is. */
+static struct message *answer_unwritten(struct session *session, uint16_t tag, const char *path, int why)
 {
     enum place place;
     int error = secure(session, tag, &place);
     char *unnamed = path == NULL ? formatted("file %u", (unsigned)tag) : NULL;
     const char *name = path != NULL ? path : unnamed != NULL ? unnamed : "a file";
+    struct event event = {.kind = SAM_NOTE_NOT_SAVED, .code = code_of(why), .tag = tag, .path = path};
+    struct message *answer;
 
+    if (error == 0) /* the text is on the disk, if it is not in the file itself */
+        event.copy = place == ASIDE ? session->documents[tag].aside.path : path;
     if (error != 0)
-        say("? write %s: %s; its text could not be saved: %s", name, cause(why), cause(error));
+        answer = answer_write(session, event, "not written: %s: %s; its text could not be saved: %s", name, cause(why), cause(error));
     else if (place == ASIDE)
-        say("? write %s: %s; its text is in %s", name, cause(why), session->documents[tag].aside.path);
+        answer = answer_write(session, event, "not written: %s: %s; its text is in %s", name, cause(why), event.copy);
     else
-        say("? write %s: %s; it has this text already", name, cause(why));
+        answer = answer_write(session, event, "not written: %s: %s; it has this text already", name, cause(why));
     free(unnamed);
+    return answer;
 }
 
 void report_taken(struct session *session)
@@ -197,9 +190,24 @@ void report_taken(struct session *session)
         if (!session->documents[tag].is_unsaved)
             continue;
         char *path = path_of(session, (uint16_t)tag, &error);
-        report_unwritten(session, (uint16_t)tag, path, NOT_WRITTEN);
+        put_answer(session, answer_unwritten(session, (uint16_t)tag, path, NOT_WRITTEN));
         free(path);
     }
+}
+
+/* Answers that a file is written: where what another program had put there is now; or where its terminal, when it took the session over,
+ * was told that it is not, that it is. */
+static struct message *answer_written(struct session *session, uint16_t tag, const char *path, const char *theirs)
+{
+    struct document *document = &session->documents[tag];
+    struct event event = {.kind = SAM_NOTE_SAVED, .tag = tag, .path = path, .copy = theirs};
+    bool was_taken = document->is_taken;
+
+    document->is_taken = false;
+    if (theirs == NULL)
+        return answer_write(session, event, was_taken ? "%s is written" : "", path);
+    event.code = SAM_NOTE_REPLACED;
+    return answer_write(session, event, "%s is replaced; what another program had written there is in %s", path, theirs);
 }
 
 /* Whether the terminal drops a text that an earlier session saved: it writes it empty. */
@@ -211,19 +219,24 @@ static bool is_dropped(struct session *session, uint16_t tag)
 }
 
 /* Removes such a text, unless it is another one by now. */
-static void drop_left(struct session *session, uint16_t tag, const char *path)
+static struct message *drop_left(struct session *session, uint16_t tag, const char *path)
 {
     struct document *document = &session->documents[tag];
     struct content found = content_at(path);
+    struct event event = {.kind = SAM_NOTE_SAVED, .tag = tag, .path = path};
     bool is_theirs;
+    int error = 0;
 
     drop_copy(&document->aside);
-    if (found.kind == NOT_THERE)
-        return;
-    if (!is_same(found, expected_at(document, NULL, path, &is_theirs)))
-        say("%s is not dropped: it has changed since", path);
-    else if (unlink(path) != 0)
-        say("%s is not dropped: %s", path, cause(errno));
+    if (found.kind != NOT_THERE && !is_same(found, expected_at(document, NULL, path, &is_theirs)))
+        error = IS_CHANGED;
+    else if (found.kind != NOT_THERE && unlink(path) != 0)
+        error = errno;
+    if (error == 0)
+        return answer_write(session, event, "");
+    event.kind = SAM_NOTE_NOT_SAVED;
+    event.code = code_of(error);
+    return answer_write(session, event, "%s is not dropped: %s", path, error == IS_CHANGED ? "it has changed since" : cause(error));
 }
 
 /* Whether the text of a file was read anew, and its file has it still: then it is not written once more. */
@@ -238,36 +251,36 @@ static bool has_it_anew(struct session *session, uint16_t tag)
     return has_it;
 }
 
-/* Once a file is written: takes back what was told of it when its terminal took the session over. */
-static void take_back(struct document *document, const char *path)
+/* Writes a file, and makes the answer of that. */
+static struct message *write_text(struct session *session, uint16_t tag)
 {
-    if (document->is_taken)
-        say("%s is written", path);
-    document->is_taken = false;
+    struct attempt attempt = {0};
+    char *path = path_of(session, tag, &attempt.error);
+    struct message *answer;
+
+    if (path != NULL && is_dropped(session, tag)) {
+        answer = drop_left(session, tag, path);
+    } else {
+        if (path != NULL && !has_it_anew(session, tag))
+            attempt = put_text(session, tag, path);
+        session->documents[tag].is_unsaved = attempt.error != 0;
+        answer =
+            attempt.error != 0 ? answer_unwritten(session, tag, path, attempt.error) : answer_written(session, tag, path, attempt.theirs);
+    }
+    free(attempt.theirs);
+    free(path);
+    return answer;
 }
 
 static void write_file(struct session *session, uint16_t tag)
 {
-    int error;
-    char *path = path_of(session, tag, &error);
-
     if (is_done_already(session, DOING_WRITE, tag)) {
-        free(path);
+        drop_request(&session->stay->messages, tag);
         return;
     }
-    if (path != NULL && is_dropped(session, tag)) {
-        drop_left(session, tag, path);
-    } else {
-        if (path != NULL && !has_it_anew(session, tag))
-            error = put_text(session, tag, path);
-        session->documents[tag].is_unsaved = error != 0;
-        if (error != 0)
-            report_unwritten(session, tag, path, error);
-        else
-            take_back(&session->documents[tag], path);
-    }
-    free(path);
-    note_done(session, DOING_WRITE, tag, false);
+    struct message *answer = write_text(session, tag);
+    note_done(session, DOING_WRITE, tag, answer, false);
+    put_answer(session, answer);
 }
 
 void write_files(struct session *session)

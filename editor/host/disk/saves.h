@@ -29,7 +29,4 @@ char *path_of(struct session *session, uint16_t tag, int *error);
 /* What is known of a path; NULL where nothing is. */
 struct known *find_known(const struct document *document, const char *path);
 
-/* What is wrong, by its error number. */
-const char *cause(int error);
-
 #endif

@@ -20,16 +20,16 @@
 #include <unistd.h>
 
 #include "journal/journal.h"
+#include "disk/errors.h"
 #include "disk/paths.h"
-#include "disk/saves.h"
-#include "log.h"
+#include "session/messages.h"
 #include "session/persistent_session.h"
 #include "session/session.h"
 #include "session/session_directory.h"
 #include "sulgrevad.h"
 
 enum {
-    JOURNAL_VERSION = 1,
+    JOURNAL_VERSION = 2,
     MARK_LEN = 8,
     FRONT_LEN = MARK_LEN + 8, /* of the file */
     HEAD_LEN = 5,             /* of a record */
@@ -189,6 +189,12 @@ char *take_words(struct record *record)
 
 /* ---- Writing ---- */
 
+void tell_no_journal(int error)
+{
+    tell(&(struct event){.kind = SAM_NOTE_NO_JOURNAL, .code = code_of(error)},
+         "there is no journal: %s; if samhost ends unasked, the session ends with it", cause(error));
+}
+
 /* The journal can't go on: it goes, since one that lacks a step is of no use. */
 static void lose_journal(struct session *session, int error)
 {
@@ -198,7 +204,8 @@ static void lose_journal(struct session *session, int error)
     stay->journal = (struct journal){.file = -1};
     (void)unlinkat(stay->home.folder, JOURNAL, 0);
     sync_home(&stay->home); /* else a power cut could bring it back */
-    say("the journal can't be written: %s; if samhost ends unasked, the session ends with it", cause(error));
+    tell(&(struct event){.kind = SAM_NOTE_NO_JOURNAL, .code = code_of(error)},
+         "the journal can't be written: %s; if samhost ends unasked, the session ends with it", cause(error));
 }
 
 static int write_all(int file, struct iovec *parts, int count)

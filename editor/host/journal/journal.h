@@ -19,9 +19,9 @@ enum step {
     STEP_HELLO,     /* a connection that the link took */
     STEP_UP,        /* bytes that the link took */
     STEP_DOWN,      /* bytes of the host that the link put */
-    STEP_NOTE,      /* a note that the link put */
-    STEP_NOTED,     /* the next note of the terminal was done, and the link put these notes then */
-    STEP_DONE,      /* a file was written, or saved before it was closed, and what is known of it since */
+    STEP_NOTE,      /* a message that the link put */
+    STEP_NOTED,     /* the next message of the terminal was done, and the link put these messages then */
+    STEP_DONE,      /* a file was written, or saved before it was closed; how that is answered, and what is known of the file since */
     STEP_KEPT,      /* what is known of a file since its text was saved aside */
     STEP_KEPT_CUT,  /* the copy of what was cut last */
     STEP_SYNCED     /* nothing: all that stands before this was on the disk */
@@ -67,6 +67,9 @@ bool is_left_alone(const struct home *home);
 
 /* Cuts the journal to its whole records. What is cut off stays beside it. */
 int cut_journal(struct stay *stay, const struct text *all, size_t len);
+
+/* Tells that there is no journal, and why. */
+void tell_no_journal(int error);
 
 /* Adds a record. Where that can't be, there is no journal from then on, and the terminal is told so. */
 void add_record(struct session *session, enum step step, const uint8_t *bytes, size_t len);

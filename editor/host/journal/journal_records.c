@@ -13,6 +13,7 @@
 #include "journal/journal.h"
 #include "limits.h"
 #include "session/document.h"
+#include "session/messages.h"
 #include "session/persistent_session.h"
 #include "session/session.h"
 #include "sulgrevad.h"
@@ -143,8 +144,6 @@ void note_document(struct session *session, uint16_t tag)
 {
     struct body body = {0};
 
-    if (session->stay == NULL)
-        return;
     note_mark(&session->documents[tag].aside, &session->documents[tag].noted);
     add_document(&body, tag, &session->documents[tag]);
     add_body(session, STEP_KEPT, &body);
@@ -155,8 +154,6 @@ void note_copies(struct session *session)
     struct cut *cut = &session->cut;
     size_t tags = count_tags(session);
 
-    if (session->stay == NULL)
-        return;
     for (size_t tag = 1; tag < tags; tag++) {
         if (!is_noted(&session->documents[tag].aside, &session->documents[tag].noted))
             note_document(session, (uint16_t)tag);
@@ -175,14 +172,13 @@ void take_cut_copy(struct session *session, struct record *record)
     note_mark(&session->cut.aside, &session->cut.noted);
 }
 
-void note_done(struct session *session, enum doing doing, uint16_t tag, bool is_held)
+void note_done(struct session *session, enum doing doing, uint16_t tag, const struct message *answer, bool is_held)
 {
     struct body body = {0};
 
-    if (session->stay == NULL)
-        return;
     add_number(&body, doing);
     add_number(&body, is_held);
+    add_data(&body, answer == NULL ? NULL : answer->bytes, answer == NULL ? 0 : answer->len);
     add_document(&body, tag, &session->documents[tag]);
     note_mark(&session->documents[tag].aside, &session->documents[tag].noted);
     add_body(session, STEP_DONE, &body);
@@ -204,7 +200,7 @@ void note_file(struct session *session, uint16_t tag)
     char name[NAME_ROOM];
     size_t len = 0;
 
-    if (session->stay == NULL || session->stay->journal.file < 0)
+    if (session->stay->journal.file < 0)
         return;
     body.is_short = sam_host_name(&session->host, tag, (uint8_t *)name, NAME_ROOM, &len) != SAM_OK;
     add_data(&body, name, len);

@@ -7,6 +7,7 @@
 
 #include "journal/journal.h"
 
+struct message;
 struct session;
 
 /* Notes how a session began, and its files. */
@@ -18,8 +19,8 @@ void note_file(struct session *session, uint16_t tag);
 /* Notes what is known of a file. */
 void note_document(struct session *session, uint16_t tag);
 
-/* Notes what was done to a file; or that a text which could not be saved is held in memory. */
-void note_done(struct session *session, enum doing doing, uint16_t tag, bool is_held);
+/* Notes what was done to a file, and how that is answered (NULL: not at all); or that a text which could not be saved is held in memory. */
+void note_done(struct session *session, enum doing doing, uint16_t tag, const struct message *answer, bool is_held);
 
 /* Notes the copies of texts that are new. */
 void note_copies(struct session *session);

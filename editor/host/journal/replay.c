@@ -15,14 +15,15 @@
 #include <unistd.h>
 
 #include "journal/replay.h"
+#include "disk/errors.h"
 #include "disk/paths.h"
-#include "disk/saves.h"
 #include "journal/journal.h"
 #include "journal/journal_records.h"
 #include "limits.h"
 #include "log.h"
 #include "net/event_loop.h"
 #include "session/ending.h"
+#include "session/messages.h"
 #include "session/persistent_session.h"
 #include "session/session.h"
 #include "sulgrevad.h"
@@ -55,7 +56,7 @@ static const struct carrier by_journal = {take_in, hold_out};
 
 bool is_done_already(struct session *session, enum doing doing, uint16_t tag)
 {
-    struct replay *replay = session->stay == NULL ? NULL : session->stay->replay;
+    struct replay *replay = session->stay->replay;
 
     if (replay == NULL)
         return false;
@@ -65,7 +66,9 @@ bool is_done_already(struct session *session, enum doing doing, uint16_t tag)
         return is_write;
     }
     struct record record = replay->done[replay->next++];
+    size_t len;
     bool is_other = take_number(&record) != doing, is_held = take_number(&record) != 0;
+    (void)take_data(&record, &len); /* the answer */
     struct record document = record;
     if (is_other || take_number(&document) != tag || document.is_wrong) {
         replay->fault = REPLAY_DIFFERS;
@@ -205,31 +208,58 @@ static uint32_t feed_again(struct stay *stay, const struct record *record)
     return code == SAM_OK ? (uint32_t)sam_link_feed(&stay->link, stay->attempt, record->body, record->len) : code;
 }
 
-static void note_again(struct session *session, const uint8_t *bytes, size_t len)
+/* Has the link put a message that it put before. */
+static void message_again(struct session *session, const uint8_t *bytes, size_t len)
 {
     struct stay *stay = session->stay;
+    struct sam_note note;
 
-    bool is_last = len > 6 && memcmp(bytes, "ended ", 6) == 0;
+    bool is_last = sam_note_read(bytes, len, &note) == SAM_OK && note.kind == SAM_NOTE_ENDED;
     stay->has_ended |= is_last;
-    stay->is_kept |= is_last && bytes[6] == '0' + STATUS_LOST; /* the journal has what could not be saved */
+    stay->is_kept |= is_last && note.number == STATUS_LOST; /* the journal has what could not be saved */
+    was_put(&stay->messages, bytes, len);
     if (sam_link_put_note(&stay->link, bytes, len) != SAM_OK)
         stay->replay->fault = REPLAY_SHORT;
 }
 
-/* The next note of the terminal was done, and answered by these notes. */
-static void answer_note_again(struct session *session, struct record *record)
+/* A request for a write waits for that again; what other messages of the terminal asked for is in records of their own. */
+static void expect_again(struct session *session, const uint8_t *bytes, size_t len)
+{
+    struct sam_note note;
+
+    if (sam_note_read(bytes, len, &note) == SAM_OK && note.kind == SAM_NOTE_WRITE &&
+        !expect_write(&session->stay->messages, note.tag, note.request))
+        session->stay->replay->fault = REPLAY_SHORT;
+}
+
+/* The next message of the terminal was done, and answered by these messages. */
+static void answer_message_again(struct session *session, struct record *record)
 {
     uint8_t note[SAM_LINK_MOST_NOTE];
     size_t len;
 
     catch_up(session);
-    if (sam_link_next_note(&session->stay->link, note, sizeof note, &len) != SAM_OK)
+    if (sam_link_next_note(&session->stay->link, note, sizeof note, &len) == SAM_OK)
+        expect_again(session, note, len);
+    else
         session->stay->replay->fault = REPLAY_DIFFERS;
     while (record->len > 0 && !record->is_wrong) {
         const uint8_t *answer = take_data(record, &len);
         if (answer != NULL)
-            note_again(session, answer, len);
+            message_again(session, answer, len);
     }
+}
+
+/* The answer of what was done to a file waits again, until a record says that it was put. */
+static void wait_for_answer(struct session *session, struct record *record)
+{
+    size_t len;
+
+    (void)take_number(record); /* what was done, and whether a text is held */
+    (void)take_number(record);
+    const uint8_t *answer = take_data(record, &len);
+    if (answer != NULL && len > 0 && !wait_again(&session->stay->messages, answer, len))
+        session->stay->replay->fault = REPLAY_SHORT;
 }
 
 static void replay_step(struct session *session, struct record *record)
@@ -251,9 +281,11 @@ static void replay_step(struct session *session, struct record *record)
     } else if (record->step == STEP_DOWN)
         put_again(session, record);
     else if (record->step == STEP_NOTE)
-        note_again(session, record->body, record->len);
+        message_again(session, record->body, record->len);
     else if (record->step == STEP_NOTED)
-        answer_note_again(session, record);
+        answer_message_again(session, record);
+    else if (record->step == STEP_DONE)
+        wait_for_answer(session, record);
     else if (record->step == STEP_KEPT)
         take_document(session, record);
     else if (record->step == STEP_KEPT_CUT)

@@ -1,21 +1,18 @@
-/* event_loop.c: carries bytes between the host and standard input and output, and sleeps. A session that stays has them carried by its
- * link.
+/* event_loop.c: carries bytes between the host and the session's link, and has the host take them.
  *
  * The host goes on by single steps, so that a file is written, or saved before it is closed, as it stands at its message. A while after the
  * last message texts are saved aside.
  */
 #define _XOPEN_SOURCE 700
 #include <errno.h>
-#include <fcntl.h>
-#include <poll.h>
 #include <string.h>
-#include <sys/select.h>
-#include <unistd.h>
+#include <time.h>
 
 #include "net/event_loop.h"
 #include "disk/autosave.h"
 #include "disk/cut_backup.h"
 #include "disk/file_watcher.h"
+#include "disk/errors.h"
 #include "disk/saves.h"
 #include "limits.h"
 #include "log.h"
@@ -26,9 +23,7 @@
 enum {
     IDLE = 2000,             /* milliseconds of quiet after which changed texts are saved aside */
     LONGEST_UNSAVED = 10000, /* milliseconds after which they are, while messages still come */
-    PAUSE = 100,             /* milliseconds until memory is asked for again */
-    LONGEST_GONE = 5000,     /* milliseconds after which it isn't, where the terminal is gone */
-    MOST_PIECES_LEFT = 64    /* pieces of input that are still taken after a signal */
+    PAUSE = 100              /* milliseconds until memory is asked for again */
 };
 
 static volatile sig_atomic_t was_signalled;
@@ -88,45 +83,20 @@ int64_t save_is_due_in(const struct session *session)
 
 /* ---- Bytes ---- */
 
-static ssize_t read_input(struct session *session, uint8_t *into, size_t room)
-{
-    (void)session;
-    return read(STDIN_FILENO, into, room);
-}
-
-static ssize_t write_output(struct session *session, const uint8_t *bytes, size_t len)
-{
-    (void)session;
-    return write(STDOUT_FILENO, bytes, len);
-}
-
-const struct carrier by_standard_streams = {read_input, write_output};
-
-/* Notes that nothing more can be sent. The end of the input will come, and what stands before it still counts. */
-static void stop_sending(struct wire *wire, int error)
-{
-    wire->output_error = error;
-    if (error != EPIPE) /* else the terminal has gone */
-        say("standard output can't be written: %s", cause(error));
-}
-
 void send_pending(struct session *session)
 {
     struct wire *wire = &session->wire;
 
-    while (wire->output_error == 0) {
+    for (;;) {
         if (wire->sent == wire->output_len) {
             wire->sent = wire->output_len = 0;
             if (sam_host_take_out(&session->host, wire->output, PIECE, &wire->output_len) != SAM_OK || wire->output_len == 0)
                 return;
         }
         ssize_t count = wire->carrier->write(session, wire->output + wire->sent, wire->output_len - wire->sent);
-        if (count >= 0)
-            wire->sent += (size_t)count;
-        else if (errno == EAGAIN || errno == EINTR)
+        if (count < 0)
             return;
-        else
-            stop_sending(wire, errno);
+        wire->sent += (size_t)count;
     }
 }
 
@@ -213,84 +183,24 @@ enum ending take_input(struct session *session)
     return sam_host_is_done(&session->host, &is_done) == SAM_OK && is_done ? LEFT : GOES_ON;
 }
 
-/* Whether more can be read: not after the end, nor while memory is out and as much waits for it as there is room for. */
-static bool may_read(const struct wire *wire)
-{
-    return wire->end == GOES_ON && wire->input_len - wire->taken < PIECE;
-}
-
 bool read_bytes(struct session *session)
 {
     struct wire *wire = &session->wire;
 
-    if (!may_read(wire))
+    if (wire->input_len - wire->taken >= PIECE) /* memory is out, and as much waits for it as there is room for */
         return false;
     memmove(wire->input, wire->input + wire->taken, wire->input_len - wire->taken);
     wire->input_len -= wire->taken;
     wire->taken = 0;
     ssize_t count = wire->carrier->read(session, wire->input + wire->input_len, PIECE - wire->input_len);
-    if (count == 0) {
-        wire->end = INPUT_ENDED;
-    } else if (count > 0) {
-        wire->input_len += (size_t)count;
-    } else if (errno != EAGAIN && errno != EINTR) {
-        say("standard input can't be read: %s", cause(errno));
-        wire->end = LINE_BROKE;
-    }
+    wire->input_len += count > 0 ? (size_t)count : 0;
     return count > 0;
 }
 
-/* How the session ends where no more comes. */
-static enum ending end_input(struct session *session)
+void lose_the_last(struct session *session)
 {
-    struct wire *wire = &session->wire;
-
-    if (wire->end == GOES_ON || wire->is_short)
-        return INPUT_ENDED; /* a signal ends it, or what is left is lost */
-    if (wire->end == INPUT_ENDED && sam_host_finish(&session->host) == SAM_TRUNCATED) {
-        say("standard input ends inside a message");
-        wire->end = LINE_BROKE;
-    }
-    return wire->output_error == 0 || wire->output_error == EPIPE ? wire->end : LINE_BROKE;
-}
-
-/* ---- Waiting ---- */
-
-/* Sleeps until bytes have come, can be sent, a signal has come or something is to be tried again. Returns whether bytes have come. */
-static bool wait_for_bytes(const struct session *session, const sigset_t *mask, bool is_reading)
-{
-    const struct wire *wire = &session->wire;
-    fd_set in, out;
-    int64_t left = is_reading ? earlier(save_is_due_in(session), watch_is_due_in(session)) : wire->is_short ? PAUSE : -1;
-    struct timespec pause = {left / 1000, left % 1000 * 1000000};
-
-    FD_ZERO(&in);
-    FD_ZERO(&out);
-    if (is_reading && may_read(wire))
-        FD_SET(STDIN_FILENO, &in);
-    if (wire->output_error == 0 && wire->sent < wire->output_len)
-        FD_SET(STDOUT_FILENO, &out);
-    if (pselect(STDOUT_FILENO + 1, &in, &out, NULL, left < 0 ? NULL : &pause, mask) < 0)
-        return errno != EINTR; /* what is wrong with the input shows when it is read */
-    return FD_ISSET(STDIN_FILENO, &in);
-}
-
-/* Whether nobody can send any more, though bytes may still be there to read. */
-static bool has_hung_up(void)
-{
-    struct pollfd end = {.fd = STDIN_FILENO};
-
-    return poll(&end, 1, 0) > 0;
-}
-
-/* Whether all has come that will come, and was taken; or memory is out for that, and has been for a while since the terminal is gone. */
-static bool is_over(struct wire *wire)
-{
-    if (!wire->is_short)
-        return wire->end != GOES_ON;
-    if (wire->gone == 0 && (wire->end != GOES_ON || has_hung_up()))
-        wire->gone = now();
-    return wire->gone != 0 && now() - wire->gone > LONGEST_GONE;
+    say("what came last from the terminal is lost: %s", cause(ENOMEM));
+    session->is_lost = true;
 }
 
 enum ending take_again(struct session *session, int *tries)
@@ -300,56 +210,9 @@ enum ending take_again(struct session *session, int *tries)
 
     while (ending == GOES_ON && wire->is_short && is_tried_again(ENOMEM, tries))
         ending = take_input(session);
-    if (ending == GOES_ON && wire->is_short) {
-        say("what came last from the terminal is lost: %s", cause(ENOMEM));
-        session->is_lost = true;
-    }
+    if (ending == GOES_ON && wire->is_short)
+        lose_the_last(session);
     return ending;
-}
-
-/* At the end of the input, or after a signal: takes what has come already. */
-static enum ending take_the_rest(struct session *session)
-{
-    int tries = 0, pieces = 0, flags = fcntl(STDIN_FILENO, F_GETFL);
-    struct wire *wire = &session->wire;
-    enum ending ending;
-
-    fcntl(STDIN_FILENO, F_SETFL, flags | O_NONBLOCK);
-    do {
-        ending = take_input(session);
-        if (ending == GOES_ON)
-            ending = take_again(session, &tries);
-    } while (ending == GOES_ON && !wire->is_short && ++pieces <= MOST_PIECES_LEFT && read_bytes(session));
-    fcntl(STDIN_FILENO, F_SETFL, flags);
-    return ending == GOES_ON ? end_input(session) : ending;
-}
-
-enum ending serve(struct session *session, const sigset_t *mask)
-{
-    struct wire *wire = &session->wire;
-    enum ending ending = GOES_ON;
-
-    while (ending == GOES_ON && !was_signalled && !is_over(wire)) {
-        bool has_come = wait_for_bytes(session, mask, true) && read_bytes(session);
-        send_pending(session);
-        if (has_come || wire->is_short)
-            ending = take_input(session);
-        save_due(session);
-        watch_files(session);
-    }
-    return ending == GOES_ON ? take_the_rest(session) : ending;
-}
-
-void send_the_rest(struct session *session, const sigset_t *mask)
-{
-    struct wire *wire = &session->wire;
-
-    send_pending(session);
-    wire->is_short = false;
-    while (wire->output_error == 0 && wire->sent < wire->output_len && !was_signalled) {
-        wait_for_bytes(session, mask, false);
-        send_pending(session);
-    }
 }
 
 /* ---- Signals ---- */

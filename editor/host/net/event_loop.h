@@ -1,5 +1,4 @@
-/* event_loop.h: carries bytes between the host and standard input and output, and sleeps. A session that stays has them carried by its
- * link. */
+/* event_loop.h: carries bytes between the host and the session's link, and has the host take them. */
 #ifndef SAMHOST_NET_EVENT_LOOP_H
 #define SAMHOST_NET_EVENT_LOOP_H
 
@@ -26,13 +25,13 @@ enum {
     KIND_SET_SNARF = 20
 };
 
-/* What carries the bytes, as read() and write() do: standard input and output, or a link. */
+/* What carries the bytes, as read() and write() do: a link, or the journal while the session is made again. */
 struct carrier {
     ssize_t (*read)(struct session *session, uint8_t *into, size_t room);
     ssize_t (*write)(struct session *session, const uint8_t *bytes, size_t len);
 };
 
-/* The bytes that wait on both sides, and whether the terminal still listens. */
+/* The bytes that wait on both sides. */
 struct wire {
     const struct carrier *carrier;
     uint8_t input[PIECE], output[PIECE];
@@ -41,9 +40,6 @@ struct wire {
     bool is_prepared;        /* what is to be done before its next message is done */
     size_t sent, output_len; /* bytes of `output`: sent, and in all */
     bool is_short;           /* the host is out of memory */
-    int output_error;        /* the error number for which nothing more can be sent; else 0 */
-    enum ending end;         /* GOES_ON, or how the input has ended: INPUT_ENDED, LINE_BROKE */
-    int64_t gone;            /* since when the terminal is known to be gone, where memory is out then; else 0 */
 };
 
 /* Lets signals that ask for it end the session (SIGTERM, SIGHUP, SIGINT and others), and none that may come of its work. */
@@ -55,9 +51,7 @@ bool is_signalled(void);
 /* Milliseconds of a clock that only goes forward. */
 int64_t now(void);
 
-extern const struct carrier by_standard_streams;
-
-/* Reads bytes, to stand after those that wait, and notes how the input ends. Returns whether some have come. */
+/* Reads bytes, to stand after those that wait. Returns whether some have come. */
 bool read_bytes(struct session *session);
 
 /* Has the host take what was read, piece by piece, until too little is left or memory is out; and sends the answers. */
@@ -65,6 +59,9 @@ enum ending take_input(struct session *session);
 
 /* Takes what was read, where memory was out for it. What can't be taken in a while is lost. */
 enum ending take_again(struct session *session, int *tries);
+
+/* Says that what came last from the terminal is lost, since memory is out. */
+void lose_the_last(struct session *session);
 
 /* Sends pending bytes, as many as go without waiting. */
 void send_pending(struct session *session);
@@ -77,11 +74,5 @@ int64_t earlier(int64_t one, int64_t other);
 
 /* In how many milliseconds save_due, or take_input where memory is out, is to be called; -1 where neither is. */
 int64_t save_is_due_in(const struct session *session);
-
-/* Carries bytes and does what they ask until the session ends. Returns why it ends. */
-enum ending serve(struct session *session, const sigset_t *mask);
-
-/* Sends the last answers, unless the terminal is gone or a signal comes. */
-void send_the_rest(struct session *session, const sigset_t *mask);
 
 #endif

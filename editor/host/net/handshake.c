@@ -4,6 +4,7 @@
  */
 #define _GNU_SOURCE
 #include <errno.h>
+#include <poll.h>
 #include <stdio.h>
 #include <stdlib.h>
 #include <string.h>
@@ -11,12 +12,15 @@
 #include <unistd.h>
 
 #include "net/handshake.h"
+#include "disk/errors.h"
 #include "disk/file_reader.h"
 #include "disk/saves.h"
 #include "journal/journal.h"
 #include "log.h"
 #include "net/event_loop.h"
+#include "session/ending.h"
 #include "session/file_requests.h"
+#include "session/messages.h"
 #include "session/persistent_session.h"
 #include "session/session.h"
 #include "session/session_directory.h"
@@ -83,48 +87,22 @@ void name_of_id(const uint8_t id[SAM_LINK_ID_BYTES], char name[NAME_DIGITS + 1])
         snprintf(name + 2 * at, 3, "%02x", id[at]);
 }
 
-bool say_first(struct session *session)
-{
-    struct stay *stay = session->stay;
-    struct note *others = stay->notes;
-    char machine[MACHINE_ROOM], name[NAME_DIGITS + 1];
-
-    name_machine(machine);
-    name_of_id(stay->id, name);
-    stay->notes = NULL;
-    bool is_said = say_note(session, "session %s %s", name, machine);
-    if (is_said)
-        stay->notes->next = others;
-    else
-        stay->notes = others;
-    return is_said;
-}
-
-/* Makes the link and the first note, at the first hello, which says how the session is named in full. */
+/* Makes the link and the first message, at the first hello, which says how the session is named in full. */
 static uint32_t make_link(struct session *session, const uint8_t *id)
 {
     struct stay *stay = session->stay;
     char name[NAME_DIGITS + 1];
 
     name_of_id(id, name);
+    if (*stay->home.name == '\0')
+        memcpy(stay->home.name, name, sizeof name);
     if (strcmp(name, stay->home.name) != 0)
         return SAM_LINK_OTHER_SESSION;
     uint32_t code = sam_link_new(&stay->link, SAM_LINK_HOST, id);
     if (code != SAM_OK)
         return code;
     memcpy(stay->id, id, SAM_LINK_ID_BYTES);
-    return say_first(session) ? SAM_OK : SAM_NO_MEMORY;
-}
-
-/* Takes the link and its first note back. */
-static void drop_link(struct stay *stay)
-{
-    struct note *first = stay->notes;
-
-    stay->notes = first->next;
-    free(first->words);
-    free(first);
-    (void)sam_link_free(&stay->link);
+    return put_first_message(session) ? SAM_OK : SAM_NO_MEMORY;
 }
 
 /* Has the link take a connection. What it refuses changes nothing. */
@@ -143,7 +121,8 @@ static uint32_t answer(struct session *session, const struct caller *caller, con
         stay->attempt = attempt;
         add_record(session, STEP_HELLO, caller->bytes, caller->len);
     } else if (is_first) {
-        drop_link(stay);
+        drop_first_message(&stay->messages);
+        (void)sam_link_free(&stay->link);
     }
     return code;
 }
@@ -171,12 +150,92 @@ static void take_hello(struct session *session, struct caller *caller)
         if (stay->line >= 0)
             close(stay->line);
         stay->in.len = stay->out.len = stay->out.sent = 0;
-        stay->line = line;
-        put_notes(session);
+        stay->line = stay->line_out = line;
+        put_messages(session);
     } else if (sam_link_write_refusal(code, caller->bytes, caller->len, refusal) == SAM_OK) {
         (void)send(caller->socket, refusal, sizeof refusal, MSG_NOSIGNAL | MSG_DONTWAIT); /* where it doesn't go, nobody is there */
     }
     drop_caller(caller);
+}
+
+/* ---- Standard input and output ---- */
+
+/* Reads up to the end of a hello, and hands out what is wrong with it, or SAM_OK. Returns an error number, or 0; also where it ends. */
+static int read_hello(struct caller *caller, const sigset_t *mask, uint32_t *code)
+{
+    uint8_t id[SAM_LINK_ID_BYTES];
+    uint64_t attempt;
+    uint32_t what;
+    ssize_t count = 1;
+
+    while ((*code = sam_link_read_hello(caller->bytes, caller->len, &what, id, &attempt)) == SAM_NONE && count != 0 && !is_signalled()) {
+        struct pollfd end = {STDIN_FILENO, POLLIN, 0};
+        if (ppoll(&end, 1, NULL, mask) <= 0)
+            continue;
+        count = read(STDIN_FILENO, caller->bytes + caller->len, SAM_LINK_HELLO_BYTES - caller->len);
+        if (count < 0 && errno != EAGAIN && errno != EINTR)
+            return errno;
+        caller->len += count > 0 ? (size_t)count : 0;
+    }
+    return 0;
+}
+
+/* Has the link take a hello that is whole. A session of these streams has nothing that a terminal could take over. */
+static uint32_t take_first(struct session *session, const struct caller *caller)
+{
+    uint8_t id[SAM_LINK_ID_BYTES];
+    uint64_t attempt;
+    uint32_t what, code = sam_link_read_hello(caller->bytes, caller->len, &what, id, &attempt);
+
+    if (code == SAM_OK)
+        code = what == SAM_LINK_TAKE_OVER ? SAM_LINK_NO_SESSION : answer(session, caller, id, attempt);
+    return code;
+}
+
+/* Refuses a hello, or what is none, as far as there is somebody to hear that. Returns the exit status. */
+static int refuse_streams(const struct caller *caller, uint32_t code)
+{
+    uint8_t refusal[SAM_LINK_HELLO_BYTES];
+
+    if (code == SAM_NO_MEMORY)
+        say("out of memory");
+    else if (code == SAM_NONE || code == SAM_LINK_NOT_A_LINK)
+        say("standard input has no hello of a terminal; samterm, samweb and Emacs start samhost, and samterm FILE edits a file");
+    if (!isatty(STDOUT_FILENO) && sam_link_write_refusal(code, caller->bytes, caller->len, refusal) == SAM_OK)
+        (void)!write(STDOUT_FILENO, refusal, sizeof refusal); /* where it doesn't go, the status says it */
+    switch (code) {
+    case SAM_NO_MEMORY:
+        return STATUS_MEMORY;
+    case SAM_NONE:
+        return STATUS_BROKEN;
+    case SAM_LINK_NOT_A_LINK:
+        return STATUS_FAULT;
+    default:
+        return STATUS_NO_SESSION;
+    }
+}
+
+int hear_streams(struct session *session, const sigset_t *mask)
+{
+    struct stay *stay = session->stay;
+    struct caller *caller = &stay->callers[0];
+    uint32_t code;
+    int error = read_hello(caller, mask, &code);
+
+    if (code == SAM_OK)
+        code = take_first(session, caller);
+    if (code == SAM_OK) {
+        stay->line = STDIN_FILENO;
+        stay->line_out = STDOUT_FILENO;
+        return STATUS_OK;
+    }
+    say_gathered(session);
+    if (is_signalled())
+        return STATUS_OK;
+    if (error == 0)
+        return refuse_streams(caller, code);
+    say("standard input can't be read: %s", cause(error));
+    return STATUS_BROKEN;
 }
 
 /* ---- What another samhost asks for ---- */
@@ -287,14 +346,15 @@ static void answer_open(struct session *session, struct caller *caller, const ch
     char answer[ANSWER_ROOM], *folder = getcwd(NULL, 0);
 
     path = seen_from_here(path, folder);
-    const char *why = is_short ? cause(ENOMEM) : is_folder(path) ? cause(EISDIR) : join_file(session, path, &tag, &is_short);
+    int error = is_short ? ENOMEM : is_folder(path) ? EISDIR : join_file(session, path, &tag);
+    struct event shown = {.kind = SAM_NOTE_SHOWN, .tag = tag, .number = strtoull(line, NULL, 10)};
 
-    if (why == NULL && !say_note(session, "wish %u %s", (unsigned)tag, *line == '\0' ? "0" : line))
-        why = cause(ENOMEM);
+    if (error == 0 && !put_message(session, &shown, NULL))
+        error = ENOMEM;
     free(folder);
-    snprintf(answer, sizeof answer, why == NULL ? "opened\n" : "refused %s\n", why);
+    snprintf(answer, sizeof answer, error == 0 ? "opened\n" : "refused %s\n", cause(error));
     answer_line(caller->socket, answer);
-    struct waiter *waiter = why == NULL && waits ? free_waiter(stay) : NULL;
+    struct waiter *waiter = error == 0 && waits ? free_waiter(stay) : NULL;
     if (waiter != NULL) {
         *waiter = (struct waiter){.socket = caller->socket, .tag = tag};
         caller->socket = -1;
@@ -304,9 +364,6 @@ static void answer_open(struct session *session, struct caller *caller, const ch
 void note_closing(struct session *session, uint16_t tag)
 {
     bool is_dirty = true;
-
-    if (session->stay == NULL)
-        return;
     bool is_written = sam_host_is_dirty(&session->host, tag, &is_dirty) == SAM_OK && !is_dirty && !session->documents[tag].is_unsaved;
     for (int at = 0; at < MOST_WAITERS; at++) {
         struct waiter *waiter = &session->stay->waiters[at];

@@ -2,6 +2,7 @@
 #ifndef SAMHOST_NET_HANDSHAKE_H
 #define SAMHOST_NET_HANDSHAKE_H
 
+#include <signal.h>
 #include <stdbool.h>
 #include <stddef.h>
 #include <stdint.h>
@@ -51,6 +52,10 @@ void accept_callers(struct stay *stay);
 /* Reads what a connection without a hello says, and does it. */
 void hear_caller(struct session *session, struct caller *caller);
 
+/* Waits for the hello of a terminal at standard input, and has the link take it. Returns STATUS_OK; or the exit status, where the hello is
+ * refused, or none comes, which is said. */
+int hear_streams(struct session *session, const sigset_t *mask);
+
 /* Before a file is closed: says to those who wait for it whether it was written. */
 void note_closing(struct session *session, uint16_t tag);
 
@@ -62,8 +67,5 @@ void drop_line(struct stay *stay);
 
 /* The name of the session whose link has an id. */
 void name_of_id(const uint8_t id[SAM_LINK_ID_BYTES], char name[NAME_DIGITS + 1]);
-
-/* Has the first note stand before all that wait; it says where the terminal has come to. Returns whether there is memory for it. */
-bool say_first(struct session *session);
 
 #endif

@@ -14,7 +14,7 @@
 #include <unistd.h>
 
 #include "session/daemon.h"
-#include "disk/saves.h"
+#include "disk/errors.h"
 #include "journal/journal.h"
 #include "journal/journal_records.h"
 #include "journal/replay.h"
@@ -23,6 +23,7 @@
 #include "net/handshake.h"
 #include "net/relay.h"
 #include "session/ending.h"
+#include "session/messages.h"
 #include "session/persistent_session.h"
 #include "session/session.h"
 #include "session/session_control.h"
@@ -60,7 +61,7 @@ struct session *make_staying(const struct home *home, int64_t longest_alone)
         return NULL;
     }
     stay->home = *home;
-    stay->listener = stay->line = stay->journal.file = -1;
+    stay->listener = stay->line = stay->line_out = stay->journal.file = -1;
     stay->longest_alone = longest_alone;
     for (int at = 0; at < MOST_CALLERS; at++)
         stay->callers[at].socket = -1;
@@ -75,11 +76,7 @@ void free_staying(struct session *session)
     struct stay *stay = session->stay;
 
     set_listener(NULL, NULL);
-    for (struct note *note = stay->notes, *next; note != NULL; note = next) {
-        next = note->next;
-        free(note->words);
-        free(note);
-    }
+    free_messages(&stay->messages);
     if (stay->journal.file >= 0)
         close(stay->journal.file);
     for (int at = 0; at < MOST_CALLERS; at++) {
@@ -123,7 +120,7 @@ static int serve_alone(struct session *session, int begun)
         status = stay_and_serve(session);
         for (struct session *heir; (heir = session->stay->heir) != NULL; session = heir) {
             free_staying(session);
-            listen_for_notes(heir);
+            listen_for_messages(heir);
             status = stay_and_serve(heir);
         }
         if (!session->stay->is_kept)
@@ -178,15 +175,6 @@ static int part(struct session *session)
 
 /* ---- Beginning ---- */
 
-/* Says on standard error what was said so far. */
-static void say_gathered(struct stay *stay)
-{
-    set_listener(NULL, NULL);
-    for (const struct note *note = stay->notes; note != NULL; note = note->next)
-        say("%s", note->words + strlen("told "));
-    say_missing(stay);
-}
-
 /* Begins a session in its folder, which is locked. Returns the exit status. */
 static int begin_in(struct home *home, char **paths, int count, const struct options *options)
 {
@@ -198,7 +186,7 @@ static int begin_in(struct home *home, char **paths, int count, const struct opt
         close_home(home);
         return STATUS_MEMORY;
     }
-    listen_for_notes(session);
+    listen_for_messages(session);
     int status = open_session(session, paths, count, options);
     if (status == STATUS_OK) {
         int error = make_journal(session->stay, JOURNAL);
@@ -206,13 +194,53 @@ static int begin_in(struct home *home, char **paths, int count, const struct opt
             note_start(session);
             sync_home(&session->stay->home);
         } else /* one that is not whole is none */
-            say("there is no journal: %s; if samhost ends unasked, the session ends with it", cause(error));
+            tell_no_journal(error);
         note_about(session);
         report_others(session);
         return part(session);
     }
-    say_gathered(session->stay);
+    say_gathered(session);
     remove_home(home);
+    free_staying(session);
+    return status;
+}
+
+/* ---- A session that ends with its line ---- */
+
+/* Serves a session over standard input and output. Returns the exit status. */
+static int serve_session(struct session *session)
+{
+    sigset_t mask;
+    int flags = fcntl(STDOUT_FILENO, F_GETFL);
+
+    set_signals(&mask);
+    int status = hear_streams(session, &mask);
+    if (status == STATUS_OK && session->stay->attempt > 0) {
+        fcntl(STDOUT_FILENO, F_SETFL, flags | O_NONBLOCK);
+        status = stay_and_serve(session);
+        fcntl(STDOUT_FILENO, F_SETFL, flags);
+    }
+    return status;
+}
+
+int serve_streams(char **paths, int count, const struct options *options)
+{
+    struct home nowhere = {.all = -1, .folder = -1, .lock = -1};
+    if (options->name != NULL)
+        memcpy(nowhere.name, options->name, sizeof nowhere.name);
+    struct session *session = make_staying(&nowhere, 0);
+
+    if (session == NULL) {
+        say("out of memory");
+        return STATUS_MEMORY;
+    }
+    session->stay->has_streams = true;
+    listen_for_messages(session);
+    int status = open_session(session, paths, count, options);
+    if (status == STATUS_OK)
+        status = serve_session(session);
+    else
+        say_gathered(session);
     free_staying(session);
     return status;
 }
@@ -278,7 +306,7 @@ static int give_up(struct session *session, enum replay_fault fault, bool is_att
     bool is_known = session->documents != NULL && (fault == REPLAY_OTHER || is_wrong);
     bool is_for_ever = is_known || is_wrong || fault == REPLAY_NOTHING;
 
-    say_gathered(session->stay);
+    say_gathered(session);
     say("session %s can't go on: %s", home->name, why_not_again(fault));
     bool is_saved = !is_known || close_session(session, INPUT_ENDED) == STATUS_OK;
     if (is_wrong)
@@ -313,7 +341,7 @@ static int go_on(struct home *home)
         return STATUS_MEMORY;
     }
     session->stay->is_again = true;
-    listen_for_notes(session);
+    listen_for_messages(session);
     enum replay_fault fault = begin_again(session);
     if (fault != REPLAY_OK)
         return give_up(session, fault, true);

@@ -1,4 +1,5 @@
-/* daemon.h: begins a session that stays in a process of its own, or finds it again; the present process relays to it. */
+/* daemon.h: begins a session that stays in a process of its own, or finds it again, and the present process relays to it; or begins one in
+ * the present process, which ends with its line. */
 #ifndef SAMHOST_SESSION_DAEMON_H
 #define SAMHOST_SESSION_DAEMON_H
 
@@ -8,7 +9,7 @@ struct home;
 struct options;
 struct session;
 
-/* Makes a session that stays, without files, in a folder that is its own from now on. NULL where memory is out. */
+/* Makes a session without files, in a folder that is its own from now on, where it has one. NULL where memory is out. */
 struct session *make_staying(const struct home *home, int64_t longest_alone);
 
 /* Frees a session, and closes what it has open. Its folder stays. */
@@ -19,6 +20,9 @@ int take(const char *name);
 
 /* Begins a session that stays, in a process of its own, and relays. Returns the exit status, also in that process. */
 int begin_to_stay(char **paths, int count, const struct options *options);
+
+/* Serves a session over standard input and output until that line ends. Returns the exit status. */
+int serve_streams(char **paths, int count, const struct options *options);
 
 /* Relays to a session that stays. Returns the exit status. */
 int attach(const char *name);

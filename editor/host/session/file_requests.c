@@ -1,6 +1,6 @@
-/* file_requests.c: adds files to a session that has begun, and finds names that complete a path, as notes of the terminal ask.
+/* file_requests.c: does what messages of the terminal ask: adds files to a session that has begun, finds names that complete a path.
  *
- * All memory is taken before the host gets a file, so nothing is half done where memory is out: then the note is done again later.
+ * All memory is taken before the host gets a file, so nothing is half done where memory is out: then the message is done again later.
  */
 #define _XOPEN_SOURCE 700
 #include <dirent.h>
@@ -10,19 +10,21 @@
 #include <sys/stat.h>
 
 #include "session/file_requests.h"
+#include "disk/errors.h"
 #include "disk/file_reader.h"
 #include "disk/file_watcher.h"
 #include "disk/paths.h"
 #include "disk/saves.h"
 #include "journal/journal_records.h"
 #include "limits.h"
+#include "session/messages.h"
 #include "session/persistent_session.h"
 #include "session/session.h"
 #include "sulgrevad.h"
 
 enum {
     MOST_NAMES = 200,                           /* names that complete a path */
-    NAMES_ROOM = SAM_LINK_MOST_NOTE - NAME_ROOM /* bytes of them, in a note that has other words, too */
+    NAMES_ROOM = SAM_LINK_MOST_NOTE - NAME_ROOM /* bytes of them, in a message that has other fields, too */
 };
 
 /* ---- Files ---- */
@@ -49,47 +51,46 @@ static uint16_t find_file(struct session *session, const struct identity *wanted
     return found;
 }
 
-static const char *add_joined(struct session *session, const char *path, uint16_t *tag, bool *is_short)
+static int add_joined(struct session *session, const char *path, uint16_t *tag)
 {
     struct text text;
-    uint32_t code = SAM_OK;
     int error = read_whole(path, &text);
 
     if (error == 0)
-        error = add_text(session, path, &text, &code, tag);
+        error = add_text(session, path, &text, tag);
     free(text.bytes);
-    *is_short = error == ENOMEM || (error == 0 && code == SAM_NO_MEMORY);
-    if (error == 0 && code == SAM_OK) {
+    if (error == 0)
         note_file(session, *tag);
-        return NULL;
-    }
-    return error == EFBIG ? why_not_added(SAM_ADD_TOO_LONG) : error != 0 ? cause(error) : why_not_added(code);
+    return error;
 }
 
-const char *join_file(struct session *session, const char *path, uint16_t *tag, bool *is_short)
+int join_file(struct session *session, const char *path, uint16_t *tag)
 {
     struct identity identity;
     int error = *path == '\0' ? ENOENT : identify(path, &identity);
 
-    *is_short = error == ENOMEM;
     if (error != 0)
-        return error == ENOENT ? "there is no such folder" : cause(error);
+        return error == ENOENT ? NO_FOLDER : error;
     *tag = find_file(session, &identity);
     free(identity.name);
-    return *tag != 0 ? NULL : add_joined(session, path, tag, is_short);
+    return *tag != 0 ? 0 : add_joined(session, path, tag);
 }
 
-static bool open_file(struct session *session, const char *id, const char *path)
+bool refuse(struct session *session, uint32_t request, int error)
 {
-    uint16_t tag;
-    bool is_short;
+    return put_message(session, &(struct event){.kind = SAM_NOTE_REFUSED, .request = request, .code = code_of(error)}, cause(error));
+}
 
-    if (is_folder(path))
-        return say_note(session, "folder %s %s", id, path);
-    const char *why = join_file(session, path, &tag, &is_short);
-    if (is_short)
+static bool open_file(struct session *session, uint32_t request, const char *path)
+{
+    uint16_t tag = 0;
+    int error = is_folder(path) ? EISDIR : join_file(session, path, &tag);
+
+    if (error == ENOMEM)
         return false;
-    return why == NULL ? say_note(session, "opened %s %u", id, (unsigned)tag) : say_note(session, "refused %s %s", id, why);
+    if (error != 0)
+        return refuse(session, request, error);
+    return put_message(session, &(struct event){.kind = SAM_NOTE_OPENED, .request = request, .tag = tag}, NULL);
 }
 
 /* ---- Names ---- */
@@ -103,28 +104,23 @@ static bool completes(const char *entry, const char *part, size_t len)
 }
 
 /* Adds a name behind others, if there is room. */
-static bool add_name(char *names, size_t *len, const char *folder, const char *entry)
+static bool add_name(char names[NAMES_ROOM], const char *folder, const char *entry)
 {
     char *path = formatted("%s%s", folder, entry);
-    bool is_inner = path != NULL && is_folder(path);
-    size_t more = strlen(entry) + (*len > 0) + is_inner;
+    const char *end = path != NULL && is_folder(path) ? "/\n" : "\n";
+    bool has_room = path != NULL && strlen(names) + strlen(entry) + strlen(end) < NAMES_ROOM;
 
     free(path);
-    if (path == NULL || *len + more >= NAMES_ROOM)
-        return false;
-    if (*len > 0)
-        names[(*len)++] = '/';
-    memcpy(names + *len, entry, strlen(entry));
-    *len += strlen(entry);
-    if (is_inner)
-        names[(*len)++] = '/';
-    return true;
+    if (has_room) {
+        strcat(names, entry);
+        strcat(names, end);
+    }
+    return has_room;
 }
 
-static bool find_names(struct session *session, const char *id, const char *path)
+static bool find_names(struct session *session, uint32_t request, const char *path)
 {
-    char names[NAMES_ROOM];
-    size_t len = 0;
+    char names[NAMES_ROOM] = "";
     const char *slash = strrchr(path, '/'), *part = slash == NULL ? path : slash + 1;
     char *folder = folder_of(path);
     struct dirent **entries = NULL;
@@ -133,7 +129,7 @@ static bool find_names(struct session *session, const char *id, const char *path
 
     for (int at = 0; at < count; at++) {
         if (!has_more && completes(entries[at]->d_name, part, strlen(part))) {
-            has_more = taken == MOST_NAMES || !add_name(names, &len, folder, entries[at]->d_name);
+            has_more = taken == MOST_NAMES || !add_name(names, folder, entries[at]->d_name);
             taken += !has_more;
         }
         free(entries[at]);
@@ -141,28 +137,34 @@ static bool find_names(struct session *session, const char *id, const char *path
     free(entries);
     bool is_short = folder == NULL || (count < 0 && errno == ENOMEM);
     free(folder);
-    return !is_short && say_note(session, "names %s %d %.*s", id, has_more, (int)len, names);
+    enum sam_note_code code = has_more ? SAM_NOTE_HAS_MORE : SAM_NOTE_NO_CODE;
+    return !is_short &&
+           put_message(session, &(struct event){.kind = SAM_NOTE_NAMES, .request = request, .code = code, .path = names}, NULL);
 }
 
-/* ---- Notes ---- */
+/* ---- Messages ---- */
 
-bool do_note(struct session *session, const char *note)
+bool do_message(struct session *session, const uint8_t *bytes, size_t len)
 {
-    char id[NAME_ROOM];
-    const char *blank = strchr(note, ' '), *end = blank == NULL ? NULL : strchr(blank + 1, ' ');
+    struct sam_note note;
+    char path[SAM_LINK_MOST_NOTE];
 
-    if (end == NULL || (size_t)(end - blank) > sizeof id)
+    if (sam_note_read(bytes, len, &note) != SAM_OK)
         return true; /* it is of a later version, or wrong */
-    size_t verb_len = (size_t)(blank - note), len = (size_t)(end - blank) - 1;
-    memcpy(id, blank + 1, len);
-    id[len] = '\0';
-    if (verb_len == 4 && strncmp(note, "open", 4) == 0)
-        return open_file(session, id, end + 1);
-    if (verb_len == 5 && strncmp(note, "names", 5) == 0)
-        return find_names(session, id, end + 1);
-    if (verb_len == 6 && strncmp(note, "reload", 6) == 0)
-        return reload_file(session, id, end + 1);
-    if (verb_len == 8 && strncmp(note, "reloaded", 8) == 0)
-        return note_reloaded(session, end + 1);
-    return true;
+    memcpy(path, bytes + note.path_at, note.path_len);
+    path[note.path_len] = '\0';
+    switch (note.kind) {
+    case SAM_NOTE_OPEN:
+        return open_file(session, note.request, path);
+    case SAM_NOTE_COMPLETE:
+        return find_names(session, note.request, path);
+    case SAM_NOTE_RELOAD:
+        return reload_file(session, note.request, note.tag);
+    case SAM_NOTE_RELOADED:
+        return note_reloaded(session, note.tag, note.number);
+    case SAM_NOTE_WRITE:
+        return expect_write(&session->stay->messages, note.tag, note.request);
+    default:
+        return true; /* the host's own */
+    }
 }

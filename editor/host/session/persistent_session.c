@@ -1,15 +1,16 @@
-/* persistent_session.c: serves a session that stays when its line breaks.
+/* persistent_session.c: serves a session over its link: one that stays when its line breaks, or one that ends with it.
  *
- * The bytes of the session go through a link, which gives each of them once and in order over connections that may break anywhere. What the
- * plain samhost writes to standard error goes to the terminal as notes, in order with them. It ends when the terminal leaves, when somebody
- * asks for that, and when no connection was there for as long as the words say; before that it saves all that is not written. At a signal
- * it does that, too, but the session stays in its folder, for another samhost to go on: the machine may begin anew.
+ * The bytes of the session go through a link, which gives each of them once and in order over connections that may break anywhere. What
+ * there is to say goes to the terminal as messages, in order with them. It ends when the terminal leaves, when somebody asks for that, and
+ * when no connection was there for as long as the words say; before that it saves all that is not written. At a signal it does that, too,
+ * but a session that has a folder stays there, for another samhost to go on: the machine may begin anew.
+ *
+ * A session that ends with its line has standard input and output for that. What it says once the input has ended stands on standard error,
+ * too, since its terminal may be gone.
  */
 #define _GNU_SOURCE
 #include <errno.h>
 #include <poll.h>
-#include <stdarg.h>
-#include <stdio.h>
 #include <stdlib.h>
 #include <string.h>
 #include <sys/socket.h>
@@ -17,8 +18,8 @@
 
 #include "session/persistent_session.h"
 #include "disk/autosave.h"
+#include "disk/errors.h"
 #include "disk/file_watcher.h"
-#include "disk/paths.h"
 #include "journal/journal.h"
 #include "journal/journal_records.h"
 #include "limits.h"
@@ -31,103 +32,13 @@
 #include "sulgrevad.h"
 
 enum {
-    LONGEST_END = 60000,   /* milliseconds that the last note is kept for a terminal that has left */
+    LONGEST_END = 60000,   /* milliseconds that the last message is kept for a terminal that has left */
     UNASKED_END = 5000,    /* milliseconds that it is where the terminal has not asked for the end, and is there */
     LONGEST_UNMET = 60000, /* milliseconds that a session stays alone to which no terminal came: nothing can be lost with it */
     PAUSE = 100,           /* milliseconds until memory is asked for again */
+    LONGEST_GONE = 5000,   /* milliseconds after which it isn't, where the terminal is gone and can't come back */
     MOST_PIECES_LEFT = 64, /* pieces of input that are still taken after a signal */
 };
-
-/* ---- Notes ---- */
-
-/* The length of a note, cut to whole runes where it is too long. */
-static size_t note_len(const char *note)
-{
-    size_t len = strlen(note);
-
-    if (len > SAM_LINK_MOST_NOTE) {
-        len = SAM_LINK_MOST_NOTE;
-        while (len > 0 && ((unsigned char)note[len] & 0xC0) == 0x80)
-            len--;
-    }
-    return len;
-}
-
-void say_missing(struct stay *stay)
-{
-    unsigned missing = stay->missing;
-
-    stay->missing = 0;
-    if (missing > 0)
-        say("lines missing before this one, since memory was out: %u", missing);
-}
-
-/* Puts the notes that wait. What was put goes into the body of a record, or where that is NULL into records of its own. */
-static void put_waiting(struct session *session, struct body *body)
-{
-    struct stay *stay = session->stay;
-
-    while (stay->notes != NULL) {
-        struct note *note = stay->notes;
-        const uint8_t *bytes = (const uint8_t *)note->words;
-        size_t len = note_len(note->words);
-        if (sam_link_put_note(&stay->link, bytes, len) != SAM_OK)
-            return;
-        stay->notes = note->next;
-        if (body != NULL)
-            add_data(body, bytes, len);
-        else
-            add_record(session, STEP_NOTE, bytes, len);
-        free(note->words);
-        free(note);
-    }
-}
-
-void put_notes(struct session *session)
-{
-    struct stay *stay = session->stay;
-
-    if (stay->attempt == 0 || stay->replay != NULL || stay->is_answering) /* there is no link yet, or it is not where it was */
-        return;
-    put_waiting(session, NULL);
-    say_missing(stay);
-}
-
-bool say_note(struct session *session, const char *format, ...)
-{
-    struct note **last = &session->stay->notes, *note = malloc(sizeof *note);
-    char words[2 * SAM_LINK_MOST_NOTE];
-    va_list list;
-
-    va_start(list, format);
-    vsnprintf(words, sizeof words, format, list);
-    va_end(list);
-    char *own = formatted("%s", words);
-    if (note == NULL || own == NULL) {
-        free(note);
-        free(own);
-        return false;
-    }
-    while (*last != NULL)
-        last = &(*last)->next;
-    *note = (struct note){NULL, own};
-    *last = note;
-    put_notes(session);
-    return true;
-}
-
-static void hear_line(void *at, const char *line)
-{
-    struct session *session = at;
-
-    if (!say_note(session, "told %s", line))
-        session->stay->missing++;
-}
-
-void listen_for_notes(struct session *session)
-{
-    set_listener(hear_line, session);
-}
 
 /* How many bytes a link counts; none where there is no link yet. */
 static uint64_t count_of(struct stay *stay, sam_status (*reader)(sam_link *link, uint64_t *count))
@@ -154,8 +65,8 @@ static ssize_t put_out(struct session *session, const uint8_t *bytes, size_t len
 {
     uint32_t code = SAM_NO_MEMORY;
 
-    put_notes(session);
-    if (session->stay->notes == NULL)
+    put_messages(session);
+    if (session->stay->messages.waiting == NULL)
         code = sam_link_put(&session->stay->link, bytes, len);
     if (code == SAM_OK) {
         add_record(session, STEP_DOWN, bytes, len);
@@ -178,15 +89,14 @@ static bool take_note(struct session *session)
         stay->has_note = sam_link_next_note(&stay->link, stay->note, SAM_LINK_MOST_NOTE, &stay->note_len) == SAM_OK;
         if (!stay->has_note)
             return false;
-        stay->note[stay->note_len] = '\0';
     }
     stay->is_answering = true;
-    bool is_done = do_note(session, (const char *)stay->note);
+    bool is_done = do_message(session, stay->note, stay->note_len);
     stay->is_answering = false;
     if (!is_done)
         return false;
     stay->has_note = false;
-    put_waiting(session, &answers);
+    put_answers(session, &answers);
     add_body(session, STEP_NOTED, &answers);
     return true;
 }
@@ -203,14 +113,61 @@ static enum ending take_packets(struct session *session)
             has_come = true;
         if (has_come)
             ending = take_input(session);
-        has_come = ending == GOES_ON && !wire->is_short && take_note(session);
+        has_come = ending == GOES_ON && !wire->is_short && (read_bytes(session) || take_note(session));
     } while (has_come);
     return ending;
 }
 
 /* ---- The connection ---- */
 
-/* Reads what has come over the newest connection. What can't be taken, since memory is out, is given to the link again later. */
+/* No more comes over the newest connection. Standard output may still take what is due. */
+static void end_line(struct stay *stay)
+{
+    if (stay->has_streams)
+        stay->line = -1;
+    else
+        drop_line(stay);
+}
+
+/* No more goes over it. The end of standard input will come, and what stands before it still counts. */
+static void stop_sending(struct stay *stay, int error)
+{
+    if (!stay->has_streams) {
+        drop_line(stay);
+        return;
+    }
+    stay->line_out = -1;
+    if (error == EPIPE) /* the terminal has gone */
+        return;
+    stay->ending = LINE_BROKE;
+    say("standard output can't be written: %s", cause(error));
+}
+
+/* Gives the link what was read. What can't be taken, since memory is out, is given again later. */
+static void feed_link(struct session *session)
+{
+    struct stay *stay = session->stay;
+    struct piece *in = &stay->in;
+    uint32_t code = sam_link_feed(&stay->link, stay->attempt, in->bytes, in->len);
+
+    if (code == SAM_OK)
+        add_record(session, STEP_UP, in->bytes, in->len);
+    if (code == SAM_NO_MEMORY && !stay->is_short)
+        say("out of memory; it is tried again");
+    stay->is_short = code == SAM_NO_MEMORY;
+    if (stay->is_short)
+        return;
+    in->len = 0;
+    if (code == SAM_OK)
+        return;
+    if (stay->has_streams) { /* else the next connection brings all of it again */
+        stay->ending = FAULT;
+        say("the terminal's stream is wrong (status %u)", (unsigned)code);
+    }
+    end_line(stay);
+}
+
+/* Reads what has come over the newest connection. */
 static void read_line(struct session *session)
 {
     struct stay *stay = session->stay;
@@ -218,19 +175,20 @@ static void read_line(struct session *session)
 
     if (in->len == 0) {
         ssize_t count = read(stay->line, in->bytes, PIECE);
-        if (count == 0 || (count < 0 && errno != EAGAIN && errno != EINTR))
-            drop_line(stay);
-        in->len = count > 0 ? (size_t)count : 0;
+        if (count < 0 && (errno == EAGAIN || errno == EINTR))
+            return;
+        if (count < 0 && stay->has_streams) {
+            stay->ending = LINE_BROKE;
+            stay->line = -1;
+            say("standard input can't be read: %s", cause(errno));
+        }
+        if (count <= 0) {
+            end_line(stay);
+            return;
+        }
+        in->len = (size_t)count;
     }
-    if (in->len == 0)
-        return;
-    uint32_t code = sam_link_feed(&stay->link, stay->attempt, in->bytes, in->len);
-    if (code == SAM_OK)
-        add_record(session, STEP_UP, in->bytes, in->len);
-    if (code != SAM_NO_MEMORY)
-        in->len = 0;
-    if (code != SAM_OK && code != SAM_NO_MEMORY) /* a wrong packet ends the connection, and the next brings all of it again */
-        drop_line(stay);
+    feed_link(session);
 }
 
 /* Sends what the link has for the newest connection, as much as goes without waiting. All of it rests on records, so the disk has these
@@ -240,18 +198,20 @@ static void write_line(struct session *session)
     struct stay *stay = session->stay;
     struct piece *out = &stay->out;
 
-    while (stay->line >= 0) {
+    while (stay->line_out >= 0) {
         if (out->sent == out->len) {
             out->sent = out->len = 0;
             if (sam_link_take_out(&stay->link, stay->attempt, out->bytes, PIECE, &out->len) != SAM_OK || out->len == 0)
                 return;
         }
         sync_journal(session);
-        ssize_t count = send(stay->line, out->bytes + out->sent, out->len - out->sent, MSG_NOSIGNAL | MSG_DONTWAIT);
+        const uint8_t *rest = out->bytes + out->sent;
+        size_t len = out->len - out->sent;
+        ssize_t count = stay->has_streams ? write(stay->line_out, rest, len) : send(stay->line_out, rest, len, MSG_NOSIGNAL | MSG_DONTWAIT);
         if (count < 0 && (errno == EAGAIN || errno == EINTR))
             return;
         if (count < 0)
-            drop_line(stay);
+            stop_sending(stay, errno);
         else
             out->sent += (size_t)count;
     }
@@ -265,17 +225,17 @@ void flush_line(struct session *session)
 
 void say_the_last(struct session *session, const char *machine)
 {
-    if (session->stay->line < 0 || !say_note(session, "gone %s", machine))
+    if (session->stay->line < 0 || !put_message(session, &(struct event){.kind = SAM_NOTE_TAKEN_OVER}, machine))
         return;
     write_line(session);
 }
 
 void drop_line(struct stay *stay)
 {
-    if (stay->line < 0)
+    if (stay->line < 0 || stay->has_streams)
         return;
     close(stay->line);
-    stay->line = -1;
+    stay->line = stay->line_out = -1;
     stay->in.len = stay->out.len = stay->out.sent = 0;
     stay->alone_since = now();
     (void)!sam_link_broken(&stay->link, stay->attempt); /* it takes no memory */
@@ -302,7 +262,7 @@ static int64_t time_to_wait(const struct session *session, int64_t longest)
     int64_t wait = earlier(earlier(longest, save_is_due_in(session)), earlier(drop_callers(stay), watch_is_due_in(session)));
 
     wait = earlier(wait, time_left_alone(session));
-    bool is_short = stay->in.len > 0 || stay->has_note || session->wire.sent < session->wire.output_len || stay->notes != NULL;
+    bool is_short = stay->in.len > 0 || stay->has_note || session->wire.sent < session->wire.output_len || stay->messages.waiting != NULL;
     return is_short && stay->attempt > 0 ? earlier(wait, PAUSE) : wait;
 }
 
@@ -311,23 +271,23 @@ static int64_t time_to_wait(const struct session *session, int64_t longest)
 static void carry(struct session *session, const sigset_t *mask, int64_t longest)
 {
     struct stay *stay = session->stay;
-    struct pollfd ends[2 + MOST_CALLERS];
+    struct pollfd ends[3 + MOST_CALLERS];
     int64_t wait = time_to_wait(session, longest);
     struct timespec pause = {wait / 1000, wait % 1000 * 1000000};
     int free_ones = 0;
 
     for (int at = 0; at < MOST_CALLERS; at++) {
-        ends[2 + at] = (struct pollfd){stay->callers[at].socket, POLLIN, 0};
+        ends[3 + at] = (struct pollfd){stay->callers[at].socket, POLLIN, 0};
         free_ones += stay->callers[at].socket < 0;
     }
     ends[0] = (struct pollfd){free_ones > 0 ? stay->listener : -1, POLLIN, 0};
-    short awaited = (short)((stay->in.len == 0 ? POLLIN : 0) | (stay->out.sent < stay->out.len ? POLLOUT : 0));
-    ends[1] = (struct pollfd){stay->line, awaited, 0};
-    if (ppoll(ends, 2 + MOST_CALLERS, wait < 0 ? NULL : &pause, mask) < 0)
+    ends[1] = (struct pollfd){stay->in.len == 0 ? stay->line : -1, POLLIN, 0};
+    ends[2] = (struct pollfd){stay->out.sent < stay->out.len ? stay->line_out : -1, POLLOUT, 0};
+    if (ppoll(ends, 3 + MOST_CALLERS, wait < 0 ? NULL : &pause, mask) < 0)
         return;
     int line = stay->line;
     for (int at = 0; at < MOST_CALLERS && stay->heir == NULL; at++) { /* first, as the host has taken by now all that the link has */
-        if (ends[2 + at].revents != 0)
+        if (ends[3 + at].revents != 0)
             hear_caller(session, &stay->callers[at]);
     }
     if (stay->heir != NULL)
@@ -336,7 +296,7 @@ static void carry(struct session *session, const sigset_t *mask, int64_t longest
         accept_callers(stay);
     if (stay->line >= 0 && stay->line == line && (ends[1].revents != 0 || stay->in.len > 0))
         read_line(session);
-    put_notes(session);
+    put_messages(session);
 }
 
 /* ---- The session ---- */
@@ -355,9 +315,38 @@ static enum ending take_what_is_there(struct session *session, const sigset_t *m
             ending = take_again(session, &tries);
         write_line(session);
         carry(session, mask, 0);
+        while (ending == GOES_ON && session->stay->has_streams && session->stay->in.len > 0 && is_tried_again(ENOMEM, &tries))
+            feed_link(session);
         after = count_of(session->stay, sam_link_received);
     } while (ending == GOES_ON && after != before && ++pieces <= MOST_PIECES_LEFT);
+    if (ending == GOES_ON && session->stay->has_streams && session->stay->in.len > 0)
+        lose_the_last(session);
     return ending;
+}
+
+/* Why a session ends that its terminal has not left: its line tells, where that is all that it has. */
+static enum ending ending_of_line(struct session *session)
+{
+    struct stay *stay = session->stay;
+    bool is_at_its_end = stay->has_streams && stay->line < 0 && stay->ending == GOES_ON && !session->wire.is_short;
+
+    if (is_at_its_end && sam_host_finish(&session->host) == SAM_TRUNCATED) {
+        say("standard input ends inside a message");
+        return LINE_BROKE;
+    }
+    return stay->ending == GOES_ON ? INPUT_ENDED : stay->ending;
+}
+
+/* Whether memory is out for what a terminal has sent that is gone, and has been for a while: nobody will send it once more. */
+static bool is_given_up(struct stay *stay)
+{
+    struct pollfd end = {stay->line, POLLRDHUP, 0};
+
+    if (!stay->has_streams || stay->in.len == 0 || poll(&end, 1, 0) <= 0)
+        stay->gone = 0;
+    else if (stay->gone == 0)
+        stay->gone = now();
+    return stay->gone != 0 && now() - stay->gone > LONGEST_GONE;
 }
 
 static enum ending serve_line(struct session *session, const sigset_t *mask)
@@ -365,7 +354,7 @@ static enum ending serve_line(struct session *session, const sigset_t *mask)
     struct stay *stay = session->stay;
     enum ending ending = stay->ending;
 
-    while (ending == GOES_ON && !is_signalled() && !stay->is_to_end && time_left_alone(session) != 0) {
+    while (ending == GOES_ON && !is_signalled() && !stay->is_to_end && time_left_alone(session) != 0 && !is_given_up(stay)) {
         carry(session, mask, -1);
         if (stay->heir != NULL)
             return GOES_ON;
@@ -381,31 +370,44 @@ static enum ending serve_line(struct session *session, const sigset_t *mask)
     if (ending == GOES_ON)
         ending = take_what_is_there(session, mask);
     send_pending(session);
-    return ending == GOES_ON ? INPUT_ENDED : ending;
+    return ending == GOES_ON ? ending_of_line(session) : ending;
 }
 
-/* Puts the last note, and keeps it until the terminal has acknowledged it: for a while where that has left, and for a moment where it may
+/* Whether the terminal has the last message, before which so many bytes were put, or can't hear of it. It has what standard output took. */
+static bool has_heard_all(struct stay *stay, uint64_t wanted)
+{
+    size_t unsent = 0;
+
+    if (!stay->has_streams)
+        return wanted > 0 && count_of(stay, sam_link_acknowledged) >= wanted;
+    bool is_sent = stay->out.sent == stay->out.len && (sam_link_unsent(&stay->link, &unsent) != SAM_OK || unsent == 0);
+    return stay->line_out < 0 || (wanted > 0 && is_sent);
+}
+
+/* Puts the last message, and keeps it until the terminal has acknowledged it: for a while where that has left, and for a moment where it may
  * not know. */
 static void say_the_end(struct session *session, const sigset_t *mask, int status, bool has_left)
 {
     struct stay *stay = session->stay;
     bool was_signalled = is_signalled(), was_to_end = stay->is_to_end;
     uint64_t wanted = 0;
-    int64_t until = now() + (has_left ? LONGEST_END : stay->line >= 0 ? UNASKED_END : 0);
+    int tries = 0;
+    bool is_awaited = has_left || (stay->has_streams && !was_signalled);
+    int64_t until = now() + (is_awaited ? LONGEST_END : stay->line >= 0 ? UNASKED_END : 0);
 
     stay->longest_alone = -1;
     session->has_open = session->due.is_waiting = false; /* nobody is told of files any more, and all is saved */
     while (stay->attempt > 0 && now() < until && is_signalled() == was_signalled && stay->is_to_end == was_to_end) {
-        say_missing(stay); /* no line comes after the last note */
-        if (!stay->has_ended && stay->missing == 0)
-            stay->has_ended = say_note(session, "ended %d", status);
-        put_notes(session);
-        if (stay->has_ended && stay->notes == NULL && wanted == 0)
+        say_missing(&stay->messages); /* no line comes after the last message */
+        if (!stay->has_ended && stay->messages.missing == 0)
+            stay->has_ended = put_message(session, &(struct event){.kind = SAM_NOTE_ENDED, .number = (uint64_t)status}, NULL);
+        put_messages(session);
+        if (stay->has_ended && stay->messages.waiting == NULL && wanted == 0)
             wanted = count_of(stay, sam_link_put_count);
-        if (wanted > 0 && count_of(stay, sam_link_acknowledged) >= wanted)
-            return;
         sync_journal(session);
         write_line(session);
+        if (has_heard_all(stay, wanted) || (stay->has_streams && wanted == 0 && !is_tried_again(ENOMEM, &tries)))
+            return;
         carry(session, mask, wanted > 0 ? until - now() : PAUSE);
         while (read_bytes(session)) /* nothing counts any more */
             session->wire.taken = session->wire.input_len;
@@ -456,7 +458,7 @@ int stay_and_serve(struct session *session)
     session->wire.carrier = &by_link;
     stay->alone_since = now();
     stay->begun = stay->begun == 0 ? stay->alone_since : stay->begun;
-    put_notes(session);
+    put_messages(session);
     write_line(session); /* the welcome of a terminal that has taken the session over: it may say nothing before */
     if (stay->has_ended) /* another samhost has done all but to wait */
         status = stay->is_kept ? STATUS_LOST : STATUS_OK;

@@ -1,4 +1,4 @@
-/* persistent_session.h: serves a session that stays when its line breaks. */
+/* persistent_session.h: serves a session over its link: one that stays when its line breaks, or one that ends with it. */
 #ifndef SAMHOST_SESSION_PERSISTENT_SESSION_H
 #define SAMHOST_SESSION_PERSISTENT_SESSION_H
 
@@ -11,6 +11,7 @@
 #include "log.h"
 #include "net/handshake.h"
 #include "session/ending.h"
+#include "session/messages.h"
 #include "session/session_directory.h"
 #include "sulgrevad.h"
 
@@ -23,45 +24,36 @@ struct piece {
     uint8_t bytes[PIECE];
 };
 
-/* A note for the terminal that is not put yet. */
-struct note {
-    struct note *next;
-    char *words;
-};
-
-/* What a session that stays has beside its files. Times are those of now(). */
+/* What a session has beside its files. Times are those of now(). */
 struct stay {
-    struct home home;
-    sam_link link; /* empty before the first hello */
+    struct home home; /* without a folder where the session ends with its line */
+    bool has_streams; /* its line is standard input and output, and it ends with that */
+    sam_link link;    /* empty before the first hello */
     uint8_t id[SAM_LINK_ID_BYTES];
     int listener;
     struct caller callers[MOST_CALLERS];
     struct waiter waiters[MOST_WAITERS];
-    int line; /* the newest connection; -1 where it is over */
+    int line;     /* the newest connection, as bytes come over it; -1 where it is over */
+    int line_out; /* the same, as bytes go over it */
     uint64_t attempt;
     struct piece in, out;
-    struct note *notes; /* that wait */
-    unsigned missing;   /* lines that there was no memory for */
+    bool is_short; /* memory is out for what was read */
+    struct messages messages;
     struct journal journal;
-    struct replay *replay; /* NULL but while it is made again */
-    enum ending ending;
-    struct session *heir;                 /* what another terminal has made of the session; else NULL */
-    uint8_t note[SAM_LINK_MOST_NOTE + 1]; /* of the terminal, that is to be done, and a zero after it */
+    struct replay *replay;            /* NULL but while it is made again */
+    enum ending ending;               /* why it ends; LINE_BROKE and FAULT while what has come is still to be taken */
+    struct session *heir;             /* what another terminal has made of the session; else NULL */
+    uint8_t note[SAM_LINK_MOST_NOTE]; /* of the terminal, that is to be done */
     size_t note_len;
     bool has_note;
-    bool is_answering; /* that is being done, and notes wait for it */
-    bool has_ended;    /* the last note is put */
+    bool is_answering; /* that is being done, and messages wait for it */
+    bool has_ended;    /* the last message is put */
     bool is_again;     /* it was made again of its journal */
     bool is_to_end;    /* somebody has asked for its end */
     bool is_kept;      /* its folder stays, for another samhost to go on from its journal */
     int64_t begun, alone_since, longest_alone;
+    int64_t gone; /* since when a terminal is known to be gone of which memory is out for the last bytes; else 0 */
 };
-
-/* Has lines for standard error become notes, from now on. */
-void listen_for_notes(struct session *session);
-
-/* Puts a note behind those that wait. Returns whether there is memory for it. */
-bool say_note(struct session *session, const char *format, ...);
 
 /* Before a file is written, which may take long: has the disk have all records, so that a power cut leaves no file newer than its session,
  * and sends what is due. */
@@ -70,13 +62,7 @@ void flush_line(struct session *session);
 /* Tells the terminal that another one, on this machine, has the session now, as far as its line takes that without waiting. */
 void say_the_last(struct session *session, const char *machine);
 
-/* Says how many lines there was no memory for, if there are some. */
-void say_missing(struct stay *stay);
-
-/* Puts the notes that wait, as soon as there is a link. */
-void put_notes(struct session *session);
-
-/* Serves a session that stays, over its link, until it ends. Returns the exit status. */
+/* Serves a session over its link until it ends. Returns the exit status. */
 int stay_and_serve(struct session *session);
 
 #endif

@@ -31,7 +31,6 @@ static mode_t mode_of_new_files(void)
 
 bool make_session(struct session *session)
 {
-    session->wire.carrier = &by_standard_streams;
     session->documents = calloc(ALL_TAGS, sizeof *session->documents);
     session->text.bytes = malloc(MOST_BYTES);
     session->mode_of_new_files = mode_of_new_files();

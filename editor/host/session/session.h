@@ -32,7 +32,7 @@ struct session {
     struct due due;
     mode_t mode_of_new_files;
     char *lost_folder; /* the one in which it began, where that is gone and the session only ends; else NULL */
-    struct stay *stay; /* NULL where the session ends with its line */
+    struct stay *stay; /* the link, and how the session is found again */
 };
 
 /* What the words say beside the files. */

@@ -13,9 +13,9 @@
 #include <unistd.h>
 
 #include "session/session_control.h"
+#include "disk/errors.h"
 #include "disk/file_reader.h"
 #include "disk/paths.h"
-#include "disk/saves.h"
 #include "journal/journal.h"
 #include "limits.h"
 #include "log.h"

@@ -16,6 +16,7 @@
 #include "session/takeover.h"
 #include "disk/autosave.h"
 #include "disk/cut_backup.h"
+#include "disk/errors.h"
 #include "disk/file_reader.h"
 #include "disk/file_watcher.h"
 #include "disk/saves.h"
@@ -27,6 +28,7 @@
 #include "session/daemon.h"
 #include "session/document.h"
 #include "session/ending.h"
+#include "session/messages.h"
 #include "session/persistent_session.h"
 #include "session/session.h"
 #include "session/session_control.h"
@@ -95,6 +97,8 @@ static void hand_documents(struct session *session, struct session *heir)
         document->is_taken = document->is_unsaved;
     }
     heir->closed = session->closed;
+    for (struct closed *closed = heir->closed; closed != NULL; closed = closed->next)
+        closed->tag = 0;
     session->closed = NULL;
     heir->due = session->due;
     heir->mode_of_new_files = session->mode_of_new_files;
@@ -110,7 +114,7 @@ static void hand_stay(struct session *session, struct session *heir, struct call
     name_machine(machine);
     say_the_last(session, machine);
     drop_line(stay);
-    next->line = caller->socket;
+    next->line = next->line_out = caller->socket;
     caller->socket = -1;
     next->listener = stay->listener;
     memcpy(next->callers, stay->callers, sizeof next->callers);
@@ -150,7 +154,7 @@ static void put_journal(struct session *session, struct session *heir, const str
     (void)unlinkat(home->folder, JOURNAL, 0);
     (void)unlinkat(home->folder, NEW_JOURNAL, 0);
     if (!is_told)
-        say("there is no journal: %s; if samhost ends unasked, the session ends with it", cause(error));
+        tell_no_journal(error);
 }
 
 /* Writes the journal of the new session, and names its folder by its link. Both names lead to the folder from the first step on, so a kill
@@ -186,7 +190,7 @@ static struct session *make_heir(struct session *session, const struct caller *c
         *code = sam_link_new(&heir->stay->link, SAM_LINK_HOST, id);
     if (*code == SAM_OK)
         *code = sam_link_answer(&heir->stay->link, caller->bytes, caller->len);
-    if (*code == SAM_OK && !say_first(heir))
+    if (*code == SAM_OK && !put_first_message(heir))
         *code = SAM_NO_MEMORY;
     if (*code == SAM_OK)
         return heir;
@@ -210,7 +214,7 @@ uint32_t take_over(struct session *session, struct caller *caller, const uint8_t
     hand_documents(session, heir);
     hand_stay(session, heir, caller);
     heir->stay->attempt = attempt;
-    listen_for_notes(heir);
+    listen_for_messages(heir);
     name_anew(session, heir, caller);
     (void)save_cut(session, false);
     report_taken(heir);

@@ -1,10 +1,12 @@
 """Files that join a running session: the user opens one by its path, or a program at the host wishes one shown."""
+import contextlib
+import os
 from collections import deque
 from typing import Deque, List, NamedTuple, Optional, Tuple
 
 from ..keys.bindings import Input, Key, Text
 from ..view.menus import Menu
-from ..line.persistent_session import Note, number_of, tag_of
+from sulgrevad import Note, NoteCode, NoteKind, SamError
 
 QUIET = 1.0  # seconds after the last key from which on a file may come up that the user did not ask for
 MOST_WISHES = 64  # that wait; of more the first ones are dropped
@@ -23,8 +25,8 @@ class OpenRequests:
 
     def __init__(self, editor):
         self.editor, self.terminal = editor, editor.terminal
-        self._number = 0  # of the last question
-        self._names_of = 0  # of the last one for names
+        self._request = 0  # the number of the last one, whatever it asked for
+        self._names_of = self._open_of = 0  # that of the last one for names, and for a file
         self._path: Optional[str] = None  # the path that is being opened
         self._opened: Optional[int] = None  # the file of the path, once the host has told it
         self._wishes: Deque[Wished] = deque(maxlen=MOST_WISHES)
@@ -36,11 +38,16 @@ class OpenRequests:
         """Whether the host takes paths."""
         return self.editor.way.line is not None
 
+    def next_request(self) -> int:
+        """The number of another request; its answer repeats it."""
+        self._request += 1
+        return self._request
+
     def ask_names(self, path: str) -> None:
         """Asks for names that complete a path. The answer to the last question counts."""
-        self._number += 1
-        self._names_of = self._number
-        self.editor.way.line.put_note("names", str(self._number), path)
+        self._names_of = self.next_request()
+        with contextlib.suppress(SamError):  # of a path that is too long nothing is known
+            self.editor.way.line.put_note(Note(NoteKind.COMPLETE, request=self._names_of, path=os.fsencode(path)))
 
     def open(self, path: str) -> bool:
         """Has the host open a file. Returns whether that is asked; else the key acts again, or can't act."""
@@ -51,33 +58,36 @@ class OpenRequests:
         if editor.is_lock_held:
             editor.act_again("waits for the host")
             return False
-        self._number += 1
+        self._open_of = self.next_request()
+        try:
+            editor.way.line.put_note(Note(NoteKind.OPEN, request=self._open_of, path=os.fsencode(path)))
+        except SamError:
+            editor.message = "the path is too long"
+            return True
         self._path, self._opened = path, None
-        editor.way.line.put_note("open", str(self._number), path)
         self.terminal.offer_version(VERSION)
         editor.await_file()
         return True
 
     def meet(self, note: Note) -> None:
-        """A note of the host."""
-        word, _, rest = note.rest.partition(" ")
-        if note.verb == "names" and number_of(word) == self._names_of and isinstance(self.editor.menu, Files):
-            more, _, names = rest.partition(" ")
-            self.editor.menu.meet_names(names_of(names), more == "1")
-        elif note.verb == "wish" and (tag := tag_of(word)) is not None:
-            self._wishes.append(Wished(tag, number_of(rest) or 0))
-        elif self._path is None:
+        """An answer of the host, or the wish of another program."""
+        if note.kind == NoteKind.SHOWN:
+            self._wishes.append(Wished(note.tag, note.number))
+        elif note.kind == NoteKind.NAMES and note.request == self._names_of and isinstance(self.editor.menu, Files):
+            names = os.fsdecode(note.path).split("\n")[:-1]
+            self.editor.menu.meet_names(names, note.code == NoteCode.HAS_MORE)
+        elif self._path is None or note.request != self._open_of:
             return
-        elif note.verb == "opened":
-            self._opened = tag_of(rest)
-        elif note.verb == "refused":
-            self.editor.give_back_typed(f"{self._path} is not opened: {rest}")
-            self._path = None
-        elif note.verb == "folder":
+        elif note.kind == NoteKind.OPENED:
+            self._opened = note.tag
+        elif note.kind == NoteKind.REFUSED and note.code == NoteCode.IS_FOLDER:
             path, self._path = self._path, None
             self.editor.do_menu()
             if isinstance(self.editor.menu, Files):
                 self.editor.menu.go_into(path)
+        elif note.kind == NoteKind.REFUSED:
+            self.editor.give_back_typed(f"{self._path} is not opened: {note.text}")
+            self._path = None
 
     def go_on(self) -> None:
         """Shows what has joined."""
@@ -108,17 +118,6 @@ class OpenRequests:
     def seconds(self) -> Optional[float]:
         """How long until a file may come up."""
         return max(0.0, QUIET - self.editor.quiet_for) if self._wishes else None
-
-
-def names_of(names: str) -> List[str]:
-    """The names of a note, which stand between slashes; those of folders end in a slash."""
-    found: List[str] = []
-    for name in names.split("/") if names else []:
-        if name:
-            found.append(name)
-        elif found:
-            found[-1] += "/"
-    return found
 
 
 class Files(Menu):

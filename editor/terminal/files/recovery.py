@@ -6,8 +6,6 @@ import time
 from typing import Dict, List, NamedTuple, Optional, Tuple, Union
 
 from . import local_backup
-from .unsaved_texts import shown_name
-from ..line.persistent_session import tag_of
 from ..keys.bindings import Input, Key, Mouse, Paste, Text
 from ..view.status_line import printable
 from ..text.texts import COMMAND, MOST_RUNES, Change, Changes
@@ -18,7 +16,6 @@ from ..view.windows import end_of_load
 # The name in the session of a text that the host saved: the tag of its file, 0 for what was cut last; whether it is newer; and when it
 # was saved.
 NAMED = re.compile(r"~~left~~ ([0-9]{1,5}) ([+-]) (.*)")
-MOST_TIMES = 10_000  # files of which it is kept when they were written
 MOST_COMPARED = 1_000  # lines that differ, from the first to the last, of which it is shown how
 LONGEST_COMPARING = 0.5  # seconds of the processor for that
 REACH = 32_768  # runes that are loaded in one round trip
@@ -51,23 +48,21 @@ class Recovery:
         self._here: Dict[str, Old] = {}  # those that are here, by their paths
         self._taken: Dict[int, Tuple[List[Old], Step]] = {}  # of a file, what was taken into it and not written yet; and that step of undo
         self._written: List[int] = []  # files that were written since
-        self._times: Dict[str, int] = {}  # when files were written last, by the paths that the host tells
+        self._times: Dict[int, int] = {}  # when files were written last
         self._warned: Optional[Old] = None  # the text of which the user knows that it lacks something
         self._whole: Optional[Old] = None  # the one from which all came that it lacks
 
     # ---- What there is
 
-    def hear_written(self, path: str, when: int) -> None:
-        if len(self._times) < MOST_TIMES:
-            self._times[path] = when
+    def hear_written(self, tag: int, when: int) -> None:
+        self._times[tag] = when
 
     def find(self, own: List[int]) -> None:
         """The names of the host's files are known: some of its own are texts that it saved. Others of the files may be here."""
         for tag in own:
             found = NAMED.fullmatch(self.terminal.name(tag))
-            of = tag_of(found[1]) if found else None
-            if of is not None:
-                self.tags[tag] = Old(of, found[3], found[2] == "+", tag=tag)
+            if found:
+                self.tags[tag] = Old(int(found[1]), found[3], found[2] == "+", tag=tag)
         names = {tag: self.terminal.name(tag) for tag in self.editor.tags}
         here = local_backup.left([*names.values(), local_backup.TYPED])
         for tag, name in [(COMMAND, local_backup.TYPED), *names.items()]:
@@ -79,7 +74,7 @@ class Recovery:
             saved = os.stat(path).st_mtime
         except OSError:
             return
-        written = next((when for told, when in self._times.items() if printable(shown_name(told)) == printable(name)), None)
+        written = self._times.get(tag)
         when = time.strftime("%Y-%m-%d %H:%M:%S", time.localtime(saved))
         old = Old(tag, when, None if written is None else int(saved) >= written, path=path)
         self._here[path] = old

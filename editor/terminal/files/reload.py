@@ -6,7 +6,7 @@ line, `^Z` takes it back, and the file counts as written then.
 from typing import Dict, Iterable, List, Optional, Set
 
 from .open_requests import VERSION
-from ..line.persistent_session import Note, tag_of
+from sulgrevad import Note, NoteKind
 
 NAME = "~~anew~~ "  # what names of the hidden files begin with
 
@@ -18,7 +18,7 @@ class Reload:
         self.editor, self.terminal = editor, editor.terminal
         self.changed: Dict[int, str] = {}  # files that another program has changed since they were read or written here; and the lines
         self.hidden: Set[int] = set()  # what was read anew
-        self._number = 0  # of the last question
+        self._request = 0  # the last one
         self._tag: Optional[int] = None  # the file that is read anew
         self._anew: Optional[int] = None  # its new text, once the host has told it
         self._sure_of: Optional[int] = None  # the file of which the user is sure, though it was not written
@@ -32,10 +32,10 @@ class Reload:
         self.forget(tag)
         self.hidden.discard(tag)
 
-    def meet_changed(self, tags: Iterable[int], line: str) -> None:
-        """The host has told, by a line, that another program changed a file of these."""
+    def meet_changed(self, tag: int, line: str) -> None:
+        """The host has told, by a line, that another program changed a file."""
         line += f"; {self.editor.keys.of('reload')} reloads it" if self.is_there else ""
-        self.changed.update((tag, line) for tag in tags)
+        self.changed[tag] = line
         self.editor.notes.keep(1, line)
 
     def forget(self, tag: int) -> None:
@@ -55,11 +55,6 @@ class Reload:
 
     # ---- Reading one anew
 
-    @property
-    def _id(self) -> str:
-        """What the last question is known by; those for paths have numbers alone."""
-        return f"anew{self._number}"
-
     def begin(self, tag: int, key: str) -> bool:
         """Has the host read a file anew, once the user is sure where it was not written. Returns whether that is done or can't be; else the
         key acts again, or asks."""
@@ -78,23 +73,22 @@ class Reload:
         self._sure_of = tag
         if not editor.may_go_whole(tag, key):
             return False
-        self._number += 1
+        self._request = editor.joining.next_request()
         self._tag, self._anew, self._sure_of = tag, None, None
-        editor.way.line.put_note("reload", self._id, str(tag))
+        editor.way.line.put_note(Note(NoteKind.RELOAD, request=self._request, tag=tag))
         self.terminal.offer_version(VERSION)
         editor.await_file()
         return True
 
     def meet(self, note: Note) -> bool:
-        """A note of the host. Returns whether it is of a file that is read anew."""
-        word, _, rest = note.rest.partition(" ")
-        if self._tag is None or word != self._id or note.verb not in ("anew", "refused"):
+        """An answer of the host. Returns whether it is of a file that is read anew."""
+        if self._tag is None or note.request != self._request or note.kind not in (NoteKind.ANEW, NoteKind.REFUSED):
             return False
-        if note.verb == "anew" and (anew := tag_of(rest)) is not None:
-            self._anew = anew
-            self.hidden.add(anew)
+        if note.kind == NoteKind.ANEW:
+            self._anew = note.number
+            self.hidden.add(note.number)
         else:
-            self.editor.notes.keep(1, f"{self.editor.name(self._tag)} is not reloaded: {rest}")
+            self.editor.notes.keep(1, f"{self.editor.name(self._tag)} is not reloaded: {note.text}")
             self._tag = None
         return True
 
@@ -115,7 +109,7 @@ class Reload:
         editor = self.editor
         editor.window_of(tag).select(min(place, self.terminal.len(tag)))
         if self.terminal.len(tag) == self.terminal.len(anew):
-            editor.way.line.put_note("reloaded", self._id, f"{tag} {anew}")
+            editor.way.line.put_note(Note(NoteKind.RELOADED, tag=tag, number=anew))
             editor.write(tag)
             editor.message = f"{editor.name(tag)} is reloaded; {editor.keys.of('undo')} takes that back"
         else:

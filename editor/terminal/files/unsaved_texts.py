@@ -1,11 +1,13 @@
 """What became of the texts: which could not be written, which the host has saved aside, and which have to be written here."""
+import os
 from collections import Counter
-from typing import Dict, List, Optional, Set, Tuple
+from typing import Dict, List, Optional, Tuple, Union
 
 from . import local_backup
 from .backup_process import BackupProcess
-from ..view.status_line import Said, printable, said
+from ..view.status_line import rank_of, words_of
 from ..text.texts import GAP, Changes
+from sulgrevad import Note, NoteCode, NoteKind
 
 HERE_AFTER = 10.0  # seconds without a line after which changed texts are also written here, and then again
 # To begin that takes some milliseconds, so it comes between two keys: right after one, or once none has come for a while.
@@ -13,6 +15,8 @@ JUST, QUIET = 0.01, 0.25  # seconds since a key
 MOST_PUT_OFF = 1.0  # seconds that it waits for that
 AGAIN = 0.1  # seconds until it is looked again whether what is to go is written
 MOST_RUNES_IN_NAME = 64  # in the session; of a longer path the host shows the end
+# Why a write failed that would have replaced what stands in the file.
+REPLACING = {NoteCode.CHANGED_SINCE: "another program changed it", NoteCode.EXISTS_ALREADY: "it is there already"}
 
 
 def shown_name(path: str) -> str:
@@ -30,16 +34,14 @@ class UnsavedTexts:
         self.typed_late = ""  # what was typed when the host was lost already, or memory was out for it
         self.has_left = False  # a text was written here
         self.is_cut_saved = False  # the host has saved what was cut last
-        self._refused: Dict[int, Tuple[str, str]] = {}  # files that the next write would replace: the name, and what is asked before
-        self.refusals: Dict[int, str] = {}  # the lines that told of these
+        # Files that the next write would replace: the name, None where it was not known yet, and what the host told.
+        self._refused: Dict[int, Tuple[Optional[str], Note]] = {}
         self._writing: Counter = Counter()  # of each file, how many writes are not answered
         self._changes: Counter = Counter()  # of each file
         self._written: Dict[int, int] = {}  # how many of them there were at the last write
         self._saved: Dict[int, int] = {}  # how many of them are in what the host has saved aside
         self._dropped: Dict[int, Tuple[str, str]] = {}  # names and texts of files that were dropped with open eyes, until they are saved
         self.put_off: Dict[int, bool] = {}  # files that are written when the line is back; whether the user is sure, where that is asked
-        self._tags: Dict[str, Set[int]] = {}  # by the names of files, as they are told
-        self._named_of, self._known_tags = (), []  # type: tuple, List[int]  # what these go by
         self._copies = BackupProcess()  # what was written here while the line was lost
         self._here_at: Optional[float] = None  # when
 
@@ -62,8 +64,16 @@ class UnsavedTexts:
 
     def question(self, tag: int) -> str:
         """What is asked before a file is written in which another program's text stands; "" where none is known to."""
-        name, question = self._refused.get(tag, ("", ""))
-        return question if name == self.name(tag) else ""
+        name, note = self._refused.get(tag, (None, None))
+        if note is None or name not in (None, self.name(tag)):
+            return ""
+        what, key = REPLACING[note.code], self.editor.keys.of("write")
+        kept = f"its text is in {os.fsdecode(note.copy)}" if note.copy else "its text could not be saved"
+        return f"{self.name(tag)}: {what}; {kept}. {key} again replaces it, and keeps what it has beside it"
+
+    def refusal(self, tag: int) -> str:
+        """The words that told of it."""
+        return words_of(self._refused[tag][1]) if tag in self._refused else ""
 
     def meet_clean(self, tag: int) -> None:
         """A write is answered. Whether it failed was told before, or is told later."""
@@ -76,57 +86,38 @@ class UnsavedTexts:
     def hear_changes(self, changes: Changes) -> None:
         self._changes[changes.tag] += len(changes)
 
-    def hear_host(self, told: Said, line: str) -> Set[int]:
-        """A line of the host's standard error. Returns the files that it may be about."""
-        if told.what == "lost":
+    def meet(self, note: Note) -> None:
+        """A message of the host about a text: whether it is written, and where a copy of it is."""
+        tag, is_of_file = note.tag, note.code == NoteCode.NO_CODE and note.copy != b""
+        if note.kind == NoteKind.LOST:
             self.is_hopeless = True
-        self.is_cut_saved = self.is_cut_saved or told.what == "cut"
-        tags = self._tags_of(told)
-        if told.is_taken and not tags:  # one of them is not written, and nobody knows which
-            tags = set(self.editor.tags)
-        for tag in () if told.what in ("left", "written", "changed", "taken back") else tags:
-            if told.replaces:
-                name, self.refusals[tag] = self.name(tag), line
-                key = self.editor.keys.of("write")
-                self._refused[tag] = (name, f"{name}: {told.replaces}. {key} again replaces it, and keeps what it has beside it")
-            if "failed" in told.what:
-                self.unwritten[tag] = self._writing[tag] <= 0
-            if "saved" not in told.what:
-                self._saved.pop(tag, None)
-        if "saved" in told.what and len(tags) == 1:  # of several files of a name, nobody knows which one it is
-            (tag,) = tags
-            self._saved[tag] = self._written.get(tag, -1) if "failed" in told.what else self._changes[tag]
-            if told.what == "saved":
-                self._dropped.pop(tag, None)
-        return tags
+            self._saved.pop(tag, None)
+        elif note.kind == NoteKind.NOT_SAVED:
+            self._meet_failure(note)
+        elif note.kind == NoteKind.ASIDE and note.code == NoteCode.CUT:
+            self.is_cut_saved = True
+        elif note.kind == NoteKind.ASIDE and is_of_file:
+            self._saved[tag] = self._changes[tag]
+            self._dropped.pop(tag, None)
 
-    def is_so(self, line: str) -> bool:
-        """Whether what the host told of files by a line is for the user, and still holds: what was not written may have been since, or been
-        read anew."""
-        told = said(line)
-        if told.what in ("written", "taken back"):
-            return False
-        tags = self._tags_of(told) & set(self.editor.tags)
-        if told.what in ("failed", "failed and saved"):
-            return not tags or any(map(self.editor.is_changed, tags))
-        return told.what != "changed" or not tags or bool(tags & set(self.editor.reloading.changed))
+    def _meet_failure(self, note: Note) -> None:
+        """A write failed, or would have replaced another program's text."""
+        tag = note.tag
+        if note.code in REPLACING:
+            self._refused[tag] = self.name(tag) if self.terminal.is_known(tag) else None, note
+        self.unwritten[tag] = self._writing[tag] <= 0
+        if note.copy:
+            self._saved[tag] = self._written.get(tag, -1)
+        else:
+            self._saved.pop(tag, None)
 
-    def _tags_of(self, told: Said) -> Set[int]:
-        """The files that a line of the host may be about, also those that were dropped."""
-        named = self._named()
-        of_names = (named.get(printable(shown_name(name)), set()) for name in told.names)
-        unnamed = {told.tag for known in (self._dropped, self.editor.tags) if told.tag is not None and told.tag in known}
-        return unnamed | next(filter(None, of_names), set())
-
-    def _named(self) -> Dict[str, Set[int]]:
-        """The files by their names as they are told. Thousands take long to ask for, so they are kept until some change."""
-        tags, dropped = self.editor.tags, [(tag, name) for tag, (name, _) in self._dropped.items()]
-        of = self.terminal.namings, dropped
-        if self._named_of != of or self._known_tags is not tags:
-            self._named_of, self._known_tags, self._tags = of, tags, {}
-            for tag, name in [*dropped, *((tag, self.name(tag)) for tag in tags)]:
-                self._tags.setdefault(printable(name), set()).add(tag)
-        return self._tags
+    def is_so(self, told: Union[str, Note]) -> bool:
+        """Whether what was told of a file still holds: what was not written may have been since, or been read anew."""
+        if isinstance(told, str) or told.tag not in self.editor.tags:
+            return isinstance(told, str) or rank_of(told) > 0
+        if told.kind == NoteKind.NOT_SAVED:
+            return self.editor.is_changed(told.tag)
+        return told.tag in self.editor.reloading.changed if told.kind == NoteKind.CHANGED else rank_of(told) > 0
 
     def drop(self, tag: int) -> None:
         """The file is closed."""

@@ -187,7 +187,7 @@ class Actions(Commands, Moves):
             self.write_later(tag, is_sure=question != "" and self._answered == question)
             return
         if question:
-            self.notes.forget(self.keeping.refusals[tag])
+            self.notes.forget(self.keeping.refusal(tag))
         if not question or self.is_sure(question):
             self.write(tag)
 

@@ -1,4 +1,4 @@
-"""The link: the process of the host, and the bytes that go to it and come from it."""
+"""One connection: a process, and the bytes that go to it and come from it."""
 import contextlib
 import fcntl
 import os
@@ -7,14 +7,13 @@ import signal
 import subprocess
 import time
 from collections import deque
-from typing import Callable, Deque, Dict, List, Optional, Union
+from typing import Callable, Deque, Dict, List, Optional
 
 PIECE = 65_536  # bytes that one call reads
 MOST_AT_ONCE = 131_072  # bytes that are taken before a key is: to handle them takes some 10 milliseconds
 IN_PIPE = 262_144  # bytes that wait in the pipe, so a relay need not wait for us at each piece
 SECONDS_TO_END = 10  # how long the host may take to end
 SECONDS_OF_SILENCE = 2  # the same where it has not answered for a while
-MOST_NOISE = 65_536  # bytes that may come before the stream
 MOST_IN_LINE = 4_096  # bytes of a line of standard error; more are dropped
 MOST_LINES = 64  # lines of it that are taken before a key is
 
@@ -38,9 +37,7 @@ def wait_for(wanted: Dict[int, int], seconds: Optional[float]) -> Dict[int, int]
 
 
 class HostProcess:
-    """A host's process. Nothing here waits, but for `wait_for_stream` and `close`."""
-
-    why = "the host is gone"  # where it is lost
+    """A connection's process. Nothing here waits, but for `close`."""
 
     def __init__(self, command: List[str], own_session: bool = False):
         """In a session of its own a process has no screen, so that it can't ask there."""
@@ -56,10 +53,8 @@ class HostProcess:
         self.waiting = bytearray()  # bytes that the pipe has not taken yet
         self.up = self.down = 0  # bytes that have gone each way
         self.is_lost = self.is_deaf = self._has_ended = False  # the host writes, reads, tells nothing more
-        self.noise: List[str] = []  # lines that came before the stream
         self._line = b""
         self._lines: Deque[bytes] = deque()  # that were not taken yet
-        self.early = b""  # the first bytes of the stream
 
     def send(self, data: bytes = b"") -> None:
         """Sends bytes, as many as go; the others wait. A host that reads no more may still have written something."""
@@ -126,22 +121,6 @@ class HostProcess:
         """Whether the host tells nothing more."""
         return self._has_ended and not self._lines
 
-    def take(self, ready: Dict[int, int]) -> List[Union[str, bytes]]:
-        """What has come: first what the host says of a text, which it says before it answers."""
-        if self.source not in ready and self.messages not in ready and not self.has_lines:
-            return []
-        lines: List[Union[str, bytes]] = [] if self.is_quiet else list(self.listen())
-        data = self.receive() if self.source in ready and not self.is_lost and not self.has_lines else b""
-        return lines + ([data] if data else [])
-
-    def take_early(self) -> List[Union[str, bytes]]:
-        """The same of what came before there was a screen."""
-        return [self.early]
-
-    def delay(self) -> Optional[float]:
-        """Nothing is due here by the clock; but lines that wait."""
-        return 0.0 if self.has_lines else None
-
     def wanted(self) -> Dict[int, int]:
         """What to wait for: events by descriptor."""
         wanted = {}
@@ -152,27 +131,6 @@ class HostProcess:
         if not self._has_ended:
             wanted[self.messages] = select.POLLIN
         return wanted
-
-    def wait_for_stream(self, first: bytes, hear: Callable[[str], None]) -> bool:
-        """Waits until the host's stream begins, with certain bytes. Other programs may have written something before, as a `.bashrc`
-        does. Passes on what the host tells meanwhile. Returns whether the stream begins."""
-        heard = b""
-        poll = select.poll()
-        poll.register(self.source, select.POLLIN)
-        poll.register(self.messages, select.POLLIN)
-        while first not in heard and len(heard) <= MOST_NOISE and not self.is_lost:
-            ready = dict(poll.poll())
-            if self.messages in ready:
-                for line in self.listen():
-                    hear(line)
-                if self.is_quiet:
-                    poll.unregister(self.messages)
-            if self.source in ready:
-                heard += self.receive()
-        noise, found, rest = heard.partition(first)
-        self.early = found + rest
-        self.noise = [line for line in noise.decode("utf-8", "replace").splitlines() if line.strip()]
-        return bool(found)
 
     def close(
         self, hear: Callable[[str], None], take: Callable[[bytes], None] = lambda data: None, seconds: float = SECONDS_TO_END

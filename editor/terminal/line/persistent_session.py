@@ -8,13 +8,13 @@ import re
 import select
 import time
 from collections import deque
-from typing import Callable, Deque, Dict, List, NamedTuple, Optional, Sequence, Tuple, Union
+from typing import Callable, Deque, Dict, List, Optional, Sequence, Tuple, Union
 
 import sulgrevad
 from ..keys.bindings import SAM
 from .host_process import SECONDS_TO_END, HostProcess, wait_for
 from .network import Network
-from sulgrevad import SamError
+from sulgrevad import Note, NoteKind, SamError, read_note, write_note
 
 MARK = bytes.fromhex("8973616d6c696e6b")  # with which a hello begins
 HELLO_BYTES = 42
@@ -39,7 +39,9 @@ ALIKE = 3  # connections that end alike, one after another, of which the user is
 SECONDS_APART = 60.0  # that a connection lasts whose end is no more of the same
 SESSION = re.compile("[0-9a-f]{16}")  # a session's name: it goes into a command line
 MOST_IN_NAME = 40  # runes of another that are told
-STATUS = re.compile("[0-9]{1,3}")  # an exit status
+MOST_STATUS = 255  # of a process that ends
+MESSAGES = 1  # the version of the session's messages
+OTHER_MESSAGES = "samhost there is of another version: both have to be of one release"
 
 WELCOME, NO_SESSION = 4, 20
 # Refusals of the host after which no connection comes any more.
@@ -58,28 +60,7 @@ CAN = "{leave} leaves and keeps the texts here; samterm --take then goes on with
 CAN_ASK = "{redraw} tries at once, and ssh can ask then; {leave} leaves and keeps the texts here"
 
 
-class Note(NamedTuple):
-    """A note of the host: a verb, and what stands after it."""
-
-    verb: str
-    rest: str
-
-
-NUMBER, MOST_TAG = re.compile("[0-9]{1,9}"), 65_535
-
-
-def number_of(word: str) -> Optional[int]:
-    """The number that a word of a note is; None where it is none, or too long."""
-    return int(word) if NUMBER.fullmatch(word) else None
-
-
-def tag_of(word: str) -> Optional[int]:
-    """The same of a file's tag."""
-    number = number_of(word)
-    return number if number is not None and number <= MOST_TAG else None
-
-
-Item = Union[bytes, str, Note]  # bytes of the stream, a line that the host tells, another note
+Item = Union[bytes, str, Note]  # bytes of the stream, a line of a connection's standard error, a message of the host
 
 
 class PersistentSession:
@@ -117,7 +98,7 @@ class PersistentSession:
         self._words, self._is_in_front = "", False  # of the newest connection: what it told last, and whether the user waits for it
         self._end_was, self._alike = "", 0  # how the last connection ended, and how many before it ended like that
         self._tells: List[str] = []  # what is to be told of connections
-        self._is_met = False  # a host has welcomed us
+        self._is_met = self._is_named = False  # a host has welcomed us, and has said the first message
         self._missing_since: Optional[float] = None  # since when none finds the session
         self.round_trip, self._is_measured = 0.0, True  # seconds that the last question took, and whether its answer has come
         self._call(begin(self.name))
@@ -270,9 +251,9 @@ class PersistentSession:
             self._note_due()
         self._push()
 
-    def put_note(self, verb: str, *words: str) -> None:
-        """Sends a note, in its order with the stream."""
-        self._unput.append((True, " ".join((verb, *words)).encode("utf-8", "surrogateescape")))
+    def put_note(self, note: Note) -> None:
+        """Sends a message, in its order with the stream. A path that is too long for one raises `SamError`, and nothing is sent."""
+        self._unput.append((True, write_note(note)))
         self._put(b"")
 
     def _put(self, data: bytes) -> None:
@@ -462,31 +443,41 @@ class PersistentSession:
             if note is None:
                 self._has_in = False
                 return items
-            item = self._meet(note.decode("utf-8", "replace"))
+            item = self._meet(note)
             if item is not None:
                 items.append(item)
         return items
 
-    def _meet(self, note: str) -> Optional[Item]:
-        verb, _, rest = note.partition(" ")
-        if verb == "told":
-            return f"samhost: {rest}"
-        if verb == "session":
-            name, _, self.machine = rest.partition(" ")
-            if SESSION.fullmatch(name) is None:
-                return f"samterm: the host calls the session {name[:MOST_IN_NAME]!r}, which is no name: it stays {self.name}"
-            self.name = name
-        elif verb == "ended":
-            self.ended_with = int(rest) if STATUS.fullmatch(rest) else 1
+    def _meet(self, data: bytes) -> Optional[Note]:
+        """A message of the host. What only a later version says is skipped."""
+        try:
+            note = read_note(data)
+        except SamError:
+            note = None
+        if not self._is_named and (note is None or note.kind != NoteKind.SESSION or note.number != MESSAGES):
+            self._lose(OTHER_MESSAGES)
+        elif note is not None and note.kind == NoteKind.SESSION:
+            self._meet_name(note)
+        elif note is not None and note.kind == NoteKind.ENDED:
+            self.ended_with = min(note.number, MOST_STATUS)
             self._end.acknowledge()
             self._has_out = True
             self._push()
             self._lose("the host is gone")
-        elif verb == "gone":
-            self._lose(f"another terminal has taken the session over: {rest}")
+        elif note is not None and note.kind == NoteKind.TAKEN_OVER:
+            self._lose(f"another terminal has taken the session over: {note.text}")
         else:
-            return Note(verb, rest)
+            return note
         return None
+
+    def _meet_name(self, note: Note) -> None:
+        """The first message, which names the session and the host's machine. A wrong name is told."""
+        name = note.path.decode("utf-8", "replace")
+        self._is_named, self.machine = True, note.text
+        if SESSION.fullmatch(name) is None:
+            self._tells.append(f"samterm: the host calls the session {name[:MOST_IN_NAME]!r}, which is no name: it stays {self.name}")
+        else:
+            self.name = name
 
     # ---- How the line is
 
@@ -546,7 +537,7 @@ class PersistentSession:
         """The status with which the host's command has ended before the stream began; None where it goes on."""
         return None if self.relay is None else self.relay.early_status
 
-    def wait_for_stream(self, first: bytes, hear: Callable[[str], None]) -> bool:
+    def wait_for_stream(self, hear: Callable[[str], None]) -> bool:
         """Waits until the host's stream begins. Passes on what is told meanwhile. Returns whether it begins."""
         while not any(isinstance(item, bytes) for item in self._early) and not self.is_lost and self.relay is not None:
             relay, ready = self.relay, wait_for(self.wanted(), self.delay())
@@ -603,5 +594,3 @@ class PersistentSession:
 
     ends = False  # whether the user has left, so that the session ends
 
-
-Line = Union[HostProcess, PersistentSession]  # the way to the host, whichever it is

@@ -2,13 +2,8 @@
 from collections import deque
 from typing import Callable, Deque, Dict, List, Optional
 
-from sulgrevad import Edits, Step, Terminal, TerminalDid
+from sulgrevad import Edits, Kind, Step, Terminal, TerminalDid
 from ..text.texts import GAP, Change, Changes, Texts, received
-
-# Kinds of frames.
-BINDNAME, NEWNAME, GROW, UNLOCK, DATA, UNLOCKFILE, SETDOT, GROWDATA, MOVETO, CLEAN = 66, 68, 70, 72, 73, 75, 76, 77, 78, 79
-CUT, DELNAME, CLOSE = 81, 83, 84
-FIRST = bytes.fromhex("41000a00000000000000010002")  # the frame that answers the first message, which offers version 2
 
 Told = Dict[int, Callable[[int], None]]
 
@@ -70,10 +65,10 @@ class Stream:
         return takes
 
     def _meet(self, did: TerminalDid) -> None:
-        bound, self._bound = self._bound, did.tag if did.kind == BINDNAME else None
-        if did.kind == GROW and did.tag != bound:  # the text that comes in as a file is opened is no change
+        bound, self._bound = self._bound, did.tag if did.kind == Kind.HBINDNAME else None
+        if did.kind == Kind.HGROW and did.tag != bound:  # the text that comes in as a file is opened is no change
             self._note(did)
-        elif did.kind in (GROW, DATA):
+        elif did.kind in (Kind.HGROW, Kind.HDATA):
             self.texts.touch(did.tag)
         if did.kind in self.told:
             self.told[did.kind](did.tag)

@@ -1,33 +1,18 @@
 """The line at the bottom of the screen: what was said last, a question, or what the host has told until it is read."""
-import re
 import unicodedata
-from itertools import islice
-from typing import Callable, List, NamedTuple, Optional, Tuple
+from typing import Callable, List, Optional, Tuple, Union
 
 from .layout import is_hidden
+from sulgrevad import Note, NoteCode, NoteKind
 
 READ_AFTER = 0.5  # seconds that a line stands on the screen until a key counts as pressed by someone who read it
 REPEAT = 0.15  # seconds within which the same key again means that it is held down
 MOST_UNREAD = 100
-MOST_ENDS = 8  # places in a line at which a name may end
 SAMHOST, SAMTERM = "samhost: ", "samterm: "  # what the lines of these begin with
 
 UNSAFE_KINDS = ("Cc", "Cs", "Zl", "Zp")  # controls, halves of runes, and ends of lines and paragraphs
 
-# What a host says of a text. Of a write that failed it says in the same line what became of the text.
-LOST = re.compile(r"the text of (.*) is lost: |(.*) is closed, and its text can't be saved: |what came last from the terminal is lost: ")
-UNSAFE = re.compile(r"the text of .* can't be saved aside: ")
-FAILING = "? write "
-FAILED = re.compile(rf"{re.escape(FAILING)}(?:file (\d{{1,5}}): )?")
-IS_IN = "; its text is in "
-SAVED = re.compile(r"(.*) was not written" + IS_IN)
-CUT_SAVED = re.compile(r"what was cut last is in ")
-REPLACES = re.compile(r": (another program changed it|it is there already), and the next write replaces it; (.*)")
-LEFT = re.compile(r"(.*) has a text that was not written: it is in .*, (?:newer|older) than the file")
-WRITTEN = re.compile(r"(.*) was written last at (\d{1,12})")
-TAKEN_BACK = re.compile(r"(.*) is written")
-CHANGED = re.compile(r"(.*): another program changed it")
-TAKEN = ": it was not written before this terminal took the session over"
+RANKS = {NoteKind.LOST: 3, NoteKind.NO_JOURNAL: 2}  # of other messages of the host 1
 
 
 def printable(line: str) -> str:
@@ -40,50 +25,20 @@ def is_unsafe(rune: str) -> bool:
     return unicodedata.category(rune) in UNSAFE_KINDS or is_hidden(rune)
 
 
-def for_people(line: str) -> str:
-    """A line of the host as it is shown and told: which file was not written stands there in words."""
-    words = line.removeprefix(SAMHOST)
-    return f"{line[: len(line) - len(words)]}not written: {words[len(FAILING) :]}" if words.startswith(FAILING) else line
+def words_of(told: Union[str, Note]) -> str:
+    """The words for people of a message, or of a line of standard error."""
+    return told if isinstance(told, str) else told.text and f"{SAMHOST}{told.text}"
 
 
-class Said(NamedTuple):
-    """A line of the host's standard error: its rank, and the file that it is about."""
-
-    rank: int  # 3: a text is lost; 2: it was not written, or the line can't go on; 1: other words of the host; 0: of another program
-    what: str = ""  # "lost", "failed", "saved"; "failed and saved"; "cut", "left", "written", "changed"; "taken back"
-    names: Tuple[str, ...] = ()  # what the file's name or path may be, the longest first
-    tag: Optional[int] = None  # of a file without a name, whose name here is "file" and the tag
-    replaces: str = ""  # why the next write replaces another program's text, and what became of this one
-    when: int = 0  # the second at which a file was written last
-    is_taken: bool = False  # an earlier terminal had changed a file, and not written it
-
-
-def said(line: str) -> Said:
-    words = line.removeprefix(SAMHOST)
-    if found := LOST.match(words):
-        return Said(3, "lost" if found[1] else "", tuple(filter(None, found.groups())))
-    if found := FAILED.match(words):
-        rank, what = (3, "failed") if "could not be saved" in words else (2, "failed and saved" if IS_IN in words else "failed")
-        line = words[len(FAILING) :]
-        colons = islice(re.finditer(": ", line), MOST_ENDS)
-        ends = [colon.start() for colon in colons]  # one ends the name, and others may stand in it
-        why = REPLACES.search(line)
-        replaces = f"{why[1]}; {why[2]}" if why else ""
-        names, tag = tuple(line[:end] for end in reversed(ends)), int(found[1]) if found[1] else None
-        return Said(rank, what, names, tag, replaces, is_taken=TAKEN in line)
-    if found := SAVED.match(words):
-        return Said(1, "saved", (found[1],))
-    if CUT_SAVED.match(words):
-        return Said(1, "cut")
-    if found := LEFT.match(words):
-        return Said(1, "left", (found[1],))
-    if found := CHANGED.fullmatch(words):
-        return Said(1, "changed", (found[1],))
-    if found := TAKEN_BACK.fullmatch(words):
-        return Said(1, "taken back", (found[1],))
-    if found := WRITTEN.match(words):
-        return Said(0, "written", (found[1],), when=int(found[2]))
-    return Said(2 if UNSAFE.match(words) or line.startswith(SAMTERM) else int(words != line))
+def rank_of(told: Union[str, Note]) -> int:
+    """How much they matter. 3: a text is lost; 2: it was not written, or the line can't go on; 1: other words of the host; 0: of others."""
+    if isinstance(told, str):
+        return 2 if told.startswith(SAMTERM) else int(told.startswith(SAMHOST))
+    if told.kind == NoteKind.NOT_SAVED:
+        return 2 if told.copy else 3
+    if told.kind == NoteKind.ASIDE:
+        return 1 if told.copy else 2
+    return 0 if told.kind == NoteKind.SAVED and told.code == NoteCode.NO_CODE else RANKS.get(told.kind, 1)
 
 
 class Notes:

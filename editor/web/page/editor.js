@@ -1,5 +1,5 @@
 /* The editor: the terminal, what CodeMirror shows of its files, and what the user does. */
-import { SamError, Status, Unfinished, NoMemory } from "./sulgrevad/sulgrevad.js";
+import { Kind, SamError, Status, Unfinished, NoMemory } from "./sulgrevad/sulgrevad.js";
 import { Input } from "./input.js";
 import { Loading } from "./prefetch.js";
 import { runesOf } from "./shown_text.js";
@@ -9,8 +9,6 @@ import { View } from "./view.js";
 import { AGAIN, Waiting } from "./key_queue.js";
 
 const COMMAND = 0; // the tag of the command file
-const GROW = 70; // the kind of the frame by which text comes in that isn't loaded
-const CLEAN = 79; // of that which says that a file is written
 const MOST_TYPED = 512; // runes of one event
 const HIDDEN = /^(~~undo~~$|~~left~~)/; // names of files that a host has for other terminals
 const AT_REST = 1000; // milliseconds after the last key
@@ -154,8 +152,8 @@ export class Editor {
     for (;;) {
       const { step, kind, tag, change } = this.terminal.step();
       if (step === "idle" || step === "locked") break;
-      if (step === "received" && kind === CLEAN) this.#meetClean(tag);
-      const isGap = step === "received" && kind === GROW;
+      if (step === "received" && kind === Kind.HCLEAN) this.#meetClean(tag);
+      const isGap = step === "received" && kind === Kind.HGROW;
       if (change.gone > 0 || change.came > 0) changes.set(tag, [...(changes.get(tag) ?? []), { ...change, isGap }]);
     }
     for (const [tag, each] of changes) {
@@ -343,7 +341,6 @@ export class Editor {
     const { terminal } = this;
     if (this.isOver) return;
     this.#bring();
-    this.unwritten.goOn();
     if (this.active === null) this.#begin();
     this.waiting.goOn();
     this.#step();

@@ -1,7 +1,7 @@
 /* A line that goes on through breaks: the stream and the notes of a session that stays at the host, over one WebSocket after another. What
  * the host has not acknowledged is kept, and goes out again over the next one. */
 import { Connection, UNKNOWN, first, nameOf, newId } from "./connection.js";
-import { Link, NoMemory, SamError, What, readHello } from "./sulgrevad/sulgrevad.js";
+import { Link, NoMemory, NoteKind, SamError, What, readHello, readNote, writeNote } from "./sulgrevad/sulgrevad.js";
 
 const MARK = [0x89, 0x73, 0x61, 0x6d, 0x6c, 0x69, 0x6e, 0x6b]; // with which a hello begins
 const HELLO_BYTES = 42;
@@ -32,7 +32,8 @@ const REFUSED = {
 };
 
 const DECODER = new TextDecoder();
-const ENCODER = new TextEncoder();
+const MESSAGES = 1; // the version of the session's messages
+const OTHER_MESSAGES = "samhost there is of another version: page and host have to be of one release";
 
 function joined(first, second) {
   const all = new Uint8Array(first.length + second.length);
@@ -47,6 +48,16 @@ function findMark(bytes) {
     if (MARK.every((byte, more) => bytes[at + more] === byte)) return at;
   }
   return -1;
+}
+
+/** A message of the host; null for one that only a later version knows. */
+function read(bytes) {
+  try {
+    return readNote(bytes);
+  } catch (error) {
+    if (error instanceof SamError) return null;
+    throw error;
+  }
 }
 
 /** The terminal's end of a line, whose events are kept until somebody hears them. */
@@ -74,6 +85,7 @@ export class Line {
   #connecting = TIME_TO_CONNECT;
   #isMeasured = true; // the answer to the last question has come
   #hasBegun = false; // a connection was welcomed
+  #isNamed = false; // the first message has come
   #timer = 0;
 
   up = 0; // bytes that have gone each way
@@ -89,8 +101,8 @@ export class Line {
     this.#call(first.connection);
   }
 
-  /** From now on has `heard.bytes` called, `heard.told` for each line that the host tells, `heard.note` with a verb and what stands after
-   * it, and `heard.changed` where the line stands otherwise; also with what has come before. */
+  /** From now on has `heard.bytes` called, `heard.told` for each line for people, `heard.named` once the session has a name, `heard.note` for
+   * another message of the host, and `heard.changed` where the line stands otherwise; also with what has come before. */
   hear(heard) {
     this.#heard = heard;
     for (const [event, ...words] of this.#untold.splice(0)) heard[event](...words);
@@ -266,10 +278,10 @@ export class Line {
     this.#push();
   }
 
-  /** Sends a note, in its order with the stream. */
-  putNote(...words) {
-    const note = ENCODER.encode(words.join(" "));
-    this.#put((end) => end.putNote(note));
+  /** Sends a message, in its order with the stream. One whose path is too long is refused by a `SamError`. */
+  putNote(note) {
+    const bytes = writeNote(note);
+    this.#put((end) => end.putNote(bytes));
     this.#goOnPutting();
   }
 
@@ -375,30 +387,31 @@ export class Line {
       }
       const note = this.#end.nextNote();
       if (note === null) return;
-      this.#meet(DECODER.decode(note));
+      this.#meet(note);
     }
   }
 
-  #meet(note) {
-    const [verb] = note.split(" ", 1);
-    const rest = note.slice(verb.length + 1);
-    if (verb === "told") {
-      this.#tell("told", `samhost: ${rest}`);
-    } else if (verb === "session") {
-      const [name] = rest.split(" ", 1);
+  /** A message of the host; what only a later version says is skipped. */
+  #meet(bytes) {
+    const note = read(bytes);
+    if (!this.#isNamed && (note?.kind !== NoteKind.SESSION || note.number !== MESSAGES)) {
+      this.#lose(OTHER_MESSAGES);
+    } else if (note?.kind === NoteKind.SESSION) {
+      this.#isNamed = true;
+      const name = DECODER.decode(note.path);
       if (SESSION_NAME.test(name)) {
         this.name = name;
-        this.#tell("note", verb, rest);
+        this.#tell("named");
       }
-    } else if (verb === "ended") {
-      this.endedWith = Number(rest);
+    } else if (note?.kind === NoteKind.ENDED) {
+      this.endedWith = note.number;
       this.#end.acknowledge();
       this.#push();
       this.#lose("the session has ended");
-    } else if (verb === "gone") {
-      this.#lose(`another page or terminal has taken the session over: ${rest}`);
-    } else {
-      this.#tell("note", verb, rest);
+    } else if (note?.kind === NoteKind.TAKEN_OVER) {
+      this.#lose(`another page or terminal has taken the session over: ${note.text}`);
+    } else if (note !== null) {
+      this.#tell("note", note);
     }
   }
 

@@ -6,6 +6,7 @@ import { Editor } from "./editor.js";
 import { Find } from "./search.js";
 import { Opening } from "./open_requests.js";
 import { statusOf } from "./status.js";
+import { NoteCode, NoteKind } from "./sulgrevad/sulgrevad.js";
 
 const { CodeMirror } = globalThis;
 const MOST_TOLD = 20; // lines of the host that stand in the page
@@ -78,23 +79,28 @@ class Page {
     line.hear({
       bytes: (bytes) => this.editor.feed(bytes),
       told: (words) => this.#hear(words),
-      note: (verb, rest) => this.#note(verb, rest),
+      named: () => keepNames(this.line.name),
+      note: (note) => this.#meet(note),
       changed: () => this.#meetLine(),
     });
     for (const copy of this.copies.left) this.#offer(copy);
     this.cm.focus();
   }
 
-  /** A line that the host tells. */
+  /** A line for people. */
   #hear(line) {
-    this.editor.unwritten.hear(line);
     this.tell(line);
     this.draw();
   }
 
-  #note(verb, rest) {
-    if (verb === "session") keepNames(this.line.name);
-    else this.opening.meet(verb, rest);
+  /** A message of the host: an answer, or what became of a text, whose words are shown unless all went well. */
+  #meet(note) {
+    const { kind, code, text } = note;
+    this.editor.unwritten.meet(note);
+    this.opening.meet(note);
+    const isPlain = kind === NoteKind.REFUSED || (kind === NoteKind.SAVED && code === NoteCode.NO_CODE);
+    if (text !== "" && !isPlain) this.#hear(`samhost: ${text}`);
+    this.draw();
   }
 
   #meetLine() {

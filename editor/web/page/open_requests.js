@@ -2,17 +2,10 @@
 import { VERSION } from "./start.js";
 import { replayIn } from "./input.js";
 import { AGAIN } from "./key_queue.js";
+import { NoteCode, NoteKind, SamError } from "./sulgrevad/sulgrevad.js";
 
-/** The names of a note, which stand between slashes; those of folders end in a slash. */
-function namesOf(names) {
-  const found = [];
-  for (const name of names.split("/")) {
-    if (name) found.push(name);
-    else if (found.length > 0) found[found.length - 1] += "/";
-  }
-  return found;
-}
-
+const ENCODER = new TextEncoder();
+const DECODER = new TextDecoder();
 const BY_NAMES = ["Enter", "Tab", "ArrowDown", "ArrowUp"]; // keys that go by the names
 const LOOK_AGAIN = 200; // milliseconds until it is seen whether the line is late, so that keys wait no longer
 
@@ -127,8 +120,7 @@ export class Opening {
     this.#chosen = 0;
     this.#number += 1;
     this.#namesOf = this.#number;
-    if (this.field.value && !this.editor.isOver) this.editor.line.putNote("names", this.#number, this.field.value);
-    else this.#answered = this.#number;
+    if (!this.field.value || this.editor.isOver || !this.#ask(NoteKind.COMPLETE, this.field.value)) this.#answered = this.#number;
     this.#draw();
   }
 
@@ -160,6 +152,17 @@ export class Opening {
     }
   }
 
+  /** Sends a request about a path. Returns whether it is short enough for one. */
+  #ask(kind, path) {
+    try {
+      this.editor.line.putNote({ kind, request: this.#number, path: ENCODER.encode(path) });
+      return true;
+    } catch (error) {
+      if (error instanceof SamError) return false;
+      throw error;
+    }
+  }
+
   /** Has the host open a file of its machine. Keys that come meanwhile wait: they are for that file. */
   open(path) {
     const { editor } = this;
@@ -169,7 +172,7 @@ export class Opening {
       if (this.#opening?.number === number) return this.#goOn(path);
       if (editor.line.isLate) return AGAIN;
       this.#opening = { number };
-      editor.line.putNote("open", number, path);
+      if (!this.#ask(NoteKind.OPEN, path)) this.#opening.why = "the path is too long";
       editor.terminal.offerVersion(VERSION);
       return AGAIN;
     };
@@ -197,23 +200,20 @@ export class Opening {
     return undefined;
   }
 
-  /** A note of the host. */
-  meet(verb, rest) {
-    const [word] = rest.split(" ", 1);
-    const more = rest.slice(word.length + 1);
-    const number = Number(word);
-    if (verb === "names" && number === this.#namesOf) this.#meetNames(more);
-    else if (verb === "wish") this.#wishes.push(number);
-    else if (number !== this.#opening?.number) return;
-    else if (verb === "opened") this.#opening.tag = Number(more);
-    else if (verb === "refused") this.#opening.why = more;
-    else if (verb === "folder") this.#opening.isFolder = true;
+  /** A message of the host. */
+  meet({ kind, request, tag, code, path, text }) {
+    const isOfOpening = request !== 0 && request === this.#opening?.number;
+    if (kind === NoteKind.NAMES && request === this.#namesOf) this.#meetNames(DECODER.decode(path), code === NoteCode.HAS_MORE);
+    else if (kind === NoteKind.SHOWN) this.#wishes.push(tag);
+    else if (kind === NoteKind.OPENED && isOfOpening) this.#opening.tag = tag;
+    else if (kind === NoteKind.REFUSED && isOfOpening) Object.assign(this.#opening, code === NoteCode.IS_FOLDER ? { isFolder: true } : { why: text });
+    else return;
     this.editor.update();
   }
 
-  #meetNames(rest) {
-    this.#names = namesOf(rest.slice(2));
-    this.#hasMore = rest.startsWith("1");
+  #meetNames(names, hasMore) {
+    this.#names = names.split("\n").filter((name) => name !== "");
+    this.#hasMore = hasMore;
     const typed = this.#entries.findIndex(({ path }) => path === this.field.value);
     if (typed >= 0 && this.#names.includes(this.field.value.slice(this.#folder.length))) this.#chosen = typed;
     this.#answered = this.#namesOf;

@@ -8,6 +8,7 @@ import threading
 import time
 from pathlib import Path
 
+import sulgrevad
 from checks import GIVEN_UP, expect, wait_until
 
 from .support import (
@@ -178,11 +179,13 @@ def check_offered(folder):
 
 
 def check_times(folder):
-    """With --times it says when the files were written last."""
+    """With --times it tells when the files were written last, to programs alone."""
     (path,) = made(folder, a="one\n")
     os.utime(path, (1_700_000_000, 1_700_000_000))
     with Session(folder, "a.txt", "new.txt", options=("--times",)) as session:
-        expect_equal(session.told(), ["samhost: a.txt was written last at 1700000000"], "what it says")
+        expect_equal(session.told(), [], "what it says")
+        dated = [message for message in session.line.messages if message.kind == sulgrevad.NoteKind.DATED]
+        expect_equal(dated, [sulgrevad.Note(sulgrevad.NoteKind.DATED, tag=1, number=1_700_000_000, path=b"a.txt")], "what it tells")
 
 
 def check_left(folder):
@@ -333,7 +336,7 @@ def check_own_folder(folder):
             copy = place / (front_of(folder / f"nowhere/{at}.txt") + ".sam-saved")
             lines, text, mode = session.told(), text_of(copy), place.stat().st_mode & 0o777
             copy.unlink(missing_ok=True)
-            expect_line(lines, rf"\? write nowhere/{at}.txt: .*; its text is in {copy}")
+            expect_line(lines, rf"not written: nowhere/{at}.txt: .*; its text is in {copy}")
             expect_equal((text, mode), ("one\ntwo\n", 0o700), f"{environment}: the copy, and the mode of the folder")
         with contextlib.suppress(OSError):  # another check's host has a copy there
             if not is_there and place.parent == Path("/tmp"):

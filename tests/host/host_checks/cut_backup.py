@@ -6,7 +6,7 @@ import time
 
 from checks import GIVEN_UP, expect, wait_until
 
-from .support import IDLE, LATE, OPEN, SAMHOST, Session, expect_equal, made, message, on_file, text_of, typed
+from .support import IDLE, LATE, OPEN, SAMHOST, Line, Session, expect_equal, made, message, on_file, text_of, typed
 
 
 def is_cut_saved(folder, session, cut, how):
@@ -116,16 +116,17 @@ def check_cut_by_broken_lines(folder):
     snarf = message(11, *first_three) + message(9, *first_three)
     for rest, status in ((b"", 0), (typed(1, 0, b"ab")[:-1], 6), (b"\xff", 3), (message(11, b"\0\7", bytes(8)), 3)):
         made(folder, a="one\n")
-        for pieces in ([on_file(OPEN) + snarf + rest], [bytes([byte]) for byte in on_file(OPEN) + snarf + rest]):
-            pipe = subprocess.PIPE
-            with subprocess.Popen([SAMHOST, "a.txt"], cwd=folder, stdin=pipe, stdout=subprocess.DEVNULL, stderr=pipe) as process:
+        for is_whole in (True, False):
+            line, pipe = Line(), subprocess.PIPE
+            whole = line.carried(on_file(OPEN) + snarf + rest)
+            pieces = [whole] if is_whole else [bytes([byte]) for byte in whole]
+            with subprocess.Popen([SAMHOST, "a.txt"], cwd=folder, stdin=pipe, stdout=pipe, stderr=pipe) as process:
                 for piece in pieces:
                     os.write(process.stdin.fileno(), piece)
                     time.sleep(0.002 if len(pieces) > 1 else 0)
-                process.stdin.close()
-                said = process.stderr.read().decode()
-                expect_equal(process.wait(GIVEN_UP), status, "the status")
-            expect("what was cut last is in cut.sam-saved" in said, f"{rest}: it says {said}")
+                said = line.lines(*process.communicate(timeout=GIVEN_UP))
+                expect_equal(process.returncode, status, "the status")
+            expect("samhost: what was cut last is in cut.sam-saved" in said, f"{rest}: it says {said}")
             expect_equal(text_of(folder / "cut.sam-saved"), "one", f"after {rest} in {len(pieces)} pieces: what was cut")
             for name in ("cut.sam-saved", "a.txt.sam-saved"):
                 (folder / name).unlink()

@@ -2,6 +2,7 @@
 import os
 import subprocess
 
+import sulgrevad
 from checks import GIVEN_UP, expect, wait_until
 
 from .journals import kill, typed
@@ -9,24 +10,38 @@ from .line import Staying
 from .support import SAMHOST, expect_equal, made, text_of
 
 
-def asked(session, note):
-    """What is answered to a note of the terminal, which stands in the stream before all that comes later."""
-    before = len(session.notes)
-    session.link.put_note(note.encode())
-    number = note.split(" ")[1]
+def asked(session, kind, request, **fields):
+    """What is answered to a message of the terminal, which stands in the stream before all that comes later."""
+    before = len(session.messages)
+    session.put_note(kind, request=request, **fields)
 
     def answer():
-        return next((it for it in session.notes[before:] if it.split(" ")[1] == number), None)
+        return next((it for it in session.messages[before:] if it.request == request), None)
 
-    session.carry(lambda: answer() is not None, f"nothing answers {note!r}")
+    session.carry(lambda: answer() is not None, f"nothing answers {kind} {fields}")
     return answer()
 
 
-def joined(session, path, number):
+def asked_to_open(session, path, request):
+    """What is answered where a file is to join: its tag, or why it doesn't."""
+    answer = asked(session, "OPEN", request, path=os.fsencode(path))
+    is_opened = answer.kind == sulgrevad.NoteKind.OPENED
+    expect(is_opened or answer.kind == sulgrevad.NoteKind.REFUSED, f"it answers {answer}")
+    return answer.tag if is_opened else (sulgrevad.NoteCode(answer.code).name, answer.text)
+
+
+def asked_for_names(session, path, request):
+    """Names that complete a path, and whether there are more."""
+    answer = asked(session, "COMPLETE", request, path=os.fsencode(path))
+    expect(answer.kind == sulgrevad.NoteKind.NAMES and (not answer.path or answer.path.endswith(b"\n")), f"it answers {answer}")
+    return answer.path.decode().split("\n")[:-1], answer.code == sulgrevad.NoteCode.HAS_MORE
+
+
+def joined(session, path, request):
     """The tag of a file that joins."""
-    answer = asked(session, f"open {number} {path}")
-    expect(answer.startswith(f"opened {number} "), f"it answers {answer!r}")
-    return int(answer.split(" ")[2])
+    tag = asked_to_open(session, path, request)
+    expect(isinstance(tag, int), f"it answers {tag}")
+    return tag
 
 
 def opened(session, tag):
@@ -44,10 +59,10 @@ def check_join_of_a_known_file(folder):
     (folder / "soft.txt").symlink_to("a.txt")
     with Staying(folder, "a.txt", "new.txt", options=("--undo",)) as session:
         tags = {"a.txt": 1, "./a.txt": 1, str(path): 1, "hard.txt": 1, "soft.txt": 1, "new.txt": 2}
-        for number, (name, tag) in enumerate(tags.items()):
-            expect_equal(asked(session, f"open {number} {name}"), f"opened {number} {tag}", f"the answer to {name}")
+        for number, (name, tag) in enumerate(tags.items(), 1):
+            expect_equal(asked_to_open(session, name, number), tag, f"the answer to {name}")
         session.rename("other.txt", 2)
-        expect_equal(asked(session, "open 10 other.txt"), "opened 10 2", "the answer to its new name")
+        expect_equal(asked_to_open(session, "other.txt", 10), 2, "the answer to its new name")
         session.leave()
 
 
@@ -56,36 +71,39 @@ def check_read_anew_and_not_put_in(folder):
     (path,) = made(folder, a="one\n")
     with Staying(folder, "a.txt", options=("--undo",)) as session:
         path.write_text("other\n")
-        answer = asked(session, "reload anew1 1")
-        expect(answer.startswith("anew anew1 "), f"it answers {answer!r}")
-        session.link.put_note(f"reloaded anew1 1 {answer.split(' ')[2]}".encode())
+        answer = asked(session, "RELOAD", 7, tag=1)
+        expect_equal(answer.kind, sulgrevad.NoteKind.ANEW, f"of {answer} the kind")
+        session.put_note("RELOADED", tag=1, number=answer.number)
         session.type("two\n")
         session.write()
-        asks = [note for note in session.notes if note.startswith("told ? write a.txt: another program changed it")]
-        expect_equal(len(asks), 1, f"how often it asks, in {session.notes}: it")
+        asks = session.of("NOT_SAVED", tag=1, code=sulgrevad.NoteCode.CHANGED_SINCE)
+        expect_equal(len(asks), 1, f"how often it asks, in {session.messages}: it")
+        refused = asked(session, "RELOAD", 8, tag=77)
+        wanted = (sulgrevad.NoteCode.NO_SUCH_FILE, "there is no such file")
+        expect_equal((refused.code, refused.text), wanted, "what it says of another tag")
         expect_equal(text_of(path), "other\n", "the file")
         session.leave()
 
 
 def check_join_refused(folder):
-    """What can't be opened is refused in words, and nothing is added; a folder is said to be one."""
+    """What can't be opened is refused by a code and in words, and nothing is added."""
     made(folder, a="one\n")
     (folder / "bad.txt").write_bytes(b"\xff")
     (folder / "long.txt").write_bytes(b"x" * 1000001)
     (folder / "place").mkdir()
     os.mkfifo(folder / "pipe")
     cases = {
-        "bad.txt": "refused 1 it is not UTF-8",
-        "long.txt": "refused 1 it is longer than 1,000,000 characters",
-        "nowhere/a.txt": "refused 1 there is no such folder",
-        "pipe": "refused 1 it is not a regular file",
-        "": "refused 1 there is no such folder",
-        "place": "folder 1 place",
-        ".": "folder 1 .",
+        "bad.txt": ("NOT_TEXT", "it is not UTF-8"),
+        "long.txt": ("TOO_LONG", "it is longer than 1,000,000 characters"),
+        "nowhere/a.txt": ("NOT_FOUND", "there is no such folder"),
+        "pipe": ("OTHER", "it is not a regular file"),
+        "": ("NOT_FOUND", "there is no such folder"),
+        "place": ("IS_FOLDER", "Is a directory"),
+        ".": ("IS_FOLDER", "Is a directory"),
     }
     with Staying(folder, "a.txt") as session:
         for path, wanted in cases.items():
-            expect_equal(asked(session, f"open 1 {path}"), wanted, f"the answer to {path!r}")
+            expect_equal(asked_to_open(session, path, 1), wanted, f"the answer to {path!r}")
         session.terminal.offer_version(2)
         session.settle()
         expect_equal([session.terminal.name(tag) for tag in session.terminal.files() if tag], ["a.txt"], "the files")
@@ -104,18 +122,18 @@ def check_join_asks_for_names(folder):
         (many / f"{number:03}").write_text("")
     with Staying(folder, "a.txt") as session:
         for path, names in (
-            ("", "0 a.txt/ab/b c/many//place//temporary/"),
-            ("a", "0 a.txt/ab"),
-            ("place/", "0 inner"),
-            ("p", "0 place/"),
-            (".", "0 .hidden"),
-            ("b ", "0 b c"),
-            ("x", "0 "),
-            ("nowhere/", "0 "),
-            ("many/", "1 " + "/".join(f"{number:03}" for number in range(200))),
-            (str(folder) + "/place/i", "0 inner"),
+            ("", ["a.txt", "ab", "b c", "many/", "place/", "temporary/"]),
+            ("a", ["a.txt", "ab"]),
+            ("place/", ["inner"]),
+            ("p", ["place/"]),
+            (".", [".hidden"]),
+            ("b ", ["b c"]),
+            ("x", []),
+            ("nowhere/", []),
+            ("many/", [f"{number:03}" for number in range(200)]),
+            (str(folder) + "/place/i", ["inner"]),
         ):
-            expect_equal(asked(session, f"names 7 {path}"), f"names 7 {names}", f"the answer to {path!r}")
+            expect_equal(asked_for_names(session, path, 7), (names, len(names) == 200), f"the answer to {path!r}")
         session.leave()
 
 
@@ -139,12 +157,12 @@ def check_join_of_files(folder):
 def check_join_asked_before_a_kill(folder):
     """What the terminal has asked for and was answered isn't answered again where samhost is killed."""
     with typed(folder) as session:
-        expect_equal(asked(session, "open 1 a.txt"), "opened 1 1", "the answer")
-        expect_equal(asked(session, "names 2 a.t"), "names 2 0 a.txt", "the answer")
+        expect_equal(asked_to_open(session, "a.txt", 1), 1, "the answer")
+        expect_equal(asked_for_names(session, "a.t", 2), (["a.txt"], False), "the answer")
         kill(folder, session)
         session.type("three\n")
-        expect_equal(asked(session, "open 3 a.txt"), "opened 3 1", "the answer of another samhost")
-        expect_equal([note.split(" ")[1] for note in session.notes[1:]], ["1", "2", "3"], "what was answered")
+        expect_equal(asked_to_open(session, "a.txt", 3), 1, "the answer of another samhost")
+        expect_equal([message.request for message in session.messages[1:]], [1, 2, 3], "what was answered")
         expect_equal(session.text(), "one\ntwo\nthree\n", "the text")
         session.leave()
 
@@ -176,12 +194,12 @@ def check_join_wished(folder):
     with Staying(folder, "a.txt") as session:
         ended = session.run("--open", "a.txt", "+12")
         expect_equal((ended.returncode, ended.stderr), (0, ""), "what comes of --open")
-        session.carry(lambda: "wish 1 12" in session.notes, "no wish comes")
+        session.carry(lambda: session.of("SHOWN", tag=1, number=12), "it isn't to be shown")
         ended = session.run("--open", "nowhere/a.txt")
         wanted = (1, "samhost: nowhere/a.txt: there is no such folder\n")
         expect_equal((ended.returncode, ended.stderr), wanted, "what comes of a wrong one")
         process = waiting(session, "a.txt")
-        session.carry(lambda: "wish 1 0" in session.notes, "no wish comes")
+        session.carry(lambda: session.of("SHOWN", tag=1, number=0), "it isn't to be shown")
         session.type("two\n")
         session.write()
         expect(process.poll() is None, "it doesn't wait")
@@ -191,7 +209,7 @@ def check_join_wished(folder):
         session.leave()
     with Staying(folder, "a.txt") as session:
         process = waiting(session, "a.txt")
-        session.carry(lambda: "wish 1 0" in session.notes, "no wish comes")
+        session.carry(lambda: session.of("SHOWN", tag=1, number=0), "it isn't to be shown")
         session.type("three\n")
         session.leave()
         expect_equal(process.wait(GIVEN_UP), 5, "the status where it was not written")
@@ -206,7 +224,7 @@ def check_join_wished_in_one_of_several(folder):
     with Staying(folder, "a.txt") as older, Staying(folder, "b.txt") as newer:
 
         def shown_by(*words):
-            before = {each: len(each.notes) for each in (older, newer)}
+            before = {each: len(each.of("SHOWN")) for each in (older, newer)}
             ended = older.run("--open", *words, "a.txt", "+7")
             expect_equal((ended.returncode, ended.stderr), (0, ""), f"what comes of {words}")
 
@@ -214,7 +232,7 @@ def check_join_wished_in_one_of_several(folder):
                 for each in (older, newer):
                     if each.process is not None:
                         each.settle()
-                return [each.name for each, count in before.items() if any(note.startswith("wish ") for note in each.notes[count:])]
+                return [each.name for each, count in before.items() if len(each.of("SHOWN")) > count]
 
             wait_until(shown, "no session shows it")
             return shown()

@@ -2,13 +2,12 @@
 import os
 import shutil
 import struct
-import subprocess
 
-from checks import GIVEN_UP, Skipped, expect
+from checks import Skipped, expect
 
 from .support import (
     AGE, IS_ROOT, NOBODY, OPEN, SAMHOST, WRITE, Session, as_nobody, expect_equal, expect_line, expect_only, files_below, made,
-    names_in, names_of, on_file, own_copy, text_of, typed, with_mount,
+    names_in, names_of, on_file, own_copy, run_host, text_of, typed, with_mount,
 )  # fmt: skip
 
 ACCESS_LIST = "system.posix_acl_access"
@@ -140,7 +139,7 @@ def check_no_place_for_the_old(folder):
     with Session(folder, "a.txt", limit=50) as session:
         session.replace("short")
         session.write()
-        expect_line(session.told(), r"\? write a.txt: File too large; its text is in a.txt.sam-saved")
+        expect_line(session.told(), r"not written: a.txt: File too large; its text is in a.txt.sam-saved")
         expect_equal(session.end(), 0, "the status")
     expect_equal(text_of(path), "o" * 100, "the file")
     expect_equal(text_of(folder / "a.txt.sam-saved"), "short", "the copy")
@@ -205,11 +204,11 @@ def check_may_not_write(folder):
     path.chmod(0o444)
     with Session(folder, "a.txt", prefix=prefix) as session:
         session.write()
-        expect_line(session.told(), r"\? write a.txt: Permission denied; it has this text already")
+        expect_line(session.told(), r"not written: a.txt: Permission denied; it has this text already")
         expect_only(folder, "a.txt")
         session.type("two\n")
         session.write()
-        expect_line(session.told(), r"\? write a.txt: Permission denied; its text is in a.txt.sam-saved")
+        expect_line(session.told(), r"not written: a.txt: Permission denied; its text is in a.txt.sam-saved")
         session.end()
     expect_equal(text_of(path), "one\n", "the file")
 
@@ -239,7 +238,7 @@ def check_links(folder):
         for tag in (1, 2, 3):
             session.type("two\n", tag)
             session.write(tag)
-        expect_line(session.told(), r"\? write far: No such file or directory; its text is in far.sam-saved")
+        expect_line(session.told(), r"not written: far: No such file or directory; its text is in far.sam-saved")
         session.end()
     expect_equal(text_of(path), "one\ntwo\n", "the file at the end of two links")
     expect_equal(text_of(folder / "d" / "new.txt"), "two\n", "the file that a link led to before it was there")
@@ -257,13 +256,13 @@ def check_unreadable_link(folder):
     # The link is read to find it twice among the words, then to note what was read there, and then for the write.
     for first, word, given, status, said in (
         (2, "d/link", b"", 1, "d/link: Input/output error"), (1, "d", b"", 0, "d has no text files"),
-        (3, "d/link", stream, 0, "? write d/link: Input/output error; its text is in d/link.sam-saved"),
+        (3, "d/link", stream, 0, "not written: d/link: Input/output error; its text is in d/link.sam-saved"),
     ):  # fmt: skip
         fault = f"inject=readlink:error=EIO:when={first}+"
         words = ("strace", "-qq", "-o", "/dev/null", "-P", "d/link", "-e", fault, SAMHOST, word)
-        ended = subprocess.run(words, cwd=folder, input=given, capture_output=True, timeout=GIVEN_UP)
-        expect_equal(ended.returncode, status, f"{word}, from call {first}: the status")
-        expect(f"samhost: {said}\n" in ended.stderr.decode(), f"{word}, from call {first}: it says {ended.stderr}")
+        got, lines = run_host(folder, words, given)
+        expect_equal(got, status, f"{word}, from call {first}: the status")
+        expect(f"samhost: {said}" in lines, f"{word}, from call {first}: it says {lines}")
         expect((folder / "d" / "link").is_symlink() and text_of(path) == "one\n", f"{word}, from call {first}: the link is gone")
     expect_equal(text_of(folder / "d" / "link.sam-saved"), "two one\n", "the copy")
 
@@ -324,7 +323,7 @@ def check_long_path(folder):
         session.type("two\n")
         session.write()
         copy = own_copy(folder, absent)
-        expect_line(session.told(), rf"\? write {absent}: File name too long; its text is in {copy}")
+        expect_line(session.told(), rf"not written: {absent}: File name too long; its text is in {copy}")
         expect_equal(text_of(copy), "two\n", "the copy")
 
 
@@ -335,7 +334,7 @@ def check_failed_in_place(folder):
     with Session(folder, "a.txt", limit=1000) as session:
         session.type("x" * 2000)
         session.write()
-        expect_line(session.told(), r"\? write a.txt: File too large; its text could not be saved: File too large")
+        expect_line(session.told(), r"not written: a.txt: File too large; its text could not be saved: File too large")
         expect_equal(text_of(path), "one\n" + "o" * 100, "the file")
         expect_equal(session.end(), 5, "the status")
     expect_only(folder, "a.txt", "b.txt")
@@ -354,7 +353,7 @@ def check_broken_in_place(folder):
         session.write()
         lines = session.told()
         expect_line(lines, r"a.txt is broken; what it was is in a.txt.sam-old")
-        expect_line(lines, r"\? write a.txt: Input/output error; its text is in a.txt.sam-saved")
+        expect_line(lines, r"not written: a.txt: Input/output error; its text is in a.txt.sam-saved")
         expect_equal(session.end(), 0, "the status")
     expect_equal(text_of(folder / "a.txt.sam-old"), "one\n", "what the file was")
     expect_equal(text_of(folder / "a.txt.sam-saved"), "one\ntwo\n", "the copy")

@@ -10,6 +10,7 @@ import struct
 import subprocess
 import time
 
+import sulgrevad
 from checks import Skipped, expect, wait_until
 from link_model import What
 
@@ -78,7 +79,8 @@ def check_journal_goes_on(folder):
         session.write(2)
         expect_equal(text_of(folder / "a.txt"), "one\ntwo\nfour\n", "the file")
         expect_equal(text_of(folder / "c.txt"), "other\nthree\n", "the other file")
-        expect_equal([note for note in session.notes if note.startswith("told ?")], [], "what it says of writes")
+        expect_equal(session.said(), [], "what it says of writes")
+        expect_equal([message.tag for message in session.of("SAVED")], [1, 1, 2], "the files of which it tells that they are written")
         session.leave()
         wait_until(lambda: not home_of(folder, session.name).exists(), "its folder stays")
     expect_equal([name for name in names_in(folder) if "sam" in name], [], "the copies that are left")
@@ -134,7 +136,7 @@ def check_journal_through_kills(folder):
         session.left = None
         session.write()
         expect_equal(text_of(path), session.text(), "the file")
-        expect_equal([note for note in session.notes if note.startswith("told ")], [], "what it says")
+        expect_equal(session.said(), [], "what it says")
         session.leave()
     copies = [name for name in names_in(folder) if "sam" in name and not name.startswith(".sam-")]  # a write that was killed leaves those
     expect_equal(copies, [], "the copies that are left")
@@ -307,30 +309,33 @@ def check_journal_where_a_write_was_not_noted(folder):
             expect_equal(text_of(path), "one\ntwo\n", f"{call}: the file")
             session.write()
             expect_equal(text_of(path), "one\ntwo\nthree\n", f"{call}: the file at the end")
-            expect_equal([note for note in session.notes if note.startswith("told ?")], [], f"{call}: what it says of writes")
+            expect_equal(session.of("NOT_SAVED"), [], f"{call}: what it says of writes")
+            expect_equal(len(session.of("SAVED", tag=1)), 2, f"{call}: how often it answers two writes, in {session.messages}: it")
             session.leave()
 
 
 def check_journal_answers_a_note_once(folder):
-    """A journal that ends with the answer to a note, or just before it, begins a session that answers it once, and has one file of it."""
+    """A journal that ends with the answer to a message, or just before it, begins a session that answers it once, and has one file of
+    it."""
+    opened = sulgrevad.write_note(sulgrevad.Note(sulgrevad.NoteKind.OPENED, request=1, tag=2))
     for what, has_answer in (("answered", True), ("joined", False)):
         place = folder / what
         place.mkdir()
         made(place, a="one\n", b="two\n")
         with Staying(place, "a.txt") as session:
             journal = home_of(place, session.name) / "journal"
-            session.link.put_note(b"open 1 b.txt")
+            session.put_note("OPEN", request=1, path=b"b.txt")
             session.give()
-            wait_until(lambda: b"opened 1 2" in journal.read_bytes(), "it isn't answered")
+            wait_until(lambda: opened in journal.read_bytes(), "it isn't answered")
             kill(place, session)
             data = journal.read_bytes()
-            at, starts = data.index(b"opened 1 2"), [at for at, _ in records_of(data)[0]] + [len(data)]
+            at, starts = data.index(opened), [at for at, _ in records_of(data)[0]] + [len(data)]
             before, after = max(start for start in starts if start < at), min(start for start in starts if start > at)
             journal.write_bytes(data[: after if has_answer else before])
             session.drop()
             session.terminal.offer_version(2)
             session.settle()
-            expect_equal(session.notes.count("opened 1 2"), 1, f"{what}: how often it is told, in {session.notes}, it")
+            expect_equal(len(session.of("OPENED", request=1, tag=2)), 1, f"{what}: how often it is told, in {session.messages}, it")
             expect_equal([session.terminal.name(tag) for tag in (1, 2)], ["a.txt", "b.txt"], f"{what}: the names")
             expect_equal(len(session.terminal.files()), 3, f"{what}: how many files there are")
             session.leave()
@@ -368,8 +373,8 @@ def check_journal_without_room_for_it(folder):
         resource.prlimit(pid_of(folder, session.name), resource.RLIMIT_FSIZE, (limit, resource.RLIM_INFINITY))
         session.type("three\n")
         session.type("four\n")
-        told = [note for note in session.notes if note.startswith("told the journal can't be written: File too large")]
-        expect_equal(len(told), 1, f"how often it says so, in {session.notes}: it")
+        told = [it for it in session.of("NO_JOURNAL") if it.text.startswith("the journal can't be written: File too large")]
+        expect_equal(len(told), 1, f"how often it says so, in {session.messages}: it")
         expect(not journal.exists(), "a journal that lacks steps is there")
         session.drop()
         session.type("five\n")

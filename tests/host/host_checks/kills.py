@@ -9,10 +9,10 @@ import subprocess
 import time
 from pathlib import Path
 
-from checks import GIVEN_UP, Failed, Skipped, expect
+from checks import Failed, Skipped, expect
 
 from .support import (
-    IDLE, LATE, LONGEST_UNSAVED, OPEN, SAMHOST, WRITE, Session, expect_equal, made, message, names_in, on_file, text_of, typed,
+    IDLE, LATE, LONGEST_UNSAVED, OPEN, SAMHOST, WRITE, Session, expect_equal, made, message, names_in, on_file, run_host, text_of, typed,
 )  # fmt: skip
 
 KILLS = int(os.environ.get("KILLS") or min(100, 25 * len(os.sched_getaffinity(0))))
@@ -22,7 +22,7 @@ CALLS = ("openat", "write", "pwrite64", "ftruncate", "fsync", "link", "rename", 
 def killed_at(place, call, number, stream):
     """Runs the host on a file in an empty folder, and kills it at a call of the system. Returns its status."""
     words = ("strace", "-qq", "-o", "/dev/null", "-e", f"inject={call}:signal=KILL:when={number}", SAMHOST, "a.txt")
-    return subprocess.run(words, cwd=place, input=stream, capture_output=True, timeout=GIVEN_UP).returncode
+    return run_host(place, words, stream)[0]
 
 
 def each_kill(folder, stream, text, is_linked=False):
@@ -64,7 +64,7 @@ def check_kill_at_each_call(folder):
         expect(got == NEW_TEXT or (got == OLD_TEXT and not is_ended), f"{place.name}: the file has {got!r}")
         expect(not is_ended or not left, f"{place.name}: it leaves {left}")
         if left:
-            said = subprocess.run([SAMHOST, "a.txt"], cwd=place, input=b"", capture_output=True, timeout=GIVEN_UP).stderr.decode()
+            said = "\n".join(run_host(place, [SAMHOST, "a.txt"])[1])
             expect(all(f"{name} is left of a write" in said for name in left), f"{place.name}: of {left} it says {said!r}")
 
 
@@ -72,7 +72,7 @@ def order_of_calls(folder, stream):
     """What the host does to its files: a call and the names of what it is done to, those of files that are not whole yet as 'new'."""
     calls = folder / "calls"
     words = ("strace", "-qq", "-y", "-o", calls, "-e", "fsync,rename,link,unlink,ftruncate", SAMHOST, "a.txt")
-    expect_equal(subprocess.run(words, cwd=folder, input=stream, capture_output=True, timeout=GIVEN_UP).returncode, 0, "the status")
+    expect_equal(run_host(folder, words, stream)[0], 0, "the status")
     order = []
     for call, arguments in re.findall(r"^(\w+)\((.*)\) += 0$", calls.read_text(), re.MULTILINE):
         paths = re.findall(r'"([^"]*)"|<([^>]*)>', arguments)
@@ -105,7 +105,7 @@ def check_kill_in_place(folder):
         expect(set(kept) <= {OLD_TEXT}, f"{place.name}: what is kept has {kept}")
         if kept:
             torn += 1
-            said = subprocess.run([SAMHOST, "a.txt"], cwd=place, input=b"", capture_output=True, timeout=GIVEN_UP).stderr.decode()
+            said = "\n".join(run_host(place, [SAMHOST, "a.txt"])[1])
             expect("a.txt may be broken: what it was before a write is in a.txt.sam-old" in said, f"{place.name}: it says {said!r}")
     expect(torn > 3, f"this test is wrong: what the file was is kept in {torn} kills alone")
 

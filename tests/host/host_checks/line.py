@@ -8,10 +8,11 @@ import subprocess
 import time
 from pathlib import Path
 
+import sulgrevad
 from checks import GIVEN_UP, SECONDS, Skipped, expect, times_longer, wait_until
 from link_model import HELLO_BYTES, MARK, Link, LinkFault, read_whole
 
-from .support import SAMHOST, expect_equal
+from .support import SAMHOST, expect_equal, said_in
 
 
 def state_of(folder):
@@ -56,14 +57,12 @@ class Staying:
     def __init__(self, folder, *files, options=(), begin=True, takes=None, prefix=(), kind=Link):
         """With `takes` it takes over the session of that name, or the only one where it is empty. The words of `prefix` run the first
         relay, and `kind` makes the link's end."""
-        import sulgrevad
-
         self.folder, self.id = folder, os.urandom(16)
         self.name = self.id[:8].hex()
         place = str(folder / "temporary")
         self.environment = {**os.environ, "TMPDIR": place, "XDG_STATE_HOME": place}
         self.link, self.terminal = kind(kind.TERMINAL, self.id), sulgrevad.Terminal()
-        self.notes, self.errors, self.breaks, self.left = [], b"", 0, None
+        self.messages, self.errors, self.breaks, self.left = [], b"", 0, None
         self.prefix = prefix  # words that run the next relay; none run those after it
         self.process, self.others, self.takes_over = None, [], takes is not None
         self.start(*(["--serve", self.name, *options, "--", *files] if takes is None else ["--take", *([takes] if takes else [])]))
@@ -186,7 +185,7 @@ class Staying:
             if taken:
                 self.terminal.feed(taken)
             else:
-                self.notes.append(note.decode())
+                self.messages.append(sulgrevad.read_note(note))
 
     def refusal(self):
         """What the first 42 bytes of the line refuse."""
@@ -211,7 +210,7 @@ class Staying:
             if time.monotonic() > until and not is_late:
                 is_late = True
                 until += SECONDS * times_longer()
-            expect(time.monotonic() < until, f"{told}; {self.notes}; {self.errors!r}")
+            expect(time.monotonic() < until, f"{told}; {self.messages}; {self.errors!r}")
 
     def is_quiet(self):
         terminal = self.terminal
@@ -235,9 +234,23 @@ class Staying:
         while (left := until - time.monotonic()) > 0:
             self.receive(left)
 
-    def wait_for(self, note):
-        """Waits for a note, and acknowledges all that came."""
-        self.carry(lambda: note in self.notes, f"no {note!r} comes")
+    def of(self, kind, **fields):
+        """The messages of a kind that have these fields."""
+        number = sulgrevad.NoteKind[kind]
+        return [it for it in self.messages if it.kind == number and all(getattr(it, name) == field for name, field in fields.items())]
+
+    def said(self):
+        """The sentences for people, in the order in which they came."""
+        return said_in(self.messages)
+
+    def put_note(self, kind, **fields):
+        """Puts a message of the terminal, behind all that was put."""
+        self.link.put_note(sulgrevad.write_note(sulgrevad.Note(sulgrevad.NoteKind[kind], **fields)))
+
+    def wait_for_end(self, status):
+        """Waits for the last message, which has this status, and acknowledges all that came."""
+        self.carry(lambda: self.of("ENDED"), "it doesn't say that it ends")
+        expect_equal((self.messages[-1], self.messages[-1].number), (self.of("ENDED")[0], status), "the last message, and its status")
         self.link.acknowledge()
         self.give()
 
@@ -276,6 +289,5 @@ class Staying:
     def leave(self):
         """Leaves the session, as the user does."""
         self.terminal.exit()
-        self.wait_for("ended 0")
-        expect_equal(self.notes[-1], "ended 0", "the last note")
+        self.wait_for_end(0)
         wait_until(lambda: not home_of(self.folder, self.name).exists(), "the session's folder stays")

@@ -6,7 +6,9 @@ import subprocess
 
 from checks import GIVEN_UP, expect, wait_until
 
-from .support import IDLE, LATE, OPEN, SAMHOST, WRITE, expect_equal, expect_line, made, message, on_file, own_copy, text_of, typed
+from .support import (
+    IDLE, LATE, OPEN, SAMHOST, WRITE, Line, carried, expect_equal, expect_line, made, message, on_file, own_copy, text_of, typed,
+)  # fmt: skip
 
 
 def check_control_characters(folder):
@@ -20,17 +22,21 @@ def check_control_characters(folder):
 
 @contextlib.contextmanager
 def unread(folder, *words):
-    """A host whose standard error is a pipe that is full: the process, and both ends of that pipe."""
+    """A host whose standard error is a pipe that is full, and all that it has, as its terminal doesn't hear it: the process, and both ends
+    of that pipe."""
     source, sink = os.pipe()
+    unheard, output = os.pipe()
+    os.close(unheard)
     os.set_blocking(sink, False)
     with contextlib.suppress(BlockingIOError):
         while True:
             os.write(sink, b"\n" * 4096)
     os.set_blocking(sink, True)
     with subprocess.Popen(
-        [SAMHOST, *words], cwd=folder, stdin=subprocess.PIPE, stdout=subprocess.DEVNULL, stderr=sink, bufsize=0,
+        [SAMHOST, *words], cwd=folder, stdin=subprocess.PIPE, stdout=output, stderr=sink, bufsize=0,
         env={**os.environ, "XDG_STATE_HOME": str(folder / "temporary")},
     ) as process:  # fmt: skip
+        os.close(output)
         try:
             yield process, source, sink
         finally:
@@ -44,18 +50,18 @@ def check_nobody_reads_what_it_says(folder):
     standard error find it as it was."""
     made(folder, a="one\n")
     copy = own_copy(folder, "no/c.txt")
-    failing = typed(1, 0, b"2") + on_file(WRITE)
+    failing, line = typed(1, 0, b"2") + on_file(WRITE), Line()
     with unread(folder, "a.txt") as (process, source, sink):
-        process.stdin.write(message(2) + on_file(OPEN) + typed(0, 0, b"f no/c.txt\n") + failing + typed(1, 0, b"3"))
+        process.stdin.write(line.carried(message(2) + on_file(OPEN) + typed(0, 0, b"f no/c.txt\n") + failing + typed(1, 0, b"3")))
         wait_until(lambda: text_of(copy) == "32one\n", "the text is not saved", IDLE + LATE)
         expect(not fcntl.fcntl(sink, fcntl.F_GETFL) & os.O_NONBLOCK, "who writes there next doesn't wait for room any more")
         expect_equal(os.read(source, 1 << 20).strip(), b"", "this test is wrong: what is in the full pipe")
-        process.stdin.write(failing)
+        process.stdin.write(line.carried(failing))
         process.stdin.close()
         expect_equal(process.wait(GIVEN_UP), 0, "the status")
         lines = os.read(source, 65536).decode().splitlines()
     expect_line(lines, r"lines missing before this one, since nobody read them: [1-9]\d*")
-    expect_line(lines, rf"\? write no/c.txt: No such file or directory; its text is in {copy}")
+    expect_line(lines, rf"not written: no/c.txt: No such file or directory; its text is in {copy}")
     expect_line(lines, f"no/c.txt was not written; its text is in {copy}")
     expect_equal(len(lines), 3, f"in {lines} the number")
     expect_equal(text_of(copy), "232one\n", "the copy")
@@ -69,7 +75,7 @@ def check_nobody_reads_of_many(folder):
     for at in range(count):
         (folder / "d" / f"{at:02}").write_text("one\n")
     with unread(folder, "d") as (process, source, _):
-        process.stdin.write(b"".join(on_file(OPEN, tag) + typed(tag, 0, b"two ") for tag in range(1, count + 1)))
+        process.stdin.write(carried(b"".join(on_file(OPEN, tag) + typed(tag, 0, b"two ") for tag in range(1, count + 1))))
         process.stdin.close()
         expect_equal(process.wait(GIVEN_UP), 0, "the status")
     copies = [text_of(folder / "d" / f"{at:02}.sam-saved") for at in range(count)]

@@ -3,6 +3,7 @@ import concurrent.futures
 import os
 import re
 import resource
+import select
 import shutil
 import signal
 import socket
@@ -13,7 +14,9 @@ from pathlib import Path
 
 from checks import GIVEN_UP, ROOT, Failed, Skipped, expect, wait_until
 
-from .support import CLOSE, OPEN, SAMHOST, WRITE, Session, expect_equal, expect_line, made, message, on_file, stop, text_of, typed
+from .support import (
+    CLOSE, OPEN, SAMHOST, WRITE, Line, Session, expect_equal, expect_line, made, message, on_file, own_lines, stop, text_of, typed,
+)  # fmt: skip
 
 PIPE_ROOM = 60_000  # bytes that a pipe takes before any are read
 FOR_GOOD = 1_000_000  # more requests for memory than a host makes
@@ -77,21 +80,27 @@ def run_refused(place, library, scene, number, count):
     met = place.parent / f"{place.name}.met"
     state = f"XDG_STATE_HOME={place / 'temporary'}"
     settings = (f"LD_PRELOAD={library}", f"REFUSE={number}", f"REFUSE_COUNT={count}", f"TMPDIR={place / 'temporary'}", state)
-    words, lines = ("sh", "-c", 'exec "$@" 9>"$0"', met, "env", *settings, SAMHOST, *scene.words), []
+    words = ("sh", "-c", 'exec "$@" 9>"$0"', met, "env", *settings, SAMHOST, *scene.words)
     source, end = os.pipe()
-    os.write(end, scene.stream)
+    line, output, errors = Line(), b"", b""
+    os.write(end, line.carried(scene.stream))
     os.close(end)
-    with subprocess.Popen(words, cwd=place, stdin=source, stdout=subprocess.DEVNULL, stderr=subprocess.PIPE) as process:
+    with subprocess.Popen(words, cwd=place, stdin=source, stdout=subprocess.PIPE, stderr=subprocess.PIPE) as process:
         os.close(source)
         late = threading.Timer(GIVEN_UP, process.kill)
         late.start()
-        for line in process.stderr:
-            lines.append(line.decode().rstrip("\n"))
-            if count > 1 and lines[-1] == "samhost: out of memory; it is tried again":
-                process.send_signal(signal.SIGTERM)
+        ends = [process.stdout, process.stderr]
+        while ends:
+            for end in select.select(ends, [], [])[0]:
+                data = os.read(end.fileno(), 65536)
+                output, errors = (output + data, errors) if end is process.stdout else (output, errors + data)
+                if not data:
+                    ends.remove(end)
+                if count > 1 and b"out of memory; it is tried again" in data:
+                    process.send_signal(signal.SIGTERM)
         status = process.wait()
         late.cancel()
-    return status, lines, met.stat().st_size > 0
+    return status, line.lines(output, errors), met.stat().st_size > 0
 
 
 def texts_found(place, lines):
@@ -122,7 +131,7 @@ def judge_refused(place, scene, status, lines):
         expect_equal(status, 0, f"the status, after {lines}")
         expect(scene.typed_texts <= set(found.values()), f"a text is lost: there is {found}, and it says {lines}")
         unwritten = sum(len(texts) > 1 and found[name] == texts[0] for name, texts in scene.files.items())
-        told = [line for line in lines if re.match(r"samhost: \? write .*: Cannot allocate memory; its text (is|could)", line)]
+        told = [line for line in lines if re.match(r"samhost: not written: .*: Cannot allocate memory; its text (is|could)", line)]
         expect_equal(len(told), unwritten, f"in {lines} the number of those that a file is not written")
         is_told = any(re.search("left of earlier sessions was looked for|a text that was not written", line) for line in lines)
         expect(is_told or "a.txt.sam-saved" not in scene.files, f"it doesn't tell of the copy that was there: {lines}")
@@ -207,11 +216,11 @@ def type_without_memory(session, count):
     for at in range(0, len(words), 500):
         session.terminal.type(1, words[at : at + 500])
     session.terminal.flush_now()
-    data = session.terminal.take_out()
+    data = session.line.carried(session.terminal.take_out())
     stop(session.process)  # many edits at once take memory, where each alone may find room
-    session.give(data[:PIPE_ROOM])
+    session.give_bare(data[:PIPE_ROOM])
     session.process.send_signal(signal.SIGCONT)
-    session.give(data[PIPE_ROOM:])
+    session.give_bare(data[PIPE_ROOM:])
     wait_until(lambda: session.receive(0.1) and "samhost: out of memory; it is tried again" in session.lines, "memory is not out")
     return words
 
@@ -266,17 +275,25 @@ def check_half_closed_without_memory(folder):
     with ours, subprocess.Popen([SAMHOST, "a.txt"], cwd=folder, stdin=its, stdout=pipe, stderr=pipe) as process:
         try:
             its.close()
-            os.set_blocking(process.stderr.fileno(), False)
-            ours.sendall(on_file(OPEN))
-            process.stdout.read(1)  # it has begun
+            line, said = Line(), b""
+            for end in (process.stdout, process.stderr):
+                os.set_blocking(end.fileno(), False)
+
+            def is_short():
+                nonlocal said
+                said += (process.stdout.read() or b"") + (process.stderr.read() or b"")
+                return b"out of memory; it is tried again" in said
+
+            ours.sendall(line.carried(on_file(OPEN)))
+            wait_until(lambda: process.stdout.read(1), "it doesn't begin")
             refuse_memory(process.pid)
             stop(process)
-            ours.sendall(typed(1, 0, b"x" * 500) * 100)
+            ours.sendall(line.carried(typed(1, 0, b"x" * 500) * 100))
             process.send_signal(signal.SIGCONT)
-            wait_until(lambda: b"out of memory; it is tried again" in (process.stderr.read() or b""), "memory is not out")
+            wait_until(is_short, "memory is not out")
             ours.shutdown(socket.SHUT_WR)
             expect_equal(process.wait(GIVEN_UP), 5, "the status")
-            lost = b"samhost: what came last from the terminal is lost: Cannot allocate memory\n"
-            expect_equal(process.stderr.read(), lost, "what it says at the end")
+            lost = "samhost: what came last from the terminal is lost: Cannot allocate memory"
+            expect(lost in own_lines(process.stderr.read()), "it doesn't say that it is lost")
         finally:
             process.kill()

@@ -11,10 +11,11 @@ import tty
 from pathlib import Path
 
 from checks import GIVEN_UP, Skipped, expect, wait_until
+from link_model import What
 
 from .support import (
-    AGE, CLOSE, CUT, EXIT, IDLE, LATE, OPEN, REQUEST, SAMHOST, WRITE, Session, as_nobody, expect_equal, expect_line, expect_only,
-    made, message, names_in, on_file, own_lines, text_of, typed,
+    AGE, CLOSE, CUT, EXIT, IDLE, LATE, NO_HELLO, OPEN, REQUEST, SAMHOST, WRITE, Line, Session, as_nobody, carried, expect_equal,
+    expect_line, expect_only, made, message, names_in, on_file, own_lines, run_host, text_of, typed,
 )  # fmt: skip
 
 DATA, LAST = 73, 88  # frames: Hdata, Hexit
@@ -35,8 +36,10 @@ def check_moment_of_a_write(folder):
             (folder / name).unlink(missing_ok=True)
         made(folder, a="one\n", b="b\n")
         with Session(folder, "a.txt", "b.txt", begin=False) as session:
-            for at in range(0, len(stream), size):
-                session.give(stream[at : at + size])
+            whole = session.line.carried(stream)
+            size = len(whole) if size == len(stream) else size
+            for at in range(0, len(whole), size):
+                session.give_bare(whole[at : at + size])
                 if size > 2:
                     time.sleep(0.01)
             while session.sources:
@@ -98,7 +101,7 @@ def check_broken_input(folder):
     made(folder, a="one\n")
     copy = folder / "a.txt.sam-saved"
     for line, why in ((reset_line, "Connection reset by peer"), (hung_up_line, "Input/output error")):
-        source = line(on_file(OPEN) + typed(1, 0, b"two "))
+        source = line(carried(on_file(OPEN) + typed(1, 0, b"two ")))
         ended = subprocess.run([SAMHOST, "a.txt"], cwd=folder, stdin=source, capture_output=True, timeout=GIVEN_UP)
         os.close(source)
         wanted = [f"standard input can't be read: {why}", "a.txt was not written; its text is in a.txt.sam-saved"]
@@ -111,7 +114,7 @@ def check_broken_input(folder):
 def check_broken_output(folder):
     """So is an output that can't be written, once the input ends."""
     made(folder, a="one\n")
-    stream = on_file(OPEN) + typed(1, 0, b"two ")
+    stream = carried(on_file(OPEN) + typed(1, 0, b"two "))
     with open("/dev/full", "wb") as full:
         ended = subprocess.run([SAMHOST, "a.txt"], cwd=folder, input=stream, stdout=full, stderr=subprocess.PIPE, timeout=GIVEN_UP)
     wanted = ["standard output can't be written: No space left on device", "a.txt was not written; its text is in a.txt.sam-saved"]
@@ -129,8 +132,9 @@ def check_input_that_does_not_block(folder):
     with subprocess.Popen(words, cwd=folder, stdin=source, stdout=subprocess.DEVNULL, stderr=subprocess.DEVNULL) as process:
         os.close(source)
         time.sleep(1)
+        line = Line()
         for piece in (on_file(OPEN), typed(1, 0, b"two ")):
-            os.write(sink, piece)
+            os.write(sink, line.carried(piece))
             time.sleep(0.1)
         os.close(sink)
         _, status, used = os.wait4(process.pid, 0)
@@ -149,7 +153,7 @@ def check_input_that_fails_for_once(folder):
     for error in ("EAGAIN", "EINTR"):
         words = ("strace", "-qq", "-o", "/dev/null", "-P", folder / "input", "-e", f"inject=read:error={error}:when=1+2", SAMHOST, "a.txt")
         both = os.open(folder / "input", os.O_RDWR)  # so neither side waits for the other
-        os.write(both, on_file(OPEN) + typed(1, 0, b"two "))
+        os.write(both, carried(on_file(OPEN) + typed(1, 0, b"two ")))
         source = os.open(folder / "input", os.O_RDONLY)
         os.close(both)
         ended = subprocess.run(words, cwd=folder, stdin=source, capture_output=True, timeout=GIVEN_UP)
@@ -173,7 +177,7 @@ def check_slow_reader(folder):
         while data:
             expect(select.select([session.process.stdout], [], [], GIVEN_UP)[0], "it sends no more, and doesn't end")
             data = os.read(session.process.stdout.fileno(), 65536)
-            frames += data
+            frames += session.line.heard(data)[0] if data else b""
         status, took = session.wait_for_times()
         expect_equal(status, 0, "the status")
     expect(took < 0.5, f"it took the processor {took:.1f} seconds")
@@ -189,10 +193,31 @@ def check_faults(folder):
     wrong = (b"\xff", wrong_length, on_file(CLOSE, 9), on_file(CLOSE, 0))
     cut_off = (half_a_close, on_file(CLOSE)[:1], typed(1, 0, b"ab")[:-1])
     for stream, status in (*((stream, 3) for stream in wrong), *((stream, 6) for stream in cut_off), (b"", 0)):
-        ended = subprocess.run([SAMHOST, "a.txt"], cwd=folder, input=stream, capture_output=True, timeout=GIVEN_UP)
-        expect_equal(ended.returncode, status, f"the status after {stream}")
+        got, lines = run_host(folder, [SAMHOST, "a.txt"], stream)
+        expect_equal(got, status, f"the status after {stream}")
         said = {0: [], 3: ["samhost: the terminal's stream is wrong"], 6: ["samhost: standard input ends inside a message"]}[status]
-        expect_equal([line.partition(" (")[0] for line in own_lines(ended.stderr)], said, f"what it says after {stream}")
+        expect_equal([line.partition(" (")[0] for line in lines], said, f"what it says after {stream}")
+    expect_only(folder, "a.txt")
+
+
+def check_without_a_hello(folder):
+    """A host that no terminal greets says what to use, and by its status what came; where another session is meant, or one is resumed or
+    taken over, the terminal's hello is refused. A packet that is wrong is a wrong stream."""
+    made(folder, a="one\n")
+    hello = carried(b"")
+
+    def ran(given, *words):
+        ended = subprocess.run([SAMHOST, *words, "a.txt"], cwd=folder, input=given, capture_output=True, timeout=GIVEN_UP)
+        return ended.returncode, own_lines(ended.stderr), ended.stdout[9:10]
+
+    expect_equal(ran(b""), (6, [NO_HELLO], b""), "without a byte status, lines and refusal")
+    expect_equal(ran(hello[:20]), (6, [NO_HELLO], b""), "inside a hello")
+    expect_equal(ran(b"\x16\0\0" + bytes(60)), (3, [NO_HELLO], bytes([What.NOT_A_LINK])), "with what is no hello")
+    for what in (What.RESUME, What.TAKE_OVER):
+        expect_equal(ran(hello[:9] + bytes([what]) + hello[10:]), (7, [], bytes([What.NO_SESSION])), f"with {what.name}")
+    expect_equal(ran(hello, "--serve", "0123456789abcdef", "--stay", "0"), (7, [], bytes([What.OTHER_SESSION])), "with another id")
+    wanted = (3, ["samhost: the terminal's stream is wrong (status 203)"], bytes([What.WELCOME]))
+    expect_equal(ran(hello + b"\x09\0\0"), wanted, "with a wrong packet")
     expect_only(folder, "a.txt")
 
 
@@ -237,8 +262,8 @@ def check_read_only(folder):
     made(folder, a="one\n")
     prefix = as_nobody(folder)
     (folder / "a.txt").chmod(0o444)
-    ended = subprocess.run([*prefix, SAMHOST, "a.txt"], cwd=folder, input=b"", capture_output=True, timeout=GIVEN_UP)
-    expect_equal((ended.returncode, ended.stderr.decode()), (0, "samhost: a.txt can only be read: Permission denied\n"), "status and line")
+    wanted = (0, ["samhost: a.txt can only be read: Permission denied"])
+    expect_equal(run_host(folder, [*prefix, SAMHOST, "a.txt"]), wanted, "status and line")
 
 
 def check_longest(folder):

@@ -1,12 +1,11 @@
 """Files that other programs change meanwhile, and files under several names."""
 import os
 import shutil
-import subprocess
 import time
 
-from checks import GIVEN_UP, Skipped, wait_until
+from checks import Skipped, wait_until
 
-from .support import IDLE, SAMHOST, Session, expect_equal, expect_line, expect_only, made, names_in, text_of
+from .support import IDLE, SAMHOST, Session, expect_equal, expect_line, expect_only, made, names_in, run_host, text_of
 
 
 def check_changed_by_another(folder):
@@ -16,7 +15,7 @@ def check_changed_by_another(folder):
         session.type("two\n")
         path.write_text("other\n")
         session.write()
-        line = r"\? write a.txt: another program changed it, and the next write replaces it; its text is in a.txt.sam-saved"
+        line = r"not written: a.txt: another program changed it, and the next write replaces it; its text is in a.txt.sam-saved"
         expect_line(session.told(), line)
         expect_equal(text_of(path), "other\n", "the file")
         expect_equal(text_of(folder / "a.txt.sam-saved"), "one\ntwo\n", "the copy")
@@ -55,7 +54,7 @@ def check_theirs_is_kept(folder):
             for text, copy in (("first\n", theirs), ("second\n", place / "a.txt.sam-theirs.2")):
                 path.write_text(text)
                 session.write()
-                expect_line(session.told(), r"\? write a.txt: another program changed it, .*")
+                expect_line(session.told(), r"not written: a.txt: another program changed it, .*")
                 session.write()
                 expect_line(session.told(), f"a.txt is replaced; what another program had written there is in {copy.name}")
                 expect_equal((text_of(path), text_of(copy)), ("one\ntwo\n", text), f"linked: {is_linked}: the file and the copy")
@@ -81,7 +80,7 @@ def check_theirs_without_room(folder):
         session.write()
         session.told()
         session.write()
-        expect_line(session.told(), r"\? write a.txt: File too large; its text is in a.txt.sam-saved")
+        expect_line(session.told(), r"not written: a.txt: File too large; its text is in a.txt.sam-saved")
         session.end()
     expect_equal(text_of(path), "x" * 2000, "the file")
 
@@ -95,7 +94,7 @@ def check_changed_within_its_marks(folder):
         path.write_text("ONE\n")
         os.utime(path, ns=(before.st_atime_ns, before.st_mtime_ns))
         session.write()
-        expect_line(session.told(), r"\? write a.txt: another program changed it, .*")
+        expect_line(session.told(), r"not written: a.txt: another program changed it, .*")
         expect_equal(text_of(path), "ONE\n", "the file")
         path.unlink()
         path.write_text("ONE\n")
@@ -124,7 +123,7 @@ def check_changed_meanwhile(folder):
             session.send()
             wait_until(lambda: any(name.startswith(".sam-a.txt-") for name in names_in(folder)), "it doesn't begin to write")
             path.write_text("other\n")
-            expect_line(session.told(), r"\? write a.txt: another program changed it, .*", f"linked: {is_linked}: ")
+            expect_line(session.told(), r"not written: a.txt: another program changed it, .*", f"linked: {is_linked}: ")
             session.end()
         expect_equal(text_of(path), "other\n", f"linked: {is_linked}: the file")
         expect_equal(text_of(folder / "a.txt.sam-saved"), "one\ntwo\n", f"linked: {is_linked}: the copy")
@@ -145,7 +144,7 @@ def check_replaced_meanwhile(folder):
         session.send()
         wait_until(lambda: any(name.startswith(".sam-a.txt-") for name in names_in(folder)), "it doesn't begin to write")
         other.rename(path)
-        expect_line(session.told(), r"\? write a.txt: another program changed it, .*; its text is in a.txt.sam-saved")
+        expect_line(session.told(), r"not written: a.txt: another program changed it, .*; its text is in a.txt.sam-saved")
         expect_equal((text_of(path), text_of(folder / "b.txt")), ("one\n", "one\n"), "the files")
         session.write()
         expect_equal(session.told(), [], "what it says")
@@ -174,7 +173,7 @@ def check_two_hosts(folder):
             time.sleep(0.3)
             second.write()
             told = first.told() + second.told()
-            expect_line(told, r"\? write a.txt: another program changed it, .*; its text is in a.txt.sam-saved", f"linked: {is_linked}: ")
+            expect_line(told, r"not written: a.txt: another program changed it, .*; its text is in a.txt.sam-saved", f"linked: {is_linked}: ")
             texts = {text_of(path), text_of(folder / "a.txt.sam-saved")}
             expect_equal(texts, {"one\nfirst\n", "one\nsecond\n"}, f"linked: {is_linked}: the texts")
             expect_equal((first.end(), second.end()), (0, 0), "the statuses")
@@ -189,7 +188,7 @@ def check_came_since(folder):
         session.type("two\n")
         path.write_text("other\n")
         session.write()
-        line = r"\? write new.txt: it is there already, and the next write replaces it; its text is in new.txt.sam-saved"
+        line = r"not written: new.txt: it is there already, and the next write replaces it; its text is in new.txt.sam-saved"
         expect_line(session.told(), line)
         expect_equal(text_of(path), "other\n", "the file")
         session.write()
@@ -205,7 +204,7 @@ def check_named_onto_a_file(folder):
         session.type("two\n")
         session.rename("b.txt")
         session.write()
-        expect_line(session.told(), r"\? write b.txt: it is there already, and the next write replaces it; its text is in b.txt.sam-saved")
+        expect_line(session.told(), r"not written: b.txt: it is there already, and the next write replaces it; its text is in b.txt.sam-saved")
         expect_equal(text_of(second), "other\n", "the file")
         session.write()
         expect_line(session.told(), "b.txt is replaced; what another program had written there is in b.txt.sam-theirs")
@@ -228,11 +227,11 @@ def check_named_as_another(folder):
         session.type("b\n", 2)
         session.rename("b.txt", 1)
         session.write(1)
-        expect_line(session.told(), r"\? write b.txt: it is there already, .*; its text is in b.txt.sam-saved")
+        expect_line(session.told(), r"not written: b.txt: it is there already, .*; its text is in b.txt.sam-saved")
         session.write(1)
         expect_equal(text_of(second), "one\na\n", "the file")
         session.write(2)
-        expect_line(session.told(), r"\? write b.txt: another program changed it, .*; its text is in b.txt.sam-saved")
+        expect_line(session.told(), r"not written: b.txt: another program changed it, .*; its text is in b.txt.sam-saved")
         expect_equal(text_of(folder / "b.txt.sam-saved"), "two\nb\n", "the copy")
         session.end()
 
@@ -244,10 +243,8 @@ def check_two_names(folder):
     (folder / "soft").symlink_to("a.txt")
     (folder / "nowhere").symlink_to("./new")
     for names in (("a.txt", "a.txt"), ("a.txt", "./a.txt"), ("a.txt", "hard"), ("soft", "a.txt"), ("new", "./new"), ("nowhere", "new")):
-        ended = subprocess.run([SAMHOST, *names], cwd=folder, input=b"", capture_output=True, timeout=GIVEN_UP)
-        expect_equal(ended.returncode, 0, f"the status of {names}")
-        wanted = f"samhost: {names[1]}: it stands twice among the words, first as {names[0]}\n"
-        expect_equal(ended.stderr.decode(), wanted, f"what it says of {names}")
+        wanted = (0, [f"samhost: {names[1]}: it stands twice among the words, first as {names[0]}"])
+        expect_equal(run_host(folder, [SAMHOST, *names]), wanted, f"status and lines of {names}")
     (folder / "d").mkdir()
     with Session(folder, "a.txt", "new", "d/new", "d/a.txt") as session:
         expect_equal(len(session.terminal.files()), 5, "how many files it knows")

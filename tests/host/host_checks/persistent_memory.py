@@ -1,7 +1,6 @@
 """Requests for memory that are refused to a session that stays: while it begins and runs, while another terminal takes it over, and while
 another samhost makes it again of its journal."""
 import concurrent.futures
-import re
 
 from checks import GIVEN_UP, Failed, expect, remove
 
@@ -39,7 +38,7 @@ def live(session):
     session.begin()
     session.type("two\n")
     session.write()
-    session.link.put_note(b"open 1 b.txt")
+    session.put_note("OPEN", request=1, path=b"b.txt")
     session.terminal.offer_version(2)
     session.settle()
     tags = [tag for tag in session.terminal.files() if session.terminal.name(tag) == "b.txt"]
@@ -68,8 +67,8 @@ def taken(place, name):
 
 def texts_in(place, *sessions):
     """What stands in the files of a folder, and in those that sessions have named: where memory is out a copy may stand elsewhere."""
-    named = [re.search(r"; its text is in (.*)$", note) for session in sessions for note in session.notes]
-    paths = [*place.rglob("*"), *(place / found[1] for found in named if found is not None)]
+    named = [os.fsdecode(message.copy) for session in sessions for message in session.messages if message.copy]
+    paths = [*place.rglob("*"), *(place / copy for copy in named)]
     return {text_of(path) for path in paths if path.is_file()}
 
 

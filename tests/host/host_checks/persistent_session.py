@@ -10,6 +10,7 @@ import sys
 import time
 from pathlib import Path
 
+import sulgrevad
 from checks import GIVEN_UP, SECONDS, Skipped, expect, times_longer, wait_until
 from link_model import HELLO_BYTES, Read, What, read_whole, spelled
 
@@ -27,7 +28,7 @@ def expect_gone(folder, staying):
 
 
 def check_stays_and_ends(folder):
-    """A session over its link edits and writes as the plain one, says the same as notes, ends with its status, and leaves no folder."""
+    """A session that stays edits and writes, says by messages what comes of that, ends with its status, and leaves no folder."""
     (path,) = made(folder, a="one\n")
     with Staying(folder, "a.txt") as session:
         session.type("two\n")
@@ -36,24 +37,31 @@ def check_stays_and_ends(folder):
         path.write_text("other\n")
         session.type("three\n")
         session.write()
-        told = [note for note in session.notes if note.startswith("told ? write a.txt: another program changed it")]
-        expect_equal(len(told), 1, f"how often it says so, in {session.notes}: it")
-        expect_equal(session.notes[0].split(" ")[:2], ["session", session.name], "the first note")
+        told = [said for said in session.said() if said.startswith("not written: a.txt: another program changed it")]
+        expect_equal(len(told), 1, f"how often it says so, in {session.said()}: it")
+        first = session.messages[0]
+        expect_equal((first.kind, first.number, first.path), (sulgrevad.NoteKind.SESSION, 1, session.name.encode()), "the first message")
         session.leave()
-        expect_equal(session.notes[-1], "ended 0", "the last note")
-        expect("told a.txt was not written; its text is in a.txt.sam-saved" in session.notes, f"it doesn't say where: {session.notes}")
+        expect_equal(session.said()[-1], "a.txt was not written; its text is in a.txt.sam-saved", "what it says last")
+        aside = session.of("ASIDE", tag=1, code=sulgrevad.NoteCode.NO_CODE, path=b"a.txt", copy=b"a.txt.sam-saved")
+        expect_equal(len(aside), 1, f"how often it tells where, in {session.messages}: it")
         expect_gone(folder, session)
         expect_equal(session.wait(), 0, "the status of the relay")
     expect_equal(text_of(folder / "a.txt.sam-saved"), "one\ntwo\nthree\n", "the copy")
 
 
 def check_stays_says_what_was_left(folder):
-    """What the plain one says at its start comes as notes, before all others but the first."""
+    """What is known at its start comes before all other messages but the first."""
     made(folder, a="one\n")
     (folder / "a.txt.sam-saved").write_text("newer\n")
     with Staying(folder, "a.txt", options=("--times", "--undo")) as session:
-        expect(session.notes[1].startswith("told a.txt was written last at "), f"it says no time: {session.notes}")
-        expect(session.notes[2].startswith("told a.txt has a text that was not written: it is in a.txt.sam-saved"), f"{session.notes}")
+        dated, earlier = session.messages[1:3]
+        time_of = int((folder / "a.txt").stat().st_mtime)
+        expect_equal(dated, sulgrevad.Note(sulgrevad.NoteKind.DATED, tag=1, number=time_of, path=b"a.txt"), "the time")
+        wanted = (sulgrevad.NoteKind.EARLIER, 1, sulgrevad.NoteCode.NEWER, b"a.txt", b"a.txt.sam-saved")
+        expect_equal((earlier.kind, earlier.tag, earlier.code, earlier.path, earlier.copy), wanted, f"of {earlier} the fields")
+        expect_equal(earlier.number, int((folder / "a.txt.sam-saved").stat().st_mtime), "its time")
+        expect(earlier.text.startswith("a.txt has a text that was not written: it is in a.txt.sam-saved"), f"it says {earlier}")
         session.leave()
 
 
@@ -105,9 +113,8 @@ def check_stays_through_breaks(folder):
         expect_equal(pid_of(folder, session.name), first, "the process")
         expect(session.breaks > 20, f"only {session.breaks} lines broke")
         expect_equal(text_of(path), wanted, "the file")
-        expect_equal([note for note in session.notes if note.startswith("told")], [], "what it says")
+        expect_equal(session.said(), [], "what it says")
         session.leave()
-        expect_equal(session.notes[-1], "ended 0", "the last note")
     expect_equal(wanted.count("<"), 60, "how many pieces it has")
 
 
@@ -230,7 +237,7 @@ def check_stays_after_a_signal(folder):
             session.type("three\n")
             expect(pid_of(place, session.name) != pid, "no other samhost has begun")
             expect_equal(session.text(), "one\ntwo\nthree\n", "the text")
-            expect_equal([note for note in session.notes if not note.startswith("session ")], [], "what it says")
+            expect_equal([message for message in session.messages if message not in session.of("SESSION")], [], "what it says")
             session.write()
             session.leave()
         expect_equal([name for name in names_in(place) if "sam" in name], [], "the copies that are left")
@@ -281,10 +288,10 @@ def check_stays_until_it_is_ended(folder):
         pipe = subprocess.PIPE
         words = [SAMHOST, "--end", session.name]
         with subprocess.Popen(words, cwd=folder, env=session.environment, stdout=pipe, stderr=pipe) as ending:
-            session.wait_for("ended 0")
+            session.wait_for_end(0)
             expect_equal((ending.wait(GIVEN_UP), *ending.communicate()), (0, b"", b""), "what comes of --end")
         expect_gone(folder, session)
-        expect("told a.txt was not written; its text is in a.txt.sam-saved" in session.notes, f"it doesn't say where: {session.notes}")
+        expect("a.txt was not written; its text is in a.txt.sam-saved" in session.said(), f"it doesn't say where: {session.said()}")
 
 
 def check_stays_ended_while_it_begins(folder):
@@ -311,10 +318,11 @@ def check_stays_where_a_text_can_t_be_saved(folder):
         with with_calls(pid, "inject=pwrite64:error=ENOSPC"):
             session.type("two\n")
             session.terminal.exit()
-            session.wait_for("ended 5")
+            session.wait_for_end(5)
             wait_until(lambda: not is_running(pid), "it doesn't go")
-        expect("told the text of a.txt is lost: No space left on device" in session.notes, f"it says {session.notes}")
-        expect(any("--end" in note for note in session.notes), f"it doesn't say how it is saved: {session.notes}")
+        lost = session.of("LOST", tag=1, code=sulgrevad.NoteCode.NO_SPACE, path=b"a.txt")
+        expect("the text of a.txt is lost: No space left on device" in [message.text for message in lost], f"it tells {session.messages}")
+        expect(any("--end" in said for said in session.said()), f"it doesn't say how it is saved: {session.said()}")
         session.drop()
         session.start("--attach", session.name)
         session.carry(lambda: session.process is None, "the session goes on")
@@ -381,9 +389,9 @@ def check_stays_told_to_a_new_one(folder):
         old.type("new\n", 4)
         old.drop()
         with Staying(folder, "link.txt", "b.txt", "c.txt", "new.txt") as new:
-            told = [note for note in new.notes if " has changes in session " in note]
+            told = [said for said in new.said() if " has changes in session " in said]
             way = f"samterm --take .. {old.name}, or samhost --take {old.name}, goes on with them"
-            wanted = [f"told {name} has changes in session {old.name} that are not written; {way}" for name in ("link.txt", "new.txt")]
+            wanted = [f"{name} has changes in session {old.name} that are not written; {way}" for name in ("link.txt", "new.txt")]
             expect_equal(told, wanted, "what it is told")
             new.leave()
         other = pid_of(folder, old.name)
@@ -440,7 +448,7 @@ def check_stays_for_the_last_note(folder):
         session.terminal.exit()
         session.send()
         session.process.kill()
-        session.wait_for("ended 0")
+        session.wait_for_end(0)
         session.abandon()
         session.attach()  # the note may have come before the line broke: the next one acknowledges it
         session.send()
@@ -573,7 +581,7 @@ def check_stays_begins_by_begin(folder):
                 it.sendall(data)
                 expect_equal(read_whole(it.recv(64)).what, what, "the answer")
         session.begin()
-        expect_equal([note.split(" ")[0] for note in session.notes], ["session"], "the notes")
+        expect_equal(session.messages, session.of("SESSION"), "the messages")
         session.type("two\n")
         session.leave()
 

@@ -7,6 +7,7 @@ import resource
 import shutil
 import subprocess
 
+import sulgrevad
 from checks import GIVEN_UP, Skipped, expect, times_slower
 
 from .journals import DONE, DOWN, HELLO, UP, kill, records_of
@@ -222,14 +223,14 @@ def check_power_cut_at_the_last_sync(folder):
             path.write_text(f"of another program {number}\n")
             session.type(f"refused {number}\n")
             session.write()
-            told = [note for note in session.notes if note.startswith("told ? write a.txt: another program changed it")]
-            expect_equal(len(told), number + 1, f"how often it says so, in {session.notes}: it")
+            told = [said for said in session.said() if said.startswith("not written: a.txt: another program changed it")]
+            expect_equal(len(told), number + 1, f"how often it says so, in {session.said()}: it")
             power.cut()
             session.type(f"after {number}\n")
             power.cut()
         for number in range(3):
-            link.put_note(b"names %d " % number)
-            session.carry(lambda: any(note.startswith(f"names {number} ") for note in session.notes), "no names come")
+            session.put_note("COMPLETE", request=number + 1)
+            session.carry(lambda: session.of("NAMES", request=number + 1), "no names come")
             power.cut()
             (folder / f"new{number}.txt").touch()
             session.settle()
@@ -325,8 +326,6 @@ def seconds_to_read(folder, session):
 def check_journal_is_read_quickly(folder):
     """Another samhost reads a journal of 16 MB, of edits all over a text of some 50,000 characters, in less than a second of a quiet
     processor."""
-    import sulgrevad
-
     made(folder, a="one\n")
     with Staying(folder, "a.txt", options=("--undo",), kind=sulgrevad.Link) as session:
         terminal, journal = session.terminal, home_of(folder, session.name) / "journal"
@@ -347,8 +346,6 @@ def check_journal_is_read_quickly(folder):
 
 def seconds_of_keys(place, what_follows):
     """Seconds that it takes to read a journal of keys in a long text, of which each came by itself and this followed."""
-    import sulgrevad
-
     place.mkdir()
     made(place, a="one two\n" * 62_500)
     with Staying(place, "a.txt", kind=sulgrevad.Link) as session:

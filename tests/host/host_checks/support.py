@@ -6,13 +6,12 @@ import select
 import shutil
 import signal
 import subprocess
-import sys
 import time
 from pathlib import Path
 
-from checks import GIVEN_UP, ROOT, Skipped, expect, wait_until
-
-sys.path.insert(0, str(ROOT / "bindings" / "python"))
+import sulgrevad
+from checks import GIVEN_UP, Skipped, expect, wait_until
+from link_model import HELLO_BYTES, Link
 
 SAMHOST = Path(os.environ["SAMHOST"])  # a copy that every user can reach
 IDLE = 2.0  # seconds of quiet after which the host saves changed texts aside
@@ -21,6 +20,8 @@ LATE = 3.0  # seconds that a busy machine may add
 NOBODY = 65534
 IS_ROOT = os.geteuid() == 0
 REQUEST, OPEN, CUT, WRITE, CLOSE, EXIT = 4, 6, 9, 13, 14, 22  # kinds of the terminal's messages
+# What a host says that no terminal has greeted.
+NO_HELLO = "samhost: standard input has no hello of a terminal; samterm, samweb and Emacs start samhost, and samterm FILE edits a file"
 # What a host that begins says of the user's folder in a /tmp that it shares with those of other checks.
 OF_OTHERS = re.compile(r"samhost: (/tmp/sulgrevad-\d+/\.sam-[^/]* is left .*|a file without a name .* in /tmp/sulgrevad-\d+/[^/]*)")
 AGE = r", of \d{4}-\d\d-\d\d \d\d:\d\d:\d\d, newer than the file"
@@ -31,7 +32,7 @@ def expect_equal(got, wanted, what):
 
 
 def own_lines(said):
-    """The lines that a host has written, but for those that hosts of other checks are to blame for."""
+    """The lines that a host has said, but for those that hosts of other checks are to blame for."""
     has_own_tmp = "TMP_IS_OWN" in os.environ
     return [line for line in said.decode().split("\n") if line and (has_own_tmp or not OF_OTHERS.fullmatch(line))]
 
@@ -48,13 +49,68 @@ def names_in(folder):
     return sorted(entry.name for entry in folder.iterdir())
 
 
+class Line:
+    """A terminal's end of a link whose only connection are the streams of a host."""
+
+    def __init__(self):
+        self.id, self.messages, self._came = os.urandom(16), [], b""
+        self.link = Link(Link.TERMINAL, self.id)
+        self._attempt = self.link.call()
+
+    def carried(self, stream=b""):
+        """The bytes that bring a stream, behind the hello where that has not gone."""
+        self.link.put(stream)
+        pieces = iter(lambda: self.link.take_out(self._attempt), b"")
+        return b"".join(pieces)
+
+    def heard(self, data):
+        """The stream that bytes of the host bring, and the messages, which are kept."""
+        if len(self._came) < HELLO_BYTES:
+            self._came += data
+            if len(self._came) < HELLO_BYTES:
+                return b"", []
+            self.link.welcomed(self._came[:HELLO_BYTES])
+            data = self._came[HELLO_BYTES:]
+        self.link.feed(self._attempt, data)
+        stream, new = b"", []
+        while (taken := self.link.take_in()) or (note := self.link.next_note()) is not None:
+            if taken:
+                stream += taken
+            else:
+                new.append(sulgrevad.read_note(note))
+        self.messages += new
+        return stream, new
+
+    def lines(self, output, errors):
+        """What a host has said, by messages of its output and on standard error, where some of it stands, too."""
+        aloud, (_, new) = own_lines(errors), self.heard(output) if output else (b"", [])
+        said = own_lines("".join(f"samhost: {text}\n" for text in said_in(new)).encode())
+        return [text for text in said if text not in aloud] + aloud
+
+
+def carried(stream):
+    """The bytes by which a terminal greets a host and brings it a stream, all at once."""
+    return Line().carried(stream)
+
+
+def run_host(folder, words, stream=b""):
+    """Runs a host for a terminal that greets it, brings it a stream, and is gone. Returns its status and its lines."""
+    line = Line()
+    ended = subprocess.run(words, cwd=folder, input=line.carried(stream), capture_output=True, timeout=GIVEN_UP)
+    return ended.returncode, line.lines(ended.stdout, ended.stderr)
+
+
+def said_in(messages):
+    """The sentences for people of messages."""
+    return [message.text for message in messages if message.text and message.kind != sulgrevad.NoteKind.SESSION]
+
+
 class Session:
-    """A host's process, and a terminal that has opened its files; without `begin` a terminal that hears nothing."""
+    """A host's process, and a terminal that has opened its files; without `begin` a terminal that hears only what is said."""
 
     def __init__(self, folder, *files, prefix=(), options=(), environment=None, begin=True, limit=None):
-        import sulgrevad
-
-        self.folder, self.lines, self._line, self.terminal = folder, [], b"", sulgrevad.Terminal()
+        self.folder, self.terminal, self.line = folder, sulgrevad.Terminal(), Line()
+        self.lines, self.aloud, self._line = [], [], b""  # lines that it has said; those of standard error, and the one that isn't whole
         more = {"TMPDIR": str(folder / "temporary"), "XDG_STATE_HOME": str(folder / "temporary"), **(environment or {})}
         pipe = subprocess.PIPE
         set_limit = (lambda: resource.setrlimit(resource.RLIMIT_FSIZE, (limit, resource.RLIM_INFINITY))) if limit else None
@@ -89,6 +145,11 @@ class Session:
         self.give(self.terminal.take_out())
 
     def give(self, data):
+        """Gives the host bytes of the stream."""
+        self.give_bare(self.line.carried(data))
+
+    def give_bare(self, data):
+        """Gives it bytes of the line as they stand."""
         if data:
             os.write(self.process.stdin.fileno(), data)
 
@@ -100,19 +161,30 @@ class Session:
             if not data:
                 self.sources.remove(end)
             elif end is self.process.stdout:
-                if self.has_begun:
-                    self.terminal.feed(data)
+                self.hear(data)
             else:
                 *lines, self._line = (self._line + data).split(b"\n")
+                self.aloud += own_lines(b"\n".join(lines))
                 self.lines += own_lines(b"\n".join(lines))
         return bool(ready)
+
+    def hear(self, data):
+        """Takes what the host sends. What it says once its input has ended, or while memory is out, stands on standard error, too."""
+        stream, messages = self.line.heard(data)
+        if self.has_begun:
+            self.terminal.feed(stream)
+        for line in own_lines("".join(f"samhost: {text}\n" for text in said_in(messages)).encode()):
+            if line in self.aloud:
+                self.aloud.remove(line)
+            elif not self.process.stdin.closed:
+                self.lines.append(line)
 
     def is_quiet(self):
         terminal = self.terminal
         return not (terminal.held or terminal.under_way or terminal.unsent or terminal.command_locked)
 
     def settle(self):
-        """Waits until the host has taken all, which it is asked for by a message that it answers."""
+        """Waits until the host has taken all, which it is asked for by a message of the core that it answers."""
         until, is_asked, terminal = time.monotonic() + GIVEN_UP, False, self.terminal
         self.send()
         while not self.is_quiet():
@@ -163,7 +235,7 @@ class Session:
         self.command(f"f {name}", tag)
 
     def told(self):
-        """The lines that the host has written since this was asked last."""
+        """The lines that the host has said since this was asked last."""
         self.settle()
         lines, self.lines = self.lines, []
         return lines

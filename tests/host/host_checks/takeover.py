@@ -2,6 +2,7 @@
 import os
 import signal
 
+import sulgrevad
 from checks import expect, wait_until
 from link_model import What
 
@@ -39,12 +40,14 @@ def check_taken_with_texts_and_marks(folder):
         old.rename("c.txt", 2)
         pid = pid_of(folder, old.name)
         with Staying(folder, takes=old.name) as new:
-            expect_equal(new.notes[0].split(" ")[:2], ["session", new.name], "the first note")
+            expect_equal((new.messages[0], new.messages[0].path), (new.of("SESSION")[0], new.name.encode()), "the first message")
             expect_equal(names_of(new), ["a.txt", "c.txt", "~~undo~~"], "the names")
             expect_equal((new.text(1), new.text(2)), ("one\ntwo\n", "other\nmore\n"), "the texts")
-            line = "told ? write a.txt: it was not written before this terminal took the session over; its text is in a.txt.sam-saved"
-            expect_equal([note for note in new.notes if note.startswith("told")], [line], "what it says")
-            old.carry(lambda: any(note.startswith("gone ") for note in old.notes), "the older one isn't told")
+            line = "not written: a.txt: it was not written before this terminal took the session over; its text is in a.txt.sam-saved"
+            expect_equal(new.said(), [line], "what it says")
+            taken = new.of("NOT_SAVED", tag=1, request=0, code=sulgrevad.NoteCode.TAKEN_UNSAVED, path=b"a.txt", copy=b"a.txt.sam-saved")
+            expect_equal(len(taken), 1, f"how often it tells so, in {new.messages}: it")
+            old.carry(lambda: old.of("TAKEN_OVER"), "the older one isn't told")
             expect_equal(pid_of(folder, new.name), pid, "the process")
             expect_equal(names_in(home_of(folder, new.name).parent), [new.name], "the folders of sessions")
             old.drop()
@@ -53,7 +56,7 @@ def check_taken_with_texts_and_marks(folder):
             new.type("three\n")
             new.write(1)
             expect_equal(text_of(first), "one\ntwo\nthree\n", "the file")
-            expect_equal([note for note in new.notes if note.startswith("told ? ")], [line], "what it says of the write")
+            expect_equal([said for said in new.said() if said.startswith("? ")], [line], "what it says of the write")
             new.leave()
             wait_until(lambda: not home_of(folder, new.name).exists(), "its folder stays")
     expect_equal(text_of(second), "other\nmore\n", "the other file")
@@ -124,10 +127,10 @@ def check_taken_by_its_name(folder):
         expect_equal((other.refusal(), other.wait()), (What.NO_SESSION, 7), "what comes of --take where there is none")
 
 
-def expect_line_last(session, note):
-    """A note has come, and no other after it that tells something."""
-    session.carry(lambda: note in session.notes, f"no {note!r} comes")
-    expect_equal([said for said in session.notes if said.startswith("told")][-1], note, "what it has told last")
+def expect_line_last(session, line):
+    """A sentence has come, and no other after it."""
+    session.carry(lambda: line in session.said(), f"no {line!r} comes")
+    expect_equal(session.said()[-1], line, "what it has said last")
 
 
 def check_taken_back_once_it_is_written(folder):
@@ -141,15 +144,16 @@ def check_taken_back_once_it_is_written(folder):
             old.type("two\n")
             old.drop()
             with Staying(place, takes=old.name) as new:
-                expect(any(note.startswith("told ? write a.txt: it was not written before") for note in new.notes), f"it says {new.notes}")
+                expect(any(said.startswith("not written: a.txt: it was not written before") for said in new.said()), f"it says {new.said()}")
                 if is_killed:
                     kill(place, new)
                 new.write(2)
                 new.write(1)
-                expect_line_last(new, "told a.txt is written")
+                expect_line_last(new, "a.txt is written")
                 new.type("three\n")
                 new.write(1)
-                expect_equal(new.notes.count("told a.txt is written"), 1, "how often it says so")
+                expect_equal(new.said().count("a.txt is written"), 1, "how often it says so")
+                expect_equal([message.tag for message in new.of("SAVED")], [2, 1, 1], "the files of which it tells that they are written")
                 new.leave()
         expect_equal(text_of(place / "a.txt"), "one\ntwo\nthree\n", "the file")
         expect_equal([name for name in names_in(place) if "sam" in name], [], "the copies that are left")
@@ -179,8 +183,8 @@ def check_taken_where_the_new_journal_is_lost(folder):
                     home = home_of(place, new.name)
                     journals = [name for name in names_in(home) if name.startswith("journal")]
                     expect_equal(journals, [], f"{error} at the sync {when}: the journals that are there")
-                    told = [note for note in new.notes if note.startswith("told the journal can't be written: ")]
-                    expect_equal(len(told), 1, f"how often it says so, in {new.notes}: it")
+                    told = [it.text for it in new.of("NO_JOURNAL") if it.text.startswith("the journal can't be written: ")]
+                    expect_equal(len(told), 1, f"how often it says so, in {new.messages}: it")
                     new.leave()
 
 
@@ -211,8 +215,8 @@ def check_taken_where_the_folder_stays(folder):
     with Staying(folder, "a.txt") as old:
         pid = alone(folder, old)
         with with_calls(pid, f"inject={RENAMES}:error=EIO:when=2"), Staying(folder, takes=old.name) as new:
-            told = f"told the folder of session {old.name} can't be named anew: Input/output error; it is found all the same"
-            expect(told in new.notes, f"it says {new.notes}")
+            told = f"the folder of session {old.name} can't be named anew: Input/output error; it is found all the same"
+            expect(told in new.said(), f"it says {new.said()}")
             expect_equal(names_in(state_of(folder)), [old.name], "the folders of sessions")
             new.drop()
             new.type("three\n")
@@ -234,7 +238,7 @@ def check_taken_keeps_what_was_cut(folder):
         old.settle()
         with Staying(folder, takes=old.name) as new:
             expect_equal(new.text(), "two\n", "the text")
-            told = [note for note in new.notes if note.startswith("told what was cut last is in ")]
-            expect_equal(len(told), 1, f"how often it says where, in {new.notes}: it")
-            expect_equal(text_of(folder / told[0].removeprefix("told what was cut last is in ")), "one ", "what was cut")
+            told = new.of("ASIDE", code=sulgrevad.NoteCode.CUT)
+            expect_equal([it.text for it in told], ["what was cut last is in cut.sam-saved"], f"what it tells of it, in {new.messages}")
+            expect_equal(text_of(folder / os.fsdecode(told[0].copy)), "one ", "what was cut")
             new.leave()

@@ -6,7 +6,7 @@ import unicodedata
 
 from checks import GIVEN_UP, Skipped, expect
 from host_checks.line import Staying
-from host_checks.support import SAMHOST, Session, expect_equal, expect_line, made, names_of, text_of
+from host_checks.support import SAMHOST, Session, expect_equal, expect_line, made, names_of, run_host, text_of
 
 JOINERS = "\u200c\u200d"  # scripts and emoji need them
 # Of the category Cf, and shown all the same.
@@ -79,8 +79,8 @@ def check_names_that_front_ends_take_for_theirs(folder):
         old.type("three\n")
         old.write()
         why = "another program changed it, and the next write replaces it"
-        told = f"told ? write ./{names[0]}: {why}; its text is in ./{names[0]}.sam-saved"
-        expect(told in old.notes, f"no {told!r} in {old.notes}")
+        told = f"not written: ./{names[0]}: {why}; its text is in ./{names[0]}.sam-saved"
+        expect(told in old.said(), f"no {told!r} in {old.said()}")
         with Staying(folder, takes=old.name) as new:
             expect_equal(names_of(new)[:4], [f"./{name}" for name in names[:4]], "the names for the new terminal")
             new.terminal.open(1)
@@ -113,7 +113,7 @@ def check_names_of_what_is_opened(folder):
     if shutil.which("strace") is None:
         raise Skipped("no strace")
     files = ["fifo", "link", "/dev/null", "a.txt"]
-    subprocess.run([*words, SAMHOST, *files], cwd=folder, input=b"", capture_output=True, timeout=GIVEN_UP, check=True)
+    expect_equal(run_host(folder, [*words, SAMHOST, *files])[0], 0, "the status")
     opened = log.read_text()
     expect('"a.txt"' in opened, "this test is wrong: the file isn't opened")
     for name in ('"fifo"', '"link"', '"/dev/null"'):

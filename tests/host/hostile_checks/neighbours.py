@@ -12,7 +12,7 @@ import time
 from checks import GIVEN_UP, Skipped, expect, times_longer, wait_until
 from host_checks.journals import kill, typed
 from host_checks.line import home_of
-from host_checks.support import IS_ROOT, NOBODY, SAMHOST, Session, as_nobody, expect_equal, expect_line, made, names_of, own_lines, text_of
+from host_checks.support import IS_ROOT, NOBODY, SAMHOST, Session, as_nobody, expect_equal, expect_line, made, names_of, run_host, text_of
 
 SILENT = 40  # connections that say nothing: more than are taken and wait
 
@@ -117,7 +117,7 @@ def check_neighbours_link_at_the_last_moment(folder):
         session.settle()
         expect_equal(text_of(target), "one\n", "what the link leads to")
         expect_equal(text_of(folder / "b.txt"), "one\n", "the file by its other name")
-        expect(any("a.txt" in line and line.startswith("samhost: ? write ") for line in session.told()), "it says nothing")
+        expect(any("a.txt" in line and line.startswith("samhost: not written: ") for line in session.told()), "it says nothing")
     expect_equal(text_of(folder / "a.txt.sam-saved"), "one\ntwo\n", "the copy")
 
 
@@ -252,8 +252,7 @@ def check_neighbours_in_a_shared_folder(folder):
     (folder / "a.txt.sam-saved.2").write_text("own\n")
     os.chown(folder / "a.txt.sam-saved.2", NOBODY, NOBODY)
     command = [*prefix, SAMHOST, "--undo", "a.txt"]
-    ended = subprocess.run(command, cwd=folder, input=b"", capture_output=True, timeout=GIVEN_UP)
-    told = [line for line in own_lines(ended.stderr) if "a.txt" in line]
+    told = [line for line in run_host(folder, command)[1] if "a.txt" in line]
     expect_line(told, rf"a\.txt\.sam-saved is of another user, {owner}, and is not offered")
     expect_line(told, r"a\.txt has a text that was not written: it is in a\.txt\.sam-saved\.2.*")
     expect_equal(len(told), 2, f"of the lines {told} the number")

@@ -13,6 +13,7 @@ from pathlib import Path
 from checks import Skipped
 
 from .fuzz import Run
+from .messages import NoteCode, not_saved, replacing
 from .model import Model
 from .pairs import LONG as MANY_LINES
 from .pairs import in_a_small_window, loads_of, opened
@@ -33,8 +34,8 @@ class Line:
     def __init__(self):
         self.is_broken, self.silence, self.notes = False, 0.0, []
 
-    def put_note(self, *words):
-        self.notes.append(words)
+    def put_note(self, note):
+        self.notes.append(note)
 
 
 def with_line(*texts, **more):
@@ -414,29 +415,26 @@ def check_leave_and_take(folder):
 
 
 def check_taken_text_is_unsaved(folder):
-    """A text of which the host tells that an earlier terminal had not written it counts as changed until it is written; where nobody knows
-    which one it is, each does."""
-    taken = "it was not written before this terminal took the session over; its text is in /tmp/x.sam-saved"
-    for name, changed in (("file1", {2}), ("nobody: knows", {1, 2})):
-        pair, editor, key, text = opened("a\n", "b\n")
-        editor.hear(f"samhost: ? write {name}: {taken}")
-        expect({tag for tag in editor.tags if editor.is_changed(tag)} == changed, f"{name}: not as changed counts what should")
-        expect("not written: " in editor.message and "? write" not in editor.message, f"it tells {editor.message!r}")
-        editor.go_to(editor.files[1])
-        pair.press(key("^W"))
-        expect(not editor.is_changed(2), f"{name}: it counts as changed though it is written")
+    """A text of which the host tells that an earlier terminal had not written it counts as changed until it is written."""
+    pair, editor, key, text = opened("a\n", "b\n")
+    taken = "it was not written before this terminal took the session over"
+    editor.hear(not_saved(2, NoteCode.TAKEN_UNSAVED, "/tmp/x.sam-saved", taken))
+    expect({tag for tag in editor.tags if editor.is_changed(tag)} == {2}, "not as changed counts what should")
+    expect(taken in editor.message, f"it tells {editor.message!r}")
+    editor.go_to(editor.files[1])
+    pair.press(key("^W"))
+    expect(not editor.is_changed(2), "it counts as changed though it is written")
 
 
 def check_one_answer_after_a_break(folder):
     """A write was put off, since the line was lost, and another program has changed the file: once the line is back that is asked at once,
     and one `^W` answers it; where it was answered before, nothing is asked."""
-    refusal = "samhost: ? write file0: another program changed it, and the next write replaces it; its text is in /tmp/file0.sam-saved"
     for when in ("known before", "answered meanwhile", "told afterwards"):
         pair, editor, key, text, line = with_line("a\n")
         pair.press(text("x"))
         if when != "told afterwards":
             editor.take(key("^W"))
-            editor.hear(refusal)
+            editor.hear(replacing(1))
             pair.finish()
             expect("^W again replaces it" in editor.message, f"{when}: this test is wrong: {editor.message!r}")
         if when == "known before":
@@ -451,7 +449,7 @@ def check_one_answer_after_a_break(folder):
         line.is_broken, line.silence = False, 0.0
         pair.pause()
         if when == "told afterwards":
-            editor.hear(refusal)
+            editor.hear(replacing(1))
         pair.finish()
         if when != "answered meanwhile":
             expect("^W again replaces it" in editor.message, f"{when}: it doesn't ask, but tells {editor.message!r}")

@@ -16,6 +16,7 @@ from types import SimpleNamespace
 from checks import Failed, times_longer
 
 from .colours import expect_pygments
+from .messages import first_message, said, wrong_messages, write_note
 from .pairs import Pair, opened
 from .slow_line import QUIET_LOOP, least_loop
 from .stopped import OnTerminal, cost_of
@@ -154,10 +155,11 @@ def check_name_of_the_session(folder):
 
         line = persistent_session.PersistentSession(["sleep", "100"], lambda name: [])
         old = line.name
-        told = line._meet(f"session {name.encode().decode('unicode_escape')} box")
+        line._meet(write_note(first_message(name.encode().decode("unicode_escape").replace("\0", "?").encode())))
+        told = line._told_of()
         line.close(print, seconds=0)
-        expect(line.name == old and isinstance(told, str) and "no name" in told, f"{name!r}: it is {line.name}, told {told!r}")
-    host = hostile("dies", "session $(touch${IFS}OWNED) box")
+        expect(line.name == old and len(told) == 1 and "no name" in told[0], f"{name!r}: it is {line.name}, told {told!r}")
+    host = hostile("dies", write_note(first_message(b"$(touch${IFS}OWNED)")).hex())
     program = host_that(folder, f'echo "$*" >> {words}', 'case "$*" in *--attach*) exec sh -c "true $*";; esac', f'exec {host} "$@"')
     with Session(folder, "a.txt", "b.txt", host=program, stays=True, width=140) as session:
         session.wait_for("which is no name")
@@ -167,26 +169,41 @@ def check_name_of_the_session(folder):
     expect(not (folder / "OWNED").exists(), "a command of the host was run")
 
 
-def check_wrong_notes_end_nothing(folder):
-    """Notes with wrong numbers, tags and names do nothing."""
-    long = "9" * 4000
-    notes = [f"{verb} {words}" for verb in ("wish", "opened", "anew", "names", "refused", "folder", "nonsense", "told") for words in (
-        "", f"{long} 7", f"1 {long}", "65536 1", "70000 70000", "-1 -1", "² ²", "1.5 x", "x y", "\0 \0", "1", "999999999 999999999",
-    )]  # fmt: skip
-    host = hostile("notes", *(note for note in notes if "\0" not in note), "wish 2 3")
-    with OnTerminal(folder, "a.txt", "b.txt", host=host) as session:
-        session.read_until("b.txt", 20)
-        session.type("x")
-        session.read_until("x")
-        expect(session.process.poll() is None, "it has ended")
-    pair, editor, _, text = opened("a\n")
-    from terminal.line.persistent_session import Note
+def check_wrong_messages_end_nothing(folder):
+    """Messages with wrong lengths, numbers, tags and words do nothing; nor do those of kinds and codes that nobody knows."""
+    messages = wrong_messages()
+    host = hostile("notes", write_note(first_message()).hex(), *(data.hex() for data in messages if len(data) < 500))
+    with OnTerminal(folder, "a.txt", "b.txt", host=host) as terminal:
+        terminal.read_until("b.txt", 20)
+        terminal.type("x")
+        terminal.read_until("x")
+        expect(terminal.process.poll() is None, "it has ended")
+    from terminal.line import persistent_session
 
-    for note in notes:
-        editor.meet_note(Note(*note.partition(" ")[::2]))
+    pair, editor, _, text = opened("a\n")
+    line = persistent_session.PersistentSession(["sleep", "100"], lambda name: [])
+    line._meet(write_note(first_message()))
+    for data in messages:
+        note = line._meet(data)
+        if note is not None:
+            editor.hear(note)
         pair.finish()
     pair.press(text("x"))
-    expect(pair.host.text(1) == "xa\n" and not editor.is_lost, f"the text is {pair.host.text(1)!r}, {editor.message}")
+    expect(pair.host.text(1) == "xa\n" and not editor.is_lost and not line.is_lost, f"the text is {pair.host.text(1)!r}, {editor.message}")
+    line.close(print, seconds=0)
+
+
+def check_host_of_another_version(folder):
+    """A host whose first message is no name of a session, or of another version, is left, and that is told."""
+    from terminal.line import persistent_session
+
+    for first in (b"session 0123456789abcdef box", write_note(first_message(version=2)), write_note(said("a word")), b""):
+        line = persistent_session.PersistentSession(["sleep", "100"], lambda name: [])
+        line._meet(first)
+        line.close(print, seconds=0)
+        expect(line.is_lost and "another version" in line.why, f"{first!r}: it goes on, {line.why!r}")
+    with OnTerminal(folder, "a.txt", "b.txt", host=hostile("notes", b"session 0123456789abcdef box".hex())) as terminal:
+        terminal.read_until("another version", 20)
 
 
 def check_files_of_names_that_are_ours(folder):
@@ -221,13 +238,10 @@ def check_floods(folder):
             expect_quick(session, MOST_FOR_A_KEY, name)
 
 
-def check_words_with_many_ends(folder):
-    """A line of standard error is cut, and few of the places are tried at which a name may end."""
+def check_long_lines_of_words(folder):
+    """A line of standard error is cut."""
     from terminal.line.host_process import MOST_IN_LINE, HostProcess, wait_for
-    from terminal.view.status_line import said
 
-    told = said("samhost: ? write " + ": " * 5_000)
-    expect(len(told.names) == 8, f"it tries {len(told.names)} names")
     code = f"import os; os.write(2, b'x' * 300_000 + b'\\nlast\\n' + b'y' * 300_000)"
     lines, process = [], HostProcess([sys.executable, "-c", code])
     process.close(lines.append)
@@ -407,11 +421,11 @@ def check_notes_keep_their_place(folder):
     session._end = End()
     refuses += [1] * 3
     session._put(b"edit 1")
-    session.put_note("reloaded", "1")
+    session.put_note(said("a word"))
     session._put(b"edit 2")
     expect(not taken and not session.has_all and session.lacking > 0, f"this test is wrong: {taken}")
     session._put(b"")
-    expect(taken == [b"edit 1", b"note reloaded 1", b"edit 2"], f"the order is {taken}")
+    expect(taken == [b"edit 1", b"note " + write_note(said("a word")), b"edit 2"], f"the order is {taken}")
     session._end = end
     session.close(print, seconds=0)
 
@@ -435,7 +449,7 @@ def check_session_that_cannot_begin(folder):
     ended = PersistentSession(["sh", "-c", "echo why >&2; exit 3"], lambda name: [])
     lines = []
     ended.send(b"what is sent first")
-    expect(not ended.wait_for_stream(b"", lines.append) and ended.early_status == 3, f"this test is wrong: {ended.early_status}")
+    expect(not ended.wait_for_stream(lines.append) and ended.early_status == 3, f"this test is wrong: {ended.early_status}")
     start = time.monotonic()
     ended.close(lines.append)
     expect(time.monotonic() - start < 5 and lines == ["why"], f"it takes {time.monotonic() - start:.1f} s, and tells {lines}")

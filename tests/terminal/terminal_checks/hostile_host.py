@@ -4,9 +4,9 @@
 It has the texts a.txt and b.txt, and serves one connection over its standard input and output, as samhost does; what of it is hostile HOW
 says:
 
-- notes WORD ..: puts these notes once the terminal has spoken
+- notes WORD ..: puts these notes, each in hexadecimal digits, once the terminal has spoken
 - dies WORD ..: the same, but it ends after a second
-- flood: puts notes without an end
+- flood: puts words for people without an end
 - names: has 65,000 files more
 - garbage: ends after a second; from the second connection on what comes after the hello is no packet
 - refuses NUMBER: the same, but it refuses with that number
@@ -16,16 +16,18 @@ import os
 import select
 import sys
 import time
+from itertools import chain
 from pathlib import Path
 
 sys.dont_write_bytecode = True
 sys.path.append(str(Path(__file__).resolve().parents[3] / "bindings" / "python"))
 
-from sulgrevad import Host, Link  # noqa: E402
+from sulgrevad import Host, Link, Note, NoteKind, write_note  # noqa: E402
 
 HELLO_BYTES, WELCOME = 42, 4
 FIRST_LIFE = 1.0  # seconds
 MANY, PIECE = 65_000, 65_536
+FIRST_MESSAGE = Note(NoteKind.SESSION, number=1, path=b"0123456789abcdef", text="box")
 CAME = Path("came")  # how many bytes of the terminal's stream have come, for the next connection
 
 
@@ -41,7 +43,7 @@ def flood():
     number = 0
     while True:
         number += 1
-        yield f"told {number} of many"
+        yield write_note(Note(NoteKind.SAID, text=f"{number} of many"))
 
 
 class Served:
@@ -81,7 +83,7 @@ class Served:
     def fill(self):
         """Puts notes, and takes out what goes next."""
         while self.has_heard and len(self.pending) < PIECE and (note := next(self.notes, None)) is not None:
-            self.link.put_note(note.encode())
+            self.link.put_note(note)
             self.pending += self.link.take_out(self.link.attempt)
         self.pending += self.link.take_out(self.link.attempt)
 
@@ -102,7 +104,8 @@ def main():
     if "--attach" in sys.argv[at:] and how in ("garbage", "refuses", "fails"):
         answered(how, " ".join(words))
         return
-    notes = words if how in ("notes", "dies") else flood() if how == "flood" else ()
+    own = [bytes.fromhex(word) for word in words] if how in ("notes", "dies") else [write_note(FIRST_MESSAGE)]
+    notes = chain(own, flood()) if how == "flood" else own
     files = [f"file {number}" for number in range(MANY)] if how == "names" else ()
     Served(notes, files).go(FIRST_LIFE if how in ("dies", "garbage", "refuses", "fails") else 1000)
 

@@ -7,6 +7,7 @@ import subprocess
 
 from checks import expect_equal
 
+from .messages import replacing
 from .pairs import opened
 from .support import PAGE, ROOT, SAMTERM, SAMTERM_WORD, Session, expect, made, wait_for_text, wait_until
 
@@ -114,7 +115,7 @@ def check_lines_name_keys_of_the_set(folder):
         expect(not editor.is_changed(1), f"{name}: {write} doesn't write")
         pair.press(text("y"))
         editor.take(key(write))
-        editor.hear("samhost: ? write file0: another program changed it, and the next write replaces it; its text is in file0.sam-saved")
+        editor.hear(replacing(1))
         pair.finish()
         expect(f"{write} again replaces it" in editor.message, f"{name}: it tells {editor.message!r}")
         pair.press(key(write))

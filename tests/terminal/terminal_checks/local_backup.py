@@ -7,6 +7,7 @@ import sys
 import time
 from pathlib import Path
 
+from .messages import aside, lost, not_saved
 from .pairs import Pair, in_a_small_window, opened
 from .support import LINK, SAMHOST, SECONDS, Failed, Session, change_two, expect, made, stat_of, wait_for_text, wait_until
 
@@ -28,8 +29,6 @@ class Kept:
         expect(sorted(self.texts) == sorted(wanted), f"{told}: it keeps {self.texts}, wanted {wanted}")
 
 
-SAVED = "samhost: {} was not written; its text is in /tmp/{}.sam-saved"
-
 
 # ---- A host that is lost
 
@@ -45,7 +44,7 @@ def check_typed_while_it_saves(folder):
         if is_sent:
             pair.pause()
         with Kept() as kept:
-            editor.hear(SAVED.format("file0", "file0"))
+            editor.hear(aside(1))
             editor.lose("the host is gone")
         kept.expect([("file0", "xya\n")] if late else [], f"typed late: {late!r}, sent: {is_sent}")
 
@@ -154,14 +153,14 @@ def check_lost_after_a_failed_write(folder):
     """A text that the host saved when a write failed, and then could not save again, is written here."""
     pair, editor, key, text = opened("a\n")
     pair.press(text("x"), key("^W"))
-    editor.hear("samhost: ? write file0: No space left on device; its text is in /tmp/file0.sam-saved")
-    for lines, wanted in (((), []), (("the text of file0 is lost: no room",), [("file0", "xa\n")])):
+    editor.hear(not_saved(1, copy="/tmp/file0.sam-saved"))
+    for told, wanted in (((), []), ((lost(1),), [("file0", "xa\n")])):
         with Kept() as kept:
-            for line in lines:
-                editor.hear(f"samhost: {line}")
+            for message in told:
+                editor.hear(message)
             editor.is_lost = False
             editor.lose("the host is gone")
-        kept.expect(wanted, f"after {lines}")
+        kept.expect(wanted, f"after {told}")
 
 
 # ---- Names
@@ -193,7 +192,7 @@ def named_alike(*texts):
 
 
 def check_line_of_one_of_two(folder):
-    """What the host tells of one of two files of a name says nothing of the other: both are written here, of closed ones, too."""
+    """What the host tells of one of two files of a name says nothing of the other, which is written here, of closed ones, too."""
     for closes in (False, True):
         pair, editor, key, text = named_alike("a\n", "b\n")
         if closes:
@@ -201,9 +200,9 @@ def check_line_of_one_of_two(folder):
                 pair.press(key("^K"), key("^K"))
             expect(not editor.tags, "this test is wrong: a file is open")
         with Kept() as kept:
-            editor.hear(SAVED.format("same", "same"))
+            editor.hear(aside(1))
             editor.lose("the host is gone")
-        kept.expect([("same", "xa\n"), ("same", "xb\n")], f"closed: {closes}")
+        kept.expect([("same", "xb\n")], f"closed: {closes}")
 
 
 def check_file_called_typed(folder):
@@ -414,7 +413,7 @@ def check_last_answers(folder):
 
 def check_end_with_a_dropped_text(folder):
     """A text that was dropped with open eyes is written here only where the host can't have saved it."""
-    for status, lines, wanted in ((0, (), []), (255, (), [("file0", "xa\n")]), (255, (SAVED.format("file0", "file0"),), [])):
+    for status, lines, wanted in ((0, (), []), (255, (), [("file0", "xa\n")]), (255, (aside(1),), [])):
         pair, editor, key, text = opened("a\n")
         pair.press(text("x"), key("^K"), key("^K"))
         expect(not editor.tags, "this test is wrong: the file is open")
@@ -519,24 +518,9 @@ def check_long_numbers(folder):
 
 
 def check_control_characters(folder):
-    """A line on standard error does nothing to the screen. A file whose name the host tells with question marks is known by it."""
+    """A line on standard error does nothing to the screen."""
     from terminal import session
 
     with contextlib.redirect_stderr(io.StringIO()) as told:
         session.say("a\x1b[31mb\x7fc\x9bd\x80é豆")
     expect(told.getvalue() == "a?[31mb?c?d?é豆\n", f"it tells {told.getvalue()!r}")
-    pair, editor, key, text = opened("a\n")
-    pair.press(key("Esc"), text("f a\x9bb\n"), key("Esc"), text("x"), key("^W"))
-    expect(not editor.is_changed(1), "this test is wrong")
-    editor.hear("samhost: ? write a?b: No space left on device")
-    expect(editor.is_changed(1), "a write that failed is taken for done")
-
-
-def check_file_with_a_number(folder):
-    """A file that is called as the host calls one without a name is known by it."""
-    pair, editor, key, text = opened("a\n")
-    pair.press(key("Esc"), text("f file 9\n"), key("Esc"), text("x"), key("^W"))
-    expect(not editor.is_changed(1), "this test is wrong")
-    editor.hear("samhost: ? write file 9: No space left on device")
-    expect(editor.is_changed(1), "a write that failed is taken for done")
-    editor.hear(f"samhost: ? write file {'9' * 5000}: No space left on device")

@@ -7,6 +7,7 @@ from checks import times_longer
 
 from .pairs import in_a_small_window, opened
 from .local_backup import Kept
+from .messages import NoteCode, aside
 from .support import LINK, SAMHOST, STATE, Session, expect, made, stat_of, wait_for_text, wait_until
 
 LINES = [f"line {number} {'x' * 60}\n" for number in range(1, 2001)]
@@ -103,7 +104,7 @@ def check_cut_that_the_host_saved(folder):
         pair, editor, key, text = opened("abc\n")
         pair.press(key("Shift-Right"), key("^X"))
         if is_told:
-            editor.hear("samhost: what was cut last is in cut.sam-saved")
+            editor.hear(aside(0, NoteCode.CUT))
         if not has_all:
             editor.take(text("late"))
         with Kept() as kept:

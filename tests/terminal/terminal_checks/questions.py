@@ -6,6 +6,7 @@ import re
 import signal
 import time
 
+from .messages import Note, NoteCode, NoteKind, aside, lost, not_saved, said
 from .pairs import Pair, opened
 from .support import READ_AFTER, SAMHOST, SAMHOST_WORD, Session, change_two, expect, host_that, made, wait_for_text, wait_until
 
@@ -178,13 +179,13 @@ def check_late_word_of_a_write(folder):
     pair, editor, key, text = opened("a\n")
     pair.press(text("x"), key("^W"))
     expect(not editor.is_changed(1), "this test is wrong")
-    editor.hear("samhost: ? write file0: No space left on device")
+    editor.hear(not_saved(1))
     expect(editor.is_changed(1), "the file is taken for written")
     pair.press(key("^Q"))
     pair.press(key("^Q"), seconds=0)
     expect("not written" in editor.message, f"it doesn't ask: {editor.message}")
     editor.take(key("^W"))
-    editor.hear("samhost: ? write file0: No space left on device")
+    editor.hear(not_saved(1))
     pair.finish()
     expect(editor.is_changed(1), "a write that failed again takes it back")
     pair.press(key("^W"))
@@ -200,7 +201,7 @@ def check_two_writes(folder):
             editor.take(key(name))
         for is_told in (True, fails):
             if is_told:
-                editor.hear("samhost: ? write file0: No space left on device; its text is in /tmp/file0.sam-saved")
+                editor.hear(not_saved(1, copy="/tmp/file0.sam-saved"))
             pair.trip()
             while editor.deferred:  # the second waits for the answer to the first
                 pair.trip()
@@ -208,30 +209,26 @@ def check_two_writes(folder):
         expect(editor.is_changed(1) == fails, f"the second fails: {fails}, and the file is taken for {'un' * (not fails)}written")
 
 
-def check_names_with_colons(folder):
-    """What the host tells of a file is known by its name where this has a colon in it; a file whose name is the front of it is another."""
+def check_files_of_one_name(folder):
+    """What the host tells of a file is known by its tag: another of the same name is not meant."""
     pair, editor, key, text = opened("a\n", "b\n")
-    for window, name in zip(editor.files, ("note", "note: a: b")):
+    for window in editor.files:
         editor.go_to(window)
-        pair.press(key("Esc"), text(f"f {name}\n"), key("Esc"), text("x"), key("^W"))
-    expect([pair.host.name(tag) for tag in (1, 2)] == ["note", "note: a: b"], "this test is wrong")
-    editor.hear("samhost: ? write note: a: b: No space left on device; its text could not be saved: No space left on device")
-    expect([editor.is_changed(tag) for tag in (1, 2)] == [False, True], "a write that failed is taken for done, or for another's")
-    editor.hear("samhost: ? write note: No space left on device")
-    expect([editor.is_changed(tag) for tag in (1, 2)] == [True, True], "a write that failed is taken for done")
+        pair.press(key("Esc"), text("f same\n"), key("Esc"), text("x"), key("^W"))
+    expect([pair.host.name(tag) for tag in (1, 2)] == ["same", "same"], "this test is wrong")
+    for tag, changed in ((2, [False, True]), (1, [True, True]), (9, [True, True])):
+        editor.hear(not_saved(tag))
+        expect([editor.is_changed(tag) for tag in (1, 2)] == changed, f"{tag}: a write that failed is taken for done, or for another's")
 
 
 def check_worst_line_first(folder):
     """What the host tells of a text stays until it is read, the worst first."""
     pair, editor, key, text = opened("a\n")
-    for line in (
-        "file0 was not written; its text is in /tmp/x", "the text of file0 is lost: no room", "? write file0: no room",
-        "the text of file0 can't be saved aside: no room", "what came last from the terminal is lost: no room",
-        "file0 is closed, and its text can't be saved: no room",
-    ):  # fmt: skip
-        editor.hear("samhost: " + line)
+    journal = Note(NoteKind.NO_JOURNAL, code=NoteCode.NO_SPACE, text="the journal can't be written")
+    for told in (aside(1), lost(1), not_saved(1, copy="/tmp/x"), journal, not_saved(1), said("a word")):
+        editor.hear(told)
     editor.hear("another program")
-    for wanted in ("text of file0 is lost", "terminal is lost", "is closed", "not written: ", "saved aside", "its text is in"):
+    for wanted in ("is lost", "could not be saved", "its text is in /tmp/x", "journal", "its text is in /tmp/copy", "a word"):
         expect(wanted in editor.message, f"it shows {editor.message!r}, wanted {wanted!r}")
         editor.take(key("Left"))
         expect(wanted in editor.message, "a line that nobody can have read goes with a key")
@@ -244,11 +241,10 @@ def check_worst_line_of_many(folder):
     """However many lines are not read yet, one that is worse comes first."""
     pair, editor, key, text = opened("a\n")
     for at in range(150):
-        editor.hear(f"samhost: file{at}.sam-saved is there")
-    for line in ("? write file0: no room", "the text of file0 is lost: no room"):
-        editor.hear(f"samhost: {line}")
-        wanted = line.replace("? write", "not written:")
-        expect(wanted in editor.message, f"it shows {editor.message!r}, wanted {wanted!r}")
+        editor.hear(said(f"file{at}.sam-saved is there"))
+    for told in (not_saved(1, copy="/tmp/x"), lost(1)):
+        editor.hear(told)
+        expect(told.text in editor.message, f"it shows {editor.message!r}, wanted {told.text!r}")
 
 
 def check_text_lost(folder):
@@ -351,15 +347,14 @@ def check_open_texts_of_one_name(folder):
         editor.go_to(window)
         pair.press(text(rune), key("Esc"), text("f same\n"), key("Esc"))
     expect([pair.host.name(tag) for tag in (1, 2)] == ["same", "same"], "this test is wrong")
-    editor.hear("samhost: same was not written; its text is in same.sam-saved")  # of one of them
+    editor.hear(aside(1))
     with kept_texts() as kept:
         editor.lose("the host is gone")
-    expect(kept == [("same", "xa\n"), ("same", "yb\n")], f"it keeps {kept}")
+    expect(kept == [("same", "yb\n")], f"it keeps {kept}")
 
 
 def check_dropped_texts_of_one_name(folder):
-    """The same of files that are closed: a text stays until the host has said that it is saved, and of two with one name nobody knows which
-    one it means."""
+    """The same of files that are closed: a text stays until the host has said that it is saved."""
     pair, editor, key, text = opened("a\n", "b\n", "c\n")
     for window, rune in zip(editor.files[:2], "xy"):
         editor.go_to(window)
@@ -368,17 +363,17 @@ def check_dropped_texts_of_one_name(folder):
         editor.go_to(editor.files[0])
         pair.press(key("^K"), key("^K"))
     expect([window.tag for window in editor.files] == [3], f"this test is wrong: {editor.message}")
-    editor.hear("samhost: same was not written; its text is in same.sam-saved")
+    editor.hear(aside(1))
     with kept_texts() as kept:
         editor.lose("the host is gone")
-    expect(kept == [("same", "xa\n"), ("same", "yb\n")], f"it keeps {kept}")
+    expect(kept == [("same", "yb\n")], f"it keeps {kept}")
 
 
 def check_saved_by_the_host(folder):
     """What the host says that it has saved is not written here too, where it has got all that was sent. A later change is."""
     pair, editor, key, text = opened("a\n")
     pair.press(text("x"))
-    editor.hear("samhost: file0 was not written; its text is in file0.sam-saved")
+    editor.hear(aside(1))
     with kept_texts() as kept:
         expect(editor.keeping.keep_here(True) == [] == kept, f"it writes {kept}, which the host has")
         expect(len(editor.keeping.keep_here(False)) == 1 and kept == [("file0", "xa\n")], f"it writes {kept}, where the host may lack some")

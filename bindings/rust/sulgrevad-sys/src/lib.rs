@@ -61,6 +61,11 @@ pub const SAM_LINK_BAD_KIND: sam_status = 203;
 pub const SAM_LINK_BAD_LENGTH: sam_status = 204;
 pub const SAM_LINK_ACK_AHEAD: sam_status = 205;
 pub const SAM_LINK_NO_ROOM: sam_status = 206;
+pub const SAM_NOTE_BAD_KIND: sam_status = 225;
+pub const SAM_NOTE_BAD_FIELD: sam_status = 226;
+pub const SAM_NOTE_BAD_LENGTH: sam_status = 227;
+pub const SAM_NOTE_BAD_PATH: sam_status = 228;
+pub const SAM_NOTE_BAD_TEXT: sam_status = 229;
 
 /// The sides of a link, and the states of a connection.
 pub const SAM_LINK_TERMINAL: u32 = 0;
@@ -79,6 +84,76 @@ pub const SAM_LINK_ID_BYTES: usize = 16;
 pub const SAM_LINK_HELLO_BYTES: usize = 42;
 pub const SAM_LINK_MOST_NOTE: usize = 4096;
 
+// What follows is written by tools/session_messages, from the tables of docs/reference/SESSION.md.
+/// The kinds of messages.
+pub const SAM_NOTE_OPEN: u8 = 1;
+pub const SAM_NOTE_COMPLETE: u8 = 2;
+pub const SAM_NOTE_RELOAD: u8 = 3;
+pub const SAM_NOTE_RELOADED: u8 = 4;
+pub const SAM_NOTE_WRITE: u8 = 5;
+pub const SAM_NOTE_SESSION: u8 = 65;
+pub const SAM_NOTE_SAID: u8 = 66;
+pub const SAM_NOTE_SHOWN: u8 = 67;
+pub const SAM_NOTE_TAKEN_OVER: u8 = 68;
+pub const SAM_NOTE_ENDED: u8 = 69;
+pub const SAM_NOTE_OPENED: u8 = 70;
+pub const SAM_NOTE_REFUSED: u8 = 71;
+pub const SAM_NOTE_NAMES: u8 = 72;
+pub const SAM_NOTE_ANEW: u8 = 73;
+pub const SAM_NOTE_SAVED: u8 = 74;
+pub const SAM_NOTE_NOT_SAVED: u8 = 75;
+pub const SAM_NOTE_CHANGED: u8 = 76;
+pub const SAM_NOTE_DATED: u8 = 77;
+pub const SAM_NOTE_EARLIER: u8 = 78;
+pub const SAM_NOTE_ASIDE: u8 = 79;
+pub const SAM_NOTE_LOST: u8 = 80;
+pub const SAM_NOTE_NO_JOURNAL: u8 = 81;
+
+/// The codes.
+pub const SAM_NOTE_NO_CODE: u8 = 0;
+pub const SAM_NOTE_NO_SPACE: u8 = 1;
+pub const SAM_NOTE_NO_PERMISSION: u8 = 2;
+pub const SAM_NOTE_READ_ONLY: u8 = 3;
+pub const SAM_NOTE_NOT_FOUND: u8 = 4;
+pub const SAM_NOTE_IS_FOLDER: u8 = 5;
+pub const SAM_NOTE_NOT_TEXT: u8 = 6;
+pub const SAM_NOTE_TOO_LONG: u8 = 7;
+pub const SAM_NOTE_TOO_MANY: u8 = 8;
+pub const SAM_NOTE_NO_MEMORY: u8 = 9;
+pub const SAM_NOTE_NO_NAME: u8 = 10;
+pub const SAM_NOTE_CHANGED_SINCE: u8 = 11;
+pub const SAM_NOTE_EXISTS_ALREADY: u8 = 12;
+pub const SAM_NOTE_TAKEN_UNSAVED: u8 = 13;
+pub const SAM_NOTE_NO_SUCH_FILE: u8 = 14;
+pub const SAM_NOTE_OTHER: u8 = 15;
+pub const SAM_NOTE_HAS_MORE: u8 = 16;
+pub const SAM_NOTE_REPLACED: u8 = 17;
+pub const SAM_NOTE_BROKEN: u8 = 18;
+pub const SAM_NOTE_NEWER: u8 = 19;
+pub const SAM_NOTE_OLDER: u8 = 20;
+pub const SAM_NOTE_CUT: u8 = 21;
+pub const SAM_NOTE_UNNAMED: u8 = 22;
+pub const SAM_NOTE_FAILED: u8 = 23;
+
+// Up to here by tools/session_messages.
+
+/// A message of a session. What its kind has not is 0 or empty.
+#[derive(Clone, Copy, Debug, Default, PartialEq, Eq)]
+#[repr(C)]
+pub struct sam_note {
+    pub kind: u8,
+    pub code: u8,
+    pub tag: u16,
+    pub request: u32,
+    pub number: u64,
+    pub path_at: usize,
+    pub path_len: usize,
+    pub copy_at: usize,
+    pub copy_len: usize,
+    pub text_at: usize,
+    pub text_len: usize,
+}
+
 /// The kind of a step: one of the numbers below, or one that this crate doesn't know.
 pub type sam_step = u32;
 
@@ -90,6 +165,54 @@ pub const SAM_STEP_ANSWERED: sam_step = 4;
 pub const SAM_STEP_RECEIVED: sam_step = 5;
 pub const SAM_STEP_ACTED: sam_step = 6;
 pub const SAM_STEP_REFUSED: sam_step = 7;
+
+/// The kinds of messages and frames; docs/reference/PROTOCOL.md says what each means.
+pub const SAM_KIND_TVERSION: u8 = 1;
+pub const SAM_KIND_TSTARTCMDFILE: u8 = 2;
+pub const SAM_KIND_TCHECK: u8 = 3;
+pub const SAM_KIND_TREQUEST: u8 = 4;
+pub const SAM_KIND_TORIGIN: u8 = 5;
+pub const SAM_KIND_TSTARTFILE: u8 = 6;
+pub const SAM_KIND_TWORKFILE: u8 = 7;
+pub const SAM_KIND_TTYPE: u8 = 8;
+pub const SAM_KIND_TCUT: u8 = 9;
+pub const SAM_KIND_TPASTE: u8 = 10;
+pub const SAM_KIND_TSNARF: u8 = 11;
+pub const SAM_KIND_TSTARTNEWFILE: u8 = 12;
+pub const SAM_KIND_TWRITE: u8 = 13;
+pub const SAM_KIND_TCLOSE: u8 = 14;
+pub const SAM_KIND_TLOOK: u8 = 15;
+pub const SAM_KIND_TSEARCH: u8 = 16;
+pub const SAM_KIND_TSEND: u8 = 17;
+pub const SAM_KIND_TDCLICK: u8 = 18;
+pub const SAM_KIND_TSTARTSNARF: u8 = 19;
+pub const SAM_KIND_TSETSNARF: u8 = 20;
+pub const SAM_KIND_TACK: u8 = 21;
+pub const SAM_KIND_TEXIT: u8 = 22;
+pub const SAM_KIND_HVERSION: u8 = 65;
+pub const SAM_KIND_HBINDNAME: u8 = 66;
+pub const SAM_KIND_HCURRENT: u8 = 67;
+pub const SAM_KIND_HNEWNAME: u8 = 68;
+pub const SAM_KIND_HMOVNAME: u8 = 69;
+pub const SAM_KIND_HGROW: u8 = 70;
+pub const SAM_KIND_HCHECK: u8 = 71;
+pub const SAM_KIND_HUNLOCK: u8 = 72;
+pub const SAM_KIND_HDATA: u8 = 73;
+pub const SAM_KIND_HORIGIN: u8 = 74;
+pub const SAM_KIND_HUNLOCKFILE: u8 = 75;
+pub const SAM_KIND_HSETDOT: u8 = 76;
+pub const SAM_KIND_HGROWDATA: u8 = 77;
+pub const SAM_KIND_HMOVETO: u8 = 78;
+pub const SAM_KIND_HCLEAN: u8 = 79;
+pub const SAM_KIND_HDIRTY: u8 = 80;
+pub const SAM_KIND_HCUT: u8 = 81;
+pub const SAM_KIND_HSETPAT: u8 = 82;
+pub const SAM_KIND_HDELNAME: u8 = 83;
+pub const SAM_KIND_HCLOSE: u8 = 84;
+pub const SAM_KIND_HSETSNARF: u8 = 85;
+pub const SAM_KIND_HSNARFLEN: u8 = 86;
+pub const SAM_KIND_HACK: u8 = 87;
+pub const SAM_KIND_HEXIT: u8 = 88;
 
 /// The result of a step.
 #[derive(Clone, Copy, Debug, Default, PartialEq, Eq)]
@@ -245,8 +368,8 @@ extern "C" {
     /// which is so until a step has handed out SAM_STEP_IDLE; SAM_COUNT_FULL; SAM_NO_MEMORY. The bytes are then not taken, and the host is
     /// as it was.
     pub fn sam_host_bring(host: *mut sam_host, bytes: *const u8, len: usize) -> sam_status;
-    /// Hands out the kind of the oldest message that waits, by the numbers of docs/reference/PROTOCOL.md, and the tag of the file that it
-    /// names, or 0. The next step that takes a message begins with this one. Returns SAM_NONE if no message waits.
+    /// Hands out the kind of the oldest message that waits (enum sam_kind), and the tag of the file that it names, or 0. The next step that
+    /// takes a message begins with this one. Returns SAM_NONE if no message waits.
     pub fn sam_host_next_message(host: *mut sam_host, kind: *mut u8, tag: *mut u16) -> sam_status;
     /// Makes one step with the messages that wait, and hands out its result. If frames of the last answer are left over, the step makes
     /// them pending. Else the host takes edits of one file that follow each other, with the checks (Tcheck) among them; or, if no edit is
@@ -667,6 +790,23 @@ extern "C" {
     /// Hands out the number of bytes of the other side's stream that have come.
     pub fn sam_link_received(link: *mut sam_link, count: *mut u64) -> sam_status;
 
+    /// Reads the message that bytes spell, all of them. Refused, in this order, and the note is then as it was: SAM_NOTE_BAD_KIND (skip
+    /// such a message: it comes from a later version); SAM_NOTE_BAD_LENGTH if there is no byte, if there are too few or too many for the
+    /// fields of the kind, or more than 4,096; SAM_NOTE_BAD_PATH; SAM_NOTE_BAD_TEXT.
+    pub fn sam_note_read(bytes: *const u8, len: usize, note: *mut sam_note) -> sam_status;
+    /// Writes the bytes of a message into the buffer, at most SAM_LINK_MOST_NOTE, and hands out how many. The bytes of path, copy and text
+    /// are read from these pointers, by the lengths in the note; where they stood is not read. Refused, in this order, and what `into` and
+    /// `len` lead to is then as it was: SAM_NOTE_BAD_KIND; SAM_NOTE_BAD_FIELD; SAM_NOTE_BAD_LENGTH for more than 4,096 bytes, or more than
+    /// there is room for; SAM_NOTE_BAD_PATH; SAM_NOTE_BAD_TEXT.
+    pub fn sam_note_write(
+        note: *const sam_note,
+        path: *const u8,
+        copy: *const u8,
+        text: *const u8,
+        into: *mut u8,
+        room: usize,
+        len: *mut usize,
+    ) -> sam_status;
     /// Runs a script over a host and a terminal of its own, and hands out the output of its `show` lines, in bytes. It takes no handle.
     /// docs/reference/SCRIPTS.md explains the language. All lines are read before the first is done. At SAM_OK *out_len is the number of
     /// all bytes that are printed, and the first of them stand in `out`, as many as fit. The rest of the buffer is as it was. If *out_len

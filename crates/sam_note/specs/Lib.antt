@@ -1,0 +1,5 @@
+pub mod Kinds
+pub mod Messages
+pub mod Reading
+pub mod Writing
+pub mod Calls

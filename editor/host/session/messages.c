@@ -1,0 +1,325 @@
+/* messages.c: what a session says to its terminal, as typed messages of its link. Who has no terminal says it on standard error.
+ *
+ * Each write of a file gets one answer. A request for that takes the memory of its answer beforehand. The answer stands in the record of the
+ * write, and in another once it is put: so another samhost neither leaves it out nor says it twice.
+ */
+#define _XOPEN_SOURCE 700
+#include <stdarg.h>
+#include <stdio.h>
+#include <stdlib.h>
+#include <string.h>
+
+#include "session/messages.h"
+#include "journal/journal.h"
+#include "log.h"
+#include "net/handshake.h"
+#include "session/persistent_session.h"
+#include "session/session.h"
+#include "sulgrevad.h"
+
+enum { MOST_REQUESTS = 1024 }; /* writes that are asked for and have not come */
+
+static const char *words_or_none(const char *words)
+{
+    return words == NULL ? "" : words;
+}
+
+/* ---- Bytes ---- */
+
+/* The length of words, cut to whole runes where there is less room. */
+static size_t cut_len(const char *words, size_t room)
+{
+    size_t len = strlen(words);
+
+    if (len > room) {
+        len = room;
+        while (len > 0 && ((unsigned char)words[len] & 0xC0) == 0x80)
+            len--;
+    }
+    return len;
+}
+
+/* The bytes of a message; how many, or 0 where it has a field that its kind has not. Where not all fits in, the words are cut; a copy goes,
+ * and then a path, which are no use if they are cut. */
+static size_t spell(const struct event *event, const char *words, uint8_t into[SAM_LINK_MOST_NOTE])
+{
+    const char *path = words_or_none(event->path), *copy = words_or_none(event->copy);
+    struct sam_note note = {
+        .kind = (uint8_t)event->kind,
+        .code = (uint8_t)event->code,
+        .tag = event->tag,
+        .request = event->request,
+        .number = event->number,
+        .path_len = strlen(path),
+        .copy_len = strlen(copy),
+    };
+    const uint8_t *bytes[] = {(const uint8_t *)path, (const uint8_t *)copy, (const uint8_t *)words};
+    size_t len = 0;
+
+    while (sam_note_write(&note, bytes[0], bytes[1], bytes[2], into, SAM_LINK_MOST_NOTE, &len) != SAM_OK) {
+        if (note.path_len == 0 && note.copy_len == 0)
+            return 0;
+        *(note.copy_len > 0 ? &note.copy_len : &note.path_len) = 0;
+    }
+    note.text_len = cut_len(words, SAM_LINK_MOST_NOTE - len);
+    if (note.text_len > 0 && sam_note_write(&note, bytes[0], bytes[1], bytes[2], into, SAM_LINK_MOST_NOTE, &len) != SAM_OK)
+        return 0;
+    return len;
+}
+
+/* ---- Those that wait ---- */
+
+static void append(struct message **list, struct message *message)
+{
+    while (*list != NULL)
+        list = &(*list)->next;
+    message->next = NULL;
+    *list = message;
+}
+
+/* A message of these bytes, in memory of the caller's; NULL where that is out. */
+static struct message *message_of(const uint8_t *bytes, size_t len)
+{
+    struct message *message = malloc(sizeof *message + len);
+
+    if (message != NULL) {
+        *message = (struct message){.len = len};
+        memcpy(message->bytes, bytes, len);
+    }
+    return message;
+}
+
+bool put_message(struct session *session, const struct event *event, const char *words)
+{
+    uint8_t bytes[SAM_LINK_MOST_NOTE];
+    size_t len = spell(event, words_or_none(words), bytes);
+    struct message *message = len == 0 ? NULL : message_of(bytes, len);
+
+    if (message == NULL)
+        return false;
+    append(&session->stay->messages.waiting, message);
+    put_messages(session);
+    return true;
+}
+
+bool put_first_message(struct session *session)
+{
+    struct stay *stay = session->stay;
+    struct message *others = stay->messages.waiting;
+    char machine[MACHINE_ROOM], name[NAME_DIGITS + 1];
+
+    name_machine(machine);
+    name_of_id(stay->id, name);
+    stay->messages.waiting = NULL;
+    bool is_put = put_message(session, &(struct event){.kind = SAM_NOTE_SESSION, .number = MESSAGES_VERSION, .path = name}, machine);
+    if (is_put)
+        stay->messages.waiting->next = others;
+    else
+        stay->messages.waiting = others;
+    return is_put;
+}
+
+void drop_first_message(struct messages *messages)
+{
+    struct message *first = messages->waiting;
+
+    messages->waiting = first->next;
+    free(first);
+}
+
+void put_answers(struct session *session, struct body *body)
+{
+    struct stay *stay = session->stay;
+
+    while (stay->messages.waiting != NULL) {
+        const struct message *message = stay->messages.waiting;
+        if (sam_link_put_note(&stay->link, message->bytes, message->len) != SAM_OK)
+            return;
+        if (body != NULL)
+            add_data(body, message->bytes, message->len);
+        else
+            add_record(session, STEP_NOTE, message->bytes, message->len);
+        drop_first_message(&stay->messages);
+    }
+}
+
+void put_messages(struct session *session)
+{
+    struct stay *stay = session->stay;
+
+    if (stay->attempt == 0 || stay->replay != NULL || stay->is_answering) /* there is no link yet, or it is not where it was */
+        return;
+    put_answers(session, NULL);
+    say_missing(&stay->messages);
+}
+
+static void free_list(struct message *message)
+{
+    for (struct message *next; message != NULL; message = next) {
+        next = message->next;
+        free(message);
+    }
+}
+
+void free_messages(struct messages *messages)
+{
+    free_list(messages->waiting);
+    free_list(messages->requests);
+    *messages = (struct messages){0};
+}
+
+/* ---- What happened ---- */
+
+/* Whether standard error is to have the words of a message: there is no terminal; or it may be gone and won't come back, or memory is out. */
+static bool is_said_aloud(const struct stay *stay, bool is_put)
+{
+    bool is_cut_off = stay->attempt > 0 && (stay->line < 0 || stay->line_out < 0);
+    bool is_stuck = stay->attempt > 0 && !stay->is_answering && stay->messages.waiting != NULL;
+
+    return who_listens() == NULL || (stay->has_streams && (is_cut_off || is_stuck || !is_put));
+}
+
+static void hear(struct session *session, const struct event *event, const char *words)
+{
+    bool is_put = put_message(session, event, words), is_aloud = is_said_aloud(session->stay, is_put);
+
+    if (is_aloud)
+        say_aloud(words);
+    else if (!is_put)
+        session->stay->messages.missing++;
+}
+
+static void hear_line(void *at, const char *line)
+{
+    hear(at, &(struct event){.kind = SAM_NOTE_SAID}, line);
+}
+
+void listen_for_messages(struct session *session)
+{
+    set_listener(hear_line, session);
+}
+
+void tell(const struct event *event, const char *format, ...)
+{
+    char words[LINE_ROOM];
+    va_list list;
+
+    va_start(list, format);
+    spell_line(words, format, list);
+    va_end(list);
+    if (who_listens() != NULL)
+        hear(who_listens(), event, words);
+    else
+        say_aloud(words);
+}
+
+void say_gathered(struct session *session)
+{
+    struct messages *messages = &session->stay->messages;
+    struct sam_note note;
+
+    set_listener(NULL, NULL);
+    for (const struct message *message = messages->waiting; message != NULL; message = message->next) {
+        if (sam_note_read(message->bytes, message->len, &note) == SAM_OK && note.kind != SAM_NOTE_SESSION && note.text_len > 0)
+            say("%.*s", (int)note.text_len, (const char *)message->bytes + note.text_at);
+    }
+    say_missing(messages);
+}
+
+void say_missing(struct messages *messages)
+{
+    unsigned missing = messages->missing;
+
+    messages->missing = 0;
+    if (missing > 0)
+        say("lines missing before this one, since memory was out: %u", missing);
+}
+
+/* ---- Answers of writes ---- */
+
+bool expect_write(struct messages *messages, uint16_t tag, uint32_t request)
+{
+    struct message *message = malloc(sizeof *message + SAM_LINK_MOST_NOTE);
+    int count = 0;
+
+    for (const struct message *other = messages->requests; other != NULL; other = other->next)
+        count++;
+    if (message == NULL || count >= MOST_REQUESTS) {
+        free(message);
+        return count >= MOST_REQUESTS; /* nobody can wait for as many answers */
+    }
+    *message = (struct message){.request = request, .tag = tag};
+    append(&messages->requests, message);
+    return true;
+}
+
+/* Takes the oldest request for a write of a file out of the list; NULL where there is none. */
+static struct message *take_request(struct messages *messages, uint16_t tag)
+{
+    struct message **at = &messages->requests;
+
+    while (*at != NULL && (*at)->tag != tag)
+        at = &(*at)->next;
+    struct message *found = *at;
+    if (found != NULL)
+        *at = found->next;
+    return found;
+}
+
+void drop_request(struct messages *messages, uint16_t tag)
+{
+    free(take_request(messages, tag));
+}
+
+struct message *answer_write(struct session *session, struct event event, const char *format, ...)
+{
+    char words[LINE_ROOM];
+    struct message *answer = take_request(&session->stay->messages, event.tag);
+    va_list list;
+
+    va_start(list, format);
+    spell_line(words, format, list);
+    va_end(list);
+    event.request = answer == NULL ? 0 : answer->request;
+    if (answer == NULL)
+        answer = malloc(sizeof *answer + SAM_LINK_MOST_NOTE);
+    if (answer != NULL)
+        answer->len = spell(&event, words, answer->bytes);
+    else
+        session->stay->messages.missing++;
+    if (is_said_aloud(session->stay, answer != NULL))
+        say_aloud(words);
+    return answer;
+}
+
+void put_answer(struct session *session, struct message *answer)
+{
+    if (answer == NULL)
+        return;
+    append(&session->stay->messages.waiting, answer);
+    put_messages(session);
+}
+
+/* ---- Made again ---- */
+
+bool wait_again(struct messages *messages, const uint8_t *bytes, size_t len)
+{
+    struct message *message = message_of(bytes, len);
+
+    if (message != NULL)
+        append(&messages->waiting, message);
+    return message != NULL;
+}
+
+void was_put(struct messages *messages, const uint8_t *bytes, size_t len)
+{
+    struct message **at = &messages->waiting;
+
+    while (*at != NULL && ((*at)->len != len || memcmp((*at)->bytes, bytes, len) != 0))
+        at = &(*at)->next;
+    if (*at != NULL) {
+        struct message *found = *at;
+        *at = found->next;
+        free(found);
+    }
+}
