@@ -1,53 +1,59 @@
 /* sulgrevad.h: a proved host and a proved terminal for editors whose screen and text live apart, after Rob Pike's sam.
  *
- * A host holds whole texts and runs commands. A terminal holds windows, and of each open text the parts that it has loaded.
- * Neither of them reads or writes anything: the program carries the bytes. It feeds what came from the other side, and sends
- * what is pending, in order:
+ * ==== Begin here ====
+ *
+ * A host is the server: it holds whole texts and runs commands. A terminal is the client: it holds windows, and of each open text the
+ * parts that it has loaded. Neither of them reads or writes anything, because the program carries the bytes. It feeds each side with the
+ * bytes that came from the other, and sends the bytes that are pending, in order:
  *
  *     sam_term_type(&term, tag, ..)      an event of the user
  *     sam_term_take_out(&term, ..)       bytes for the host
  *     sam_host_feed(&host, ..)           the host answers
  *     sam_host_take_out(&host, ..)       bytes for the terminal
- *     sam_term_feed(&term, ..)           what changed can be drawn
+ *     sam_term_feed(&term, ..)           the terminal has the answer, and the program draws
  *
- * Words. A tag is a file's number. Tag 0 is the command file: a line that is typed into it is run as a command. The dot is what is
- * selected. The snarf buffer, which the host holds, has what was cut or copied last. A lock holds events back until the host has
- * answered. A message goes to the host, a frame to the terminal. docs/reference/GLOSSARY.md explains the other words,
- * docs/reference/PROTOCOL.md the messages (Twrite, Texit), docs/reference/COMMANDS.md the command language. An install has these pages in
- * share/doc/sulgrevad.
+ * docs/howto/EMBEDDING.md has a whole program. An install has this page and those named below in share/doc/sulgrevad.
  *
- * Units. Places and lengths of texts count runes (Unicode scalar values); a text has at most 1,000,000. Texts go in and out as
- * UTF-8 (RFC 3629), and their lengths in bytes stand beside the pointer. The runes that a terminal draws go out as numbers. Names
- * and texts may hold NUL (U+0000) as they hold any other rune, and none is added at their end: go by the lengths. Runes are counted
- * by uint32_t; bytes, the room of a buffer, tags and lines of a script by size_t; events and messages by uint64_t.
+ * Words. A tag is a file's number. Tag 0 is the command file: the host runs each line that is typed into it as a command. A place is an
+ * offset: a number of runes from the start of a text. The dot is the selection. The snarf buffer is the clipboard: the host holds it, and
+ * it has the text that was cut or copied last. A gap is a rune that a terminal has not loaded. A lock holds events back until the host has
+ * answered. A message goes to the host, a frame to the terminal. To compose a message is to make it and to queue it for the host.
+ * docs/reference/GLOSSARY.md explains the other words, docs/reference/PROTOCOL.md the messages (Twrite, Texit),
+ * docs/reference/COMMANDS.md the command language.
  *
- * Handles. sam_host, sam_term and sam_link are the caller's, on the stack or wherever they like. A handle whose bytes are all zero is
- * empty: SAM_HOST_INIT, SAM_TERM_INIT and SAM_LINK_INIT are, and in C so is {0}. sam_host_new and its like make it, and sam_host_free and
- * its like leave it empty again. The caller doesn't read, change or copy a handle that is made. Readers take it without const, since
- * each call takes out what the handle holds and puts it back: two of them may not run at once.
+ * Units. Places and lengths of texts count runes (Unicode scalar values). A text has at most 1,000,000. Texts go in and out as UTF-8 (RFC
+ * 3629), and the length beside a pointer to one counts bytes. sam_term_read alone hands out runes as numbers. Names and texts may hold NUL
+ * (U+0000) as they hold any other rune, and no call adds one at their end: go by the lengths. Runes are counted by uint32_t; bytes in
+ * memory, the room of a buffer, tags and lines of a script by size_t; events, messages and the bytes of a whole stream by uint64_t.
  *
- * Status. Each call but sam_library_version and sam_status_text returns an enum sam_status, and hands other results out through
- * pointers. After SAM_NO_HANDLE, SAM_NO_MEMORY and SAM_NONE, and where a comment below says 'refused', what the pointers lead to is as
- * it was. A handle that has stopped says why at each feed, even of no bytes.
+ * Handles. sam_host, sam_term and sam_link are the caller's, on the stack or anywhere else. A handle whose bytes are all zero is empty:
+ * SAM_HOST_INIT, SAM_TERM_INIT and SAM_LINK_INIT are, and in C so is {0}. sam_host_new and its like make it, and sam_host_free and its
+ * like leave it empty again. The caller doesn't read, change or copy a handle that is made. Readers take it without const, because each
+ * call takes out the content of the handle and puts it back: two of them may not run at once.
  *
- * Tags without a file. A tag that was never given and the tag of a closed file are treated alike. Asked about such a tag,
- * sam_host_has_file, sam_term_is_known, sam_term_is_open and sam_term_is_changed return SAM_OK and hand out false, and
- * sam_term_locked says whether the command lock is held; all other readers, both _is_dirty too, return SAM_NONE. Of a known file
- * that is not open a terminal has the name and the dirty mark alone: the readers of texts, dots and views return SAM_NONE there
- * too. An event for a file that is not known or not open returns SAM_OK like any other, and is refused when it comes to act:
- * sam_term_next_refusal then names SAM_REFUSAL_NO_FILE or SAM_REFUSAL_NOT_OPEN.
+ * Status. Each call returns an enum sam_status, but for sam_library_version, sam_status_text and sam_is_stop, and hands other results out
+ * through pointers. A call refuses a handle that is NULL or empty first of all (SAM_NO_HANDLE); its comment says the refusals after that.
+ * After SAM_NO_HANDLE, SAM_NO_MEMORY and SAM_NONE, and if a comment below says 'refused', the memory behind these pointers is as it was. A
+ * handle that has stopped says why at each feed, even of no bytes.
  *
- * Out of memory. Nothing is lost, and no handle ends. At SAM_NO_MEMORY what the call brought was not taken: make the same call
- * again. At SAM_UNFINISHED it was taken: don't bring it again. The next feed goes on with what waits; at a terminal so does the next
- * event, or sam_term_flush_now. Readers and _take_out don't. To go on, feed no bytes until that returns neither SAM_UNFINISHED nor
- * SAM_NO_MEMORY: both mean then that memory is still short. Only a fault of the other side's stream, a message or frame that is
- * refused, or a full count of messages stops a handle. Its readers and _take_out go on to work.
+ * Tags without a file. A tag that was never given and the tag of a closed file are treated alike. For both sam_host_has_file,
+ * sam_term_is_known, sam_term_is_open and sam_term_is_changed return SAM_OK and hand out false. sam_term_locked, and sam_term_file as
+ * is_locked, hand out whether the command lock is held. All other readers, both _is_dirty too, return SAM_NONE. Of a known file that is not
+ * open a terminal has the name and the dirty mark alone: the readers of texts, dots and views return SAM_NONE there too. An event for a
+ * file that is not known or not open returns SAM_OK like any other, and is refused when it comes to act: sam_term_next_refusal then names
+ * SAM_REFUSAL_NO_FILE or SAM_REFUSAL_NOT_OPEN.
  *
- * What the caller owes, and no call can test: pointers other than handles are not NULL but for a length or room of 0, lengths are
- * right, buffers don't overlap, and a handle is in one call at a time. A handle may not move between threads while it is in a
- * call. No call is made from a signal handler, or in the child of a fork of a program with threads. A call that has begun returns:
- * no longjmp leaves it, and its thread is not ended in it, or what the handle held is lost. malloc, realloc and free are those of one
- * allocator.
+ * Out of memory. Only calls that can return SAM_NO_MEMORY take memory, and steps. If memory is short nothing is lost, and no handle ends.
+ * At SAM_NO_MEMORY the input of the call was not taken: make the same call again. At SAM_UNFINISHED it was taken: don't bring it again. The
+ * next feed goes on with the work that waits; at a terminal so does the next event, or sam_term_flush_now. Readers and _take_out don't. To
+ * go on, feed no bytes until that returns neither SAM_UNFINISHED nor SAM_NO_MEMORY: both mean then that memory is still short. Only a fault
+ * of the other side's stream, a message or frame that is refused, or a full count of messages stops a handle. Its readers and _take_out go
+ * on to work.
+ *
+ * The caller owes this, and no call can test it. Pointers other than handles are not NULL but for a length or room of 0, lengths are
+ * right, buffers don't overlap, and a handle is in one call at a time. A handle may not move between threads while it is in a call. No
+ * call is made from a signal handler, or in the child of a fork of a program with threads. A call that has begun returns: no longjmp
+ * leaves it, and its thread is not ended in it, or the content of the handle is lost. malloc, realloc and free are those of one allocator.
  */
 #ifndef SULGREVAD_H
 #define SULGREVAD_H
@@ -66,28 +72,29 @@ extern "C" {
 #define SAM_VERSION_MINOR 1
 #define SAM_VERSION_PATCH 0
 
-/* One number that grows with the version: what sam_library_version returns of the library that has this header. */
+/* The version as one number, which grows with it: sam_library_version returns that of the library. */
 #define SAM_VERSION (SAM_VERSION_MAJOR * 65536 + SAM_VERSION_MINOR * 256 + SAM_VERSION_PATCH)
 
-/* The version of the library that the program runs with, as SAM_VERSION has that of the header. Before 1.0 calls may change when the
- * minor number grows, so a program can compare both. The protocol has a version of its own: sam_host_version, sam_term_version. */
+/* Returns the version of the library that the program runs with, in the form of SAM_VERSION, which is the version of this header. Before
+ * 1.0 calls may change when the minor number grows, so a program can compare the two. The protocol has a version of its own:
+ * sam_host_version, sam_term_version. */
 uint32_t sam_library_version(void);
 
 /* ---- Limits ----
  *
- * docs/reference/PROTOCOL.md has all of them. */
+ * docs/reference/PROTOCOL.md has all limits. */
 
-#define SAM_MOST_RUNES 1000000      /* runes of a text */
-#define SAM_MOST_IN_TYPE 512        /* runes of one sam_term_type */
-#define SAM_MOST_IN_NAME 64         /* runes of a file's name */
-#define SAM_MOST_NAME_BYTES 256     /* bytes of the longest name */
-#define SAM_MOST_IN_PATTERN 128     /* runes of a pattern */
-#define SAM_MOST_PATTERN_BYTES 512  /* bytes of the longest pattern */
+#define SAM_MOST_RUNES 1000000       /* runes of a text */
+#define SAM_MOST_IN_TYPE 512         /* runes of one sam_term_type */
+#define SAM_MOST_IN_NAME 64          /* runes of a file's name */
+#define SAM_MOST_NAME_BYTES 256      /* bytes of the longest name */
+#define SAM_MOST_IN_PATTERN 128      /* runes of a pattern */
+#define SAM_MOST_PATTERN_BYTES 512   /* bytes of the longest pattern */
 #define SAM_MOST_SNARFED_BYTES 32000 /* bytes of sam_term_set_snarf and sam_term_snarfed, in version 2 */
 
-/* ---- What a call returns ---- */
+/* ---- The status of a call ---- */
 
-/* Has the compiler warn of a dropped status, if it can. Define it empty before the include to have no such warning. */
+/* Makes a compiler that can do so warn of a dropped status. Define it empty before the include, and there is no warning. */
 #ifndef SAM_MUST_USE
 #if defined(__cplusplus) && __cplusplus >= 201703L
 #define SAM_MUST_USE [[nodiscard]]
@@ -98,48 +105,48 @@ uint32_t sam_library_version(void);
 #endif
 #endif
 
-/* Each family of faults has a range. A status is the range's first number plus the fault's number: of a stream, a message, a frame or an
- * event that of docs/reference/PROTOCOL.md. */
+/* The status of a call. Each family of faults has a range. A status is the first number of its range plus the number of the fault, which
+ * docs/reference/PROTOCOL.md has for a stream, a message, a frame or an event. */
 enum sam_status {
-    SAM_OK = 0,
-    SAM_NO_MEMORY = 1,  /* what the call brought was not taken: make it again */
-    SAM_UNFINISHED = 2, /* what the call brought was taken, and some of it waits: feed no bytes to go on */
-    SAM_COUNT_FULL = 3, /* a stream of 2^64 bytes, or 2^64 events or connections; what the call brought was not taken */
+    SAM_OK = 0,         /* the call did its work */
+    SAM_NO_MEMORY = 1,  /* the input of the call was not taken: make the call again */
+    SAM_UNFINISHED = 2, /* the input of the call was taken, and some of it waits: feed no bytes to go on */
+    SAM_COUNT_FULL = 3, /* a stream of 2^64 bytes, or 2^64 events or connections; the input was not taken */
     SAM_NO_HANDLE = 4,  /* the handle is NULL, or empty: not made yet, or freed */
     SAM_MADE = 5,       /* the handle is made already */
     SAM_NOT_TEXT = 6,   /* the bytes are not UTF-8 */
     SAM_NONE = 7,       /* there is no such file, or nothing more to hand out */
-    SAM_WAITING = 8,    /* sam_host_bring, sam_term_bring: what came before waits; no byte was taken: step, then bring all again */
+    SAM_WAITING = 8,    /* sam_host_bring, sam_term_bring: earlier work waits, and no byte was taken: step, then bring all again */
 
     SAM_ADD = 16, /* sam_host_add_file refused a file, and the host is as it was */
     /* SAM_ADD + 1 was SAM_ADD_BEGUN, of a host that was fed already: it is not given again */
-    SAM_ADD_TOO_LONG = SAM_ADD + 3,
-    SAM_ADD_NO_TAG = SAM_ADD + 4,
+    SAM_ADD_TOO_LONG = SAM_ADD + 3, /* the name has more than 64 runes, or the text more than 1,000,000 */
+    SAM_ADD_NO_TAG = SAM_ADD + 4,   /* all 65,536 tags were given */
 
-    SAM_STREAM = 32, /* the other side's stream is wrong, and the handle has stopped */
-    SAM_BAD_KIND = SAM_STREAM + 1,
-    SAM_BAD_LENGTH = SAM_STREAM + 2,
-    SAM_BAD_TEXT = SAM_STREAM + 3,
-    SAM_TRUNCATED = SAM_STREAM + 4, /* it ends inside a message or frame: sam_host_finish, sam_term_finish; the handle goes on */
+    SAM_STREAM = 32,                 /* the other side's stream is wrong, and the handle has stopped */
+    SAM_BAD_KIND = SAM_STREAM + 1,   /* a kind that this direction doesn't have */
+    SAM_BAD_LENGTH = SAM_STREAM + 2, /* a length that the kind can't have */
+    SAM_BAD_TEXT = SAM_STREAM + 3,   /* a text that is not UTF-8, or too long */
+    SAM_TRUNCATED = SAM_STREAM + 4,  /* it ends inside a message or frame: sam_host_finish, sam_term_finish; the handle goes on */
 
-    SAM_HOST_REFUSED = 64, /* the host refused a message, and has stopped */
-    SAM_HOST_NO_FILE = SAM_HOST_REFUSED + 1,
-    SAM_HOST_NOT_OPEN = SAM_HOST_REFUSED + 2,
-    SAM_HOST_BAD_POSITION = SAM_HOST_REFUSED + 3,
-    SAM_HOST_TOO_LONG = SAM_HOST_REFUSED + 4,
-    SAM_HOST_BAD_VERSION = SAM_HOST_REFUSED + 5,
-    SAM_HOST_COUNT_FULL = SAM_HOST_REFUSED + 6,
-    SAM_HOST_COMMAND_FILE = SAM_HOST_REFUSED + 8,
+    SAM_HOST_REFUSED = 64,                        /* the host refused a message, and has stopped */
+    SAM_HOST_NO_FILE = SAM_HOST_REFUSED + 1,      /* no file has this tag */
+    SAM_HOST_NOT_OPEN = SAM_HOST_REFUSED + 2,     /* the file is not open */
+    SAM_HOST_BAD_POSITION = SAM_HOST_REFUSED + 3, /* a place is after the end, or the end of a range before its start */
+    SAM_HOST_TOO_LONG = SAM_HOST_REFUSED + 4,     /* the file would have more than 1,000,000 runes */
+    SAM_HOST_BAD_VERSION = SAM_HOST_REFUSED + 5,  /* there is no version 0 */
+    SAM_HOST_COUNT_FULL = SAM_HOST_REFUSED + 6,   /* the host has taken 2^64-1 messages */
+    SAM_HOST_COMMAND_FILE = SAM_HOST_REFUSED + 8, /* the message is not for the command file */
 
     SAM_TERM_REFUSED = 96, /* the terminal refused a frame, and has stopped; COUNT_FULL may also come of an event */
-    SAM_TERM_FROM_THE_FUTURE = SAM_TERM_REFUSED + 1,
-    SAM_TERM_NO_FILE = SAM_TERM_REFUSED + 2,
-    SAM_TERM_NOT_OPEN = SAM_TERM_REFUSED + 3,
-    SAM_TERM_ALREADY_BOUND = SAM_TERM_REFUSED + 4,
-    SAM_TERM_BAD_POSITION = SAM_TERM_REFUSED + 5,
-    SAM_TERM_TOO_LONG = SAM_TERM_REFUSED + 6,
-    SAM_TERM_LOCK_NOT_HELD = SAM_TERM_REFUSED + 7,
-    SAM_TERM_COUNT_FULL = SAM_TERM_REFUSED + 8,
+    SAM_TERM_FROM_THE_FUTURE = SAM_TERM_REFUSED + 1, /* the frame answers a message that was not sent yet */
+    SAM_TERM_NO_FILE = SAM_TERM_REFUSED + 2,         /* no file has this tag */
+    SAM_TERM_NOT_OPEN = SAM_TERM_REFUSED + 3,        /* the file is not open */
+    SAM_TERM_ALREADY_BOUND = SAM_TERM_REFUSED + 4,   /* the file is known or open already */
+    SAM_TERM_BAD_POSITION = SAM_TERM_REFUSED + 5,    /* a place is after the end, or the end of a range before its start */
+    SAM_TERM_TOO_LONG = SAM_TERM_REFUSED + 6,        /* the file would have more than 1,000,000 runes */
+    SAM_TERM_LOCK_NOT_HELD = SAM_TERM_REFUSED + 7,   /* the frame frees a lock that is not held */
+    SAM_TERM_COUNT_FULL = SAM_TERM_REFUSED + 8,      /* the terminal has composed 2^64-1 messages */
 
     SAM_REFUSAL = 128,                           /* the reasons that sam_term_next_refusal gives; the terminal goes on */
     SAM_REFUSAL_EXITED = SAM_REFUSAL + 1,        /* the session is over */
@@ -151,11 +158,11 @@ enum sam_status {
     SAM_REFUSAL_COMMAND_FILE = SAM_REFUSAL + 7,  /* sam_term_open, _close, _write, _work or _edit of tag 0 */
     SAM_REFUSAL_BAD_VERSION = SAM_REFUSAL + 8,   /* sam_term_offer_version of 0 */
 
-    SAM_SCRIPT = 160, /* why sam_replay did not replay a script */
-    SAM_SCRIPT_LINE = SAM_SCRIPT + 1,
-    SAM_SCRIPT_COUNT_FULL = SAM_SCRIPT + 2,
+    SAM_SCRIPT = 160,                       /* the reason why sam_replay did not replay a script */
+    SAM_SCRIPT_LINE = SAM_SCRIPT + 1,       /* a line is wrong or can't be done */
+    SAM_SCRIPT_COUNT_FULL = SAM_SCRIPT + 2, /* a line would count more than 2^64-1 messages */
 
-    SAM_LINK = 192, /* why a call of a link is refused; the link goes on. The first seven also go over the line, as 17 to 23 */
+    SAM_LINK = 192, /* the reasons of a link's refusals; the link goes on. The first seven also go over the line, as 17 to 23 */
     SAM_LINK_NOT_A_LINK = SAM_LINK + 1,    /* the bytes are no hello */
     SAM_LINK_OTHER_VERSION = SAM_LINK + 2, /* a hello of another version */
     SAM_LINK_BAD_HELLO = SAM_LINK + 3,     /* a hello that says nothing which this side takes */
@@ -182,28 +189,32 @@ enum sam_status {
 };
 typedef enum sam_status sam_status;
 
-/* The name of a status and a sentence about it, as "SAM_NOT_TEXT: the bytes are not UTF-8"; "unknown status" for any other number. The
- * text ends in NUL, and is the library's: it stays, and may be read from any thread. */
+/* Returns the name of a status and a sentence about it, as "SAM_NOT_TEXT: the bytes are not UTF-8". For any other number it returns
+ * "unknown status". The text ends in NUL. The library owns it: it stays, and any thread may read it. */
 const char *sam_status_text(sam_status status);
 
-/* Whether a status of sam_host_feed, sam_term_feed, an event or a step says that the handle has stopped for good: the other side's stream is
- * wrong, or was refused. It goes on after any other: SAM_NO_MEMORY, SAM_UNFINISHED, SAM_COUNT_FULL, SAM_NOT_TEXT. */
+/* Returns whether a status says that the handle has stopped for good. A feed, an event or a step returns one of these if the other side's
+ * stream is wrong or was refused, or if a terminal has composed 2^64-1 messages. After any other status the handle goes on: SAM_NO_MEMORY,
+ * SAM_UNFINISHED, SAM_COUNT_FULL, SAM_NOT_TEXT, SAM_TRUNCATED. */
 bool sam_is_stop(sam_status status);
 
 /* ---- Handles ---- */
 
+/* The handle of a host. Both fields are the library's. */
 struct sam_host {
     void *at;
     uint64_t made;
 };
 typedef struct sam_host sam_host;
 
+/* The handle of a terminal. Both fields are the library's. */
 struct sam_term {
     void *at;
     uint64_t made;
 };
 typedef struct sam_term sam_term;
 
+/* The handle of a link's end. Both fields are the library's. */
 struct sam_link {
     void *at;
     uint64_t made;
@@ -219,11 +230,11 @@ typedef struct sam_link sam_link;
 
 /* ---- Single steps ---- */
 
-/* What a step did: sam_host_step, sam_term_step. */
+/* The kind of a step, which sam_host_step and sam_term_step hand out. */
 enum sam_step {
     SAM_STEP_IDLE = 0,     /* nothing: nothing waits, and a terminal holds no event */
     SAM_STEP_LOCKED = 1,   /* nothing: no frame waits, and a lock holds the terminal's oldest event back */
-    SAM_STEP_WROTE = 2,    /* what was answered or composed last is pending now */
+    SAM_STEP_WROTE = 2,    /* the last answer, or the messages that were composed last, are pending now */
     SAM_STEP_EDITED = 3,   /* the host took edits of one file, and the checks (Tcheck) among them, at once: the file, how many messages */
     SAM_STEP_ANSWERED = 4, /* the host answered one message: its kind and its file */
     SAM_STEP_RECEIVED = 5, /* the terminal received one frame: its kind, its file, and the change of that file's text */
@@ -234,8 +245,8 @@ enum sam_step {
 };
 typedef enum sam_step sam_step;
 
-/* The kinds of messages and frames: those of a terminal's messages begin with T, those of a host's frames with H. docs/reference/PROTOCOL.md
- * says what each means. */
+/* The kinds of messages and frames: those of a terminal's messages begin with T, those of a host's frames with H.
+ * docs/reference/PROTOCOL.md has the meaning of each. */
 enum sam_kind {
     SAM_KIND_TVERSION = 1,
     SAM_KIND_TSTARTCMDFILE = 2,
@@ -286,13 +297,13 @@ enum sam_kind {
     SAM_KIND_HEXIT = 88
 };
 
-/* What a step did, in full. A field that its step doesn't say is 0, and so is the tag where the message, frame or event names no file. */
+/* The result of a step. A field that is not of its step is 0, and so is the tag if the message, frame or event names no file. */
 struct sam_did {
     uint64_t event; /* the event's number, counted from 1 over all event calls that were taken */
-    size_t count;   /* how many messages the host took: 1 for SAM_STEP_ANSWERED, 1 or more for SAM_STEP_EDITED */
+    size_t count;   /* the number of messages that the host took: 1 for SAM_STEP_ANSWERED, 1 or more for SAM_STEP_EDITED */
     sam_step step;
-    sam_status why; /* why the event was refused: SAM_REFUSAL.. */
-    uint32_t start; /* the change: in the old text `gone` runes or gaps from this place on gave way to `came` of the new one */
+    sam_status why; /* the reason why the event was refused: SAM_REFUSAL.. */
+    uint32_t start; /* the change: from this place on, `gone` runes or gaps of the old text gave way to `came` of the new one */
     uint32_t gone;
     uint32_t came;
     uint16_t tag; /* the file */
@@ -303,7 +314,7 @@ typedef struct sam_did sam_did;
 
 /* ---- Many readers at once ---- */
 
-/* What a terminal holds, as the readers of these names hand it out: sam_term_state. */
+/* The state of a terminal, which sam_term_state hands out. Each field is the result of the reader of its name. */
 struct sam_state {
     uint64_t events;
     uint64_t decided;
@@ -320,10 +331,10 @@ struct sam_state {
 };
 typedef struct sam_state sam_state;
 
-/* What a terminal knows of a tag, as its readers hand it out: sam_term_file. Where there is no such file, or it is not open, what needs it
- * is 0 or false. is_free says whether an edit would act at once: the file is open and not locked, no frame waits, no event is held, not
- * even one of another file, and the session goes on. While it is false an edit acts later, and its places are those of the text by then:
- * so a program that changes its own text first asks is_free before. */
+/* The state of a terminal's file, which sam_term_file hands out. Each field is the result of its reader. If there is no such file, or it
+ * is not open, the fields that need it are 0 or false. is_free says whether an edit would act at once: the file is open and not locked, no
+ * frame waits, no event is held, not even one of another file, and the session goes on. While it is false an edit acts later, and its
+ * places are those of the text by then: so a program that changes its own text first asks is_free before. */
 struct sam_file {
     uint32_t len;
     uint32_t dot_start;
@@ -343,207 +354,234 @@ typedef struct sam_file sam_file;
 
 /* ---- The host: making and freeing ---- */
 
-/* Makes a host with the command file alone (tag 0). SAM_NO_HANDLE if the handle is NULL, SAM_MADE, SAM_NO_MEMORY: it is as it
- * was. */
+/* Makes a host with the command file alone (tag 0). Refused, in this order: SAM_NO_HANDLE if the handle is NULL; SAM_MADE if it is made
+ * already; SAM_NO_MEMORY. The handle is then as it was. */
 SAM_MUST_USE sam_status sam_host_new(sam_host *host);
 
-/* Frees a host, with what was pending. SAM_NO_HANDLE if it is empty or NULL. */
+/* Frees a host, with its pending bytes, and leaves the handle empty. Refused: SAM_NO_HANDLE if the handle is NULL or empty. */
 sam_status sam_host_free(sam_host *host);
 
-/* Adds a file, clean and closed, and hands out its tag: 1 for the first, and so on. It may be called at any time, also on a host that
- * has stopped. No byte becomes pending: the answer to the terminal's next Tversion has the name. Messages that wait, as after
- * SAM_UNFINISHED, are answered after the file has joined. Refused, in this order: SAM_NO_HANDLE; SAM_NOT_TEXT; SAM_ADD_TOO_LONG for
- * a name above 64 runes or a text above 1,000,000; SAM_ADD_NO_TAG after 65,535 files, new ones of the terminal counted;
- * SAM_NO_MEMORY. The host is then as it was. */
+/* Adds a file, clean and closed, and hands out its tag: 1 for the first, 2 for the next, and so on. The name and the text are UTF-8, and
+ * both lengths count bytes. A program may call it at any time, also on a host that has stopped. No byte becomes pending, because the answer
+ * to the terminal's next Tversion has the name. Messages that wait, as after SAM_UNFINISHED, are answered after the file has joined.
+ * Refused, in this order: SAM_NOT_TEXT if the name or the text is not UTF-8; SAM_ADD_TOO_LONG for a name of more than 64 runes or a text of
+ * more than 1,000,000; SAM_ADD_NO_TAG after 65,535 files, new ones of the terminal counted; SAM_NO_MEMORY. The host is then as it was. */
 SAM_MUST_USE sam_status sam_host_add_file(sam_host *host, const uint8_t *name, size_t name_len, const uint8_t *text, size_t text_len,
                                           uint16_t *tag);
 
 /* ---- The host: bytes in and out ---- */
 
-/* Takes bytes of the terminal's messages, in whatever pieces they come, and answers each message that is whole. The answers are
- * then pending. Edits of one file that follow each other in one call move its text once, and else each of them does. SAM_OK,
- * SAM_NO_MEMORY, SAM_UNFINISHED, SAM_COUNT_FULL, SAM_NO_HANDLE, or why the host has stopped, at this call or before:
- * SAM_STREAM.., SAM_HOST_REFUSED... What stood before the fault is answered. */
+/* Takes bytes of the terminal's messages, in pieces of any length, and answers each message that is whole. The answers are then pending.
+ * Edits of one file that follow each other in one call move its text once; in several calls, each of them moves it. Refused, in this order,
+ * and the bytes are then not taken: why the host has stopped before, SAM_STREAM.. or SAM_HOST_REFUSED..; SAM_NO_MEMORY, or why the host
+ * stops, as it answers messages that waited; SAM_COUNT_FULL if the stream would have more than 2^64-1 bytes; SAM_NO_MEMORY. Two statuses
+ * come after the bytes were taken: SAM_UNFINISHED if memory is short, and why the host stops at a message of these bytes. The host has then
+ * answered all messages before the fault. */
 SAM_MUST_USE sam_status sam_host_feed(sam_host *host, const uint8_t *bytes, size_t len);
 
-/* Takes bytes of the terminal's messages as sam_host_feed does, but by framing alone: the messages that are whole wait for
- * sam_host_step. Refused, in this order: SAM_NO_HANDLE; why the host has stopped before, SAM_STREAM.., SAM_HOST_REFUSED..; SAM_WAITING
- * until a step has handed out SAM_STEP_IDLE; SAM_COUNT_FULL; SAM_NO_MEMORY. The bytes are then not taken, and the host is as it was. */
+/* Takes bytes of the terminal's messages as sam_host_feed does, but answers none: the messages that are whole wait for sam_host_step.
+ * Refused, in this order: why the host has stopped before, SAM_STREAM.. or SAM_HOST_REFUSED..; SAM_WAITING if earlier work is left, which
+ * is so until a step has handed out SAM_STEP_IDLE; SAM_COUNT_FULL; SAM_NO_MEMORY. The bytes are then not taken, and the host is as it
+ * was. */
 SAM_MUST_USE sam_status sam_host_bring(sam_host *host, const uint8_t *bytes, size_t len);
 
-/* The kind of the oldest message that waits (enum sam_kind), and the file that it names, or 0: the next step that takes a message begins
- * with it. SAM_NONE if none waits. */
+/* Hands out the kind of the oldest message that waits (enum sam_kind), and the tag of the file that it names, or 0. The next step that
+ * takes a message begins with this one. Returns SAM_NONE if no message waits. */
 SAM_MUST_USE sam_status sam_host_next_message(sam_host *host, uint8_t *kind, uint16_t *tag);
 
-/* Does one thing of what waits, and says what: it writes what was answered last, if that is left over; or the host takes edits of one
- * file that follow each other, and the checks (Tcheck) among them, or else answers the oldest message. sam_host_feed makes such steps up
- * to SAM_STEP_IDLE. SAM_OK, SAM_NO_HANDLE, SAM_UNFINISHED if memory was refused, where nothing has changed, so make the step again; or why
- * the host has stopped, at this call or before: SAM_STREAM.., SAM_HOST_REFUSED... Unless it is SAM_OK, nothing is handed out. */
+/* Makes one step with the messages that wait, and hands out its result. If frames of the last answer are left over, the step makes them
+ * pending. Else the host takes edits of one file that follow each other, with the checks (Tcheck) among them; or, if no edit is next, it
+ * answers the oldest message. sam_host_feed makes steps until one is SAM_STEP_IDLE. Refused, in this order, and nothing is handed out then:
+ * why the host has stopped before, SAM_STREAM.. or SAM_HOST_REFUSED..; SAM_UNFINISHED if memory is short, and nothing has changed, so make
+ * the step again; why the host stops at this step. */
 SAM_MUST_USE sam_status sam_host_step(sam_host *host, sam_did *did);
 
-/* Whether the terminal's stream may end here: to be asked once the host's input has ended. It changes nothing. SAM_OK,
- * SAM_NO_HANDLE, why the host has stopped before (SAM_STREAM.., SAM_HOST_REFUSED..), SAM_UNFINISHED if some of what came still
- * waits for memory, or SAM_TRUNCATED if the stream ends inside a message. */
+/* Tests whether the terminal's stream may end here. Call it once the host's input has ended. It changes nothing, and takes no memory.
+ * Refused, in this order: why the host has stopped before, SAM_STREAM.. or SAM_HOST_REFUSED..; SAM_UNFINISHED if some input still waits for
+ * memory; SAM_TRUNCATED if the stream ends inside a message. */
 SAM_MUST_USE sam_status sam_host_finish(sam_host *host);
 
-/* How many bytes of the terminal's stream stand before the frame that is wrong, where the host has stopped for a fault of the stream
- * (SAM_STREAM..). SAM_NONE if it goes on, or has stopped at a message that it refused. */
+/* Hands out the number of bytes of the terminal's stream before the message that is wrong, if the host has stopped at a fault of the stream
+ * (SAM_STREAM..). Returns SAM_NONE if the host goes on, or has stopped at a message that it refused. */
 SAM_MUST_USE sam_status sam_host_fault_place(sam_host *host, uint64_t *place);
 
-/* How many bytes are pending. */
+/* Hands out the number of pending bytes, which are for the terminal. */
 SAM_MUST_USE sam_status sam_host_pending(sam_host *host, size_t *len);
 
-/* Moves the first pending bytes into the buffer, as many as it has room for, and hands out how many. */
+/* Moves the first pending bytes into the buffer, as many as fit, and hands out their number. */
 SAM_MUST_USE sam_status sam_host_take_out(sam_host *host, uint8_t *into, size_t room, size_t *count);
 
 /* ---- The host: the session ---- */
 
-/* Whether the session is over: the terminal has sent Texit, or a command line was `q`. */
+/* Hands out whether the session is over: the terminal has sent Texit, or a command line was `q`. */
 SAM_MUST_USE sam_status sam_host_is_done(sam_host *host, bool *done);
 
-/* How many messages the host has answered. */
+/* Hands out the number of messages that the host has answered. */
 SAM_MUST_USE sam_status sam_host_taken(sam_host *host, uint64_t *taken);
 
-/* The version of the protocol: 1 or 2. */
+/* Hands out the version of the protocol: 1 or 2. */
 SAM_MUST_USE sam_status sam_host_version(sam_host *host, uint16_t *version);
 
 /* ---- The host: files that the terminal had written ---- */
 
-/* The tag of a file that the terminal asked the host to write (Twrite): write sam_host_saved of it to disk now. Each Twrite gives its
- * tag once, in order, so a file that was written twice comes twice. SAM_NONE if there is none left. Ask after each feed: once the file
- * is closed, its saved text is gone. */
+/* Hands out the tag of the next file that the terminal asked the host to write (Twrite). Write sam_host_saved of it to disk now. Each
+ * Twrite gives its tag once, in order, so a file that was written twice comes twice. Ask after each feed, because the saved text is gone
+ * once the file is closed. Returns SAM_NONE if no tag is left. */
 SAM_MUST_USE sam_status sam_host_next_written(sam_host *host, uint16_t *tag);
 
-/* The length in runes of what a file was when it was written last (Twrite). SAM_NONE also if it never was. */
+/* Hands out the length in runes of the text that a file had when it was written last (Twrite). Returns SAM_NONE if the tag has no file, or
+ * if the file was never written. */
 SAM_MUST_USE sam_status sam_host_saved_len(sam_host *host, uint16_t tag, uint32_t *runes);
 
-/* What a file was when it was written last, from a place on; as sam_host_text. SAM_NONE also if it never was. */
+/* Copies the text that a file had when it was written last (Twrite), from the place `place` on, as sam_host_text does. Returns SAM_NONE if
+ * the tag has no file, or if the file was never written. */
 SAM_MUST_USE sam_status sam_host_saved(sam_host *host, uint16_t tag, uint32_t place, uint8_t *into, size_t room, size_t *bytes,
                                        uint32_t *runes);
 
 /* ---- The host: files ---- */
 
-/* How many tags were given, the command file's 0 included: the greatest is one less. */
+/* Hands out the number of tags that were given, the command file's 0 included: the greatest tag is one less. */
 SAM_MUST_USE sam_status sam_host_tags(sam_host *host, size_t *count);
 
-/* Whether the tag has a file now. A file that was closed has none. */
+/* Hands out whether the tag has a file now. The tag of a closed file has none. */
 SAM_MUST_USE sam_status sam_host_has_file(sam_host *host, uint16_t tag, bool *has);
 
-/* The name of a file, in UTF-8: as many whole runes as have room. 256 bytes are always enough. */
+/* Copies the name of a file in UTF-8, as many whole runes as fit, and hands out the number of bytes. A room of 256 bytes is always enough.
+ * Returns SAM_NONE if the tag has no file. */
 SAM_MUST_USE sam_status sam_host_name(sam_host *host, uint16_t tag, uint8_t *into, size_t room, size_t *len);
 
-/* The length of a file's text in runes. */
+/* Hands out the length of a file's text in runes. Returns SAM_NONE if the tag has no file. */
 SAM_MUST_USE sam_status sam_host_len(sam_host *host, uint16_t tag, uint32_t *runes);
 
-/* Whether a file was edited since it was made or written; never for the command file, tag 0. */
+/* Hands out whether a file was edited since it was made or written. The command file, tag 0, is never dirty. Returns SAM_NONE if the tag
+ * has no file. */
 SAM_MUST_USE sam_status sam_host_is_dirty(sam_host *host, uint16_t tag, bool *dirty);
 
-/* A file's text from a place on, in UTF-8: as many whole runes as have room. Hands out how many bytes and how many runes; none if
- * the place is at or after the end, or if the buffer has less room than one rune wants: 4 bytes are enough for any. */
+/* Copies the text of a file from the place `place` on, in UTF-8, as many whole runes as fit. Hands out the number of bytes and the number
+ * of runes. Both are 0 if the place is at the end or after it, or if the next rune does not fit: 4 bytes are enough for any. Returns
+ * SAM_NONE if the tag has no file. */
 SAM_MUST_USE sam_status sam_host_text(sam_host *host, uint16_t tag, uint32_t place, uint8_t *into, size_t room, size_t *bytes,
                                       uint32_t *runes);
 
-/* The dot of a file: the places where the selection begins and ends. */
+/* Hands out the dot of a file: the places where its selection begins and ends. Returns SAM_NONE if the tag has no file. */
 SAM_MUST_USE sam_status sam_host_dot(sam_host *host, uint16_t tag, uint32_t *start, uint32_t *end);
 
-/* How many runes the snarf buffer has. */
+/* Hands out the length of the snarf buffer in runes. */
 SAM_MUST_USE sam_status sam_host_snarf_len(sam_host *host, uint32_t *runes);
 
-/* What the snarf buffer has, from a place on, in UTF-8: as many whole runes as have room. Hands out how many bytes and how many runes. */
+/* Copies the snarf buffer from the place `place` on, in UTF-8, as many whole runes as fit. Hands out the number of bytes and the number of
+ * runes. */
 SAM_MUST_USE sam_status sam_host_snarf(sam_host *host, uint32_t place, uint8_t *into, size_t room, size_t *bytes, uint32_t *runes);
 
 /* ==== The terminal ==== */
 
 /* ---- The terminal: making and freeing ---- */
 
-/* Makes a terminal that knows no file. SAM_NO_HANDLE if the handle is NULL, SAM_MADE, SAM_NO_MEMORY: it is as it was. */
+/* Makes a terminal that knows no file. Refused, in this order: SAM_NO_HANDLE if the handle is NULL; SAM_MADE if it is made already;
+ * SAM_NO_MEMORY. The handle is then as it was. */
 SAM_MUST_USE sam_status sam_term_new(sam_term *term);
 
-/* Frees a terminal, with what was pending. SAM_NO_HANDLE if it is empty or NULL. */
+/* Frees a terminal, with its pending bytes, and leaves the handle empty. Refused: SAM_NO_HANDLE if the handle is NULL or empty. */
 sam_status sam_term_free(sam_term *term);
 
 /* ---- The terminal: bytes in and out ---- */
 
-/* Takes bytes of the host's frames, in whatever pieces they come, and then lets held events act. It returns what an event
- * returns. */
+/* Takes bytes of the host's frames, in pieces of any length. The terminal receives each frame that is whole, and then held events act.
+ * Refused, in this order, and the bytes are then not taken: why the terminal has stopped before, SAM_STREAM.. or SAM_TERM_REFUSED..;
+ * SAM_NO_MEMORY, or why the terminal stops, as it goes on with earlier input; SAM_COUNT_FULL if the stream would have more than 2^64-1
+ * bytes; SAM_NO_MEMORY. Two statuses come after the bytes were taken: SAM_UNFINISHED if memory is short, and why the terminal stops at a
+ * frame of these bytes or at an event. */
 SAM_MUST_USE sam_status sam_term_feed(sam_term *term, const uint8_t *bytes, size_t len);
 
-/* Takes bytes of the host's frames as sam_term_feed does, but by framing alone: the frames that are whole wait for sam_term_step. Refused,
- * in this order: SAM_NO_HANDLE; why the terminal has stopped before, SAM_STREAM.., SAM_TERM_REFUSED..; SAM_WAITING until a step has
- * handed out SAM_STEP_IDLE or SAM_STEP_LOCKED; SAM_COUNT_FULL; SAM_NO_MEMORY. The bytes are then not taken, and the terminal is as it
- * was. */
+/* Takes bytes of the host's frames as sam_term_feed does, but receives none: the frames that are whole wait for sam_term_step. Refused, in
+ * this order: why the terminal has stopped before, SAM_STREAM.. or SAM_TERM_REFUSED..; SAM_WAITING if earlier work is left, which is so
+ * until a step has handed out SAM_STEP_IDLE or SAM_STEP_LOCKED; SAM_COUNT_FULL; SAM_NO_MEMORY. The bytes are then not taken, and the
+ * terminal is as it was. */
 SAM_MUST_USE sam_status sam_term_bring(sam_term *term, const uint8_t *bytes, size_t len);
 
-/* What the oldest frame that waits will do once a step receives it: as that step will say it in `kind`, `tag`, `start` and `gone`. So a
- * program can read what will go. `came` is 0. SAM_NONE if no frame waits. */
+/* Hands out the `kind`, `tag`, `start`, `gone` and `loads` of the step that will receive the oldest frame that waits. So a program can read
+ * the runes that will go. `came` is 0. Returns SAM_NONE if no frame waits. */
 SAM_MUST_USE sam_status sam_term_next_frame(sam_term *term, sam_did *next);
 
-/* Does one thing of what waits, and says what: it writes what was composed last, if that is left over; or the terminal receives the
- * oldest frame; or, where none waits, the oldest event acts or is refused. sam_term_feed makes such steps up to SAM_STEP_IDLE or
- * SAM_STEP_LOCKED; an event's call and sam_term_flush_now make all that are left. SAM_OK, SAM_NO_HANDLE, SAM_UNFINISHED if memory was
- * refused, where nothing has changed, so make the step again; or why the terminal has stopped, at this call or before: SAM_STREAM..,
- * SAM_TERM_REFUSED... Unless it is SAM_OK, nothing is handed out. */
+/* Makes one step with the frames and events that wait, and hands out its result. If messages that were composed last are left over, the
+ * step makes them pending. Else the terminal receives the oldest frame. If no frame waits, the oldest event acts or is refused.
+ * sam_term_feed makes steps until one is SAM_STEP_IDLE or SAM_STEP_LOCKED; the call of an event and sam_term_flush_now make all that are
+ * left. Refused, in this order, and nothing is handed out then: why the terminal has stopped before, SAM_STREAM.. or SAM_TERM_REFUSED..;
+ * SAM_UNFINISHED if memory is short, and nothing has changed, so make the step again; why the terminal stops at this step. */
 SAM_MUST_USE sam_status sam_term_step(sam_term *term, sam_did *did);
 
-/* Makes steps as long as the next frame edits a text, Hgrowdata or Hcut, and says of each what sam_term_step does, one after the other in
- * `did`, which has room for `most`. *got counts them; what is in the room after them is not kept. All edit the text of one file, none
- * begins before the place `first`, and each ends where the one before it began, or above. So what goes can be read before the call, and
- * what came after it. SAM_OK, where there is no such edit, too; or why a step was not made, as sam_term_step says it; after SAM_NO_HANDLE
- * *got is as it was. */
+/* Makes steps as long as the next frame edits a text (Hgrowdata or Hcut), and hands out the result of each in `did`, which has room for
+ * `most` of them. *got counts the results. The room after them is not kept. All edits are of one file. None begins before the place
+ * `first`, and none ends after the place where the one before it began. So a program can read the runes that go before the call, and the
+ * runes that came after it. Returns SAM_OK also if the next frame is no edit of these. If a step is not made, it returns the status of that
+ * step, and *got counts the steps before. After SAM_NO_HANDLE *got is as it was. */
 SAM_MUST_USE sam_status sam_term_step_edits(sam_term *term, uint32_t first, sam_did *did, size_t most, size_t *got);
 
-/* Whether the host's stream may end here: to be asked once the terminal's input has ended. It changes nothing. SAM_OK,
- * SAM_NO_HANDLE, why the terminal has stopped before (SAM_STREAM.., SAM_TERM_REFUSED..), SAM_UNFINISHED if some of what came or was
- * composed still waits for memory, or SAM_TRUNCATED if the stream ends inside a frame. sam_term_held has the events that wait. */
+/* Tests whether the host's stream may end here. Call it once the terminal's input has ended. It changes nothing, and takes no memory.
+ * Refused, in this order: why the terminal has stopped before, SAM_STREAM.. or SAM_TERM_REFUSED..; SAM_UNFINISHED if some input, or a
+ * message that was composed, still waits for memory; SAM_TRUNCATED if the stream ends inside a frame. sam_term_held has the number of
+ * events that wait. */
 SAM_MUST_USE sam_status sam_term_finish(sam_term *term);
 
-/* How many bytes of the host's stream stand before the frame that is wrong, where the terminal has stopped for a fault of the stream
- * (SAM_STREAM..). SAM_NONE if it goes on, or has stopped since it refused. */
+/* Hands out the number of bytes of the host's stream before the frame that is wrong, if the terminal has stopped at a fault of the stream
+ * (SAM_STREAM..). Returns SAM_NONE if the terminal goes on, or has stopped because of a refusal. */
 SAM_MUST_USE sam_status sam_term_fault_place(sam_term *term, uint64_t *place);
 
-/* How many bytes are pending. */
+/* Hands out the number of pending bytes, which are for the host. */
 SAM_MUST_USE sam_status sam_term_pending(sam_term *term, size_t *len);
 
-/* Moves the first pending bytes into the buffer, as many as it has room for, and hands out how many. */
+/* Moves the first pending bytes into the buffer, as many as fit, and hands out their number. */
 SAM_MUST_USE sam_status sam_term_take_out(sam_term *term, uint8_t *into, size_t room, size_t *count);
 
-/* Composes the typed runes that are not sent yet; to be called when the user pauses, before the program sleeps. It returns what an
- * event returns, but never SAM_COUNT_FULL. */
+/* Composes the typed runes that are not sent yet. Call it when the user pauses, before the program sleeps. Refused, in this order: why the
+ * terminal has stopped before, SAM_STREAM.. or SAM_TERM_REFUSED..; SAM_NO_MEMORY, or why the terminal stops, as it goes on with earlier
+ * input; SAM_TERM_COUNT_FULL after 2^64-1 messages, and then SAM_NO_MEMORY: the runes are as they were. Two statuses come after the runes
+ * were composed: SAM_UNFINISHED if memory is short, and why the terminal stops at an event. */
 SAM_MUST_USE sam_status sam_term_flush_now(sam_term *term);
 
-/* ---- Events: what the user does ----
+/* ---- Events of the user ----
  *
- * An event acts at once if it can, or is held until the locks that it waits for are free and the events before it have acted; each
- * call also lets events that are held act, in order. What is composed is then pending. SAM_OK says that the event was taken, and not
- * that it acted: sam_term_decided says whether it did, and sam_term_next_refusal reports an event that is refused by its number, now or
- * later; docs/reference/PROTOCOL.md (user events) has the tests of all events in their order. Each returns SAM_OK, SAM_NO_MEMORY,
- * SAM_UNFINISHED, SAM_COUNT_FULL, SAM_NO_HANDLE, or why the terminal has stopped: SAM_STREAM.., SAM_TERM_REFUSED... The three that bring a
- * text return SAM_NOT_TEXT first of all but SAM_NO_HANDLE. */
+ * An event acts at once if it can. Else the terminal holds it until the locks that it waits for are free and the events before it have
+ * acted. Each call also lets held events act, in order. The messages that this composes are then pending. SAM_OK says that the event was
+ * taken, and not that it acted: sam_term_decided says whether it did.
+ *
+ * All calls refuse in this order, and the event is then not taken: SAM_NOT_TEXT, and then SAM_NO_MEMORY, in the three calls that bring a
+ * text; why the terminal has stopped before, SAM_STREAM.. or SAM_TERM_REFUSED..; SAM_NO_MEMORY, or why the terminal stops, as it goes on
+ * with earlier input; SAM_COUNT_FULL after 2^64-1 events; SAM_NO_MEMORY. Two statuses come after the event was taken: SAM_UNFINISHED if
+ * memory is short, and why the terminal stops at an event.
+ *
+ * An event that was taken may be refused by number, at once or later: sam_term_next_refusal then reports its number and the reason, and
+ * the event does nothing. The reasons of all events come first, in this order: SAM_REFUSAL_EXITED if the session is over; and of an event
+ * that names a file SAM_REFUSAL_NO_FILE if the terminal doesn't know it, and SAM_REFUSAL_NOT_OPEN if it is not open. The comment of a call
+ * says its other reasons. docs/reference/PROTOCOL.md (user events) has the tests of all events in their order. */
 
 /* ---- Events: texts ---- */
 
-/* Types a text in the place of the dot. It is sent with what is typed after it, at the latest before anything else is. Refused by number:
- * one of more than 512 runes (SAM_REFUSAL_TEXT_TOO_LONG), which can be cut into pieces; and then one with which the file would have more
- * than 1,000,000 (SAM_REFUSAL_TOO_LONG). */
+/* Types a text in the place of the selection, which is then empty and after the text. The terminal sends the text with the text that is
+ * typed after it, at the latest before any other message. Refused by number, after the reasons of all events: SAM_REFUSAL_TEXT_TOO_LONG for
+ * more than 512 runes, so cut a longer text into pieces; SAM_REFUSAL_TOO_LONG if the file would have more than 1,000,000 runes. */
 SAM_MUST_USE sam_status sam_term_type(sam_term *term, uint16_t tag, const uint8_t *text, size_t len);
 
-/* Puts a text of any length in the place of the runes from start to end, all or nothing; an empty one takes them out. The places are
- * those of the file's text when the event acts. The dot moves as other places do, and the snarf buffer stays as it is. Refused by
- * number, in this order, and nothing is changed then: SAM_REFUSAL_EXITED, SAM_REFUSAL_NO_FILE, SAM_REFUSAL_COMMAND_FILE for tag 0,
- * SAM_REFUSAL_NOT_OPEN, SAM_REFUSAL_BAD_POSITION if end is below start or after the end of the file, SAM_REFUSAL_TOO_LONG if the file
- * would have more than 1,000,000 runes. */
+/* Replaces the runes from the place `start` to the place `end` by a text of any length, all or nothing. An empty text takes the runes out.
+ * The places are those of the file's text when the event acts. The dot moves as other places do, and the snarf buffer stays as it is.
+ * Refused by number, in this order, and nothing is changed then: SAM_REFUSAL_EXITED; SAM_REFUSAL_NO_FILE; SAM_REFUSAL_COMMAND_FILE for tag
+ * 0; SAM_REFUSAL_NOT_OPEN; SAM_REFUSAL_BAD_POSITION if `end` is below `start` or after the end of the file; SAM_REFUSAL_TOO_LONG if the
+ * file would have more than 1,000,000 runes. */
 SAM_MUST_USE sam_status sam_term_edit(sam_term *term, uint16_t tag, uint32_t start, uint32_t end, const uint8_t *text, size_t len);
 
-/* Sets the dot. */
+/* Selects the runes from the place `start` to the place `end`: they are the dot. Refused by number, after the reasons of all events:
+ * SAM_REFUSAL_BAD_POSITION if `end` is below `start` or after the end of the file. */
 SAM_MUST_USE sam_status sam_term_select(sam_term *term, uint16_t tag, uint32_t start, uint32_t end);
 
-/* Selects the word round a place. */
+/* Selects the word round a place. Refused by number, after the reasons of all events: SAM_REFUSAL_BAD_POSITION if the place is after the
+ * end of the file. */
 SAM_MUST_USE sam_status sam_term_dclick(sam_term *term, uint16_t tag, uint32_t place);
 
-/* Selects the next occurrence of the dot's text, which becomes the pattern. Does nothing if the dot is empty or has more than 128 runes. */
+/* Selects the next occurrence of the selected text, which becomes the pattern. Nothing changes if the selection is empty or has more than
+ * 128 runes. */
 SAM_MUST_USE sam_status sam_term_look(sam_term *term, uint16_t tag);
 
-/* Selects the next occurrence of the pattern. Does nothing if there is no pattern or no occurrence. */
+/* Selects the next occurrence of the pattern. Nothing changes if there is no pattern or no occurrence. */
 SAM_MUST_USE sam_status sam_term_search(sam_term *term, uint16_t tag);
 
 /* Sends the typed runes, once the events before this one have acted. */
@@ -551,248 +589,263 @@ SAM_MUST_USE sam_status sam_term_flush(sam_term *term);
 
 /* ---- Events: the snarf buffer ---- */
 
-/* Cuts the dot into the snarf buffer. Does nothing if the dot is empty. */
+/* Cuts the selection into the snarf buffer. Nothing changes if the selection is empty. */
 SAM_MUST_USE sam_status sam_term_cut(sam_term *term, uint16_t tag);
 
-/* Copies the dot into the snarf buffer. Does nothing if the dot is empty. */
+/* Copies the selection into the snarf buffer. Nothing changes if the selection is empty. */
 SAM_MUST_USE sam_status sam_term_snarf(sam_term *term, uint16_t tag);
 
-/* Puts the snarf buffer in the place of the dot, and selects it. If the buffer is empty, or the file would have more than 1,000,000 runes,
- * only the dot goes. */
+/* Pastes the snarf buffer in the place of the selection, and selects it. If the buffer is empty, or the file would have more than 1,000,000
+ * runes, the selection goes and nothing comes. */
 SAM_MUST_USE sam_status sam_term_paste(sam_term *term, uint16_t tag);
 
-/* Asks for the host's snarf buffer: sam_term_snarfed then has it. */
+/* Asks for the host's snarf buffer: sam_term_snarfed hands it out once the answer has come. */
 SAM_MUST_USE sam_status sam_term_get_snarf(sam_term *term);
 
-/* Gives the host another snarf buffer: at most 4,096 bytes, 32,000 in version 2. A longer one is refused by number
- * (SAM_REFUSAL_TEXT_TOO_LONG). */
+/* Gives the host another snarf buffer: at most 4,096 bytes, or 32,000 in version 2. Refused by number: SAM_REFUSAL_EXITED; then
+ * SAM_REFUSAL_TEXT_TOO_LONG for a longer text. */
 SAM_MUST_USE sam_status sam_term_set_snarf(sam_term *term, const uint8_t *text, size_t len);
 
-/* ---- Events: what is shown ---- */
+/* ---- Events: the view ---- */
 
-/* Shows at most len runes from a place on, and asks for those that are not loaded: at most 512 at a time, and then for the next. It goes on
- * so whenever a change brings gaps into what is shown. An empty view, of len 0, asks for nothing by itself. */
+/* Shows at most `len` runes of the file from the place `place` on, and asks for those that are not loaded: for at most 512 at a time, and
+ * then for the next. It goes on to ask whenever a change brings gaps into the view. An empty view, of `len` 0, asks for nothing by itself.
+ * Refused by number, after the reasons of all events: SAM_REFUSAL_BAD_POSITION if the place is after the end of the file. */
 SAM_MUST_USE sam_status sam_term_view(sam_term *term, uint16_t tag, uint32_t place, uint32_t len);
 
-/* Shows the same, and asks for all that is not loaded at once, in at most 1,954 stretches of 512 runes: so the longest text comes in one
- * round trip. Each is a message of 11 bytes, and the file is locked until all are answered: ask for a long text in parts where the user may
- * want to type meanwhile. What is shown goes on to ask, as sam_term_view says: where a command line puts more than 512 runes in at many
- * places, a file that is shown whole stays locked for a round trip a place. So once all is loaded, call sam_term_view(term, tag, 0, 0):
- * then the next sam_term_load asks for all gaps in one round trip. */
+/* Shows the same runes as sam_term_view, and asks at once for all that are not loaded, in at most 1,954 stretches of 512 runes. So the
+ * longest text comes in one round trip. Each stretch is a message of 11 bytes, and the file is locked until all are answered: if the user
+ * may want to type meanwhile, ask for a long text in parts. The view goes on to ask, as sam_term_view says. If a command line puts more
+ * than 512 runes in at each of many places, a file that is shown whole stays locked for a round trip a place. So call
+ * sam_term_view(term, tag, 0, 0) once all is loaded: then the next sam_term_load asks for all gaps in one round trip. Refused by number as
+ * sam_term_view is. */
 SAM_MUST_USE sam_status sam_term_load(sam_term *term, uint16_t tag, uint32_t place, uint32_t len);
 
-/* Shows the file from that many lines further up. */
+/* Scrolls the view of the file up by `lines` lines. */
 SAM_MUST_USE sam_status sam_term_scroll(sam_term *term, uint16_t tag, uint32_t lines);
 
-/* Asks for the first gap that the view shows. The host answers it, and no text changes. */
+/* Asks for the first gap that the view shows. The host answers, and no text changes. */
 SAM_MUST_USE sam_status sam_term_check(sam_term *term, uint16_t tag);
 
 /* ---- Events: files ---- */
 
-/* Opens a file; command lines work on it then. All other events that name a file want it open. */
+/* Opens a file. Command lines work on it then. All other events of a file need it open. Refused by number, in this order:
+ * SAM_REFUSAL_EXITED; SAM_REFUSAL_NO_FILE; SAM_REFUSAL_COMMAND_FILE for tag 0. */
 SAM_MUST_USE sam_status sam_term_open(sam_term *term, uint16_t tag);
 
-/* Makes an empty file, and opens it; command lines work on it then. If all tags are given it makes none, and the command file says
+/* Makes an empty file, and opens it. Command lines work on it then. If all tags are given it makes none, and the command file says
  * `? no tag`. */
 SAM_MUST_USE sam_status sam_term_new_file(sam_term *term);
 
-/* Has the host write a file. */
+/* Asks the host to write a file: the host keeps a copy of its text (sam_host_saved), and the file is then clean. Refused by number as
+ * sam_term_close is. */
 SAM_MUST_USE sam_status sam_term_write(sam_term *term, uint16_t tag);
 
-/* Closes a file for good: the host drops its text, written or not. */
+/* Closes a file for good: the host drops its text, written or not. Refused by number, in this order: SAM_REFUSAL_EXITED;
+ * SAM_REFUSAL_NO_FILE; SAM_REFUSAL_COMMAND_FILE for tag 0; SAM_REFUSAL_NOT_OPEN. */
 SAM_MUST_USE sam_status sam_term_close(sam_term *term, uint16_t tag);
 
 /* ---- Events: command lines ----
  *
- * A command line is a line that is typed into the command file, or sent to it. What it prints comes at the end of that file. A line
- * that is wrong changes nothing and prints `? ` and a word. `? long` comes if the length of the text and all that the line puts in
- * pass 1,000,000 runes together; what the line takes away is not counted, so `,x/x\n/c/y\n/` is too long in a text of 600,000 runes
- * that has 250,000 such lines, though the text would stay as long as it is. */
+ * A command line is a line that is typed into the command file, or sent to it. Its output comes at the end of that file. A line that is
+ * wrong changes nothing and prints `? ` and a word. `? long` comes if the length of the text and all that the line puts in pass 1,000,000
+ * runes together. Runes that the line takes away don't count: so `,x/x\n/c/y\n/` is too long in a text of 600,000 runes that has 250,000
+ * such lines, though the text would stay as long as it is. */
 
 /* Opens the command file. */
 SAM_MUST_USE sam_status sam_term_open_cmd(sam_term *term);
 
-/* Makes a file, with its dot, the one that command lines work on. */
+/* Makes a file, with its dot, the one that command lines work on. Refused by number as sam_term_close is. */
 SAM_MUST_USE sam_status sam_term_work(sam_term *term, uint16_t tag);
 
-/* Prints the dot's text in the command file, and runs its last line. Does nothing if the dot is empty, or the command file would have more
- * than 1,000,000 runes. */
+/* Prints the selected text in the command file, and runs its last line as a command. Nothing changes if the selection is empty, or if the
+ * command file would have more than 1,000,000 runes. */
 SAM_MUST_USE sam_status sam_term_send(sam_term *term, uint16_t tag);
 
 /* ---- Events: the session ---- */
 
 /* Offers a version of the protocol, and asks for all names. Before it the terminal knows none of the host's files, and refuses each event
- * on one; events after it wait for the answer. Offer it again to learn of files that joined the host since. */
+ * on one. Events after it wait for the answer. Offer the version again to learn of files that joined the host since. Refused by number:
+ * SAM_REFUSAL_EXITED; then SAM_REFUSAL_BAD_VERSION for version 0. */
 SAM_MUST_USE sam_status sam_term_offer_version(sam_term *term, uint16_t version);
 
 /* Ends the session. */
 SAM_MUST_USE sam_status sam_term_exit(sam_term *term);
 
-/* ---- The terminal: what became of events and messages ---- */
+/* ---- The terminal: events and messages ---- */
 
-/* The oldest refused event that was not handed out yet: which one, counted from 1 over all event calls that were taken, and why
- * (SAM_REFUSAL..). SAM_NONE if there is none. Refusals that nobody asks for are kept. */
+/* Hands out the oldest refused event that was not handed out yet: its number, counted from 1 over all event calls that were taken, and the
+ * reason (SAM_REFUSAL..). The terminal keeps refusals that nobody asks for. Returns SAM_NONE if there is none. */
 SAM_MUST_USE sam_status sam_term_next_refusal(sam_term *term, uint64_t *event, sam_status *why);
 
-/* How many event calls were taken: right after one that was taken (SAM_OK, SAM_UNFINISHED) it is that event's number, by which
- * sam_term_next_refusal names it. */
+/* Hands out the number of event calls that were taken. Right after a call that was taken (SAM_OK, SAM_UNFINISHED) it is the number of that
+ * event, by which sam_term_next_refusal names it. */
 SAM_MUST_USE sam_status sam_term_events(sam_term *term, uint64_t *events);
 
-/* How many of them have acted or were refused. Events are done in order: the event that was taken last, whose number sam_term_events
- * hands out, has acted or was refused if both numbers are the same, and is held if this one is smaller. */
+/* Hands out the number of events that have acted or were refused. Events are done in order. So if this number equals that of
+ * sam_term_events, the event that was taken last has acted or was refused; if it is smaller, that event is held. */
 SAM_MUST_USE sam_status sam_term_decided(sam_term *term, uint64_t *events);
 
-/* How many events are held. No call hands out what they brought. */
+/* Hands out the number of held events. No call hands out their texts or places. */
 SAM_MUST_USE sam_status sam_term_held(sam_term *term, uint64_t *events);
 
-/* Whether the command lock or a lock of this file is held: an edit of the file would wait. */
+/* Hands out whether the command lock or a lock of this file is held: an edit of the file would wait. */
 SAM_MUST_USE sam_status sam_term_locked(sam_term *term, uint16_t tag, bool *locked);
 
-/* Whether the command lock is held. */
+/* Hands out whether the command lock is held. */
 SAM_MUST_USE sam_status sam_term_command_locked(sam_term *term, bool *locked);
 
-/* How many typed runes are not sent yet. */
+/* Hands out the number of typed runes that are not sent yet. */
 SAM_MUST_USE sam_status sam_term_unsent(sam_term *term, uint32_t *runes);
 
-/* How many messages were composed. */
+/* Hands out the number of messages that were composed. */
 SAM_MUST_USE sam_status sam_term_sent(sam_term *term, uint64_t *messages);
 
-/* How many of the composed messages the host has not taken, as far as its frames say. 0 means that it has taken them all. Else it is an
- * upper bound. The host sends no frame for typing (but for the end of a command line), for the cutting of a selection, or for the
- * acknowledgement that the terminal sends after each sam_term_offer_version. Such a message counts until the host answers a later one.
- * sam_term_check asks for an answer that changes no text. */
+/* Hands out the number of messages in flight: those that were composed and that the host has not taken, as far as its frames say. 0 means
+ * that it has taken them all. Any other number is an upper bound, because the host sends no frame for some messages: for typing (but for
+ * the end of a command line), for the cutting of a selection, and for the acknowledgement that the terminal sends after each
+ * sam_term_offer_version. They count until the host answers a later message. sam_term_check asks for an answer that changes no text. */
 SAM_MUST_USE sam_status sam_term_under_way(sam_term *term, uint64_t *messages);
 
-/* Whether the host has ended the session. */
+/* Hands out whether the host has ended the session. */
 SAM_MUST_USE sam_status sam_term_exited(sam_term *term, bool *exited);
 
-/* The version of the protocol that both sides speak: 1, or 2 if both know it: that allows longer snarfed texts. */
+/* Hands out the version of the protocol that both sides speak: 1, or 2 if both know it. Version 2 allows longer snarfed texts. */
 SAM_MUST_USE sam_status sam_term_version(sam_term *term, uint16_t *version);
 
-/* All of these at once, with sam_term_pending, sam_term_snarf_len and sam_term_tags. */
+/* Hands out the fields of sam_state at once, each as the reader of its name does. */
 SAM_MUST_USE sam_status sam_term_state(sam_term *term, sam_state *state);
 
 /* ---- The terminal: files that it knows ---- */
 
-/* How many tags the terminal has room for: each file that it knows has a tag below this. */
+/* Hands out the number of tags that the terminal has room for: each file that it knows has a tag below this. */
 SAM_MUST_USE sam_status sam_term_tags(sam_term *term, size_t *count);
 
-/* Whether the terminal knows a file of this tag. */
+/* Hands out whether the terminal knows a file of this tag. */
 SAM_MUST_USE sam_status sam_term_is_known(sam_term *term, uint16_t tag, bool *known);
 
-/* Whether a file is open. */
+/* Hands out whether a file is open. */
 SAM_MUST_USE sam_status sam_term_is_open(sam_term *term, uint16_t tag, bool *open);
 
-/* The name of a known file, in UTF-8: as many whole runes as have room; 256 bytes are always enough. */
+/* Copies the name of a known file in UTF-8, as many whole runes as fit, and hands out the number of bytes. A room of 256 bytes is always
+ * enough. Returns SAM_NONE if the terminal knows no file of this tag. */
 SAM_MUST_USE sam_status sam_term_name(sam_term *term, uint16_t tag, uint8_t *into, size_t room, size_t *len);
 
-/* Whether a known file is dirty, as the host said last. */
+/* Hands out whether a known file is dirty, as the host said last. Returns SAM_NONE if the terminal knows no file of this tag. */
 SAM_MUST_USE sam_status sam_term_is_dirty(sam_term *term, uint16_t tag, bool *dirty);
 
-/* Whether a file may differ from what was written last: the host said that it is dirty, or the user typed into it or cut from it here
- * since. An event that is held has changed nothing yet. The command file is never written, and never changed. */
+/* Hands out whether a file may differ from the text that was written last: the host said that it is dirty, or the user typed into it or cut
+ * from it here since. A held event has changed nothing yet. The command file is never written, and never changed. */
 SAM_MUST_USE sam_status sam_term_is_changed(sam_term *term, uint16_t tag, bool *changed);
 
-/* The file that the host's answer to sam_term_work or sam_term_new_file named last, SAM_NONE before the first. It may be closed since.
- * sam_term_open changes the file that command lines work on, too, but not what this hands out. */
+/* Hands out the file that the host's answer to sam_term_work or sam_term_new_file named last. It may be closed since. sam_term_open also
+ * changes the file that command lines work on, but not the answer of this call. Returns SAM_NONE if the host has named none yet. */
 SAM_MUST_USE sam_status sam_term_current(sam_term *term, uint16_t *tag);
 
-/* Of a tag at once: sam_term_is_known, _is_open, _is_dirty, _is_changed, _locked, _len, _dot and _view_of, and whether an edit would act at
- * once. A tag without a file is no error. */
+/* Hands out the answers of several readers of one tag at once: sam_term_is_known, _is_open, _is_dirty, _is_changed, _locked, _len, _dot and
+ * _view_of, and whether an edit would act at once. A tag without a file is no error. */
 SAM_MUST_USE sam_status sam_term_file(sam_term *term, uint16_t tag, sam_file *file);
 
 /* ---- The terminal: texts of open files ---- */
 
-/* What sam_term_read hands out for a rune that is not loaded. */
+/* The number by which sam_term_read stands for a rune that is not loaded. */
 #define SAM_GAP UINT32_MAX
 
-/* The length of an open file in runes, gaps counted. */
+/* Hands out the length of an open file in runes, gaps counted. Returns SAM_NONE if the file is not open. */
 SAM_MUST_USE sam_status sam_term_len(sam_term *term, uint16_t tag, uint32_t *runes);
 
-/* The runes of an open file from a place on, as many as there are and have room, SAM_GAP for each that is not loaded. */
+/* Copies the runes of an open file from the place `place` on as numbers, as many as there are and fit, with SAM_GAP for each that is not
+ * loaded. Hands out their number. The room counts runes. Returns SAM_NONE if the file is not open. */
 SAM_MUST_USE sam_status sam_term_read(sam_term *term, uint16_t tag, uint32_t place, uint32_t *into, size_t room, uint32_t *count);
 
-/* The text of an open file from a place on, up to the first rune that is not loaded, in UTF-8: as many whole runes as have room. Hands out
- * how many bytes and how many runes; none if that rune or the end is at the place, or if the buffer has less room than one rune
- * wants. */
+/* Copies the text of an open file from the place `place` on, up to the first rune that is not loaded, in UTF-8, as many whole runes as fit.
+ * Hands out the number of bytes and the number of runes. Both are 0 if a gap is at the place, if the place is at the end or after it, or if
+ * the next rune does not fit. Returns SAM_NONE if the file is not open. */
 SAM_MUST_USE sam_status sam_term_text(sam_term *term, uint16_t tag, uint32_t place, uint8_t *into, size_t room, size_t *bytes,
                                       uint32_t *runes);
 
-/* How many bytes the loaded runes of an open file from the place `start` to the place `end` take in UTF-8, and how many of its runes there
- * are not loaded. What is after the end of the text counts as nothing, and so does all if `end` is not after `start`. This call and the
- * next six cost by the logarithm of the stretches that are loaded or not, wherever the places are, and by at most 1,024 runes. */
+/* Counts the bytes that the loaded runes of an open file take in UTF-8 from the place `start` to the place `end`, and the runes there that
+ * are not loaded. Runes after the end of the text don't count, and none counts if `end` is not after `start`. The cost of this call and the
+ * next six grows by the logarithm of the number of stretches that are loaded or not, wherever the places are, and by at most 1,024 runes.
+ * Returns SAM_NONE if the file is not open. */
 SAM_MUST_USE sam_status sam_term_bytes(sam_term *term, uint16_t tag, uint32_t start, uint32_t end, size_t *bytes, uint32_t *gaps);
 
-/* The place after the loaded runes of an open file from the place `start` on that `bytes` bytes of UTF-8 hold whole: a gap or the end of
- * the text is the last place that it hands out. It is `start` if that is after the end. */
+/* Hands out the place after the loaded runes of an open file that `bytes` bytes of UTF-8 hold whole, from the place `start` on. It is at
+ * the latest the first gap, or the end of the text; and it is `start` if that is after the end. Returns SAM_NONE if the file is not
+ * open. */
 SAM_MUST_USE sam_status sam_term_place(sam_term *term, uint16_t tag, uint32_t start, size_t bytes, uint32_t *place);
 
-/* How many code units the loaded runes of an open file from the place `start` to the place `end` take in UTF-16 (two for each rune from
- * U+10000 on, else one), and how many of its runes there are not loaded. What is after the end of the text counts as nothing, and so does
- * all if `end` is not after `start`. */
+/* Counts the code units that the loaded runes of an open file take in UTF-16 from the place `start` to the place `end`, two for each rune
+ * from U+10000 on and one for any other, and the runes there that are not loaded. Runes after the end of the text don't count, and none
+ * counts if `end` is not after `start`. Returns SAM_NONE if the file is not open. */
 SAM_MUST_USE sam_status sam_term_units(sam_term *term, uint16_t tag, uint32_t start, uint32_t end, uint32_t *units, uint32_t *gaps);
 
-/* The place after the loaded runes of an open file from the place `start` on that `units` code units of UTF-16 hold whole: a gap or the end
- * of the text is the last place that it hands out. It is `start` if that is after the end. */
+/* Hands out the place after the loaded runes of an open file that `units` code units of UTF-16 hold whole, from the place `start` on. It is
+ * at the latest the first gap, or the end of the text; and it is `start` if that is after the end. Returns SAM_NONE if the file is not
+ * open. */
 SAM_MUST_USE sam_status sam_term_unit_place(sam_term *term, uint16_t tag, uint32_t start, uint32_t units, uint32_t *place);
 
-/* The place after that many line ends (U+000A) of an open file from the place `start` on, where a line begins; for 0 of them it is `start`,
- * wherever that is. SAM_NONE also if a gap or the end of the text comes before. */
+/* Hands out the place after the next `lines` line ends (U+000A) of an open file, from the place `start` on: a line begins there. For 0 line
+ * ends it is `start`, wherever that is. Returns SAM_NONE if the file is not open, or if a gap or the end of the text comes before the last
+ * of them. */
 SAM_MUST_USE sam_status sam_term_line(sam_term *term, uint16_t tag, uint32_t start, uint32_t lines, uint32_t *place);
 
-/* The place where the line of an open file begins that is that many lines before the line of the place `start`; for 0 of them that line
- * itself. SAM_NONE also if a gap comes before that place, read backwards, if there are fewer lines, or if `start` is after the end of the
- * text. */
+/* Hands out the place where a line of an open file begins: the line that is `lines` lines before the line of the place `start`, or that
+ * line itself for 0. Returns SAM_NONE if the file is not open, if a gap comes first, read backwards from `start`, if there are fewer lines,
+ * or if `start` is after the end of the text. */
 SAM_MUST_USE sam_status sam_term_line_before(sam_term *term, uint16_t tag, uint32_t start, uint32_t lines, uint32_t *place);
 
-/* How many of the loaded runes of an open file from the place `start` to the place `end` are line ends (U+000A), and how many of its runes
- * there are not loaded. What is after the end of the text counts as nothing, and so does all if `end` is not after `start`. So a place
- * before which all is loaded stands in line 1 plus the line ends from 0 to it. */
+/* Counts the line ends (U+000A) among the loaded runes of an open file from the place `start` to the place `end`, and the runes there that
+ * are not loaded. Runes after the end of the text don't count, and none counts if `end` is not after `start`. So if all is loaded before a
+ * place, the line of that place is 1 plus the line ends from 0 to it. Returns SAM_NONE if the file is not open. */
 SAM_MUST_USE sam_status sam_term_lines(sam_term *term, uint16_t tag, uint32_t start, uint32_t end, uint32_t *lines, uint32_t *gaps);
 
-/* What changed in an open file since this was asked of it last: in the old text `gone` runes or gaps from the place `start` on gave way to
- * `came` of the new one, and all else is as it was. It is the smallest such stretch that holds what each frame and each event of the user
- * touched by itself; gone and came are both 0 if none did. Loading touches what is loaded: gone and came are the same there. On the
- * first call for a file its text was empty before. Asked after each event and after each frame, while no event is held, it hands out each
- * edit: feed the frames one by one. SAM_NO_MEMORY comes on the first call for a file alone: nothing is handed out then. */
+/* Hands out the change of an open file's text since the last call for this file: in the old text `gone` runes or gaps from the place
+ * `start` on gave way to `came` of the new one, and all else is as it was. It is the smallest such stretch that holds all that each frame
+ * and each event of the user touched by itself. `gone` and `came` are both 0 if none touched anything. Loading touches the runes that it
+ * loads: `gone` and `came` are the same there. On the first call for a file its text was empty before. A program that asks after each event
+ * and after each frame, while no event is held, gets each edit: it feeds the frames one by one. Refused, in this order, and nothing is
+ * handed out then: SAM_NONE if the file is not open; SAM_NO_MEMORY, on the first call for a file alone. */
 SAM_MUST_USE sam_status sam_term_changed(sam_term *term, uint16_t tag, uint32_t *start, uint32_t *gone, uint32_t *came);
 
-/* The first place of an open file, at or after `place`, whose rune is not loaded. SAM_NONE also if all are loaded from there on: ask
- * sam_term_is_open to know the two apart. */
+/* Hands out the first place of an open file, at or after `place`, whose rune is not loaded. Returns SAM_NONE if the file is not open, or if
+ * all are loaded from there on: sam_term_is_open tells the two apart. */
 SAM_MUST_USE sam_status sam_term_first_gap(sam_term *term, uint16_t tag, uint32_t place, uint32_t *gap);
 
-/* The dot of an open file. */
+/* Hands out the dot of an open file: the places where its selection begins and ends. Returns SAM_NONE if the file is not open. */
 SAM_MUST_USE sam_status sam_term_dot(sam_term *term, uint16_t tag, uint32_t *start, uint32_t *end);
 
-/* What an open file shows: the places where its view begins and ends. */
+/* Hands out the view of an open file: the places where it begins and ends. Returns SAM_NONE if the file is not open. */
 SAM_MUST_USE sam_status sam_term_view_of(sam_term *term, uint16_t tag, uint32_t *start, uint32_t *end);
 
 /* ---- The terminal: pattern and snarf buffer ---- */
 
-/* The pattern that the host reported last, in UTF-8: as many whole runes as have room; 512 bytes are always enough. */
+/* Copies the pattern that the host reported last, in UTF-8, as many whole runes as fit, and hands out the number of bytes. A room of 512
+ * bytes is always enough. */
 SAM_MUST_USE sam_status sam_term_pattern(sam_term *term, uint8_t *into, size_t room, size_t *len);
 
-/* The snarfed text that the host sent last (sam_term_get_snarf), from a place on, in UTF-8: as many whole runes as have room. It may be
- * only the front of the host's buffer: at most 4,096 bytes come, 32,000 in version 2. */
+/* Copies the snarfed text that the host sent last (sam_term_get_snarf), from the place `place` on, in UTF-8, as many whole runes as fit.
+ * Hands out the number of bytes and the number of runes. The text may be only the front of the host's buffer, because at most 4,096 bytes
+ * come, or 32,000 in version 2. */
 SAM_MUST_USE sam_status sam_term_snarfed(sam_term *term, uint32_t place, uint8_t *into, size_t room, size_t *bytes, uint32_t *runes);
 
-/* How many runes the host's snarf buffer has, as it said last. */
+/* Hands out the length of the host's snarf buffer in runes, as the host said last. */
 SAM_MUST_USE sam_status sam_term_snarf_len(sam_term *term, uint32_t *runes);
 
 /* ==== A link ====
  *
  * A link carries the bytes of a session, and notes of the program, over connections that may break at any byte: each byte and each note
- * comes out at the other side once and in order. Each side has an end; docs/reference/LINK.md has what they say to each other,
+ * comes out at the other side once and in order. Each side has an end. docs/reference/LINK.md has the bytes that they say to each other,
  * docs/howto/EMBEDDING.md a loop of events. An end opens no connection and knows no clock, as a host and a terminal read and write nothing.
  * The terminal's side opens a connection and calls; the host's side answers:
  *
  *     sam_link_call(&link, false, &attempt)           the terminal opened a connection
  *     sam_link_take_out(&link, attempt, ..)           bytes for it: the hello first
  *     sam_link_read_hello(bytes, ..)                  the host has 42 bytes: of which session?
- *     sam_link_answer(&link, bytes, 42)               that one's end takes the connection
+ *     sam_link_answer(&link, bytes, 42)               the end of that session takes the connection
  *     sam_link_welcomed(&link, bytes, 42)             the terminal has the host's 42 bytes
- *     sam_link_feed(&link, attempt, ..)               what came after the hello
- *     sam_link_take_in(&link, ..)                     what of it is for the program, and sam_link_next_note the notes
+ *     sam_link_feed(&link, attempt, ..)               the bytes that came after the hello
+ *     sam_link_take_in(&link, ..)                     the program's bytes among them, and sam_link_next_note the notes
  *
  * A count of a stream counts all its bytes, those of heads too. A piece, a note and an answer are taken whole or not at all. Of these
  * calls sam_link_new, _put, _put_note, _ask, _acknowledge, _feed, _feed_into and _feed_places take memory, the others none. */
@@ -800,18 +853,18 @@ SAM_MUST_USE sam_status sam_term_snarf_len(sam_term *term, uint32_t *runes);
 /* The side of an end. */
 enum sam_link_role { SAM_LINK_TERMINAL = 0, SAM_LINK_HOST = 1 };
 
-/* How the newest connection stands: there is none, or it is over; the terminal has called; both sides have said hello. */
+/* The state of the newest connection: there is none, or it is over; the terminal has called; both sides have said hello. */
 enum sam_link_phase { SAM_LINK_DOWN = 0, SAM_LINK_ASKING = 1, SAM_LINK_OPEN = 2 };
 
-/* What a hello says, but for the refusals, which are 17 to 23 in the order of SAM_LINK_NOT_A_LINK to SAM_LINK_WRONG_COUNT. A terminal that
- * was welcomed once resumes. */
+/* The kinds of a hello, but for the refusals, which are 17 to 23 in the order of SAM_LINK_NOT_A_LINK to SAM_LINK_WRONG_COUNT. A terminal
+ * that was welcomed once resumes. */
 enum sam_link_what { SAM_LINK_BEGIN = 1, SAM_LINK_RESUME = 2, SAM_LINK_TAKE_OVER = 3, SAM_LINK_WELCOME = 4 };
 
-#define SAM_LINK_ID_BYTES 16
-#define SAM_LINK_HELLO_BYTES 42
-#define SAM_LINK_MOST_NOTE 4096
+#define SAM_LINK_ID_BYTES 16    /* bytes of a session's id */
+#define SAM_LINK_HELLO_BYTES 42 /* bytes of a hello */
+#define SAM_LINK_MOST_NOTE 4096 /* bytes of the longest note */
 
-/* Where bytes lie in a piece: `len` of them, behind its first `start`. */
+/* The place of bytes in a piece: `len` of them, behind its first `start`. */
 struct sam_place {
     size_t start;
     size_t len;
@@ -820,130 +873,131 @@ typedef struct sam_place sam_place;
 
 /* ---- A link: making and freeing ---- */
 
-/* Makes the end of this side (enum sam_link_role), before its first connection. The id is the session's name, 16 bytes that the terminal
- * chose at random: a name, and no secret. Refused, in this order: SAM_NO_HANDLE, SAM_MADE, SAM_LINK_WRONG_ROLE for any other number,
- * SAM_NO_MEMORY. The handle is then as it was. */
+/* Makes the end of one side (enum sam_link_role), before its first connection. The id is the session's name: 16 bytes that the terminal
+ * chose at random. It is no secret. Refused, in this order: SAM_NO_HANDLE if the handle is NULL; SAM_MADE if it is made already;
+ * SAM_LINK_WRONG_ROLE if `role` is neither; SAM_NO_MEMORY. The handle is then as it was. */
 SAM_MUST_USE sam_status sam_link_new(sam_link *link, uint32_t role, const uint8_t id[SAM_LINK_ID_BYTES]);
 
-/* Frees an end, with all that it keeps. SAM_NO_HANDLE if it is empty or NULL. */
+/* Frees an end, with all the bytes that it keeps, and leaves the handle empty. Refused: SAM_NO_HANDLE if the handle is NULL or empty. */
 sam_status sam_link_free(sam_link *link);
 
 /* ---- A link: hellos without a handle ---- */
 
-/* Reads the hello with which bytes begin, and hands out what it says (enum sam_link_what, or 17 to 23), the id and the number of the
- * connection. SAM_NONE: nothing is wrong so far, and there are fewer than 42 bytes. Refused, in this order: SAM_LINK_NOT_A_LINK as soon as
- * the bytes differ from the mark, SAM_LINK_OTHER_VERSION with the ninth byte, SAM_LINK_BAD_HELLO with the tenth if it says nothing. What
- * the pointers lead to is then as it was. */
+/* Reads the hello with which the bytes begin, and hands out `what` it says (enum sam_link_what, or 17 to 23), the id and the number of the
+ * connection. Returns SAM_NONE if nothing is wrong so far, but there are fewer than 42 bytes. Refused, in this order: SAM_LINK_NOT_A_LINK
+ * as soon as the bytes differ from the mark; SAM_LINK_OTHER_VERSION with the ninth byte; SAM_LINK_BAD_HELLO with the tenth, if that says
+ * nothing. */
 SAM_MUST_USE sam_status sam_link_read_hello(const uint8_t *bytes, size_t len, uint32_t *what, uint8_t id[SAM_LINK_ID_BYTES],
                                             uint64_t *attempt);
 
-/* Writes the hello by which a host refuses a connection: why is one of SAM_LINK_NOT_A_LINK to SAM_LINK_WRONG_COUNT, and bytes are what
- * came. It names the session and the connection of the hello with which they begin; if sam_link_read_hello reads none, all zeros. SAM_NONE
- * for any other reason, and the buffer is as it was. */
+/* Writes the hello by which a host refuses a connection. `why` is one of SAM_LINK_NOT_A_LINK to SAM_LINK_WRONG_COUNT, and `bytes` are the
+ * bytes that came. The hello names the session and the connection of the hello with which they begin; if sam_link_read_hello reads none, it
+ * names all zeros. Returns SAM_NONE for any other reason, and the buffer is then as it was. */
 SAM_MUST_USE sam_status sam_link_write_refusal(uint32_t why, const uint8_t *bytes, size_t len, uint8_t into[SAM_LINK_HELLO_BYTES]);
 
 /* ---- A link: connections ---- */
 
-/* The terminal's end: another connection was opened, and the one before is over. Hands out its number, counted from 1, which names it in
- * the calls below. With take_over, as long as no host has welcomed this end, the session is to begin with the texts of another. Refused, in
- * this order: SAM_LINK_WRONG_ROLE, SAM_COUNT_FULL after 2^64-1 connections. */
+/* Begins a connection that the program has opened, at the terminal's end: the connection before is over. Hands out its number, counted from
+ * 1, which names it in the calls below. With `take_over`, the session is to begin with the texts of another, as long as no host has
+ * welcomed this end. Refused, in this order: SAM_LINK_WRONG_ROLE; SAM_COUNT_FULL after 2^64-1 connections. */
 SAM_MUST_USE sam_status sam_link_call(sam_link *link, bool take_over, uint64_t *attempt);
 
-/* The terminal's end takes the first 42 bytes that the host sent on the newest connection. Refused, and nothing is changed then: first as
- * sam_link_read_hello refuses the bytes (SAM_NONE: fewer than 42); then, in this order, SAM_LINK_WRONG_ROLE; SAM_LINK_NOT_OPEN if no
- * call waits for a welcome; the host's reason, if it refuses (sam_link_read_hello tells this from the rest: it hands out 17 to 23);
- * SAM_LINK_BAD_HELLO; SAM_LINK_OTHER_SESSION; SAM_LINK_OLD_ATTEMPT; SAM_LINK_WRONG_COUNT. */
+/* Takes the host's hello at the terminal's end: the first 42 bytes that came on the newest connection. Refused, in this order, and nothing
+ * is changed then: the refusals of sam_link_read_hello, and SAM_NONE for fewer than 42 bytes; SAM_LINK_WRONG_ROLE; SAM_LINK_NOT_OPEN if no
+ * call waits for a welcome; the host's reason, if the host refuses (sam_link_read_hello tells this from the rest, because it hands out 17
+ * to 23); SAM_LINK_BAD_HELLO; SAM_LINK_OTHER_SESSION; SAM_LINK_OLD_ATTEMPT; SAM_LINK_WRONG_COUNT. */
 SAM_MUST_USE sam_status sam_link_welcomed(sam_link *link, const uint8_t *bytes, size_t len);
 
-/* The host's end takes the connection whose first 42 bytes these are, and the one before is over. The connection has the number that
- * sam_link_read_hello hands out. Refused, and nothing is changed then, nor for the older connection: first as sam_link_read_hello refuses
- * the bytes (SAM_NONE: fewer than 42); then, in this order, SAM_LINK_WRONG_ROLE, SAM_LINK_BAD_HELLO, SAM_LINK_NO_SESSION,
- * SAM_LINK_OTHER_SESSION, SAM_LINK_OLD_ATTEMPT, SAM_LINK_WRONG_COUNT. */
+/* Takes a connection at the host's end by its first 42 bytes, the terminal's hello: the connection before is over. The connection has the
+ * number that sam_link_read_hello hands out. Refused, in this order, and nothing is changed then, nor for the older connection: the
+ * refusals of sam_link_read_hello, and SAM_NONE for fewer than 42 bytes; SAM_LINK_WRONG_ROLE; SAM_LINK_BAD_HELLO; SAM_LINK_NO_SESSION;
+ * SAM_LINK_OTHER_SESSION; SAM_LINK_OLD_ATTEMPT; SAM_LINK_WRONG_COUNT. */
 SAM_MUST_USE sam_status sam_link_answer(sam_link *link, const uint8_t *bytes, size_t len);
 
-/* A connection has ended, or is given up. If it isn't the newest nothing is changed. */
+/* Ends a connection at this end, because it broke or because the program gives it up. Nothing changes if it isn't the newest. */
 SAM_MUST_USE sam_status sam_link_broken(sam_link *link, uint64_t attempt);
 
-/* ---- A link: what is put ---- */
+/* ---- A link: bytes and notes to send ---- */
 
-/* Puts bytes for the other side's program, all or none, whether a connection is there or not. Refused, in this order: SAM_COUNT_FULL if
- * the stream would have more than 2^64-1 bytes, SAM_NO_MEMORY. */
+/* Puts bytes for the other side's program, all or none, with or without a connection. Refused, in this order: SAM_COUNT_FULL if the stream
+ * would have more than 2^64-1 bytes; SAM_NO_MEMORY. */
 SAM_MUST_USE sam_status sam_link_put(sam_link *link, const uint8_t *bytes, size_t len);
 
-/* Puts a note, behind all that was put. It comes out after these bytes and before later ones. Refused, in this order: SAM_LINK_TOO_LONG for
- * more than 4,096 bytes, SAM_COUNT_FULL, SAM_NO_MEMORY. */
+/* Puts a note behind all bytes that were put: it comes out after these bytes and before later ones. Refused, in this order:
+ * SAM_LINK_TOO_LONG for more than 4,096 bytes; SAM_COUNT_FULL; SAM_NO_MEMORY. */
 SAM_MUST_USE sam_status sam_link_put_note(sam_link *link, const uint8_t *bytes, size_t len);
 
-/* Asks the other side to acknowledge now. So a line that carries nothing any more is found out: if no byte comes, it is broken. Refused, in
- * this order: SAM_COUNT_FULL, SAM_NO_MEMORY. */
+/* Asks the other side to acknowledge now. So a program finds out that a line carries nothing any more: if no byte comes, it is broken.
+ * Refused, in this order: SAM_COUNT_FULL; SAM_NO_MEMORY. */
 SAM_MUST_USE sam_status sam_link_ask(sam_link *link);
 
-/* Acknowledges all bytes that have come, as the end does by itself when it is asked and after each 16,384 bytes. Refused, in this order:
- * SAM_COUNT_FULL, SAM_NO_MEMORY. */
+/* Acknowledges all bytes that have come. The end does so by itself when it is asked, and after each 16,384 bytes. Refused, in this order:
+ * SAM_COUNT_FULL; SAM_NO_MEMORY. */
 SAM_MUST_USE sam_status sam_link_acknowledge(sam_link *link);
 
 /* ---- A link: bytes out and in ---- */
 
-/* Moves the next bytes for a connection into the buffer, as many as there are and have room, and hands out how many: first the hello, and
- * then the stream from where this connection goes on. A terminal's end hands out none of the stream before the welcome, but on the first
- * connection. SAM_LINK_NOT_OPEN if the connection is over or isn't the newest. */
+/* Moves the next bytes for a connection into the buffer, as many as there are and fit, and hands out their number: first the hello, and
+ * then the stream from the place where this connection goes on. Before the welcome, a terminal's end hands out bytes of the stream on the
+ * first connection alone. Refused: SAM_LINK_NOT_OPEN if the connection is over or isn't the newest. */
 SAM_MUST_USE sam_status sam_link_take_out(sam_link *link, uint64_t attempt, uint8_t *into, size_t room, size_t *count);
 
-/* Takes bytes that came on a connection after the hello, in whatever pieces, all or none. Refused: SAM_LINK_NOT_OPEN if the connection is
- * over, isn't the newest, or has no hello yet; then SAM_COUNT_FULL if the other side's stream would have more than 2^64-1 bytes. Then
- * SAM_NO_MEMORY, and the piece may be fed again; or, if the piece has a wrong packet, SAM_LINK_BAD_KIND or SAM_LINK_BAD_LENGTH, and if it
- * has none, but acknowledges what this connection wasn't given, SAM_LINK_ACK_AHEAD: then this connection is over, and nothing else has
- * changed. */
+/* Takes bytes that came on a connection after the hello, in pieces of any length, all or none. Refused, in this order: SAM_LINK_NOT_OPEN if
+ * the connection is over, isn't the newest, or has no hello yet; SAM_COUNT_FULL if the other side's stream would have more than 2^64-1
+ * bytes; SAM_NO_MEMORY, and the piece may be fed again. Three other refusals end the connection, and change nothing else: SAM_LINK_BAD_KIND
+ * or SAM_LINK_BAD_LENGTH if the piece has a wrong packet; else SAM_LINK_ACK_AHEAD if it acknowledges bytes that this connection wasn't
+ * given. */
 SAM_MUST_USE sam_status sam_link_feed(sam_link *link, uint64_t attempt, const uint8_t *bytes, size_t len);
 
 /* Takes bytes that came as sam_link_feed does, and then moves bytes into the buffer as sam_link_take_in does, again and again, until that
- * hands out 0. Hands out how many it moved: if they fill the buffer, more may wait for sam_link_take_in. The buffer may not overlap the
- * bytes that came. Where nothing is left of earlier pieces, no note and no part of a packet, they are copied once instead of twice. Refused
- * as sam_link_feed is. */
+ * hands out 0. Hands out the number of bytes that it moved: if they fill the buffer, more may wait for sam_link_take_in. The buffer may not
+ * overlap the bytes that came. If nothing is left of earlier pieces, no note and no part of a packet, the bytes are copied once instead of
+ * twice. Refused as sam_link_feed is. */
 SAM_MUST_USE sam_status sam_link_feed_into(sam_link *link, uint64_t attempt, const uint8_t *bytes, size_t len, uint8_t *into, size_t room,
                                            size_t *count);
 
-/* Takes bytes that came as sam_link_feed does. Where nothing is left of earlier pieces, no note and no part of a packet, it then takes in
- * the program's bytes, whole packets, until there is no room for a place (`most` of them), or a note is next, or nothing, and says where
- * those of each lie among the bytes that came: no byte is copied. Hands out how many places it wrote, else 0. More may wait for
- * sam_link_take_in. Refused as sam_link_feed is. */
+/* Takes bytes that came as sam_link_feed does, and hands out the places of the program's bytes among them: no byte is copied. It hands out
+ * places only if nothing is left of earlier pieces, no note and no part of a packet: it then takes in whole packets, a place for each,
+ * until there is no room for a place (`most` of them), or a note is next, or nothing. Hands out the number of places that it wrote, else 0.
+ * More bytes may wait for sam_link_take_in. Refused as sam_link_feed is. */
 SAM_MUST_USE sam_status sam_link_feed_places(sam_link *link, uint64_t attempt, const uint8_t *bytes, size_t len, sam_place *places,
                                              size_t most, size_t *count);
 
-/* Moves the next bytes of the other side's program into the buffer, as many as one packet has left and have room, and hands out how many:
- * call it until it hands out 0, where a note is next, or nothing. */
+/* Moves the next bytes of the other side's program into the buffer, as many as one packet has left and fit, and hands out their number.
+ * Call it until it hands out 0: then a note is next, or nothing. */
 SAM_MUST_USE sam_status sam_link_take_in(sam_link *link, uint8_t *into, size_t room, size_t *count);
 
-/* Moves the note that is next into the buffer, and hands out its length, which may be 0. Refused, in this order: SAM_LINK_NO_ROOM if the
- * buffer has less room than 4,096 bytes, SAM_NONE if no note is next: bytes before it are not taken in yet, or none has come. */
+/* Moves the note that is next into the buffer, and hands out its length in bytes, which may be 0. Refused, in this order: SAM_LINK_NO_ROOM
+ * if the buffer has less room than 4,096 bytes; SAM_NONE if no note is next, because bytes before it are not taken in yet, or because none
+ * has come. */
 SAM_MUST_USE sam_status sam_link_next_note(sam_link *link, uint8_t *into, size_t room, size_t *len);
 
 /* ---- A link: readers ---- */
 
-/* How the newest connection stands: enum sam_link_phase. */
+/* Hands out the state of the newest connection: enum sam_link_phase. */
 SAM_MUST_USE sam_status sam_link_phase(sam_link *link, uint32_t *phase);
 
-/* The number of the newest connection: at a host's end the newest that it took. 0 before the first. */
+/* Hands out the number of the newest connection, or 0 before the first. At a host's end it is the newest that the end took. */
 SAM_MUST_USE sam_status sam_link_attempt(sam_link *link, uint64_t *attempt);
 
-/* How many bytes this side's stream has. */
+/* Hands out the number of bytes of this side's stream, heads of packets included. */
 SAM_MUST_USE sam_status sam_link_put_count(sam_link *link, uint64_t *count);
 
-/* How many of them the other side has acknowledged: those after them are kept in memory. All that was put at one time has come once this is
- * at least what sam_link_put_count was then. */
+/* Hands out the number of bytes of this side's stream that the other side has acknowledged. The end keeps those after them in memory. All
+ * bytes that were put by some time have come once this number is at least that of sam_link_put_count at that time. */
 SAM_MUST_USE sam_status sam_link_acknowledged(sam_link *link, uint64_t *count);
 
-/* How many bytes of this side's stream the newest connection has not been given: sam_link_take_out hands them out, unless the other side's
- * hello tells that they have come. */
+/* Hands out the number of bytes of this side's stream that the newest connection has not been given. sam_link_take_out hands them out,
+ * unless the other side's hello tells that they have come. */
 SAM_MUST_USE sam_status sam_link_unsent(sam_link *link, size_t *count);
 
-/* How many bytes of the other side's stream have come. */
+/* Hands out the number of bytes of the other side's stream that have come. */
 SAM_MUST_USE sam_status sam_link_received(sam_link *link, uint64_t *count);
 
 /* ==== The messages of a session ====
  *
- * What samhost and its front ends tell each other in the notes of a link: docs/reference/SESSION.md says what each means. A message has a
- * kind and some of seven fields. Neither call takes a handle or memory. */
+ * samhost and its front ends exchange these messages as the notes of a link: docs/reference/SESSION.md has the meaning of each. A message
+ * has a kind and some of seven fields. Neither call takes a handle or memory. */
 
 /* What follows is written by tools/session_messages, from the tables of docs/reference/SESSION.md. */
 /* The kinds of messages, with their fields: up to 64 those from the terminal. */
@@ -1001,14 +1055,14 @@ enum sam_note_code {
 };
 /* Up to here by tools/session_messages. */
 
-/* A message. What a kind has not is 0 or empty. */
+/* A message. A field that its kind has not is 0 or empty. */
 struct sam_note {
     uint8_t kind;     /* enum sam_note_kind */
     uint8_t code;     /* enum sam_note_code, or a number of a later version */
     uint16_t tag;     /* of a file */
     uint32_t request; /* the number that the terminal gave a request; 0: no request asked for this */
     uint64_t number;  /* a version, a line, a time, another tag or a status, as the kind says */
-    size_t path_at;   /* where a path stands in the bytes that were read, and how many bytes it has */
+    size_t path_at;   /* the place of a path in the bytes that were read, and its number of bytes */
     size_t path_len;
     size_t copy_at; /* the same of a second path */
     size_t copy_len;
@@ -1031,15 +1085,15 @@ SAM_MUST_USE sam_status sam_note_write(const sam_note *note, const uint8_t *path
 
 /* ==== Scripts ==== */
 
-/* Runs a script over a host and a terminal of its own, and hands out what its `show` lines print: docs/reference/SCRIPTS.md explains the
- * language. It takes no handle. All lines are read before the first is done.
+/* Runs a script over a host and a terminal of its own, and hands out the output of its `show` lines, in bytes. It takes no handle.
+ * docs/reference/SCRIPTS.md explains the language. All lines are read before the first is done.
  *
- * SAM_OK: *out_len is the number of all bytes that are printed, and the first of them stand in `out`, as many as have room. The rest of
- * the buffer is as it was. If *out_len is above out_room, call again with so much room: a script prints the same each time.
- * SAM_SCRIPT_LINE: *line, counted from 1, is the first wrong line. If no line is wrong, the first that can't be done decides:
- * SAM_SCRIPT_LINE reports a `host` or `term` at which nothing is there to take, SAM_SCRIPT_COUNT_FULL a line that would count more than
- * 2^64-1 messages. SAM_NO_MEMORY may come at any line.
- * What the pointers lead to is as it was but for `out` and *out_len at SAM_OK, and *line at SAM_SCRIPT_LINE. */
+ * At SAM_OK *out_len is the number of all bytes that are printed, and the first of them stand in `out`, as many as fit. The rest of the
+ * buffer is as it was. If *out_len is above out_room, call again with so much room, because a script prints the same each time.
+ *
+ * Refused: SAM_SCRIPT_LINE if a line is wrong; *line, counted from 1, is the first of these. If no line is wrong, the first that can't be
+ * done decides: SAM_SCRIPT_LINE reports a `host` or `term` at which nothing is there to take, SAM_SCRIPT_COUNT_FULL a line that would count
+ * more than 2^64-1 messages. SAM_NO_MEMORY may come at any line. The results are then as they were, but for *line at SAM_SCRIPT_LINE. */
 SAM_MUST_USE sam_status sam_replay(const uint8_t *script, size_t script_len, uint8_t *out, size_t out_room, size_t *out_len, size_t *line);
 
 #ifdef __cplusplus

@@ -37,6 +37,18 @@ def expect_equal(got, wanted):
     expect(got == wanted, f"{got!r}, wanted {wanted!r}")
 
 
+# ---- Words of calls
+
+NO_VERBS = ("This", "Its", "Always", "Unless")  # first words of this form that are none
+OF_A_NOUN = ("of", "that", "which", "are")  # the word after a noun of this form, as in "Bytes of a text"
+
+
+def begins_with_verb(words):
+    """Whether a call is described by its work: the first word has the form of a verb in the third person, as in "Returns the name"."""
+    first, second = [*words.split(), "", ""][:2]
+    return bool(re.fullmatch(r"[A-Z][a-z]+s", first)) and first not in NO_VERBS and second not in OF_A_NOUN
+
+
 # ---- Checks, which are functions of modules
 
 

@@ -1,10 +1,10 @@
-/* What host, terminal and link share: a handle of the library, and the calls of it. */
+/* The handle of the library that a host, a terminal and a link each have, and the calls of it. */
 import * as module from "./module.js";
 import { call, lend, result, space } from "./module.js";
 import { Missing, Status, errorOf } from "./status.js";
 
-export const PREFIX = Symbol("prefix"); // how the names of its calls begin
-const handles = new WeakMap(); // of each side where its handle is, 0n once it was freed
+export const PREFIX = Symbol("prefix"); // the beginning of the names of its calls
+const handles = new WeakMap(); // of each side the place of its handle, 0n once it was freed
 const lost = new FinalizationRegistry(({ prefix, at }) => {
   if (module.canCall()) release(prefix, at);
 });
@@ -14,18 +14,18 @@ function release(prefix, at) {
   module.dropHandle(at);
 }
 
-/** Whether it was freed. */
+/** Returns whether it was freed. */
 export function isFreed(side) {
   return handles.get(side) === 0n;
 }
 
-/** Makes a call of a side, and throws what it answers other than SAM_OK. */
+/** Makes a call of a side, and throws the error of its status, if that is not SAM_OK. */
 export function make(side, name, ...words) {
   const code = call(`${side[PREFIX]}_${name}`, handles.get(side), ...words);
   if (code !== Status.OK) throw errorOf(code);
 }
 
-/** What `reading` hands out; null if it answers SAM_NONE. */
+/** Returns the result of `reading`; null if it answers SAM_NONE. */
 export function ifAny(reading) {
   try {
     return reading();
@@ -54,13 +54,13 @@ export function makeOfBytes(side, name, words, bytes) {
   });
 }
 
-/** The call's first result, as `as` reads it. */
+/** Makes a call, and returns its first result, as `as` reads it. */
 export function one(side, name, as, ...words) {
   make(side, name, ...words, result(0));
   return as(0);
 }
 
-/** What host, terminal and link share: a handle. */
+/** A handle, which host, terminal and link share. */
 export class Held {
   /** Makes the handle, by the call `new` with these words. */
   constructor(...words) {

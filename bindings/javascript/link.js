@@ -10,7 +10,7 @@ const MOST_BODY = 4096; // bytes that one packet has for the program
 const MOST_PLACES = 256; // of bytes in a piece, that are handed out at once
 const PLACE_SIZE = 16; // bytes of a place: two numbers of 64 bits
 
-/** What a hello says: the first three a terminal, the others a host. */
+/** The kinds of a hello: a terminal says one of the first three, a host one of the others. */
 export const What = Object.freeze({
   BEGIN: 1,
   RESUME: 2,
@@ -30,7 +30,7 @@ export function bytesIn(bytes) {
   return bytes;
 }
 
-/** Makes a call without a handle, of bytes that it is lent, and throws what it answers other than SAM_OK. */
+/** Makes a call without a handle, of bytes that it is lent, and throws the error of its status, if that is not SAM_OK. */
 export function ask(bytes, calling) {
   lend([bytesIn(bytes)], (places) => {
     if (places === null) throw errorOf(Status.NO_MEMORY);
@@ -39,7 +39,7 @@ export function ask(bytes, calling) {
   });
 }
 
-/** The hello with which the bytes begin; null if nothing is wrong so far, and there are fewer than 42. */
+/** Reads the hello with which the bytes begin, and returns it; null if nothing is wrong so far, but there are fewer than 42. */
 export function readHello(bytes) {
   return ifAny(() => {
     ask(bytes, (place, length) => call("sam_link_read_hello", place, length, result(0), result(1), result(3)));
@@ -47,7 +47,7 @@ export function readHello(bytes) {
   });
 }
 
-/** The hello by which a host refuses a connection, of which these bytes came. */
+/** Returns the hello by which a host refuses a connection whose first bytes these are. */
 export function writeRefusal(status, bytes) {
   ask(bytes, (place, length) => call("sam_link_write_refusal", long(status), place, length, result(0)));
   return part(result(0), HELLO_BYTES).slice();

@@ -1,4 +1,4 @@
-/* The WebAssembly module: where it is, its memory, and how its calls are made. */
+/* The WebAssembly module: its file, its memory, and its calls. */
 
 const PLACE = new URL("sulgrevad.wasm", import.meta.url);
 const VERSION = 0x0001; // the major and the minor number of the library that this package is for, a byte each
@@ -6,7 +6,7 @@ const LARGEST = 2 ** 32 - 1;
 
 export const PIECE = 65536; // bytes of a text that are moved at a time
 
-/** Compiles the module as it comes; where a server gives it another type, which that doesn't take, once all of it is there. */
+/** Compiles the module as it comes; or, if a server gives it another type, which that doesn't take, once all of it is there. */
 async function instantiate() {
   if (PLACE.protocol === "file:") {
     const files = "node:fs/promises"; // not a constant of the import, so that no packer looks for it
@@ -31,22 +31,22 @@ async function load() {
 export const library = await load();
 if (library.sam_library_version() >>> 8 !== VERSION) throw new Error(`${PLACE} has another version than this package`);
 
-// What a call hands out stands at RESULTS, and what it is lent at SPACE, if there is room.
+// The results of a call stand at RESULTS, and the bytes that it is lent at SPACE, if there is room.
 const RESULTS_SIZE = 128;
 const RESULTS = library.malloc(BigInt(RESULTS_SIZE + PIECE));
 const SPACE = RESULTS + BigInt(RESULTS_SIZE);
 const ENCODER = new TextEncoder();
 const DECODER = new TextDecoder("utf-8", { fatal: true, ignoreBOM: true });
-let stopped = null; // why no call can be made
+let stopped = null; // the reason why no call can be made
 let view = new DataView(library.memory.buffer);
 
-/** The memory, which is another buffer each time that it has grown. */
+/** Returns the memory, which is another buffer each time that it has grown. */
 function data() {
   if (view.buffer !== library.memory.buffer) view = new DataView(library.memory.buffer);
   return view;
 }
 
-/** A part of the memory, up to the next call. */
+/** Returns a part of the memory, which holds up to the next call. */
 export function part(place, length) {
   return new Uint8Array(library.memory.buffer, Number(place), length);
 }
@@ -55,8 +55,8 @@ export function canCall() {
   return stopped === null;
 }
 
-/** Makes a call, and returns its status. Where the machine breaks it off, as where its stack is full, nobody knows what was done: so no
- * other call is made after that. */
+/** Makes a call, and returns its status. If the machine breaks it off, for example because its stack is full, nobody knows how far it
+ * came: so no other call is made after that. */
 export function call(name, ...words) {
   if (stopped) throw new Error("the library was broken off, and can't be used any more", { cause: stopped });
   try {
@@ -67,7 +67,7 @@ export function call(name, ...words) {
   }
 }
 
-/** Where a call hands out its result of this number, from 0 on. */
+/** Returns the place at which a call hands out its result of this number, from 0 on. */
 export function result(number) {
   return RESULTS + BigInt(8 * number);
 }
@@ -76,7 +76,7 @@ export function truth(number = 0) {
   return data().getUint8(Number(RESULTS) + 8 * number) !== 0;
 }
 
-/** A number so many bytes after the beginning of a result. */
+/** Returns the number that stands `after` bytes after the beginning of a result. */
 export function u8(number, after = 0) {
   return data().getUint8(Number(RESULTS) + 8 * number + after);
 }
@@ -89,12 +89,12 @@ export function u32(number = 0, after = 0) {
   return data().getUint32(Number(RESULTS) + 8 * number + after, true);
 }
 
-/** A count of 64 bits: exact up to 2^53. */
+/** Returns a count of 64 bits: exact up to 2^53. */
 export function u64(number = 0) {
   return Number(data().getBigUint64(Number(RESULTS) + 8 * number, true));
 }
 
-/** Where a call writes at most PIECE bytes. */
+/** Returns the place at which a call writes at most PIECE bytes. */
 export function space() {
   return SPACE;
 }
@@ -112,32 +112,33 @@ export function textOut(length) {
   return textOf(bytesOut(length));
 }
 
-/** So many numbers of 32 bits that a call wrote. */
+/** Returns the first `count` numbers of 32 bits that a call wrote. */
 export function numbersOut(count) {
   const memory = data();
   return Array.from({ length: count }, (_, at) => memory.getUint32(Number(SPACE) + 4 * at, true));
 }
 
-/** So many sizes of C's that stand there. */
+/** Returns the first `count` sizes of C's that stand at a place. */
 export function sizesAt(place, count) {
   const memory = data();
   return Array.from({ length: count }, (_, at) => Number(memory.getBigUint64(Number(place) + 8 * at, true)));
 }
 
-/** Bytes of a text, or null if it has a surrogate that stands alone, which UTF-8 can't have. */
+/** Returns the bytes of a text, or null if it has a surrogate that stands alone, which UTF-8 can't have. */
 export function bytesOf(text) {
   if (text instanceof Uint8Array) return text;
   if (typeof text !== "string") throw new TypeError("a text is a string, or its UTF-8 as a Uint8Array");
   return text.isWellFormed() ? ENCODER.encode(text) : null;
 }
 
-/** Writes a short text where a call is lent it, and returns how many bytes it has; -1 if it isn't short, or has a lone surrogate. */
+/** Writes a short text into the space that a call is lent, and returns its number of bytes; -1 if it isn't short, or has a lone
+ * surrogate. */
 export function written(text) {
   if (typeof text !== "string" || 3 * text.length > PIECE || !text.isWellFormed()) return -1;
   return ENCODER.encodeInto(text, part(SPACE, PIECE)).written;
 }
 
-/** Lends a call these pieces of bytes: gives `use` where each of them stands, or null where there is no memory for them. */
+/** Lends a call these pieces of bytes: gives `use` the place of each of them, or null if there is no memory for them. */
 export function lend(pieces, use) {
   const length = pieces.reduce((sum, piece) => sum + piece.length, 0);
   const place = length <= PIECE ? SPACE : call("malloc", BigInt(length));
@@ -162,32 +163,32 @@ function index(number, end) {
   return number;
 }
 
-/** The number, if it is one that a byte can be. */
+/** Returns the number, if it is one that a byte can be. */
 export function byte(number) {
   return index(number, 255);
 }
 
-/** The number, if it is one that a tag or a version can be. */
+/** Returns the number, if it is one that a tag or a version can be. */
 export function short(number) {
   return index(number, 65535);
 }
 
-/** The number, if it is one that a place or a count of runes can be. */
+/** Returns the number, if it is one that a place or a count of runes can be. */
 export function long(number) {
   return index(number, LARGEST);
 }
 
-/** The number as C's size_t. */
+/** Returns the number as C's size_t. */
 export function size(number) {
   return BigInt(index(number, Number.MAX_SAFE_INTEGER));
 }
 
-/** The smaller of a wished number, if there is one, and of how many there are. */
+/** Returns the smaller of a wished number, if there is one, and of the number that there are. */
 export function least(most, there) {
   return most === undefined || most === Infinity ? there : Math.min(index(most, Number.MAX_SAFE_INTEGER), there);
 }
 
-/** A handle: 16 bytes that are zero; 0n if there is no memory. */
+/** Makes an empty handle: 16 bytes that are zero. Returns its place, or 0n if there is no memory. */
 export function makeHandle() {
   const at = call("malloc", 16n);
   if (at !== 0n) part(at, 16).fill(0);
@@ -198,7 +199,7 @@ export function dropHandle(at) {
   call("free", at);
 }
 
-/** The text that ends in NUL there. */
+/** Returns the text at a place, which ends in NUL. */
 export function textAt(place) {
   const bytes = new Uint8Array(library.memory.buffer, Number(place));
   return DECODER.decode(bytes.subarray(0, bytes.indexOf(0)));

@@ -8,8 +8,8 @@ function failed(code) {
   return error;
 }
 
-/** What the `show` lines of a script print, as bytes, which is run over a host and a terminal of its own. Throws ScriptFault; NotText;
- * NoMemory. */
+/** Runs a script over a host and a terminal of its own, and returns the output of its `show` lines, as bytes. Throws ScriptFault, NotText
+ * or NoMemory. */
 export function replay(script) {
   const bytes = bytesOf(script);
   if (bytes === null) throw errorOf(Status.NOT_TEXT);

@@ -1,4 +1,4 @@
-/* The two sides: what they share, the host, and the terminal. */
+/* The two sides: their common part, the host, and the terminal. */
 import { Held, PREFIX, ifAny, isFreed, make, makeOfBytes, makeOfText, one } from "./held.js";
 import * as module from "./module.js";
 import { PIECE, least, lend, long, result, short, size, space, truth, u16, u32, u64, u8 } from "./module.js";
@@ -6,8 +6,8 @@ import { Status, errorOf } from "./status.js";
 
 const MOST_IN_NAME = 256; // bytes of the longest name
 const MOST_IN_PATTERN = 512; // bytes of the longest pattern
-const LEAST_PIECE = 256; // bytes that are read of a text, where so few runes are wished for
-const GAP = 2 ** 32 - 1; // what stands for a rune that is not loaded
+const LEAST_PIECE = 256; // bytes that are read of a text, if so few runes are wished for
+const GAP = 2 ** 32 - 1; // a rune that is not loaded
 
 const STEPS = ["idle", "locked", "wrote", "edited", "answered", "received", "acted", "refused"]; // enum sam_step of sulgrevad.h
 
@@ -29,19 +29,19 @@ function shortText(side, name, room, ...words) {
   return module.textOut(u64(0));
 }
 
-/** The first runes of a text. */
+/** Returns the first runes of a text. */
 function front(text, runes) {
   let end = 0;
   while (runes-- > 0) end += text.codePointAt(end) > 0xffff ? 2 : 1;
   return text.slice(0, end);
 }
 
-/** The runes of a text from a place on: so many at most, all if that is undefined. */
+/** Returns the runes of a text from a place on: at most `most`, or all if that is undefined. */
 function longText(side, name, place, most, ...words) {
   let left = least(most, 2 ** 32);
   let text = "";
   for (place = long(place); ; ) {
-    const room = Math.min(PIECE, Math.max(LEAST_PIECE, left)); // where runes take more than a byte each, more pieces come
+    const room = Math.min(PIECE, Math.max(LEAST_PIECE, left)); // if runes take more than a byte each, more pieces come
     make(side, name, ...words, place, space(), BigInt(room), result(0), result(1));
     const runes = Math.min(u32(1), left);
     const piece = module.textOut(u64(0));
@@ -52,7 +52,7 @@ function longText(side, name, place, most, ...words) {
   }
 }
 
-/** What host and terminal share: the bytes that are pending, and texts. */
+/** The pending bytes and the texts that host and terminal share. */
 class Side extends Held {
   feed(bytes = new Uint8Array(0)) {
     if (!(bytes instanceof Uint8Array)) throw new TypeError("what is fed is a Uint8Array");
@@ -131,7 +131,7 @@ export class Host extends Side {
     });
   }
 
-  /** Has the library say what is wrong, which may be more than a surrogate. */
+  /** Lets the library say why it refuses a text, because more than a surrogate may be wrong. */
   #refuseText(pieces) {
     const wrong = new Uint8Array([0xff]);
     return this.addFile(pieces[0] ?? wrong, pieces[1] ?? wrong);
@@ -266,7 +266,7 @@ export class Terminal extends Side {
     });
   }
 
-  /** A sam_state: seven numbers of 64 bits, two of 32, one of 16, and two truths. */
+  /** Reads a sam_state: seven numbers of 64 bits, two of 32, one of 16, and two truths. */
   state() {
     make(this, "state", result(0));
     const [events, decided, held, sent, underWay, pending, tags] = [0, 1, 2, 3, 4, 5, 6].map((at) => u64(at));
@@ -275,7 +275,7 @@ export class Terminal extends Side {
     return { ...counts, unsent: u32(7), snarfLen: u32(7, 4), version: u16(8), commandLocked, exited };
   }
 
-  /** A sam_file: five numbers of 32 bits, and six truths. */
+  /** Reads a sam_file: five numbers of 32 bits, and six truths. */
   file(tag) {
     make(this, "file", short(tag), result(0));
     const [isKnown, isOpen, isDirty, isChanged, isLocked, isFree] = [4, 5, 6, 7, 8, 9].map((at) => u8(2, at) !== 0);

@@ -1,7 +1,7 @@
-/* What a call answers: the status codes, and the errors that carry them. */
+/* The status codes that calls answer, and the errors that carry them. */
 import { call, library, textAt } from "./module.js";
 
-/** What a call answers (enum sam_status of sulgrevad.h). */
+/** The status of a call (enum sam_status of sulgrevad.h). */
 export const Status = Object.freeze({
   OK: 0,
   NO_MEMORY: 1,
@@ -114,35 +114,37 @@ export const Kind = Object.freeze({
   HEXIT: 88,
 });
 
-/** The name of a status and a sentence about it, as "SAM_NOT_TEXT: the bytes are not UTF-8"; "unknown status" for any other number. */
+/** Returns the name of a status and a sentence about it, as "SAM_NOT_TEXT: the bytes are not UTF-8", or "unknown status" for any other
+ * number. */
 export function statusText(code) {
   if (!Number.isInteger(code) || code < 0 || code >= 2 ** 32) throw new RangeError(`${code} is not from 0 to ${2 ** 32 - 1}`);
   return textAt(call("sam_status_text", code));
 }
 
-/** The version of the library: the major, the minor and the patch number. */
+/** Returns the version of the library: the major, the minor and the patch number. */
 export function libraryVersion() {
   const number = library.sam_library_version();
   return [number >>> 16, (number >>> 8) & 0xff, number & 0xff];
 }
 
-/** A call that did not answer SAM_OK; `code` is what it answered. */
+/** A call that did not answer SAM_OK; `code` is its status. */
 export class SamError extends Error {
   constructor(code) {
     super(statusText(code));
     this.code = code;
   }
 
-  /** Whether the host or terminal has stopped for good: the other side's stream is wrong, or was refused. */
+  /** Returns whether the host or terminal has stopped for good: the other side's stream is wrong, or was refused. */
   get isStop() {
     return Boolean(library.sam_is_stop(this.code));
   }
 }
 
-/** Out of memory, and what the call brought was not taken: make it again (SAM_NO_MEMORY). */
+/** Out of memory, and the input of the call was not taken: make the call again (SAM_NO_MEMORY). */
 export class NoMemory extends SamError {}
 
-/** Out of memory, but what the call brought was taken: the next feed, event or `flushNow` goes on with what waits (SAM_UNFINISHED). */
+/** Out of memory, but the input of the call was taken: the next feed, event or `flushNow` goes on with the work that waits
+ * (SAM_UNFINISHED). */
 export class Unfinished extends SamError {}
 
 /** A stream of 2^64 bytes, or 2^64 events or connections (SAM_COUNT_FULL). */
@@ -157,7 +159,7 @@ export class NotText extends SamError {}
 /** There is no such file, it is not open, or it was never written (SAM_NONE). */
 export class Missing extends SamError {}
 
-/** A file can't be added: too late, too long, or no tag is left (SAM_ADD_..). The host is as it was. */
+/** A file can't be added: its name or text is too long, or no tag is left (SAM_ADD_..). The host is as it was. */
 export class AddRefused extends SamError {}
 
 /** The other side's stream is wrong, and this side has stopped (SAM_BAD_..); or `finish` found that it ends inside a message or frame
@@ -212,7 +214,7 @@ const FAMILIES = [
   [224, 256, NoteFault],
 ];
 
-/** The error of a status code. */
+/** Returns the error of a status code. */
 export function errorOf(code) {
   const kind = SINGLE[code] ?? FAMILIES.find(([first, end]) => first <= code && code < end)?.[2] ?? SamError;
   return new kind(code);

@@ -1,6 +1,10 @@
 /// <reference lib="esnext.disposable" />
-/* The types of the package. Places and lengths count runes (Unicode scalar values): a character outside the first plane is one rune, and
- * two of a string's units. A text is a string, or its UTF-8. */
+/* The types of the package. A Host is the server: it holds whole texts and runs commands. A Terminal is the client: it holds windows, and
+ * of each open text the parts that it has loaded. The dot is the selection, a place an offset in runes, the snarf buffer the clipboard.
+ *
+ * Places and lengths count runes (Unicode scalar values): a character outside the first plane is one rune, and two of a string's units. A
+ * text is a string, or its UTF-8. Once an object was freed, each call of it but `free` throws HandleFault. A call with more than 65,536
+ * bytes may throw NoMemory before the faults that its comment names, because the library's memory has no room for them. */
 
 export type Text = string | Uint8Array;
 export type Range = { start: number; end: number };
@@ -55,7 +59,7 @@ export declare const Kind: {
   readonly HEXIT: 88;
 };
 
-/** What a call answers (enum sam_status of sulgrevad.h). */
+/** The status of a call (enum sam_status of sulgrevad.h). */
 export declare const Status: {
   readonly OK: 0;
   readonly NO_MEMORY: 1;
@@ -118,31 +122,33 @@ export declare const Status: {
   readonly NOTE_BAD_TEXT: 229;
 };
 
-/** The name of a status and a sentence about it. */
+/** Returns the name of a status and a sentence about it, or "unknown status" for any other number. */
 export declare function statusText(code: number): string;
-/** The version of the library: the major, the minor and the patch number. */
+/** Returns the version of the library: the major, the minor and the patch number. */
 export declare function libraryVersion(): [number, number, number];
-/** What the `show` lines of a script print, which is run over a host and a terminal of its own. Throws ScriptFault, NotText, NoMemory. */
+/** Runs a script over a host and a terminal of its own, and returns the output of its `show` lines. Throws ScriptFault, NotText or
+ * NoMemory. */
 export declare function replay(script: Text): Uint8Array;
 
 /** The memory of the library, which all hosts and terminals share. */
 export declare const memory: {
-  /** The library takes no more than so many bytes for what it holds; a call that wants more throws NoMemory or Unfinished. */
+  /** Limits the bytes that the library takes for all that it holds: a call that needs more throws NoMemory or Unfinished. */
   limit(bytes: number): void;
-  /** How many bytes it has taken, which it keeps, and how many of them are in use. */
+  /** Returns the number of bytes that the library has taken, which it keeps. */
   readonly taken: number;
+  /** Returns the number of them that are in use. */
   readonly used: number;
 };
 
-/** A call that did not answer SAM_OK; `code` is what it answered. */
+/** A call that did not answer SAM_OK; `code` is its status. */
 export declare class SamError extends Error {
   code: number;
-  /** Whether the host or terminal has stopped for good: the other side's stream is wrong, or was refused. */
+  /** Returns whether the host or terminal has stopped for good: the other side's stream is wrong, or was refused. */
   readonly isStop: boolean;
 }
-/** Out of memory, and what the call brought was not taken: make it again. */
+/** Out of memory, and the input of the call was not taken: make the call again. */
 export declare class NoMemory extends SamError {}
-/** Out of memory, but what the call brought was taken: the next feed, event or `flushNow` goes on with what waits. */
+/** Out of memory, but the input of the call was taken: the next feed, event or `flushNow` goes on with the work that waits. */
 export declare class Unfinished extends SamError {}
 /** A stream of 2^64 bytes, or 2^64 events or connections. */
 export declare class CountFull extends SamError {}
@@ -156,7 +162,7 @@ export declare class Missing extends SamError {}
 export declare class AddRefused extends SamError {}
 /** The other side's stream is wrong, and this side has stopped; or `finish` found that it ends inside a message or frame. */
 export declare class StreamFault extends SamError {}
-/** What a step of a host did. */
+/** The result of a step of a host. A field that is not of its step is 0. */
 export type HostStep = { step: "idle" | "wrote" | "edited" | "answered"; kind: number; tag: number; count: number };
 /** The host refused a message, and has stopped. */
 export declare class HostRefused extends SamError {}
@@ -170,92 +176,101 @@ export declare class NoteFault extends SamError {}
 export declare class ScriptFault extends SamError {
   line: number | null;
 }
-/** The error of a status code. */
+/** Returns the error of a status code. */
 export declare function errorOf(code: number): SamError;
 
-/** What host, terminal and link share. */
+/** A handle, which host, terminal and link share. */
 declare class Held {
-  /** Frees it, with what was pending or kept. Any later call but this one throws HandleFault. */
+  /** Frees it, with all the bytes that are pending or kept. Any later call but this one throws HandleFault. */
   free(): void;
   [Symbol.dispose](): void;
 }
 
-/** What host and terminal share. */
+/** The calls that host and terminal share. */
 declare class Side extends Held {
-  /** Takes bytes of the other side, in whatever pieces they come, and does what they say. Without bytes it goes on with what waits after
-   * `Unfinished`. Throws NoMemory, Unfinished, CountFull, or why this side has stopped, now or before. */
+  /** Takes bytes of the other side, in pieces of any length. A host answers each message that is whole; a terminal receives each frame that
+   * is whole, and then held events act. Without bytes it goes on with the work that waits after `Unfinished`. Throws, in this order, and
+   * the bytes are then not taken: the fault by which this side has stopped before; NoMemory, or a fault, as it goes on with earlier input;
+   * CountFull; NoMemory. Two come after the bytes were taken: Unfinished, and the fault by which this side stops. */
   feed(bytes?: Uint8Array): void;
-  /** Takes bytes of the other side by framing alone: what they say is done by `step`. Throws, in this order: why this side has stopped
-   * before; a SamError with the code WAITING until a step was idle, or at a terminal locked; CountFull; NoMemory. The bytes are then not
-   * taken. */
+  /** Takes bytes of the other side as `feed` does, but goes no further: `step` does the work. Throws, in this order, and the bytes are then
+   * not taken: the fault by which this side has stopped before; a SamError with the code WAITING until a step was idle, or at a terminal
+   * locked; CountFull; NoMemory. */
   bring(bytes: Uint8Array): void;
-  /** Asks whether the other side's stream may end here. It changes nothing. Throws StreamFault with the code TRUNCATED if it ends inside a
-   * message or frame, Unfinished if some of what came still waits for memory, or why this side has stopped before. */
+  /** Tests whether the other side's stream may end here. Call it once the input has ended. It changes nothing. Throws, in this order: the
+   * fault by which this side has stopped before; Unfinished if some input, or a message that was composed, still waits for memory;
+   * StreamFault with the code TRUNCATED if the stream ends inside a message or frame. */
   finish(): void;
-  /** How many bytes of the other side's stream stand before the frame that is wrong, where this side has stopped by StreamFault; null if it
-   * goes on, or has stopped since it refused. */
+  /** Returns the number of bytes of the other side's stream before the frame that is wrong, if this side has stopped by StreamFault; null
+   * if it goes on, or has stopped because of a refusal. */
   readonly faultPlace: number | null;
-  /** How many bytes are pending for the other side. */
+  /** Returns the number of bytes that are pending for the other side. */
   readonly pending: number;
-  /** Moves out the pending bytes, all or the first `most`. */
+  /** Moves out the pending bytes, all or the first `most`, and returns them. */
   takeOut(most?: number): Uint8Array;
-  /** The version of the protocol: 1 or 2. */
+  /** Returns the version of the protocol: 1 or 2. */
   readonly version: number;
-  /** Each file has a tag below this. */
+  /** Returns a number above the tag of each file: at a host the number of tags that were given. */
   readonly tags: number;
-  /** The tags of all files that this side knows, ascending. */
+  /** Returns the tags of all files that this side knows, ascending. */
   files(): number[];
-  /** The name of a file. Throws Missing. */
+  /** Returns the name of a file. Throws Missing if this side knows no file of this tag. */
   name(tag: number): string;
-  /** Whether a file was edited since it was made or written; at a terminal, as the host said last. Throws Missing. */
+  /** Returns whether a file was edited since it was made or written; at a terminal, as the host said last. Throws Missing if this side
+   * knows no file of this tag. */
   isDirty(tag: number): boolean;
-  /** The length of a file's text in runes. Throws Missing. */
+  /** Returns the length of a file's text in runes. Throws Missing if there is no such file, or at a terminal if it is not open. */
   len(tag: number): number;
-  /** A file's text from a place on: so many runes, or all; at a terminal up to the first rune that is not loaded. Throws Missing. */
+  /** Returns the text of a file from the place `place` on: at most `runes` runes, or all; at a terminal up to the first rune that is not
+   * loaded. Throws Missing if there is no such file, or at a terminal if it is not open. */
   text(tag: number, place?: number, runes?: number): string;
-  /** The places where the selection of a file begins and ends. Throws Missing. */
+  /** Returns the dot of a file: the places where its selection begins and ends. Throws Missing if there is no such file, or at a terminal
+   * if it is not open. */
   dot(tag: number): Range;
 }
 
 /** The side that holds whole texts and runs commands. It begins with the command file alone, whose tag is 0. */
 export declare class Host extends Side {
-  /** Adds a file, clean and closed, and returns its tag. It may be called at any time: the answer to the terminal's next Tversion has the
-   * name. Throws, in this order: NotText; AddRefused for a name above 64 runes or a text above 1,000,000, and if no tag is left; NoMemory.
-   * The host is then as it was. */
+  /** Adds a file, clean and closed, and returns its tag: 1 for the first, 2 for the next, and so on. A program may call it at any time: the
+   * answer to the terminal's next Tversion has the name. Throws, in this order: NotText; AddRefused for a name of more than 64 runes or a
+   * text of more than 1,000,000, and then if no tag is left; NoMemory. The host is then as it was. */
   addFile(name: Text, text?: Text): number;
-  /** The kind of the oldest message that waits, by the numbers of docs/reference/PROTOCOL.md, and the file that it names, or 0; null if
-   * none waits. The next step that takes a message begins with it. */
+  /** Returns the kind of the oldest message that waits, by the numbers of docs/reference/PROTOCOL.md, and the tag of the file that it
+   * names, or 0; null if no message waits. The next step that takes a message begins with this one. */
   nextMessage(): { kind: number; tag: number } | null;
-  /** Does one thing of what waits, and says what: it writes what was answered last, if that is left over; or the host takes edits of one
-   * file that follow each other, and the checks (Tcheck) among them, or else answers the oldest message. `feed` makes such steps until
-   * one is idle. What a step doesn't say is 0. Throws Unfinished, where nothing has changed, or why the host has stopped. */
+  /** Makes one step with the messages that wait, and returns its result. If frames of the last answer are left over, the step makes them
+   * pending. Else the host takes edits of one file that follow each other, with the checks (Tcheck) among them; or, if no edit is next, it
+   * answers the oldest message. `feed` makes steps until one is idle. Throws, in this order: the fault by which the host has stopped
+   * before; Unfinished if memory is short, and nothing has changed; the fault by which the host stops at this step. */
   step(): HostStep;
-  /** The tag of a file that the terminal asked the host to write: write `saved` of it now. Each Twrite gives its tag once, in order; null
-   * if there is none left. */
+  /** Returns the tag of the next file that the terminal asked the host to write (Twrite); null if none is left. Write `saved` of it now.
+   * Each Twrite gives its tag once, in order. Ask after each feed, because the saved text is gone once the file is closed. */
   nextWritten(): number | null;
-  /** The tags of `nextWritten`, up to the last. */
+  /** Yields the tags of `nextWritten`, up to the last. */
   written(): Generator<number, void>;
-  /** Whether the session is over. */
+  /** Returns whether the session is over: the terminal has sent Texit, or a command line was `q`. */
   readonly isDone: boolean;
-  /** How many messages the host has answered. */
+  /** Returns the number of messages that the host has answered. */
   readonly taken: number;
-  /** Whether the tag has a file now. */
+  /** Returns whether the tag has a file now. The tag of a closed file has none. */
   hasFile(tag: number): boolean;
-  /** The length of what a file was when it was written last; null if it never was. */
+  /** Returns the length in runes of the text that a file had when it was written last (Twrite); null if it never was, or if the tag has no
+   * file. */
   savedLen(tag: number): number | null;
-  /** What a file was when it was written last, from a place on. Throws Missing, also if it never was. */
+  /** Returns the text that a file had when it was written last (Twrite), from the place `place` on: at most `runes` runes, or all. Throws
+   * Missing if the tag has no file, or if the file was never written. */
   saved(tag: number, place?: number, runes?: number): string;
-  /** How many runes the snarf buffer has. */
+  /** Returns the length of the snarf buffer in runes. */
   readonly snarfLen: number;
-  /** What the snarf buffer has, from a place on: so many runes, or all. */
+  /** Returns the text of the snarf buffer from the place `place` on: at most `runes` runes, or all. */
   snarf(place?: number, runes?: number): string;
 }
 
-/** An event of the user that could not be done: which one, counted from 1 over all event calls, and why (Status.REFUSAL_..). */
+/** An event of the user that was refused: its number, counted from 1 over all event calls, and the reason (Status.REFUSAL_..). */
 export type Refusal = { event: number; why: number };
-/** From the place `start` on `gone` runes or gaps of the old text gave way to `came` of the new one. */
+/** A change of a text: from the place `start` on, `gone` runes or gaps of the old text gave way to `came` of the new one. */
 export type Change = { start: number; gone: number; came: number };
-/** What a terminal holds. */
+/** The state of a terminal. Each field is the result of the reader of its name. */
 export type TerminalState = {
   events: number;
   decided: number;
@@ -270,7 +285,7 @@ export type TerminalState = {
   commandLocked: boolean;
   exited: boolean;
 };
-/** What a terminal knows of a tag: 0 and false where there is no such file, or it is not open. */
+/** The state of a terminal's file. If there is no such file, or it is not open, the fields that need it are 0 or false. */
 export type FileState = {
   isKnown: boolean;
   isOpen: boolean;
@@ -284,8 +299,9 @@ export type FileState = {
   dot: { start: number; end: number };
   view: { start: number; end: number };
 };
-/** What a step of a terminal did: `event` is the number of an event that acted or was refused, and `why` the status of a refusal. `loads`
- * says whether a frame loaded runes in the place of gaps: more of the text is known then, and nothing changed. */
+/** The result of a step of a terminal: `event` is the number of an event that acted or was refused, and `why` the status of a refusal.
+ * `loads` says whether a frame loaded runes in the place of gaps: more of the text is known then, and nothing changed. A field that is not
+ * of its step is 0 or false. */
 export type TerminalStep = {
   step: "idle" | "locked" | "wrote" | "received" | "acted" | "refused";
   kind: number;
@@ -296,141 +312,179 @@ export type TerminalStep = {
   why: number;
 };
 
-/** The side with the windows. It begins without any file. An event acts at once if it can, or is held until the locks that it waits for are
- * free. One that can't be done is reported by `refusals`. */
+/** The side with the windows. It begins without any file.
+ *
+ * An event of the user acts at once if it can. Else it is held until the locks that it waits for are free and the events before it have
+ * acted. The call of an event throws, in this order, and the event is then not taken: NotText, and then NoMemory, if it brings a text; the
+ * fault by which the terminal has stopped before; NoMemory, or a fault, as the terminal goes on with earlier input; CountFull; NoMemory.
+ * Two come after the event was taken: Unfinished, and the fault by which the terminal stops.
+ *
+ * An event that was taken may be refused, at once or later: it does nothing, and `refusals` reports its number and the reason. The reasons
+ * of all events come first, in this order (Status.REFUSAL_..): EXITED if the session is over; and of an event that names a file NO_FILE if
+ * the terminal doesn't know it, and NOT_OPEN if it is not open. */
 export declare class Terminal extends Side {
-  /** Puts a text of at most 512 runes in the place of the dot. Throws NotText, too. */
+  /** Types a text in the place of the selection, which is then empty and after the text. Refused, in this order: EXITED; NO_FILE; NOT_OPEN;
+   * TEXT_TOO_LONG for more than 512 runes; TOO_LONG if the file would have more than 1,000,000. Throws NotText, too. */
   type(tag: number, text: Text): void;
-  /** Puts a text of any length in the place of the runes from `start` to `end`, all or nothing. Throws NotText, too. */
+  /** Replaces the runes from the place `start` to the place `end` by a text of any length, all or nothing. An empty text takes the runes
+   * out. The places are those of the file's text when the event acts. The dot moves as other places do. Refused, in this order: EXITED;
+   * NO_FILE; COMMAND_FILE for tag 0; NOT_OPEN; BAD_POSITION for a range that the file's text doesn't have; TOO_LONG if the file would have
+   * more than 1,000,000 runes. Throws NotText, too. */
   edit(tag: number, start: number, end: number, text: Text): void;
-  /** Sets the dot. */
+  /** Selects the runes from the place `start` to the place `end`: they are the dot. Refused, after the reasons of all events: BAD_POSITION
+   * for a range that the file's text doesn't have. */
   select(tag: number, start: number, end: number): void;
-  /** Selects the word round a place. */
+  /** Selects the word round a place. Refused, after the reasons of all events: BAD_POSITION if the place is after the end. */
   dclick(tag: number, place: number): void;
-  /** Cuts the dot into the snarf buffer. */
+  /** Cuts the selection into the snarf buffer. Nothing changes if the selection is empty. */
   cut(tag: number): void;
-  /** Copies the dot into the snarf buffer. */
+  /** Copies the selection into the snarf buffer. Nothing changes if the selection is empty. */
   snarf(tag: number): void;
-  /** Puts the snarf buffer in the place of the dot, and selects it. */
+  /** Pastes the snarf buffer in the place of the selection, and selects it. If the buffer is empty, or the file would have more than
+   * 1,000,000 runes, the selection goes and nothing comes, and nothing is refused. */
   paste(tag: number): void;
-  /** Selects the next occurrence of the dot's text, which becomes the pattern. */
+  /** Selects the next occurrence of the selected text, which becomes the pattern. Nothing changes if the selection is empty or has more
+   * than 128 runes. */
   look(tag: number): void;
-  /** Selects the next occurrence of the pattern. */
+  /** Selects the next occurrence of the pattern. Nothing changes if there is no pattern or no occurrence. */
   search(tag: number): void;
-  /** Prints the dot's text in the command file, and runs its last line as a command line. */
+  /** Prints the selected text in the command file, and runs its last line as a command line. Nothing changes if the selection is empty, or
+   * if the command file would have more than 1,000,000 runes. */
   send(tag: number): void;
-  /** Shows the file from so many lines further up. */
+  /** Scrolls the view of the file up by `lines` lines. */
   scroll(tag: number, lines: number): void;
-  /** Shows at most so many runes from a place on, and asks for those that are not loaded: at most 512 at a time. */
+  /** Shows at most `length` runes of the file from the place `place` on, and asks for those that are not loaded: for at most 512 at a time,
+   * and then for the next. Refused, after the reasons of all events: BAD_POSITION if the place is after the end. */
   view(tag: number, place: number, length: number): void;
-  /** Shows the same as `view`, and asks for all that is not loaded at once. */
+  /** Shows the same runes as `view`, and asks at once for all that are not loaded. Refused as `view` is. */
   load(tag: number, place: number, length: number): void;
-  /** Asks for the first gap that the view shows. */
+  /** Asks for the first gap that the view shows. The host answers, and no text changes. */
   check(tag: number): void;
-  /** Opens a file; command lines work on it then. */
+  /** Opens a file. Command lines work on it then. All other events of a file need it open. Refused, in this order: EXITED; NO_FILE;
+   * COMMAND_FILE for tag 0. */
   open(tag: number): void;
   /** Opens the command file. */
   openCmd(): void;
-  /** Makes an empty file, and opens it. */
+  /** Makes an empty file, and opens it. Command lines work on it then. If all tags are given it makes none. */
   newFile(): void;
-  /** Has the host write a file. */
+  /** Asks the host to write a file: the host keeps a copy of its text, and the file is then clean. Refused as `close` is. */
   write(tag: number): void;
-  /** Closes a file for good. */
+  /** Closes a file for good: the host drops its text, written or not. Refused, in this order: EXITED; NO_FILE; COMMAND_FILE for tag 0;
+   * NOT_OPEN. */
   close(tag: number): void;
-  /** Makes a file, with its dot, the one that command lines work on. */
+  /** Makes a file, with its dot, the one that command lines work on. Refused as `close` is. */
   work(tag: number): void;
-  /** Asks for the host's snarf buffer, which `snarfed` then has. */
+  /** Asks for the host's snarf buffer: `snarfed` returns it once the answer has come. */
   getSnarf(): void;
-  /** Gives the host another snarf buffer: at most 4,096 bytes, 32,000 in version 2. Throws NotText, too. */
+  /** Gives the host another snarf buffer: at most 4,096 bytes, or 32,000 in version 2. Refused, in this order: EXITED; TEXT_TOO_LONG for a
+   * longer text. Throws NotText, too. */
   setSnarf(text: Text): void;
-  /** Offers a version of the protocol, and asks for the names of all files. Before it the terminal knows none of them. Offer it again to
-   * learn of files that joined the host since. */
+  /** Offers a version of the protocol, and asks for the names of all files. Before it the terminal knows none of them, and refuses each
+   * event on one. Events after it wait for the answer. Offer the version again to learn of files that joined the host since. Refused, in
+   * this order: EXITED; BAD_VERSION for version 0. */
   offerVersion(version: number): void;
   /** Sends the typed runes, once the events before this one have acted. */
   flush(): void;
   /** Ends the session. */
   exit(): void;
-  /** Composes the typed runes that are not sent yet; to be called when the user pauses. */
+  /** Composes the typed runes that are not sent yet. Call it when the user pauses. Throws, in this order: the fault by which the terminal
+   * has stopped before; NoMemory, or a fault, as it goes on with earlier input; TerminalRefused with the code TERM_COUNT_FULL after 2^64-1
+   * messages, and then NoMemory: the runes are as they were. Two come after the runes were composed: Unfinished, and the fault by which
+   * the terminal stops. */
   flushNow(): void;
-  /** The oldest frame that waits, as the step that receives it will say it: its kind, its file or 0, and the place in its text where `gone`
-   * runes or gaps will give way. So they can be read before. Null if no frame waits. */
+  /** Returns the oldest frame that waits, as the step that receives it will say it: its kind, its file or 0, and the place in its text from
+   * which on `gone` runes or gaps will give way; null if no frame waits. So a program can read the runes that will go. */
   nextFrame(): { kind: number; tag: number; start: number; gone: number; loads: boolean } | null;
-  /** Makes steps as long as the next frame edits a text, at most `most` and some hundred, and says what they did. All edit the text of one
-   * file, none begins before the place `first`, and each is at the place of the one before it or above. So what goes can be read before the
-   * call, and what came after it. Throws, where no edit was received, as `step` does; else the next step does. */
+  /** Makes steps as long as the next frame edits a text, at most `most` and never more than 1,638, and returns their results. All edits are
+   * of one file. None begins before the place `first`, and none ends after the place where the one before it began. So a program can read
+   * the runes that go before the call, and the runes that came after it. If no edit was received it throws as `step` does; else the next
+   * step does. */
   stepEdits(first: number, most: number): { kind: number; tag: number; change: Change }[];
-  /** Does one thing of what waits, and says what: it writes what was composed last, if that is left over; or the terminal receives the
-   * oldest frame; or, where none waits, the oldest event acts or is refused. `feed` makes such steps until one is idle or locked. What a
-   * step doesn't say is 0. Throws Unfinished, where nothing has changed, or why the terminal has stopped. */
+  /** Makes one step with the frames and events that wait, and returns its result. If messages that were composed last are left over, the
+   * step makes them pending. Else the terminal receives the oldest frame. If no frame waits, the oldest event acts or is refused. `feed`
+   * makes steps until one is idle or locked. Throws, in this order: the fault by which the terminal has stopped before; Unfinished if
+   * memory is short, and nothing has changed; the fault by which the terminal stops at this step. */
   step(): TerminalStep;
-  /** What the terminal holds, as its readers of these names say it, by one call. */
+  /** Returns the state of the terminal by one call. */
   state(): TerminalState;
-  /** What the terminal knows of a tag, by one call. A tag without a file is no error. */
+  /** Returns the state of a file by one call. A tag without a file is no error. */
   file(tag: number): FileState;
-  /** The oldest refused event that was not handed out yet; null if there is none. */
+  /** Returns the oldest refused event that was not handed out yet; null if there is none. */
   nextRefusal(): Refusal | null;
-  /** The refused events that were not handed out yet, oldest first. */
+  /** Yields the refused events that were not handed out yet, oldest first. */
   refusals(): Generator<Refusal, void>;
-  /** How many event calls were taken. */
+  /** Returns the number of event calls that were taken. Right after one it is the number of its event, by which a refusal names it. */
   readonly events: number;
-  /** How many of them have acted or were refused. */
+  /** Returns the number of events that have acted or were refused. Events are done in order, so the event that was made last is held if
+   * this is below `events`. */
   readonly decided: number;
-  /** How many events are held. */
+  /** Returns the number of held events. */
   readonly held: number;
-  /** Whether the terminal knows a file of this tag. */
+  /** Returns whether the terminal knows a file of this tag. */
   isKnown(tag: number): boolean;
-  /** Whether a file is open. */
+  /** Returns whether a file is open. */
   isOpen(tag: number): boolean;
-  /** Whether a file may differ from what was written last. */
+  /** Returns whether a file may differ from the text that was written last: the host said that it is dirty, or the user changed it here
+   * since. */
   isChanged(tag: number): boolean;
-  /** The file that the host's answer to `work` or `newFile` named last; null before the first. */
+  /** Returns the tag of the file that the host's answer to `work` or `newFile` named last; null before the first. */
   readonly current: number | null;
-  /** The runes of an open file from a place on, at most `count`; null stands for one that is not loaded. Throws Missing. */
+  /** Returns the runes of an open file from the place `place` on, at most `count`; null stands for one that is not loaded. Throws Missing
+   * if the file is not open. */
   read(tag: number, place: number, count: number): (string | null)[];
-  /** How many bytes the loaded runes from a place to a place take in UTF-8, and how many runes there are not loaded. Throws Missing. */
+  /** Counts the bytes that the loaded runes of an open file take in UTF-8 from the place `start` to the place `end`, and the runes there
+   * that are not loaded. Throws Missing if the file is not open. */
   bytes(tag: number, start: number, end: number): { bytes: number; gaps: number };
-  /** The place after the loaded runes from a place on that so many bytes of UTF-8 hold whole. Throws Missing. */
+  /** Returns the place after the loaded runes of an open file that `bytes` bytes of UTF-8 hold whole, from the place `start` on. It is at
+   * the latest the first gap, or the end of the text. Throws Missing if the file is not open. */
   place(tag: number, start: number, bytes: number): number;
-  /** How many code units the loaded runes from a place to a place take in UTF-16, as a string of JavaScript has them, and how many runes
-   * there are not loaded. Throws Missing. */
+  /** Counts the code units that the loaded runes of an open file take in UTF-16, as a string of JavaScript has them, from the place `start`
+   * to the place `end`, and the runes there that are not loaded. Throws Missing if the file is not open. */
   units(tag: number, start: number, end: number): { units: number; gaps: number };
-  /** The place after the loaded runes from a place on that so many code units of UTF-16 hold whole. Throws Missing. */
+  /** Returns the place after the loaded runes of an open file that `units` code units of UTF-16 hold whole, from the place `start` on. It
+   * is at the latest the first gap, or the end of the text. Throws Missing if the file is not open. */
   unitPlace(tag: number, start: number, units: number): number;
-  /** The place after so many line ends from a place on; null if a gap or the end comes before, or the file isn't open. */
+  /** Returns the place after the next `lines` line ends of an open file, from the place `start` on; null if a gap or the end comes before,
+   * or if the file is not open. */
   line(tag: number, start: number, lines: number): number | null;
-  /** Where the line of an open file begins that is so many lines before that of a place, 0 for that line itself; null if a gap comes before
-   * it, there are fewer lines, the place is after the end, or it isn't open. */
+  /** Returns the place where a line of an open file begins: the line that is `lines` lines before the line of the place `start`, or that
+   * line itself for 0. Returns null if a gap comes first, if there are fewer lines, if the place is after the end, or if the file is not
+   * open. */
   lineBefore(tag: number, start: number, lines: number): number | null;
-  /** How many of the loaded runes of an open file from a place to a place are line ends, and how many of its runes there are not loaded.
-   * Throws Missing. */
+  /** Counts the line ends among the loaded runes of an open file from the place `start` to the place `end`, and the runes there that are
+   * not loaded. Throws Missing if the file is not open. */
   lines(tag: number, start: number, end: number): { lines: number; gaps: number };
-  /** What changed in an open file since this was asked of it last. Throws Missing, and the first time NoMemory. */
+  /** Returns the change of an open file's text since the last call for this file: the smallest stretch that holds all that each frame and
+   * each event touched, loading included. On the first call its text was empty before. Throws, in this order: Missing if the file is not
+   * open; NoMemory, on the first call for a file alone. */
   changed(tag: number): Change;
-  /** The first place, there or after it, whose rune is not loaded; null if there is none, or the file isn't open. */
+  /** Returns the first place of an open file, at or after `place`, whose rune is not loaded; null if there is none, or if the file is not
+   * open. */
   firstGap(tag: number, place?: number): number | null;
-  /** The places where the view of an open file begins and ends. Throws Missing. */
+  /** Returns the view of an open file: the places where it begins and ends. Throws Missing if the file is not open. */
   viewOf(tag: number): Range;
-  /** Whether an edit of the file would wait for the command lock, or for a lock of the file. */
+  /** Returns whether an edit of the file would wait for the command lock, or for a lock of the file. */
   locked(tag: number): boolean;
-  /** Whether the command lock is held. */
+  /** Returns whether the command lock is held. */
   readonly commandLocked: boolean;
-  /** How many typed runes are not sent yet. */
+  /** Returns the number of typed runes that are not sent yet. */
   readonly unsent: number;
-  /** How many messages were composed. */
+  /** Returns the number of messages that were composed. */
   readonly sent: number;
-  /** How many of the composed messages the host has not taken, as far as its frames say: an upper bound, and 0 if it has taken all. */
+  /** Returns the number of messages in flight: those that were composed and that the host has not taken, as far as its frames say. It is an
+   * upper bound, and 0 if the host has taken all. */
   readonly underWay: number;
-  /** The pattern that the host reported last. */
+  /** Returns the pattern that the host reported last. */
   readonly pattern: string;
-  /** The snarfed text that the host sent last (`getSnarf`), from a place on. */
+  /** Returns the snarfed text that the host sent last (`getSnarf`), from the place `place` on: at most `runes` runes, or all. */
   snarfed(place?: number, runes?: number): string;
-  /** How many runes the host's snarf buffer has, as it said last. */
+  /** Returns the length of the host's snarf buffer in runes, as the host said last. */
   readonly snarfLen: number;
-  /** Whether the host has ended the session. */
+  /** Returns whether the host has ended the session. */
   readonly exited: boolean;
 }
 
-/** What a hello says: the first three a terminal, the others a host. */
+/** The kinds of a hello: a terminal says one of the first three, a host one of the others. */
 export declare const What: {
   readonly BEGIN: 1;
   readonly RESUME: 2;
@@ -445,18 +499,20 @@ export declare const What: {
   readonly WRONG_COUNT: 23;
 };
 
-/** What a hello says, the id of its session, and the number of its connection. */
+/** A hello: its kind, the id of its session, and the number of its connection. */
 export type Hello = { what: number; id: Uint8Array; attempt: number };
 
-/** The hello with which the bytes begin; null if nothing is wrong so far, and there are fewer than 42. Throws LinkFault with the code
- * LINK_NOT_A_LINK as soon as the bytes differ from the mark, LINK_OTHER_VERSION with the ninth byte, LINK_BAD_HELLO with the tenth. */
+/** Reads the hello with which the bytes begin, and returns it; null if nothing is wrong so far, but there are fewer than 42. Throws
+ * LinkFault, in this order: LINK_NOT_A_LINK as soon as the bytes differ from the mark; LINK_OTHER_VERSION with the ninth byte;
+ * LINK_BAD_HELLO with the tenth. */
 export declare function readHello(bytes: Uint8Array): Hello | null;
 
-/** The hello by which a host refuses a connection: for one of Status.LINK_NOT_A_LINK to LINK_WRONG_COUNT, and of the session and the
- * connection of the hello that came; if `readHello` reads none, all zeros. Throws Missing for any other status. */
+/** Returns the hello by which a host refuses a connection, for one of Status.LINK_NOT_A_LINK to LINK_WRONG_COUNT. It names the session and
+ * the connection of the hello with which the bytes begin; if `readHello` reads none, it names all zeros. Throws Missing for any other
+ * status. */
 export declare function writeRefusal(status: number, bytes: Uint8Array): Uint8Array;
 
-/** Where bytes of the other side's program lie in a piece. */
+/** The place of bytes of the other side's program in a piece: `len` of them, behind its first `start`. */
 export type Place = { start: number; len: number };
 
 /** One end of a link, which carries bytes and notes over connections that may break at any byte: each comes out at the other side once and
@@ -466,9 +522,9 @@ export type Place = { start: number; len: number };
  *     socket.send(link.takeOut(attempt));   the hello first
  *     link.welcomed(first42Bytes);          and then the rest
  *     link.feed(attempt, bytes);
- *     link.takeIn();                        what of it is for the program, until it has no bytes; then nextNote()
+ *     link.takeIn();                        the program's bytes among them, until there are none; then nextNote()
  *
- * A put, a note, a piece and a hello are taken whole or not at all: where a call throws nothing has changed, but that after LINK_BAD_KIND,
+ * A put, a note, a piece and a hello are taken whole or not at all: if a call throws nothing has changed, but that after LINK_BAD_KIND,
  * LINK_BAD_LENGTH and LINK_ACK_AHEAD of `feed`, `feedInto` and `feedPlaces` the connection is over. */
 export declare class Link extends Held {
   static readonly TERMINAL: 0;
@@ -477,68 +533,70 @@ export declare class Link extends Held {
   static readonly ASKING: 1;
   static readonly OPEN: 2;
 
-  /** Makes the end of this side, TERMINAL or HOST, before its first connection. The id is the session's name, 16 bytes that the terminal
-   * chose at random: no secret. Throws RangeError for an id of another length, LinkFault for another role, NoMemory. */
+  /** Makes the end of one side, TERMINAL or HOST, before its first connection. The id is the session's name: 16 bytes that the terminal
+   * chose at random. It is no secret. Throws RangeError for an id of another length, LinkFault for another role, NoMemory. */
   constructor(role: number, id: Uint8Array);
-  /** At the terminal's end: another connection was opened, and the one before is over. Returns its number, from 1, which names it in the
-   * calls below. With `takeOver`, as long as no host has welcomed this end, the session is to begin with the texts of another. Throws
-   * LinkFault (LINK_WRONG_ROLE), CountFull. */
+  /** Begins a connection that the program has opened, at the terminal's end: the connection before is over. Returns its number, counted
+   * from 1, which names it in the calls below. With `takeOver`, the session is to begin with the texts of another, as long as no host has
+   * welcomed this end. Throws, in this order: LinkFault (LINK_WRONG_ROLE); CountFull. */
   call(takeOver?: boolean): number;
-  /** The terminal's end takes the first 42 bytes that the host sent on the newest connection. Throws what `readHello` throws, and Missing
-   * for fewer bytes; then LinkFault, in this order: LINK_WRONG_ROLE; LINK_NOT_OPEN if no call waits for a welcome; the host's reason, if it
-   * refuses; LINK_BAD_HELLO; LINK_OTHER_SESSION; LINK_OLD_ATTEMPT; LINK_WRONG_COUNT. */
+  /** Takes the host's hello at the terminal's end: the first 42 bytes that came on the newest connection. Throws the faults of `readHello`,
+   * and Missing for fewer bytes; then LinkFault, in this order: LINK_WRONG_ROLE; LINK_NOT_OPEN if no call waits for a welcome; the host's
+   * reason, if the host refuses; LINK_BAD_HELLO; LINK_OTHER_SESSION; LINK_OLD_ATTEMPT; LINK_WRONG_COUNT. */
   welcomed(hello: Uint8Array): void;
-  /** The host's end takes the connection whose first 42 bytes these are, and the one before is over. Its number is that which `readHello`
-   * returns. Throws what `readHello` throws, and Missing for fewer bytes; then LinkFault, in this order: LINK_WRONG_ROLE, LINK_BAD_HELLO,
-   * LINK_NO_SESSION, LINK_OTHER_SESSION, LINK_OLD_ATTEMPT, LINK_WRONG_COUNT. The older connection goes on then. */
-  answer(hello: Uint8Array): void;
-  /** A connection has ended, or is given up. If it isn't the newest nothing is changed. */
-  broken(attempt: number): void;
-  /** Puts bytes for the other side's program, all or none, whether a connection is there or not. Throws CountFull if the stream would have
-   * more than 2^64-1 bytes, NoMemory. */
-  put(bytes: Uint8Array): void;
-  /** Puts a note, behind all that was put: it comes out after these bytes and before later ones. Throws LinkFault (LINK_TOO_LONG) for more
-   * than 4,096 bytes, CountFull, NoMemory. */
-  putNote(bytes: Uint8Array): void;
-  /** Asks the other side to acknowledge now: if no byte comes, the line is broken. Throws CountFull, NoMemory. */
-  ask(): void;
-  /** Acknowledges all bytes that have come, as the end does by itself when it is asked and after each 16,384 bytes. Throws CountFull,
-   * NoMemory. */
-  acknowledge(): void;
-  /** The next bytes for a connection, at most so many, and never more than 65,536; none if there are none: first the hello, and then the
-   * stream from where this connection goes on, at a terminal's end after the welcome, but on the first connection. Throws LinkFault
-   * (LINK_NOT_OPEN) if the connection is over or isn't the newest. */
-  takeOut(attempt: number, most?: number): Uint8Array;
-  /** Takes bytes that came on a connection after the hello, in whatever pieces, all or none. Throws LinkFault (LINK_NOT_OPEN) if the
-   * connection is over, isn't the newest, or has no hello yet; then CountFull; then NoMemory, and the piece may be fed again; or LinkFault
-   * for a wrong packet, LINK_BAD_KIND or LINK_BAD_LENGTH, and if there is none, for bytes that are acknowledged and did not go,
-   * LINK_ACK_AHEAD: the connection is then over. */
-  feed(attempt: number, bytes: Uint8Array): void;
-  /** Takes bytes that came as `feed` does, and returns the next bytes of the other side's program, at most so many, never more than 65,536,
-   * and none behind a note: `takeIn` has those after them. Throws what `feed` throws. */
-  feedInto(attempt: number, bytes: Uint8Array, most?: number): Uint8Array;
-  /** Takes bytes that came as `feed` does. Where nothing is left of earlier pieces, no note and no part of a packet, returns where the next
-   * bytes of the other side's program lie in `bytes`, whole packets, at most so many places, never more than 256, and none behind a note:
-   * `bytes.subarray(start, start + len)` has them. Else, and of what is left, `takeIn` has the bytes. Throws what `feed` throws. */
-  feedPlaces(attempt: number, bytes: Uint8Array, most?: number): Place[];
-  /** The next bytes of the other side's program, at most so many and of one packet: call it until it returns none, where a note is next, or
-   * nothing. */
-  takeIn(most?: number): Uint8Array;
-  /** The note that is next; null if bytes before it are not taken in yet, or none has come. */
-  nextNote(): Uint8Array | null;
-  /** How the newest connection stands: DOWN if there is none, or it is over; ASKING if the terminal has called; OPEN if both sides have
-   * said hello. */
-  readonly phase: number;
-  /** The number of the newest connection; 0 before the first. */
-  readonly attempt: number;
-  /** How many bytes this side's stream has, heads of packets included. */
-  readonly putCount: number;
-  /** How many of them the other side has acknowledged: all that was put at one time has come once this is at least what `putCount` was
+  /** Takes a connection at the host's end by its first 42 bytes, the terminal's hello: the connection before is over. Its number is the one
+   * that `readHello` returns. Throws the faults of `readHello`, and Missing for fewer bytes; then LinkFault, in this order:
+   * LINK_WRONG_ROLE; LINK_BAD_HELLO; LINK_NO_SESSION; LINK_OTHER_SESSION; LINK_OLD_ATTEMPT; LINK_WRONG_COUNT. The older connection goes on
    * then. */
+  answer(hello: Uint8Array): void;
+  /** Ends a connection at this end, because it broke or because the program gives it up. Nothing changes if it isn't the newest. */
+  broken(attempt: number): void;
+  /** Puts bytes for the other side's program, all or none, with or without a connection. Throws, in this order: CountFull if the stream
+   * would have more than 2^64-1 bytes; NoMemory. */
+  put(bytes: Uint8Array): void;
+  /** Puts a note behind all bytes that were put: it comes out after these bytes and before later ones. Throws, in this order: LinkFault
+   * (LINK_TOO_LONG) for more than 4,096 bytes; CountFull; NoMemory. */
+  putNote(bytes: Uint8Array): void;
+  /** Asks the other side to acknowledge now: if no byte comes, the line is broken. Throws, in this order: CountFull; NoMemory. */
+  ask(): void;
+  /** Acknowledges all bytes that have come. The end does so by itself when it is asked, and after each 16,384 bytes. Throws, in this order:
+   * CountFull; NoMemory. */
+  acknowledge(): void;
+  /** Returns the next bytes for a connection, at most `most`, and never more than 65,536; none if there are none: first the hello, and then
+   * the stream from the place where this connection goes on. Before the welcome, a terminal's end hands out bytes of the stream on the
+   * first connection alone. Throws LinkFault (LINK_NOT_OPEN) if the connection is over or isn't the newest. */
+  takeOut(attempt: number, most?: number): Uint8Array;
+  /** Takes bytes that came on a connection after the hello, in pieces of any length, all or none. Throws, in this order: LinkFault
+   * (LINK_NOT_OPEN) if the connection is over, isn't the newest, or has no hello yet; CountFull; NoMemory, and the piece may be fed again.
+   * Three other faults end the connection: LINK_BAD_KIND or LINK_BAD_LENGTH if the piece has a wrong packet; else LINK_ACK_AHEAD if it
+   * acknowledges bytes that this connection wasn't given. */
+  feed(attempt: number, bytes: Uint8Array): void;
+  /** Takes bytes that came as `feed` does, and returns the next bytes of the other side's program, at most `most`, never more than 65,536,
+   * and none behind a note: `takeIn` has those after them. Throws as `feed` does. */
+  feedInto(attempt: number, bytes: Uint8Array, most?: number): Uint8Array;
+  /** Takes bytes that came as `feed` does, and returns the places in `bytes` of the next bytes of the other side's program:
+   * `bytes.subarray(start, start + len)` has them. There are such places only if nothing is left of earlier pieces, no note and no part of
+   * a packet: then they are those of whole packets, at most `most`, never more than 256, and none behind a note. `takeIn` has all other
+   * bytes. Throws as `feed` does. */
+  feedPlaces(attempt: number, bytes: Uint8Array, most?: number): Place[];
+  /** Returns the next bytes of the other side's program, at most `most` and of one packet. Call it until it returns none: then a note is
+   * next, or nothing. */
+  takeIn(most?: number): Uint8Array;
+  /** Returns the note that is next; null if bytes before it are not taken in yet, or if none has come. */
+  nextNote(): Uint8Array | null;
+  /** Returns the state of the newest connection: DOWN if there is none, or it is over; ASKING if the terminal has called; OPEN if both
+   * sides have said hello. */
+  readonly phase: number;
+  /** Returns the number of the newest connection, or 0 before the first. */
+  readonly attempt: number;
+  /** Returns the number of bytes of this side's stream, heads of packets included. */
+  readonly putCount: number;
+  /** Returns the number of bytes of this side's stream that the other side has acknowledged. All bytes that were put by some time have come
+   * once this number is at least that of `putCount` at that time. */
   readonly acknowledged: number;
-  /** How many bytes of this side's stream the newest connection has not been given. */
+  /** Returns the number of bytes of this side's stream that the newest connection has not been given. */
   readonly unsent: number;
-  /** How many bytes of the other side's stream have come. */
+  /** Returns the number of bytes of the other side's stream that have come. */
   readonly received: number;
 }
 
@@ -598,8 +656,8 @@ export declare const NoteCode: {
 };
 // Up to here by tools/session_messages.
 
-/** A message of a session, which samhost and its front ends exchange as a note of a link. What its kind has not is 0 or empty. A number of
- * 64 bits is exact up to 2^53. */
+/** A message of a session, which samhost and its front ends exchange as a note of a link. A field that its kind has not is 0 or empty. A
+ * number of 64 bits is exact up to 2^53. */
 export type Note = {
   kind: number;
   request: number;
@@ -611,11 +669,11 @@ export type Note = {
   text: string;
 };
 
-/** The message that the bytes spell, all of them. Throws NoteFault, with the code NOTE_BAD_KIND for a kind that isn't in the table (skip
- * such a message: it comes from a later version), NOTE_BAD_LENGTH, NOTE_BAD_PATH or NOTE_BAD_TEXT; NoMemory. */
+/** Reads the message that the bytes spell, all of them, and returns it. Throws NoteFault, with the code NOTE_BAD_KIND for a kind that isn't
+ * in the table (skip such a message: it comes from a later version), NOTE_BAD_LENGTH, NOTE_BAD_PATH or NOTE_BAD_TEXT; NoMemory. */
 export declare function readNote(bytes: Uint8Array): Note;
 
-/** The bytes of a message. Throws NoteFault, with the code NOTE_BAD_KIND, NOTE_BAD_FIELD if a field that the kind has not is not 0 or not
- * empty, NOTE_BAD_LENGTH for more than 4,096 bytes, NOTE_BAD_PATH for a zero byte in a path, or NOTE_BAD_TEXT for a lone surrogate in the
- * text; NoMemory. */
+/** Returns the bytes of a message. Throws NoteFault, with the code NOTE_BAD_KIND, NOTE_BAD_FIELD if a field that the kind has not is not 0
+ * or not empty, NOTE_BAD_LENGTH for more than 4,096 bytes, NOTE_BAD_PATH for a zero byte in a path, or NOTE_BAD_TEXT for a lone surrogate
+ * in the text; NoMemory. */
 export declare function writeNote(note: Partial<Note> & { kind: number }): Uint8Array;

@@ -1,11 +1,11 @@
-"""The shared library, as ctypes sees it: where it is, and the arguments of each of its calls."""
+"""The shared library, as ctypes sees it: its file, and the arguments of each of its calls."""
 import ctypes
 import os
 from ctypes import POINTER, c_bool, c_char, c_char_p, c_size_t, c_uint8, c_uint16, c_uint32, c_uint64, c_void_p
 from pathlib import Path
 from typing import Any, Dict, Tuple, Union
 
-# What is taken as a text: its characters, or its UTF-8.
+# A text that a call takes: its characters, or its UTF-8.
 Text = Union[str, bytes, bytearray, memoryview]
 
 SONAME = "libsulgrevad.so.0.1"
@@ -16,7 +16,7 @@ PIECE = 65_536
 
 
 class Did(ctypes.Structure):
-    """sam_did: what a step did."""
+    """sam_did: the result of a step."""
 
     _fields_ = [
         ("event", c_uint64), ("count", c_size_t), ("step", c_uint32), ("why", c_uint32),
@@ -26,7 +26,7 @@ class Did(ctypes.Structure):
 
 
 class State(ctypes.Structure):
-    """sam_state: what a terminal holds."""
+    """sam_state: the state of a terminal."""
 
     _fields_ = [
         ("events", c_uint64), ("decided", c_uint64), ("held", c_uint64), ("sent", c_uint64), ("under_way", c_uint64),
@@ -36,7 +36,7 @@ class State(ctypes.Structure):
 
 
 class File(ctypes.Structure):
-    """sam_file: what a terminal knows of a tag."""
+    """sam_file: the state of a terminal's file."""
 
     _fields_ = [
         ("len", c_uint32), ("dot_start", c_uint32), ("dot_end", c_uint32), ("view_start", c_uint32), ("view_end", c_uint32),
@@ -46,7 +46,7 @@ class File(ctypes.Structure):
 
 
 class Place(ctypes.Structure):
-    """sam_place: where bytes lie in a piece."""
+    """sam_place: the place of bytes in a piece."""
 
     _fields_ = [("start", c_size_t), ("len", c_size_t)]
 
@@ -132,7 +132,7 @@ FREE_SIGNATURES: Dict[str, Tuple[Tuple[Any, ...], Any]] = {
 
 
 def path() -> str:
-    """What to load: a file, or the SONAME, which the system looks for."""
+    """Returns the library to load: a file, or the SONAME, which the system looks for."""
     if named := os.environ.get("SAM_LIBRARY"):
         return named
     folder = Path(__file__).resolve().parent
@@ -146,7 +146,8 @@ def path() -> str:
 
 
 def load() -> ctypes.PyDLL:
-    """The library, with the arguments of each call set. ImportError if it is not there, lacks a call, or has another version."""
+    """Loads the library, and sets the arguments of each call. Raises ImportError if it is not there, lacks a call, or has another
+    version."""
     name = path()
     try:
         library = ctypes.PyDLL(name)
@@ -165,13 +166,14 @@ def load() -> ctypes.PyDLL:
 
 
 def version_of(library: ctypes.PyDLL) -> Tuple[int, int, int]:
-    """The library's version."""
+    """Returns the library's version: the major, the minor and the patch number."""
     number: int = library.sam_library_version()
     return number >> 16, number >> 8 & 0xFF, number & 0xFF
 
 
 def bytes_of(text: Text) -> bytes:
-    """The text as bytes. A surrogate stays, so that the library refuses it. TypeError for what is neither text nor bytes."""
+    """Returns the text as bytes. A surrogate stays, so that the library refuses it. Raises TypeError for a value that is neither text nor
+    bytes."""
     return text.encode("utf-8", "surrogatepass") if isinstance(text, str) else bytes(memoryview(text))
 
 

@@ -17,18 +17,18 @@ MOST = 4096  # edits that one call receives
 WINDOW = 65_536  # runes that are read before it, since it may cut them
 FEW = 16  # edits for which that doesn't pay
 LEAST = 63  # runes for which there is room, but one
-ALONE = 64  # edits that are received one by one where it did not
+ALONE = 64  # edits that are received one by one if it did not
 
 _OK, _NONE, _RECEIVED = int(Status.OK), int(Status.NONE), int(Step.RECEIVED)
 _WORDS = ctypes.sizeof(Did) // ctypes.sizeof(c_uint32)  # of a sam_did
 _START, _GONE, _CAME = (getattr(Did, name).offset // ctypes.sizeof(c_uint32) for name in ("start", "gone", "came"))  # among these
-_NOT_LOADED, _WIDTH = b"\xff" * 4, 4  # what stands for a rune that is not loaded; bytes of a rune
+_NOT_LOADED, _WIDTH = b"\xff" * 4, 4  # a rune that is not loaded; bytes of a rune
 _DECODE, _HALVES, _LOW = (utf_32_le_decode, utf_16_le_decode, 0) if sys.byteorder == "little" else (utf_32_be_decode, utf_16_be_decode, 1)
 _STAND_INS = [chr(rune) for rune in range(0xFDD0, 0xFDF0)]  # for what is not loaded: no text is likely to have them all
 
 
 class Edit(NamedTuple):
-    """An edit that a frame made: in a file, at a place, the text `gone` gave way to `came`."""
+    """An edit that a frame made: in the file `tag`, at the place `start`, the text `gone` gave way to `came`."""
 
     tag: int
     start: int
@@ -37,21 +37,21 @@ class Edit(NamedTuple):
 
 
 class Pieces(NamedTuple):
-    """Pieces of a text: from each of some places on so many runes."""
+    """Pieces of a text: from each of the places on, as many runes as its count says."""
 
     text: str
     places: Sequence[int]
     counts: List[int]
 
     def each(self) -> List[str]:
-        """The pieces."""
+        """Returns the pieces."""
         text = self.text
         return [text[place : place + count] for place, count in zip(self.places, self.counts)]
 
 
 class Edits:
     """Edits of one file, in the order in which frames made them: at each of the places `starts` the piece of `gone` gave way to that of
-    `came`. There may be thousands, so each is made only where it is asked for."""
+    `came`. There may be thousands, so each is made only when it is asked for."""
 
     def __init__(self, tag: int, starts: List[int], gone: Pieces, came: Pieces):
         self.tag, self.starts, self.gone, self.came = tag, starts, gone, came
@@ -64,7 +64,7 @@ class Edits:
 
 
 def text_of(runes: Any, count: int, gap: str) -> str:
-    """The first runes of an array, as many as are counted, with `gap` for one that is not loaded."""
+    """Returns the first `count` runes of an array as a text, with `gap` for each that is not loaded."""
     data = memoryview(runes)[:count]
     try:
         return _DECODE(data)[0]
@@ -90,7 +90,7 @@ def _with_gaps(data: bytes, gap: str) -> str:
 
 
 def read_runes(handle: Handle, tag: int, place: int, count: int, gap: str) -> str:
-    """The runes of an open file from a place on, at most `count`, with `gap` for one that is not loaded. Raises Missing."""
+    """Returns the runes of an open file from a place on, at most `count`, with `gap` for each that is not loaded. Raises Missing."""
     into, got = (c_uint32 * (1 << max(count - 1, LEAST).bit_length()))(), c_uint32()  # Python makes a type for each length of an array
     code = LIBRARY.sam_term_read(byref(handle), tag, place, into, count, byref(got))
     if code != _OK:
@@ -105,10 +105,10 @@ class _Receiver:
         self._handle, self._gap, self._did = handle, gap, Did()
         self._at, self._did_at = byref(handle), byref(self._did)
         self._tag: Optional[int] = None
-        self._dids: Any = None  # room for what one call receives
+        self._dids: Any = None  # room for the edits that one call receives
 
     def is_next(self) -> bool:
-        """Whether the next frame edits the file."""
+        """Returns whether the next frame edits the file."""
         code = LIBRARY.sam_term_next_frame(self._at, self._did_at)
         if code not in (_OK, _NONE):
             raise error_of(code)
@@ -122,13 +122,14 @@ class _Receiver:
         """Receives the edit that is next, and returns it, with the status of the call."""
         start, gone = self._did.start, self._read(self._did.start, self._did.gone)
         code = LIBRARY.sam_term_step(self._at, self._did_at)
-        if code != _OK or self._did.step != _RECEIVED:  # it wrote what was left over
+        if code != _OK or self._did.step != _RECEIVED:  # it wrote messages that were left over
             return None, code
         came = self._read(start, self._did.came)
         return Edits(self._did.tag, [start], Pieces(gone, [0], [len(gone)]), Pieces(came, [0], [len(came)])), code
 
     def many(self) -> Tuple[Optional[Edits], int]:
-        """The same of edits from the one that is next on, as long as each is at the place of the one before it or above."""
+        """Receives the edits from the next one on, as long as each is at the place of the one before it or above, and returns them, with
+        the status of the call."""
         last = self._did.start + self._did.gone
         first = max(0, self._did.start - WINDOW)
         before = self._read(first, last - first)
@@ -149,8 +150,8 @@ class _Receiver:
 
 
 def received(handle: Handle, gap: str) -> Iterator[Edits]:
-    """Receives the next frames, as long as each edits a text and all of them that of one file. Raises what a step does, once those before
-    it are told."""
+    """Receives the next frames, as long as each edits a text and all of them that of one file, and yields their edits. Raises as a step
+    does, once the edits before are yielded."""
     receiver, alone = _Receiver(handle, gap), FEW
     while receiver.is_next():
         found, code = receiver.many() if alone == 0 else receiver.one()

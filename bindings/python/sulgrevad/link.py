@@ -24,7 +24,7 @@ _Bytes = Union[bytes, bytearray, memoryview]
 
 
 class What(enum.IntEnum):
-    """What a hello says: the first three a terminal, the others a host."""
+    """The kinds of a hello: a terminal says one of the first three, a host one of the others."""
 
     BEGIN = 1
     RESUME = 2
@@ -40,7 +40,7 @@ class What(enum.IntEnum):
 
 
 class Hello(NamedTuple):
-    """What a hello says, the id of its session, and the number of its connection."""
+    """A hello: its kind, the id of its session, and the number of its connection."""
 
     what: What
     id: bytes
@@ -48,8 +48,9 @@ class Hello(NamedTuple):
 
 
 def read_hello(data: _Bytes) -> Optional[Hello]:
-    """The hello with which the bytes begin; None if nothing is wrong so far, and there are fewer than 42. Raises LinkFault with the code
-    LINK_NOT_A_LINK as soon as the bytes differ from the mark, LINK_OTHER_VERSION with the ninth byte, LINK_BAD_HELLO with the tenth."""
+    """Reads the hello with which the bytes begin, and returns it; None if nothing is wrong so far, but there are fewer than 42. Raises
+    LinkFault, in this order: LINK_NOT_A_LINK as soon as the bytes differ from the mark; LINK_OTHER_VERSION with the ninth byte;
+    LINK_BAD_HELLO with the tenth."""
     data = bytes(memoryview(data))
     what, name, attempt = c_uint32(), ctypes.create_string_buffer(ID_BYTES), c_uint64()
     code = LIBRARY.sam_link_read_hello(data, len(data), byref(what), name, byref(attempt))
@@ -61,8 +62,9 @@ def read_hello(data: _Bytes) -> Optional[Hello]:
 
 
 def write_refusal(status: int, data: _Bytes) -> bytes:
-    """The hello by which a host refuses a connection: for one of Status.LINK_NOT_A_LINK to LINK_WRONG_COUNT, and of the session and the
-    connection of the hello that came; if `read_hello` reads none, all zeros. Raises Missing for any other status."""
+    """Returns the hello by which a host refuses a connection, for one of Status.LINK_NOT_A_LINK to LINK_WRONG_COUNT. It names the session
+    and the connection of the hello with which the bytes begin; if `read_hello` reads none, it names all zeros. Raises Missing for any other
+    status."""
     data = bytes(memoryview(data))
     into = ctypes.create_string_buffer(HELLO_BYTES)
     code = LIBRARY.sam_link_write_refusal(int(status), data, len(data), into)
@@ -79,7 +81,7 @@ class Link(Held):
         sock.sendall(link.take_out(attempt))    the hello first
         link.welcomed(sock_read_42_bytes)       and then the rest
         link.feed(attempt, data)                feed_into, if the next bytes are to come out at once
-        while data := link.take_in(): ..        what of it is for the program; then next_note
+        while data := link.take_in(): ..        the program's bytes among them; then next_note
 
     A put, a note, a piece and a hello are taken whole or not at all: after an exception nothing has changed, but that after LINK_BAD_KIND,
     LINK_BAD_LENGTH and LINK_ACK_AHEAD of `feed` and `feed_into` the connection is over.
@@ -91,32 +93,32 @@ class Link(Held):
     _prefix = "sam_link"
 
     def __init__(self, role: int, id: _Bytes) -> None:
-        """Makes the end of this side, TERMINAL or HOST, before its first connection. The id is the session's name, 16 bytes that the
-        terminal chose at random: no secret. Raises ValueError for an id of another length, LinkFault for another role, NoMemory."""
+        """Makes the end of one side, TERMINAL or HOST, before its first connection. The id is the session's name: 16 bytes that the
+        terminal chose at random. It is no secret. Raises ValueError for an id of another length, LinkFault for another role, NoMemory."""
         name = bytes(memoryview(id))
         if len(name) != ID_BYTES:
             raise ValueError(f"an id has {ID_BYTES} bytes, not {len(name)}")
         if not hasattr(self, "_out"):
-            # What was moved out of the library where an exception broke in before it was returned: a buffer, how much of it was returned,
-            # and how much it has.
+            # The bytes that were moved out of the library when an exception broke in before they were returned: a buffer, how much of it
+            # was returned, and how much it has.
             self._out: Deque[Tuple[Any, int, c_size_t]] = deque()
             self._in: Deque[Tuple[Any, int, c_size_t]] = deque()
             self._notes: Deque[Tuple[Any, int, c_size_t]] = deque()
         super().__init__(role, name)
 
     def free(self) -> None:
-        """Frees it, with all that it keeps. Any later call but this one and `close` raises HandleFault."""
+        """Frees it, with all the bytes that it keeps. Any later call but this one and `close` raises HandleFault."""
         for left in (self._out, self._in, self._notes):
             left.clear()
         super().free()
 
     def close(self) -> None:
-        """The same as `free`."""
+        """Frees it, as `free` does."""
         self.free()
 
     def _moved(self, left: Deque[Tuple[Any, int, c_size_t]], room: int, name: str, *arguments: Any) -> Optional[bytes]:
-        """The next bytes that a call moves out, at most so many; None if it answers SAM_NONE. Where an exception breaks in, the next call
-        has them."""
+        """Returns the next bytes that a call moves out, at most `room`; None if the call answers SAM_NONE. If an exception breaks in, the
+        next call has them."""
         moved = left.popleft() if left else (ctypes.create_string_buffer(room), 0, c_size_t(_NOT_YET))
         into, start, count = moved
         try:
@@ -140,77 +142,78 @@ class Link(Held):
     # ---- Connections
 
     def call(self, take_over: bool = False) -> int:
-        """At the terminal's end: another connection was opened, and the one before is over. Returns its number, from 1, which names it in
-        the calls below. With `take_over`, as long as no host has welcomed this end, the session is to begin with the texts of another.
-        Raises LinkFault (LINK_WRONG_ROLE), CountFull."""
+        """Begins a connection that the program has opened, at the terminal's end: the connection before is over. Returns its number,
+        counted from 1, which names it in the calls below. With `take_over`, the session is to begin with the texts of another, as long as
+        no host has welcomed this end. Raises, in this order: LinkFault (LINK_WRONG_ROLE); CountFull."""
         attempt = self._number("call", c_uint64, bool(take_over))
         self._out.clear()
         return attempt
 
     def welcomed(self, hello: _Bytes) -> None:
-        """The terminal's end takes the first 42 bytes that the host sent on the newest connection. Raises what `read_hello` raises, and
-        Missing for fewer bytes; then LinkFault, in this order: LINK_WRONG_ROLE; LINK_NOT_OPEN if no call waits for a welcome; the host's
-        reason, if it refuses; LINK_BAD_HELLO; LINK_OTHER_SESSION; LINK_OLD_ATTEMPT; LINK_WRONG_COUNT."""
+        """Takes the host's hello at the terminal's end: the first 42 bytes that came on the newest connection. Raises the faults of
+        `read_hello`, and Missing for fewer bytes; then LinkFault, in this order: LINK_WRONG_ROLE; LINK_NOT_OPEN if no call waits for a
+        welcome; the host's reason, if the host refuses; LINK_BAD_HELLO; LINK_OTHER_SESSION; LINK_OLD_ATTEMPT; LINK_WRONG_COUNT."""
         hello = bytes(memoryview(hello))
         self._call("welcomed", hello, len(hello))
 
     def answer(self, hello: _Bytes) -> None:
-        """The host's end takes the connection whose first 42 bytes these are, and the one before is over. Its number is that which
-        `read_hello` returns. Raises what `read_hello` raises, and Missing for fewer bytes; then LinkFault, in this order: LINK_WRONG_ROLE,
-        LINK_BAD_HELLO, LINK_NO_SESSION, LINK_OTHER_SESSION, LINK_OLD_ATTEMPT, LINK_WRONG_COUNT. The older connection goes on then."""
+        """Takes a connection at the host's end by its first 42 bytes, the terminal's hello: the connection before is over. Its number is
+        the one that `read_hello` returns. Raises the faults of `read_hello`, and Missing for fewer bytes; then LinkFault, in this order:
+        LINK_WRONG_ROLE; LINK_BAD_HELLO; LINK_NO_SESSION; LINK_OTHER_SESSION; LINK_OLD_ATTEMPT; LINK_WRONG_COUNT. The older connection goes
+        on then."""
         hello = bytes(memoryview(hello))
         self._call("answer", hello, len(hello))
         self._out.clear()
 
     def broken(self, attempt: int) -> None:
-        """A connection has ended, or is given up. If it isn't the newest nothing is changed."""
+        """Ends a connection at this end, because it broke or because the program gives it up. Nothing changes if it isn't the newest."""
         self._call("broken", attempt)
 
-    # ---- What is put
+    # ---- Bytes and notes to send
 
     def put(self, data: _Bytes) -> None:
-        """Puts bytes for the other side's program, all or none, whether a connection is there or not. Raises CountFull if the stream would
-        have more than 2**64-1 bytes, NoMemory."""
+        """Puts bytes for the other side's program, all or none, with or without a connection. Raises, in this order: CountFull if the
+        stream would have more than 2**64-1 bytes; NoMemory."""
         data = bytes(memoryview(data))
         self._call("put", data, len(data))
 
     def put_note(self, data: _Bytes) -> None:
-        """Puts a note, behind all that was put: it comes out after these bytes and before later ones. Raises LinkFault (LINK_TOO_LONG) for
-        more than 4,096 bytes, CountFull, NoMemory."""
+        """Puts a note behind all bytes that were put: it comes out after these bytes and before later ones. Raises, in this order:
+        LinkFault (LINK_TOO_LONG) for more than 4,096 bytes; CountFull; NoMemory."""
         data = bytes(memoryview(data))
         self._call("put_note", data, len(data))
 
     def ask(self) -> None:
-        """Asks the other side to acknowledge now: if no byte comes, the line is broken. Raises CountFull, NoMemory."""
+        """Asks the other side to acknowledge now: if no byte comes, the line is broken. Raises, in this order: CountFull; NoMemory."""
         self._call("ask")
 
     def acknowledge(self) -> None:
-        """Acknowledges all bytes that have come, as the end does by itself when it is asked and after each 16,384 bytes. Raises CountFull,
-        NoMemory."""
+        """Acknowledges all bytes that have come. The end does so by itself when it is asked, and after each 16,384 bytes. Raises, in this
+        order: CountFull; NoMemory."""
         self._call("acknowledge")
 
     # ---- Bytes out and in
 
     def take_out(self, attempt: int, most: int = 65_536) -> bytes:
-        """The next bytes for a connection, at most so many; b"" if there are none: first the hello, and then the stream from where this
-        connection goes on, at a terminal's end after the welcome, but on the first connection. Raises LinkFault (LINK_NOT_OPEN) if the
-        connection is over or isn't the newest, ValueError if `most` is below 0."""
+        """Returns the next bytes for a connection, at most `most`; b"" if there are none: first the hello, and then the stream from the
+        place where this connection goes on. Before the welcome, a terminal's end hands out bytes of the stream on the first connection
+        alone. Raises LinkFault (LINK_NOT_OPEN) if the connection is over or isn't the newest, ValueError if `most` is below 0."""
         room = least(most, MOST_PIECE)
         if self._out:
             self._call("take_out", attempt, ctypes.create_string_buffer(1), 0, byref(c_size_t()))  # is it still the newest?
         return self._moved(self._out, room, "take_out", attempt) or b""
 
     def feed(self, attempt: int, data: _Bytes) -> None:
-        """Takes bytes that came on a connection after the hello, in whatever pieces, all or none. Raises LinkFault (LINK_NOT_OPEN) if the
-        connection is over, isn't the newest, or has no hello yet; then CountFull; then NoMemory, and the piece may be fed again; or
-        LinkFault for a wrong packet, LINK_BAD_KIND or LINK_BAD_LENGTH, and if there is none, for bytes that are acknowledged and did not
-        go, LINK_ACK_AHEAD: the connection is then over."""
+        """Takes bytes that came on a connection after the hello, in pieces of any length, all or none. Raises, in this order: LinkFault
+        (LINK_NOT_OPEN) if the connection is over, isn't the newest, or has no hello yet; CountFull; NoMemory, and the piece may be fed
+        again. Three other faults end the connection: LINK_BAD_KIND or LINK_BAD_LENGTH if the piece has a wrong packet; else LINK_ACK_AHEAD
+        if it acknowledges bytes that this connection wasn't given."""
         data = bytes(memoryview(data))
         self._call("feed", attempt, data, len(data))
 
     def feed_into(self, attempt: int, data: _Bytes, most: int = 65_536) -> bytes:
-        """Takes bytes that came as `feed` does, and returns the next bytes of the other side's program, at most so many and none behind a
-        note: `take_in` has those after them. Raises what `feed` raises, ValueError if `most` is below 0."""
+        """Takes bytes that came as `feed` does, and returns the next bytes of the other side's program, at most `most` and none behind a
+        note: `take_in` has those after them. Raises as `feed` does, and ValueError if `most` is below 0."""
         room = least(most, MOST_PIECE)
         data = bytes(memoryview(data))
         if self._in and self._in[-1][2].value == _NOT_YET:
@@ -231,14 +234,15 @@ class Link(Held):
             return b""  # the piece was taken: if this were raised, it would be fed again
 
     def feed_places(self, attempt: int, data: _Bytes, most: int = 32) -> List[Place]:
-        """Takes bytes that came as `feed` does. Where nothing is left of earlier pieces, no note and no part of a packet, returns where the
-        next bytes of the other side's program lie in `data`, whole packets, at most so many places and none behind a note: of each its
-        `start` and `len`. Else, and of what is left, `take_in` has the bytes. Raises what `feed` does, ValueError if `most` is below 0."""
+        """Takes bytes that came as `feed` does, and returns the places in `data` of the next bytes of the other side's program: of each its
+        `start` and `len`. There are such places only if nothing is left of earlier pieces, no note and no part of a packet: then they are
+        those of whole packets, at most `most` and none behind a note. `take_in` has all other bytes. Raises as `feed` does, and ValueError
+        if `most` is below 0."""
         data = bytes(memoryview(data))
         places, count = (Place * least(most, MOST_PLACES))(), c_size_t(0)
         found = list(places)  # before the piece is taken: if MemoryError were raised behind it, it would be fed again
         if self._in:
-            places = (Place * 0)()  # what an exception kept back comes first
+            places = (Place * 0)()  # the bytes that an exception kept back come first
         try:
             self._call("feed_places", attempt, data, len(data), places, len(places), byref(count))
             while found and not found[-1].len:
@@ -249,44 +253,44 @@ class Link(Held):
         return found
 
     def take_in(self, most: int = 65_536) -> bytes:
-        """The next bytes of the other side's program, at most so many and of one packet: call it until it returns b"", where a note is
-        next, or nothing. ValueError if `most` is below 0."""
+        """Returns the next bytes of the other side's program, at most `most` and of one packet. Call it until it returns b"": then a note
+        is next, or nothing. Raises ValueError if `most` is below 0."""
         return self._moved(self._in, least(most, MOST_BODY), "take_in") or b""
 
     def next_note(self) -> Optional[bytes]:
-        """The note that is next; None if bytes before it are not taken in yet, or none has come."""
+        """Returns the note that is next; None if bytes before it are not taken in yet, or if none has come."""
         return None if self._in else self._moved(self._notes, MOST_NOTE, "next_note")
 
     # ---- Readers
 
     @property
     def phase(self) -> int:
-        """How the newest connection stands: DOWN if there is none, or it is over; ASKING if the terminal has called; OPEN if both sides
-        have said hello."""
+        """Returns the state of the newest connection: DOWN if there is none, or it is over; ASKING if the terminal has called; OPEN if both
+        sides have said hello."""
         return self._number("phase", c_uint32)
 
     @property
     def attempt(self) -> int:
-        """The number of the newest connection; 0 before the first."""
+        """Returns the number of the newest connection, or 0 before the first."""
         return self._number("attempt", c_uint64)
 
     @property
     def put_count(self) -> int:
-        """How many bytes this side's stream has, heads of packets included."""
+        """Returns the number of bytes of this side's stream, heads of packets included."""
         return self._number("put_count", c_uint64)
 
     @property
     def acknowledged(self) -> int:
-        """How many of them the other side has acknowledged: all that was put at one time has come once this is at least what `put_count`
-        was then."""
+        """Returns the number of bytes of this side's stream that the other side has acknowledged. All bytes that were put by some time have
+        come once this number is at least that of `put_count` at that time."""
         return self._number("acknowledged", c_uint64)
 
     @property
     def unsent(self) -> int:
-        """How many bytes of this side's stream the newest connection has not been given."""
+        """Returns the number of bytes of this side's stream that the newest connection has not been given."""
         return self._number("unsent", c_size_t)
 
     @property
     def received(self) -> int:
-        """How many bytes of the other side's stream have come."""
+        """Returns the number of bytes of the other side's stream that have come."""
         return self._number("received", c_uint64)

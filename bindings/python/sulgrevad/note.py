@@ -75,7 +75,7 @@ class NoteCode(enum.IntEnum):
 
 
 class Note(NamedTuple):
-    """A message. What its kind has not is 0 or empty."""
+    """A message. A field that its kind has not is 0 or empty."""
 
     kind: int
     request: int = 0
@@ -88,9 +88,9 @@ class Note(NamedTuple):
 
 
 def read_note(data: _Bytes) -> Note:
-    """The message that the bytes spell, all of them; its kind is a NoteKind, its code a NoteCode. Raises NoteFault, with the code
-    NOTE_BAD_KIND for a kind that isn't in the table (skip such a message: it comes from a later version), NOTE_BAD_LENGTH, NOTE_BAD_PATH or
-    NOTE_BAD_TEXT."""
+    """Reads the message that the bytes spell, all of them, and returns it; its kind is a NoteKind, its code a NoteCode. Raises NoteFault,
+    with the code NOTE_BAD_KIND for a kind that isn't in the table (skip such a message: it comes from a later version), NOTE_BAD_LENGTH,
+    NOTE_BAD_PATH or NOTE_BAD_TEXT."""
     data = bytes(memoryview(data))
     read = CNote()
     code = LIBRARY.sam_note_read(data, len(data), byref(read))
@@ -106,9 +106,9 @@ def read_note(data: _Bytes) -> Note:
 
 
 def write_note(note: Note) -> bytes:
-    """The bytes of a message. Raises NoteFault, with the code NOTE_BAD_KIND, NOTE_BAD_FIELD if a field that the kind has not is not 0 or
-    not empty, NOTE_BAD_LENGTH for more than MOST_NOTE bytes, NOTE_BAD_PATH for a zero byte in a path, or NOTE_BAD_TEXT for a surrogate in
-    the text; ValueError for a number that its field can't hold."""
+    """Returns the bytes of a message. Raises NoteFault, with the code NOTE_BAD_KIND, NOTE_BAD_FIELD if a field that the kind has not is not
+    0 or not empty, NOTE_BAD_LENGTH for more than MOST_NOTE bytes, NOTE_BAD_PATH for a zero byte in a path, or NOTE_BAD_TEXT for a surrogate
+    in the text; ValueError for a number that its field can't hold."""
     path, copy, text = bytes_of(note.path), bytes_of(note.copy), bytes_of(note.text)
     written = CNote(
         index(c_uint8, note.kind), index(c_uint8, note.code), index(c_uint16, note.tag), index(c_uint32, note.request),

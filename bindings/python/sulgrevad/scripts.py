@@ -7,7 +7,7 @@ from sulgrevad.status import ScriptFault, Status, error_of
 
 
 def replay(script: Text) -> bytes:
-    """What the `show` lines of a script print, which is run over a host and a terminal of its own. Raises ScriptFault; NoMemory."""
+    """Runs a script over a host and a terminal of its own, and returns the output of its `show` lines. Raises ScriptFault or NoMemory."""
     data, room = bytes_of(script), PIECE
     while True:
         out, length, line = ctypes.create_string_buffer(room), c_size_t(), c_size_t()

@@ -1,4 +1,4 @@
-"""What a call answers: the status codes, and the exceptions that carry them."""
+"""The status codes that calls answer, and the exceptions that carry them."""
 import enum
 import operator
 from typing import Any, Dict, Optional, Tuple
@@ -7,7 +7,7 @@ from sulgrevad._library import LIBRARY, version_of
 
 
 class Status(enum.IntEnum):
-    """What a call answers (enum sam_status of sulgrevad.h)."""
+    """The status of a call (enum sam_status of sulgrevad.h)."""
 
     OK = 0
     NO_MEMORY = 1
@@ -122,7 +122,7 @@ class Kind(enum.IntEnum):
 
 
 class Step(enum.IntEnum):
-    """What a step did (enum sam_step of sulgrevad.h)."""
+    """The kind of a step (enum sam_step of sulgrevad.h)."""
 
     IDLE = 0
     LOCKED = 1
@@ -135,8 +135,8 @@ class Step(enum.IntEnum):
 
 
 def status_text(code: int) -> str:
-    """The name of a status and a sentence about it, as "SAM_NOT_TEXT: the bytes are not UTF-8"; "unknown status" for any other number.
-    ValueError for a number that a status can't be."""
+    """Returns the name of a status and a sentence about it, as "SAM_NOT_TEXT: the bytes are not UTF-8", or "unknown status" for any other
+    number. Raises ValueError for a number that a status can't be."""
     if not 0 <= operator.index(code) < 2**32:
         raise ValueError(f"{code} is not from 0 to {2**32 - 1}")
     text: bytes = LIBRARY.sam_status_text(code)
@@ -144,12 +144,12 @@ def status_text(code: int) -> str:
 
 
 def library_version() -> Tuple[int, int, int]:
-    """The version of the library that is loaded: the major, the minor and the patch number."""
+    """Returns the version of the library that is loaded: the major, the minor and the patch number."""
     return version_of(LIBRARY)
 
 
 class SamError(Exception):
-    """A call that did not answer SAM_OK; `code` is what it answered."""
+    """A call that did not answer SAM_OK; `code` is its status."""
 
     code: int
 
@@ -162,12 +162,12 @@ class SamError(Exception):
 
     @property
     def status(self) -> int:
-        """The same as `code`."""
+        """Returns the same as `code`."""
         return self.code
 
     @property
     def is_stop(self) -> bool:
-        """Whether the host or terminal has stopped for good: the other side's stream is wrong, or was refused."""
+        """Returns whether the host or terminal has stopped for good: the other side's stream is wrong, or was refused."""
         return bool(LIBRARY.sam_is_stop(self.code))
 
     def __reduce__(self) -> Tuple[Any, ...]:
@@ -176,11 +176,11 @@ class SamError(Exception):
 
 
 class NoMemory(SamError, MemoryError):
-    """Out of memory, and what the call brought was not taken: make it again (SAM_NO_MEMORY)."""
+    """Out of memory, and the input of the call was not taken: make the call again (SAM_NO_MEMORY)."""
 
 
 class Unfinished(SamError, MemoryError):
-    """Out of memory, but what the call brought was taken: the next feed, event or `flush_now` goes on with what waits
+    """Out of memory, but the input of the call was taken: the next feed, event or `flush_now` goes on with the work that waits
     (SAM_UNFINISHED)."""
 
 
@@ -189,7 +189,7 @@ class CountFull(SamError, OverflowError):
 
 
 class Waiting(SamError):
-    """Some of what came before waits, so make steps first; what was brought was not taken (SAM_WAITING)."""
+    """Earlier work waits, so make steps first; the input was not taken (SAM_WAITING)."""
 
 
 class HandleFault(SamError, ValueError):
@@ -205,7 +205,7 @@ class Missing(SamError, LookupError):
 
 
 class AddRefused(SamError, ValueError):
-    """A file can't be added: too late, too long, or no tag is left (SAM_ADD_..). The host is as it was."""
+    """A file can't be added: its name or text is too long, or no tag is left (SAM_ADD_..). The host is as it was."""
 
 
 class StreamFault(SamError):
@@ -257,12 +257,12 @@ FAMILIES = (
 )
 
 
-# What is raised where there is no memory for an exception either: the caller has to learn whether what it brought was taken.
+# Raised if there is no memory for an exception either: the caller has to learn whether its input was taken.
 SPARE: Dict[int, SamError] = {code: SINGLE[code](code) for code in (Status.NO_MEMORY, Status.UNFINISHED)}
 
 
 def error_of(code: int) -> SamError:
-    """The exception of a status code."""
+    """Returns the exception of a status code."""
     try:
         if code in SINGLE:
             return SINGLE[Status(code)](code)

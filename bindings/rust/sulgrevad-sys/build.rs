@@ -36,7 +36,7 @@ fn ask_pkg_config() -> Result<String, String> {
     }
 }
 
-/// The words of what pkg-config prints, where a backslash stands before a blank that is part of a word.
+/// Returns the words of pkg-config's output, in which a backslash stands before a blank that is part of a word.
 fn words_of(printed: &str) -> Vec<String> {
     let (mut words, mut word, mut is_escaped) = (Vec::new(), String::new(), false);
     for letter in printed.chars() {

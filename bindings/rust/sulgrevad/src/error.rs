@@ -1,4 +1,4 @@
-//! What a call returns that did not do what it was asked.
+//! The errors of calls.
 
 use crate::status_text;
 use std::fmt;
@@ -16,12 +16,12 @@ macro_rules! family {
         }
 
         impl $name {
-            /// The fault of a status, if it is one of these.
+            /// Returns the fault of a status, if it is one of these.
             pub(crate) fn of(status: u32) -> Option<$name> {
                 [$($name::$fault),*].into_iter().find(|fault| fault.status() == status)
             }
 
-            /// Its number in sulgrevad.h.
+            /// Returns its number in sulgrevad.h.
             pub fn status(self) -> u32 {
                 self as u32
             }
@@ -36,7 +36,7 @@ macro_rules! family {
 }
 
 family! {
-    /// What is wrong with a stream of bytes.
+    /// A fault of a stream of bytes.
     StreamFault {
         /// A kind that this direction doesn't have.
         BadKind = SAM_BAD_KIND,
@@ -50,7 +50,7 @@ family! {
 }
 
 family! {
-    /// Why the host refused a message.
+    /// The reason why the host refused a message.
     HostFault {
         /// No file has this tag.
         NoFile = SAM_HOST_NO_FILE,
@@ -70,7 +70,7 @@ family! {
 }
 
 family! {
-    /// Why the terminal refused a frame.
+    /// The reason why the terminal refused a frame.
     TermFault {
         /// The frame answers a message that was not sent yet.
         FromTheFuture = SAM_TERM_FROM_THE_FUTURE,
@@ -92,7 +92,7 @@ family! {
 }
 
 family! {
-    /// Why the terminal refused an event. It goes on.
+    /// The reason why the terminal refused an event. The terminal goes on.
     Refusal {
         /// The session has ended.
         Exited = SAM_REFUSAL_EXITED,
@@ -114,7 +114,7 @@ family! {
 }
 
 family! {
-    /// Why a call of a link was refused. The first seven also go over the line.
+    /// The reason why a call of a link was refused. The first seven also go over the line.
     LinkFault {
         /// The bytes are no hello.
         NotALink = SAM_LINK_NOT_A_LINK,
@@ -146,7 +146,7 @@ family! {
 }
 
 family! {
-    /// Why bytes are no message of a session, or why a message isn't written.
+    /// The reason why bytes are no message of a session, or why a message isn't written.
     NoteFault {
         /// No kind has this number: a message of a later version, which is skipped.
         BadKind = SAM_NOTE_BAD_KIND,
@@ -161,18 +161,18 @@ family! {
     }
 }
 
-/// Why a call did not do what it was asked. Each has its number in sulgrevad.h.
+/// The reason why a call did not do its work. Each has its number in sulgrevad.h.
 #[derive(Clone, Copy, Debug, PartialEq, Eq)]
 #[non_exhaustive]
 pub enum Error {
-    /// Out of memory, and what the call brought was not taken: make it again.
+    /// Out of memory, and the input of the call was not taken: make the call again.
     NoMemory,
-    /// Out of memory, but what the call brought was taken: don't bring it again. The next feed, event or `flush_now` goes on with what
-    /// waits, and feeding no bytes does just that. It returns `NoMemory` while memory is still short.
+    /// Out of memory, but the input of the call was taken: don't bring it again. The next feed, event or `flush_now` goes on with the work
+    /// that waits, and feeding no bytes does just that. It returns `NoMemory` while memory is still short.
     Unfinished,
     /// A stream of 2^64 bytes, or 2^64 events or connections.
     CountFull,
-    /// Some of what came before waits, so make steps first; what was brought was not taken.
+    /// Earlier work waits, so make steps first; the input was not taken.
     Waiting,
     /// Bytes that are not UTF-8.
     NotText,
@@ -199,7 +199,7 @@ pub enum Error {
 }
 
 impl Error {
-    /// The error of a status. That of a wrong script has no line yet.
+    /// Returns the error of a status. That of a wrong script has no line yet.
     pub(crate) fn of(status: u32) -> Error {
         match status {
             sys::SAM_NO_MEMORY => Error::NoMemory,
@@ -220,7 +220,7 @@ impl Error {
         }
     }
 
-    /// Its number in sulgrevad.h, of which [`status_text`] has the name and a sentence.
+    /// Returns its number in sulgrevad.h, of which [`status_text`] has the name and a sentence.
     pub fn status(self) -> u32 {
         match self {
             Error::NoMemory => sys::SAM_NO_MEMORY,
@@ -241,13 +241,13 @@ impl Error {
         }
     }
 
-    /// Whether the host or terminal has stopped for good: the other side's stream is wrong, or was refused.
+    /// Returns whether the host or terminal has stopped for good: the other side's stream is wrong, or was refused.
     pub fn is_stop(self) -> bool {
         unsafe { sys::sam_is_stop(self.status()) }
     }
 }
 
-/// What the library says of a status, without its name.
+/// Returns the library's sentence about a status, without its name.
 fn sentence_of(status: u32) -> &'static str {
     let text = status_text(status);
     text.split_once(": ").map_or(text, |(_, sentence)| sentence)

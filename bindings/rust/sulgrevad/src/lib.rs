@@ -2,8 +2,12 @@
 //! A [`Link`] carries the bytes of both over connections that may break.
 //! `sulgrevad.h` and the page EMBEDDING of the repository have the whole story, and `sulgrevad-sys` says how the library is found.
 //!
-//! Where the library is out of memory, a call says so ([`Error::NoMemory`], [`Error::Unfinished`]). Where Rust has none for a `Vec` or a
-//! `String` that is handed out, the program ends, as always in Rust.
+//! A [`Host`] is the server: it holds whole texts and runs commands. A [`Terminal`] is the client: it holds windows, and of each open text
+//! the parts that it has loaded. The dot is the selection, a place an offset in runes, the snarf buffer the clipboard: the host holds it.
+//! Places and lengths of texts count runes (`char`s), and a text has at most 1,000,000.
+//!
+//! If the library is out of memory, a call says so ([`Error::NoMemory`], [`Error::Unfinished`]). If Rust has none for a `Vec` or a `String`
+//! that is handed out, the program ends, as always in Rust.
 //!
 //! ```
 //! use sulgrevad::{Host, Terminal};
@@ -29,7 +33,7 @@
 //! term.select(file, 5, 5)?; // waits until the file is open
 //! term.type_(file, " world")?;
 //! carry(&mut term, &mut host)?;
-//! term.flush_now()?; // the user pauses: what was typed is sent
+//! term.flush_now()?; // the user pauses: the typed text is sent
 //! carry(&mut term, &mut host)?;
 //! assert_eq!(host.text(file).as_deref(), Some("hello world\n"));
 //! # Ok::<(), sulgrevad::Error>(())
@@ -54,16 +58,16 @@ pub use terminal::{Change, FileState, TermState, Terminal};
 use std::ffi::CStr;
 use sulgrevad_sys as sys;
 
-/// How many bytes one turn of `take_out` hands out at most, and the room that a replay is given first.
+/// The most bytes that one turn of `take_out` hands out, and the room that a replay is given first.
 const PIECE: usize = 4096;
 
-/// The version of the library that the program runs with: the major, the minor and the patch number.
+/// Returns the version of the library that the program runs with: the major, the minor and the patch number.
 pub fn library_version() -> (u32, u32, u32) {
     let version = unsafe { sys::sam_library_version() };
     (version >> 16, version >> 8 & 0xff, version & 0xff)
 }
 
-/// The name of a status of sulgrevad.h and a sentence about it; "unknown status" for any other number.
+/// Returns the name of a status of sulgrevad.h and a sentence about it, or "unknown status" for any other number.
 ///
 /// ```
 /// assert_eq!(sulgrevad::status_text(6), "SAM_NOT_TEXT: the bytes are not UTF-8");
@@ -74,7 +78,7 @@ pub fn status_text(status: u32) -> &'static str {
     text.to_str().expect("the library writes UTF-8")
 }
 
-/// Whether a call did what it was asked.
+/// Returns the error of a status, if it is one.
 fn done(status: u32) -> Result<(), Error> {
     match status {
         sys::SAM_OK => Ok(()),
@@ -82,23 +86,23 @@ fn done(status: u32) -> Result<(), Error> {
     }
 }
 
-/// What a reader hands out if it answers that it did: `None` if there is no such thing.
+/// Returns the result of a reader; `None` if the reader says that there is none.
 fn told<T: Default>(read: impl FnOnce(&mut T) -> u32) -> Option<T> {
     let mut value = T::default();
     (read(&mut value) == sys::SAM_OK).then_some(value)
 }
 
-/// What a reader always hands out of a handle that is made.
+/// Returns the result of a reader that always has one of a handle that is made.
 fn tells<T: Default>(read: impl FnOnce(&mut T) -> u32) -> T {
     told(read).expect("the handle is made")
 }
 
-/// A text that is read in pieces: `read` puts some of it into the buffer from a place on, and says how many bytes and runes.
+/// Reads a text in pieces: `read` puts some of it into the buffer from a place on, and says how many bytes and runes.
 fn whole_text(read: impl FnMut(u32, &mut [u8], &mut usize, &mut u32) -> u32) -> Option<String> {
     part_of_text(0, u32::MAX, read)
 }
 
-/// The same from a place on, at most so many runes.
+/// Reads a text so from the place `place` on, at most `most` runes.
 fn part_of_text(mut place: u32, most: u32, mut read: impl FnMut(u32, &mut [u8], &mut usize, &mut u32) -> u32) -> Option<String> {
     let (mut text, mut left) = (String::new(), most);
     loop {
@@ -121,7 +125,7 @@ fn part_of_text(mut place: u32, most: u32, mut read: impl FnMut(u32, &mut [u8], 
     }
 }
 
-/// A short text that fits in one buffer.
+/// Reads a short text that fits in one buffer.
 fn short_text(read: impl FnOnce(&mut [u8], &mut usize) -> u32) -> Option<String> {
     let mut piece = [0; PIECE];
     let mut len = 0;

@@ -55,7 +55,7 @@ pub enum NoteKind {
 }
 
 impl NoteKind {
-    /// The kind of a number; `None` for one of a later version.
+    /// Returns the kind of a number; `None` for one of a later version.
     pub fn of(number: u8) -> Option<NoteKind> {
         match number {
             1 => Some(NoteKind::Open),
@@ -140,7 +140,7 @@ pub enum NoteCode {
 }
 
 impl NoteCode {
-    /// The code of a number; `Other` for one of a later version.
+    /// Returns the code of a number; `Other` for one of a later version.
     pub fn of(number: u8) -> NoteCode {
         match number {
             0 => NoteCode::NoCode,
@@ -173,7 +173,7 @@ impl NoteCode {
 }
 // Up to here by tools/session_messages.
 
-/// A message. What its kind has not is 0 or empty.
+/// A message. A field that its kind has not is 0 or empty.
 #[derive(Clone, Copy, Debug, PartialEq, Eq)]
 pub struct Note<'a> {
     /// Its kind.
@@ -195,7 +195,7 @@ pub struct Note<'a> {
 }
 
 impl Note<'_> {
-    /// A message of this kind with nothing else.
+    /// Makes a message of this kind with nothing else.
     pub fn new(kind: NoteKind) -> Note<'static> {
         Note {
             kind,
@@ -210,8 +210,8 @@ impl Note<'_> {
     }
 }
 
-/// The message that the bytes spell, all of them. A code of a later version is `Other`. Its only errors are `Note`, with `BadKind` for a
-/// kind of a later version (skip such a message), `BadLength`, `BadPath` or `BadText`.
+/// Reads the message that the bytes spell, all of them, and returns it. A code of a later version is `Other`. Its only errors are `Note`,
+/// with `BadKind` for a kind of a later version (skip such a message), `BadLength`, `BadPath` or `BadText`.
 ///
 /// ```
 /// use sulgrevad::{read_note, write_note, Note, NoteKind};
@@ -238,8 +238,8 @@ pub fn read_note(bytes: &[u8]) -> Result<Note<'_>, Error> {
     })
 }
 
-/// The bytes of a message. Its only errors are `Note`, with `BadField` if a field that the kind has not is not 0 or not empty, `BadLength`
-/// for more than `MOST_NOTE` bytes, or `BadPath`.
+/// Returns the bytes of a message. Its only errors are `Note`, with `BadField` if a field that the kind has not is not 0 or not empty,
+/// `BadLength` for more than `MOST_NOTE` bytes, or `BadPath`.
 pub fn write_note(note: &Note<'_>) -> Result<Vec<u8>, Error> {
     let Note { path, copy, text, .. } = note;
     let head = sam_note {

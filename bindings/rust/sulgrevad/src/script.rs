@@ -3,8 +3,8 @@
 use crate::{done, Error, PIECE};
 use sulgrevad_sys as sys;
 
-/// What the `show` lines of a script print; docs/reference/SCRIPTS.md explains the language. Errors: `ScriptLine`, `ScriptCountFull`,
-/// `NoMemory`.
+/// Runs a script over a host and a terminal of its own, and returns the output of its `show` lines. docs/reference/SCRIPTS.md explains the
+/// language. Errors: `ScriptLine`, `ScriptCountFull`, `NoMemory`.
 ///
 /// ```
 /// let shown = sulgrevad::replay(b"file notes hello\nshow\n")?;

@@ -1,4 +1,4 @@
-//! What a single step of a host or a terminal did.
+//! The results of single steps of a host or a terminal.
 
 use crate::{Change, Refusal};
 use sulgrevad_sys::{self as sys, sam_did};
@@ -10,29 +10,29 @@ pub struct NextFrame {
     pub kind: u8,
     /// The file that it names, or 0.
     pub tag: u16,
-    /// The place in that file's text where something will give way or come in; 0 if nothing changes.
+    /// The place in that file's text at which runes or gaps will give way or come in; 0 if nothing changes.
     pub start: u32,
-    /// How many runes or gaps will give way there.
+    /// The number of runes or gaps that will give way there.
     pub gone: u32,
     /// Whether gaps give way to their runes: the frame loads them, and changes no text.
     pub loads: bool,
 }
 
-/// What a step of a host did.
+/// The result of a step of a host.
 #[derive(Clone, Copy, Debug, PartialEq, Eq)]
 #[non_exhaustive]
 pub enum HostStep {
     /// Nothing: nothing waits.
     Idle,
-    /// What was answered last is pending now.
+    /// The last answer is pending now.
     Wrote,
-    /// The host took so many messages at once: edits of one file, and the checks (Tcheck) among them.
+    /// The host took `count` messages at once: edits of one file, and the checks (Tcheck) among them.
     Edited { tag: u16, count: usize },
     /// The host answered one message of this kind, by the numbers of docs/reference/PROTOCOL.md; `tag` is the file that it names, or 0.
     Answered { kind: u8, tag: u16 },
 }
 
-/// What a step of a terminal did.
+/// The result of a step of a terminal.
 #[derive(Clone, Copy, Debug, PartialEq, Eq)]
 #[non_exhaustive]
 pub enum TermStep {
@@ -40,20 +40,20 @@ pub enum TermStep {
     Idle,
     /// Nothing: no frame waits, and a lock holds the oldest event back.
     Locked,
-    /// What was composed last is pending now.
+    /// The messages that were composed last are pending now.
     Wrote,
     /// The terminal received one frame of this kind, by the numbers of docs/reference/PROTOCOL.md; `tag` is the file that it names, or 0,
-    /// and `change` what changed in its text. Where `loads` is true the frame loads runes in the place of gaps: more of the text is known,
-    /// and nothing changed.
+    /// and `change` the change of its text. If `loads` is true the frame loads runes in the place of gaps: more of the text is known, and
+    /// nothing changed.
     Received {
         kind: u8,
         tag: u16,
         change: Change,
         loads: bool,
     },
-    /// The event of this number, counted from 1, acted; `tag` is the file that it names, or 0, and `change` what changed in its text.
+    /// The event of this number, counted from 1, acted; `tag` is the file that it names, or 0, and `change` the change of its text.
     Acted { event: u64, tag: u16, change: Change },
-    /// The event of this number was refused: why, or the number of a reason that this crate doesn't know.
+    /// The event of this number was refused: `why` is the reason, or the number of a reason that this crate doesn't know.
     Refused { event: u64, why: Result<Refusal, u32> },
 }
 
