@@ -115,7 +115,7 @@ def crates():
     missing = (set(stands_on) - LEFT_OUT) ^ set(PLACES)
     if missing:
         raise SystemExit(f"give a place in docs/pictures/pictures.py to, or take out: {', '.join(sorted(missing))}")
-    return {name: below for name, below in stands_on.items() if name in PLACES}
+    return {name: below - LEFT_OUT for name, below in stands_on.items() if name in PLACES}
 
 
 def direct(stands_on):
