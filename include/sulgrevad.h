@@ -1002,56 +1002,56 @@ SAM_MUST_USE sam_status sam_link_received(sam_link *link, uint64_t *count);
 /* What follows is written by tools/session_messages, from the tables of docs/reference/SESSION.md. */
 /* The kinds of messages, with their fields: up to 64 those from the terminal. */
 enum sam_note_kind {
-    SAM_NOTE_OPEN = 1, /* request, path: joins the file, or the folder, at the path */
-    SAM_NOTE_COMPLETE = 2, /* request, path: asks for the names that complete the path */
-    SAM_NOTE_RELOAD = 3, /* request, tag: reads a file anew from its disk */
-    SAM_NOTE_RELOADED = 4, /* tag, number: the user's edits have made the file what the file `number` has */
-    SAM_NOTE_WRITE = 5, /* request, tag: asks what becomes of the Twrite of this file that comes next */
-    SAM_NOTE_SESSION = 65, /* number, path, text: the first message: version of the messages, name of the session, machine */
-    SAM_NOTE_SAID = 66, /* text: words for people */
-    SAM_NOTE_SHOWN = 67, /* tag, number: another program wants the file shown at the line `number`, if not 0 */
+    SAM_NOTE_OPEN = 1,        /* request, path: joins the file, or the folder, at the path */
+    SAM_NOTE_COMPLETE = 2,    /* request, path: asks for the names that complete the path */
+    SAM_NOTE_RELOAD = 3,      /* request, tag: reads a file anew from its disk */
+    SAM_NOTE_RELOADED = 4,    /* tag, number: the user's edits have made the file what the file `number` has */
+    SAM_NOTE_WRITE = 5,       /* request, tag: asks what becomes of the Twrite of this file that comes next */
+    SAM_NOTE_SESSION = 65,    /* number, path, text: the first message: version of the messages, name of the session, machine */
+    SAM_NOTE_SAID = 66,       /* text: words for people */
+    SAM_NOTE_SHOWN = 67,      /* tag, number: another program wants the file shown at the line `number`, if not 0 */
     SAM_NOTE_TAKEN_OVER = 68, /* text: another terminal, at the machine that the text names, has the session now */
-    SAM_NOTE_ENDED = 69, /* code, number: the session is over, with this exit status: the last message */
-    SAM_NOTE_OPENED = 70, /* request, tag: the file of an Open */
-    SAM_NOTE_REFUSED = 71, /* request, code, text: what was asked for is not done, and why */
-    SAM_NOTE_NAMES = 72, /* request, code, path: names, each with a newline behind it; those of folders end in `/` */
-    SAM_NOTE_ANEW = 73, /* request, number: the file of the tag `number` has what stands on the disk */
-    SAM_NOTE_SAVED = 74, /* request, tag, code, path, copy, text: a write went to the disk, at the path */
-    SAM_NOTE_NOT_SAVED = 75, /* request, tag, code, path, copy, text: a write failed, and why; its text is in the copy, if not empty */
-    SAM_NOTE_CHANGED = 76, /* tag, code, path, text: another program changed the file, or removed it */
-    SAM_NOTE_DATED = 77, /* tag, number, path: the file was written last at this time, in seconds since 1970 */
-    SAM_NOTE_EARLIER = 78, /* tag, code, number, path, copy, text: an earlier session left a text in the copy, of the time `number` */
-    SAM_NOTE_ASIDE = 79, /* tag, code, path, copy, text: a text that is on no disk under its name is in the copy */
-    SAM_NOTE_LOST = 80, /* tag, code, path, text: a text could be saved nowhere, and why */
+    SAM_NOTE_ENDED = 69,      /* code, number: the session is over, with this exit status: the last message */
+    SAM_NOTE_OPENED = 70,     /* request, tag: the file of an Open */
+    SAM_NOTE_REFUSED = 71,    /* request, code, text: what was asked for is not done, and why */
+    SAM_NOTE_NAMES = 72,      /* request, code, path: names, each with a newline behind it; those of folders end in `/` */
+    SAM_NOTE_ANEW = 73,       /* request, number: the file of the tag `number` has what stands on the disk */
+    SAM_NOTE_SAVED = 74,      /* request, tag, code, path, copy, text: a write went to the disk, at the path */
+    SAM_NOTE_NOT_SAVED = 75,  /* request, tag, code, path, copy, text: a write failed, and why; its text is in the copy, if not empty */
+    SAM_NOTE_CHANGED = 76,    /* tag, code, path, text: another program changed the file, or removed it */
+    SAM_NOTE_DATED = 77,      /* tag, number, path: the file was written last at this time, in seconds since 1970 */
+    SAM_NOTE_EARLIER = 78,    /* tag, code, number, path, copy, text: an earlier session left a text in the copy, of the time `number` */
+    SAM_NOTE_ASIDE = 79,      /* tag, code, path, copy, text: a text that is on no disk under its name is in the copy */
+    SAM_NOTE_LOST = 80,       /* tag, code, path, text: a text could be saved nowhere, and why */
     SAM_NOTE_NO_JOURNAL = 81, /* code, text: what is done from now on survives no crash, and why */
 };
 
 /* What happened, or why. A number that isn't here comes from a later version, and counts as SAM_NOTE_OTHER. */
 enum sam_note_code {
-    SAM_NOTE_NO_CODE = 0, /* nothing to say */
-    SAM_NOTE_NO_SPACE = 1, /* the disk is full */
-    SAM_NOTE_NO_PERMISSION = 2, /* the system allows it not */
-    SAM_NOTE_READ_ONLY = 3, /* it can only be read */
-    SAM_NOTE_NOT_FOUND = 4, /* it is not there */
-    SAM_NOTE_IS_FOLDER = 5, /* it is a folder */
-    SAM_NOTE_NOT_TEXT = 6, /* it is no UTF-8, or has a zero byte */
-    SAM_NOTE_TOO_LONG = 7, /* it has too many characters */
-    SAM_NOTE_TOO_MANY = 8, /* there are too many files */
-    SAM_NOTE_NO_MEMORY = 9, /* out of memory */
-    SAM_NOTE_NO_NAME = 10, /* the file has no name */
-    SAM_NOTE_CHANGED_SINCE = 11, /* another program changed the file; the next write replaces it, and keeps what it has */
+    SAM_NOTE_NO_CODE = 0,         /* nothing to say */
+    SAM_NOTE_NO_SPACE = 1,        /* the disk is full */
+    SAM_NOTE_NO_PERMISSION = 2,   /* the system allows it not */
+    SAM_NOTE_READ_ONLY = 3,       /* it can only be read */
+    SAM_NOTE_NOT_FOUND = 4,       /* it is not there */
+    SAM_NOTE_IS_FOLDER = 5,       /* it is a folder */
+    SAM_NOTE_NOT_TEXT = 6,        /* it is no UTF-8, or has a zero byte */
+    SAM_NOTE_TOO_LONG = 7,        /* it has too many characters */
+    SAM_NOTE_TOO_MANY = 8,        /* there are too many files */
+    SAM_NOTE_NO_MEMORY = 9,       /* out of memory */
+    SAM_NOTE_NO_NAME = 10,        /* the file has no name */
+    SAM_NOTE_CHANGED_SINCE = 11,  /* another program changed the file; the next write replaces it, and keeps what it has */
     SAM_NOTE_EXISTS_ALREADY = 12, /* it is there, and this session hasn't read it; the next write replaces it, and keeps what it has */
-    SAM_NOTE_TAKEN_UNSAVED = 13, /* it was not written before this terminal took the session over */
-    SAM_NOTE_NO_SUCH_FILE = 14, /* no file has this tag */
-    SAM_NOTE_OTHER = 15, /* the text says what */
-    SAM_NOTE_HAS_MORE = 16, /* there are more */
-    SAM_NOTE_REPLACED = 17, /* what another program had written there is in the copy */
-    SAM_NOTE_BROKEN = 18, /* a write broke off, and what the file was is in the copy */
-    SAM_NOTE_NEWER = 19, /* the copy is newer than the file */
-    SAM_NOTE_OLDER = 20, /* the copy is older than the file */
-    SAM_NOTE_CUT = 21, /* of what was cut last */
-    SAM_NOTE_UNNAMED = 22, /* of a file without a name */
-    SAM_NOTE_FAILED = 23, /* the disk failed */
+    SAM_NOTE_TAKEN_UNSAVED = 13,  /* it was not written before this terminal took the session over */
+    SAM_NOTE_NO_SUCH_FILE = 14,   /* no file has this tag */
+    SAM_NOTE_OTHER = 15,          /* the text says what */
+    SAM_NOTE_HAS_MORE = 16,       /* there are more */
+    SAM_NOTE_REPLACED = 17,       /* what another program had written there is in the copy */
+    SAM_NOTE_BROKEN = 18,         /* a write broke off, and what the file was is in the copy */
+    SAM_NOTE_NEWER = 19,          /* the copy is newer than the file */
+    SAM_NOTE_OLDER = 20,          /* the copy is older than the file */
+    SAM_NOTE_CUT = 21,            /* of what was cut last */
+    SAM_NOTE_UNNAMED = 22,        /* of a file without a name */
+    SAM_NOTE_FAILED = 23,         /* the disk failed */
 };
 /* Up to here by tools/session_messages. */
 

@@ -1,6 +1,6 @@
 -- What is read from bytes was spelled so, and what was spelled so is read.
-use Rattle.std.proofs.Common.{◌≡◌, ℕ, ◌+◌, ◌<◌, ◌≤◌, ◌^◌, Bool, true, false, List, [], ◌∷◌, ◌++◌, length, take, drop, Option, Some, None, refl, sym, ap, subst, ◌∙◌, arith, option_and_then, option_map, w8, w16, w32, w64, le-ltb, ltb, ltb-false, take-append-drop, append_assoc, take_at, drop_at, length-take, length-append, length-drop, get_or, get_or-drop, suc, lit<}
-use Rattle.std.specs.Int.{byte_len, from_be_bytes}
+use Rattle.std.proofs.Common.{◌≡◌, ℕ, ◌+◌, ◌<◌, ◌≤◌, ◌^◌, Bool, true, false, List, [], ◌∷◌, ◌++◌, length, take, drop, Option, Some, refl, sym, ap, subst, ◌∙◌, arith, option_and_then, option_map, w8, w16, w64, le-ltb, take-append-drop, append_assoc, take_at, drop_at, length-take, length-append, length-drop, get_or-drop, suc, lit<}
+use Rattle.std.specs.Int.{from_be_bytes}
 use Rattle.std.proofs.lemmas.List.{drop-drop}
 use Rattle.sam_mesg.specs.Spelling.{two, four, eight}
 unfoldable pub use Rattle.sam_mesg.specs.Reading.{number_at}

@@ -1,6 +1,5 @@
 -- What a message has, field by field, is what its kind has in its order.
-use Rattle.std.proofs.Common.{◌≡◌, ℕ, ◌+◌, ◌<◌, ◌^◌, ◌≤◌, List, [], ◌∷◌, ◌++◌, length, min, drop, zero-add, None, Ok, Bool, true, false, ◌||◌, ◌==◌, refl, sym, ap, ◌∙◌, arith, append_assoc, append-nil, length-append}
-use Rattle.std.proofs.lemmas.Bool.{false≢true}
+use Rattle.std.proofs.Common.{◌≡◌, ℕ, ◌+◌, ◌<◌, ◌^◌, ◌≤◌, List, [], ◌∷◌, ◌++◌, length, min, drop, zero-add, None, Ok, Bool, true, false, refl, sym, ap, ◌∙◌, arith, append_assoc, append-nil, length-append}
 use Rattle.std.proofs.lemmas.List.{nil_from_length}
 use Rattle.sam_mesg.specs.Spelling.{two, four, eight}
 use Rattle.sam_note.specs.declared.kind.Fields.{Fields}
@@ -8,8 +7,8 @@ use Rattle.sam_note.specs.declared.kind.NoteKind.{NoteKind}
 use Rattle.sam_note.specs.declared.kind.NoteKind.TheVariants.{Open}
 use Rattle.sam_note.specs.declared.note.Head.{Head}
 use Rattle.sam_note.specs.Calls.{Refuses, Writes, message}
-use Rattle.sam_note.specs.Kinds.{Field, Request, Tag, Code, Number, Path, Copy, Text, among, fields, has}
-use Rattle.sam_note.specs.Messages.{IsVacant, Message, most_bytes, piece, spelled}
+use Rattle.sam_note.specs.Kinds.{Request, Tag, Code, Number, Path, Copy, Text, has}
+use Rattle.sam_note.specs.Messages.{Message, most_bytes, piece, spelled}
 use Rattle.sam_note.specs.Writing.{Puts, part, wide}
 use Rattle.sam_note.proofs.Putting.{length_head, length_note, puts_front}
 unfoldable use Rattle.sam_note.proofs.Putting.{head_bytes, note_bytes}

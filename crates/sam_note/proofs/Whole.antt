@@ -1,19 +1,16 @@
 -- A message is read from its bytes, and from no others.
-use Rattle.std.proofs.Common.{◌≡◌, ◌≢◌, ℕ, ◌+◌, ◌-◌, ◌<◌, ◌≤◌, ◌^◌, Bool, true, false, ◌==◌, List, [], ◌∷◌, ◌++◌, length, drop, slice_get, nat_lt, if◌then◌else◌, Option, Some, None, refl, sym, ap, subst, ◌∙◌, arith, cond, append_assoc, append-nil, option_and_then, option_map, suc}
+use Rattle.std.proofs.Common.{◌≡◌, ℕ, ◌-◌, ◌<◌, ◌≤◌, List, [], ◌∷◌, ◌++◌, length, drop, slice_get, nat_lt, if◌then◌else◌, Option, Some, None, refl, sym, ap, subst, ◌∙◌, arith, append_assoc, append-nil, option_and_then, option_map, suc}
 use Rattle.std.proofs.lemmas.List.{nil_from_length}
-use Rattle.sam_mesg.specs.Spelling.{two, four, eight}
 use Rattle.sam_mesg.proofs.Exact.{IsBytes, bind_some, map_some, some_is}
 use Rattle.sam_note.specs.declared.kind.Fields.{Fields}
 use Rattle.sam_note.specs.declared.kind.NoteKind.{NoteKind}
 use Rattle.sam_note.specs.declared.kind.NoteKind.TheVariants.{Open, Complete, Reload, Reloaded, Write, Session, Said, Shown, TakenOver, Ended, Opened, Refused, Names, Anew, Saved, NotSaved, Changed, Dated, Earlier, Aside, Lost, NoJournal}
 use Rattle.sam_note.specs.declared.note.Head.{Head}
-use Rattle.sam_note.specs.declared.note.Note.{Note}
-use Rattle.sam_note.specs.Calls.{HasNoKind, message_in}
-use Rattle.sam_note.specs.Kinds.{Field, Request, Tag, Code, Number, Path, Copy, Text, among, fields, has, number}
-use Rattle.sam_note.specs.Messages.{IsVacant, Message, Spells, most_bytes, piece, spelled}
+use Rattle.sam_note.specs.Calls.{HasNoKind}
+use Rattle.sam_note.specs.Kinds.{Request, Tag, Code, Number, Path, Copy, Text, has, number}
+use Rattle.sam_note.specs.Messages.{Message, Spells, most_bytes, spelled}
 use Rattle.sam_note.specs.Reading.{ended, made, message_at, numbers_at, pieces_at, then_at}
-use Rattle.sam_note.specs.Writing.{part}
-use Rattle.sam_note.proofs.Fronts.{GoodIf, GoodNumbers, GoodPieces, IsShort, fields_front, number_bytes, piece_bytes}
+use Rattle.sam_note.proofs.Fronts.{GoodNumbers, GoodPieces, IsShort, fields_front, number_bytes, piece_bytes}
 use Rattle.sam_note.proofs.Spelling.{notes_len}
 unfoldable use Rattle.sam_note.specs.Messages.{IsPlain}
 

@@ -1,5 +1,5 @@
 -- What reading and writing a message may answer.
-use Rattle.std.specs.Prelude.{◌≡◌, ◌≢◌, ℕ, ◌+◌, ◌<◌, ◌≤◌, List, [], ◌∷◌, ◌++◌, length, take, drop, min, Option, None, Some, Result, Ok, Err}
+use Rattle.std.specs.Prelude.{◌≡◌, ◌≢◌, ℕ, ◌+◌, ◌≤◌, List, [], ◌∷◌, ◌++◌, length, take, drop, min, Option, None, Some, Result, Ok, Err}
 use Rattle.std.specs.Str.{IsUtf8}
 use Rattle.sam_note.specs.declared.fault.NoteFault.{NoteFault}
 use Rattle.sam_note.specs.declared.fault.NoteFault.TheVariants.{BadKind, BadField, BadLength, BadPath, BadText}

@@ -3,3 +3,4 @@ pub mod Messages
 pub mod Reading
 pub mod Writing
 pub mod Calls
+pub mod Laws

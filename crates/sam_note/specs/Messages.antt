@@ -1,10 +1,7 @@
 -- A message and its bytes.
-use Rattle.std.specs.Prelude.{◌≡◌, ◌≢◌, ℕ, ◌<◌, ◌≤◌, ◌^◌, List, [], ◌∷◌, ◌++◌, length, take, drop, Bool, true, false, ◌==◌, Result, Ok, Err}
+use Rattle.std.specs.Prelude.{◌≡◌, ℕ, ◌<◌, ◌≤◌, ◌^◌, List, [], ◌∷◌, ◌++◌, length, Bool, false, ◌==◌}
 use Rattle.std.specs.List.{list_any}
-use Rattle.std.specs.Str.{IsUtf8}
 use Rattle.sam_mesg.specs.Spelling.{two, four, eight}
-use Rattle.sam_note.specs.declared.fault.NoteFault.{NoteFault}
-use Rattle.sam_note.specs.declared.fault.NoteFault.TheVariants.{BadKind, BadField, BadLength, BadPath, BadText}
 use Rattle.sam_note.specs.declared.kind.NoteKind.{NoteKind}
 use Rattle.sam_note.specs.Kinds.{Field, Request, Tag, Code, Number, Path, Copy, Text, among, fields, number}
 

@@ -3,6 +3,11 @@
 ghost use Rattle.std.specs.Prelude.{◌≡◌};
 ghost use Rattle.sam_note.specs.Kinds.{IsKindOf, has, number};
 
+/// Makes the `Fields` that have these, and no others.
+macro_rules! fields {
+    ($($field:ident)*) => { Fields { $($field: true,)* ..NO_FIELDS } };
+}
+
 /// A kind of message. Those up to 64 go from the terminal to the host, the others from the host to the terminal.
 /// docs/reference/SESSION.md says what each means.
 #[derive(Clone, Copy, Debug, PartialEq, Eq, Drop)]
@@ -97,87 +102,21 @@ impl NoteKind {
         ensures { result ≡ has self }
     {
         match self {
-            NoteKind::Open | NoteKind::Complete => Fields {
-                request: true,
-                path: true,
-                ..NO_FIELDS
-            },
-            NoteKind::Reload | NoteKind::Write | NoteKind::Opened => Fields {
-                request: true,
-                tag: true,
-                ..NO_FIELDS
-            },
-            NoteKind::Reloaded | NoteKind::Shown => Fields {
-                tag: true,
-                number: true,
-                ..NO_FIELDS
-            },
-            NoteKind::Session => Fields {
-                number: true,
-                path: true,
-                text: true,
-                ..NO_FIELDS
-            },
-            NoteKind::Said | NoteKind::TakenOver => Fields {
-                text: true,
-                ..NO_FIELDS
-            },
-            NoteKind::Ended => Fields {
-                code: true,
-                number: true,
-                ..NO_FIELDS
-            },
-            NoteKind::Refused => Fields {
-                request: true,
-                code: true,
-                text: true,
-                ..NO_FIELDS
-            },
-            NoteKind::Names => Fields {
-                request: true,
-                code: true,
-                path: true,
-                ..NO_FIELDS
-            },
-            NoteKind::Anew => Fields {
-                request: true,
-                number: true,
-                ..NO_FIELDS
-            },
-            NoteKind::Saved | NoteKind::NotSaved => Fields {
-                number: false,
-                ..ALL_FIELDS
-            },
-            NoteKind::Changed | NoteKind::Lost => Fields {
-                tag: true,
-                code: true,
-                path: true,
-                text: true,
-                ..NO_FIELDS
-            },
-            NoteKind::Dated => Fields {
-                tag: true,
-                number: true,
-                path: true,
-                ..NO_FIELDS
-            },
-            NoteKind::Earlier => Fields {
-                request: false,
-                ..ALL_FIELDS
-            },
-            NoteKind::Aside => Fields {
-                tag: true,
-                code: true,
-                path: true,
-                copy: true,
-                text: true,
-                ..NO_FIELDS
-            },
-            NoteKind::NoJournal => Fields {
-                code: true,
-                text: true,
-                ..NO_FIELDS
-            },
+            NoteKind::Open | NoteKind::Complete => fields!(request path),
+            NoteKind::Reload | NoteKind::Write | NoteKind::Opened => fields!(request tag),
+            NoteKind::Reloaded | NoteKind::Shown => fields!(tag number),
+            NoteKind::Session => fields!(number path text),
+            NoteKind::Said | NoteKind::TakenOver => fields!(text),
+            NoteKind::Ended => fields!(code number),
+            NoteKind::Refused => fields!(request code text),
+            NoteKind::Names => fields!(request code path),
+            NoteKind::Anew => fields!(request number),
+            NoteKind::Saved | NoteKind::NotSaved => fields!(request tag code path copy text),
+            NoteKind::Changed | NoteKind::Lost => fields!(tag code path text),
+            NoteKind::Dated => fields!(tag number path),
+            NoteKind::Earlier => fields!(tag code number path copy text),
+            NoteKind::Aside => fields!(tag code path copy text),
+            NoteKind::NoJournal => fields!(code text),
         }
     }
 }
@@ -210,15 +149,4 @@ const NO_FIELDS: Fields = Fields {
     path: false,
     copy: false,
     text: false,
-};
-
-/// Every field.
-const ALL_FIELDS: Fields = Fields {
-    request: true,
-    tag: true,
-    code: true,
-    number: true,
-    path: true,
-    copy: true,
-    text: true,
 };

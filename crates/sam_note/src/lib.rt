@@ -16,12 +16,14 @@
 
 mod fault;
 mod kind;
+mod laws;
 mod note;
 mod reading;
 mod writing;
 
 pub use fault::NoteFault;
 pub use kind::{Fields, NoteKind};
+pub use laws::{one_message, read_is_written, written_is_read};
 pub use note::{Head, MOST_BYTES, Note, Place};
 pub use reading::read_note;
 pub use writing::write_note;

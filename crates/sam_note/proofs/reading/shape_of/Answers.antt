@@ -1,4 +1,4 @@
-use Rattle.std.proofs.Common.{◌≡◌, ℕ, ◌≤◌, ◌<◌, Some, ◌∷◌, arith, drop, get_or, length, slice_get}
+use Rattle.std.proofs.Common.{◌≡◌, ◌≤◌, Some, arith, drop, length, slice_get}
 use Rattle.sam_mesg.proofs.Exact.{IsBytes}
 use Rattle.sam_note.specs.Calls.{message_in}
 use Rattle.sam_note.specs.Messages.{most_bytes}

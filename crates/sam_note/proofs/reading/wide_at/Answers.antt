@@ -1,4 +1,4 @@
-use Rattle.std.proofs.Common.{◌≡◌, ◌≤◌, ◌+◌, length, true, arith}
+use Rattle.std.proofs.Common.{arith}
 use Rattle.sam_note.proofs.Fronts.{wide_there}
 use Rattle.sam_note.proofs.reading.wide_at.Goals as goal
 

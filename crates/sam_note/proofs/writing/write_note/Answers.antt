@@ -1,4 +1,4 @@
-use Rattle.std.proofs.Common.{List, arith}
+use Rattle.std.proofs.Common.{arith}
 use Rattle.sam_note.proofs.Spelling.{has_room, pieces_short, written}
 use Rattle.sam_note.proofs.writing.write_note.Goals as goal
 
