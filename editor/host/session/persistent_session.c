@@ -162,6 +162,7 @@ static void feed_link(struct session *session)
         return;
     end_line(stay);
     if (stay->has_streams) { /* else the next connection brings all of it again */
+        stay->line_out = -1; /* nothing goes over it any more */
         stay->broken = FAULT;
         say("the terminal's stream is wrong (status %u)", (unsigned)code);
     }
@@ -319,7 +320,7 @@ static enum ending take_what_is_there(struct session *session, const sigset_t *m
             feed_link(session);
         after = count_of(session->stay, sam_link_received);
     } while (ending == GOES_ON && after != before && ++pieces <= MOST_PIECES_LEFT);
-    if (ending == GOES_ON && session->stay->has_streams && session->stay->in.len > 0)
+    if (ending == GOES_ON && session->stay->has_streams && session->stay->in.len > 0 && !session->wire.is_short) /* else it is said */
         lose_the_last(session);
     return ending;
 }
