@@ -374,7 +374,8 @@ static enum ending serve_line(struct session *session, const sigset_t *mask)
     return ending == GOES_ON ? ending_of_line(session) : ending;
 }
 
-/* Whether the terminal has the last message, before which so many bytes were put, or can't hear of it. It has what standard output took. */
+/* Whether the terminal has the last message, before which so many bytes were put, or can't hear of it. It has what standard output
+ * took. */
 static bool has_heard_all(struct stay *stay, uint64_t wanted)
 {
     size_t unsent = 0;
