@@ -319,7 +319,7 @@ static enum ending take_what_is_there(struct session *session, const sigset_t *m
         while (ending == GOES_ON && session->stay->has_streams && session->stay->in.len > 0 && is_tried_again(ENOMEM, &tries))
             feed_link(session);
         after = count_of(session->stay, sam_link_received);
-    } while (ending == GOES_ON && after != before && ++pieces <= MOST_PIECES_LEFT);
+    } while (ending == GOES_ON && !session->wire.is_short && after != before && ++pieces <= MOST_PIECES_LEFT);
     if (ending == GOES_ON && session->stay->has_streams && session->stay->in.len > 0 && !session->wire.is_short) /* else it is said */
         lose_the_last(session);
     return ending;
@@ -386,8 +386,8 @@ static bool has_heard_all(struct stay *stay, uint64_t wanted)
     return stay->line_out < 0 || (wanted > 0 && is_sent);
 }
 
-/* Puts the last message, and keeps it until the terminal has acknowledged it: for a while where that has left, and for a moment where it may
- * not know. */
+/* Puts the last message, and keeps it until the terminal has acknowledged it: for a while where that has left, and for a moment where it
+ * may not know. */
 static void say_the_end(struct session *session, const sigset_t *mask, int status, bool has_left)
 {
     struct stay *stay = session->stay;
