@@ -1,7 +1,7 @@
 /* messages.c: what a session says to its terminal, as typed messages of its link. Who has no terminal says it on standard error.
  *
- * Each write of a file gets one answer. A request for that takes the memory of its answer beforehand. The answer stands in the record of the
- * write, and in another once it is put: so another samhost neither leaves it out nor says it twice.
+ * Each write of a file gets one answer. A request for that takes the memory of its answer beforehand. The answer stands in the record of
+ * the write, and in another once it is put: so another samhost neither leaves it out nor says it twice.
  */
 #define _XOPEN_SOURCE 700
 #include <stdarg.h>
@@ -39,8 +39,8 @@ static size_t cut_len(const char *words, size_t room)
     return len;
 }
 
-/* The bytes of a message; how many, or 0 where it has a field that its kind has not. Where not all fits in, the words are cut; a copy goes,
- * and then a path, which are no use if they are cut. */
+/* The bytes of a message; how many, or 0 where it has a field that its kind has not. Where not all fits in, the words are cut; a path,
+ * which is no use if it is cut, goes before that, since the tag tells of which file it is, and then a copy. */
 static size_t spell(const struct event *event, const char *words, uint8_t into[SAM_LINK_MOST_NOTE])
 {
     const char *path = words_or_none(event->path), *copy = words_or_none(event->copy);
@@ -59,7 +59,7 @@ static size_t spell(const struct event *event, const char *words, uint8_t into[S
     while (sam_note_write(&note, bytes[0], bytes[1], bytes[2], into, SAM_LINK_MOST_NOTE, &len) != SAM_OK) {
         if (note.path_len == 0 && note.copy_len == 0)
             return 0;
-        *(note.copy_len > 0 ? &note.copy_len : &note.path_len) = 0;
+        *(note.path_len > 0 ? &note.path_len : &note.copy_len) = 0;
     }
     note.text_len = cut_len(words, SAM_LINK_MOST_NOTE - len);
     if (note.text_len > 0 && sam_note_write(&note, bytes[0], bytes[1], bytes[2], into, SAM_LINK_MOST_NOTE, &len) != SAM_OK)
@@ -170,7 +170,8 @@ void free_messages(struct messages *messages)
 
 /* ---- What happened ---- */
 
-/* Whether standard error is to have the words of a message: there is no terminal; or it may be gone and won't come back, or memory is out. */
+/* Whether standard error is to have the words of a message: there is no terminal; or it may be gone and won't come back, or memory is
+ * out. */
 static bool is_said_aloud(const struct stay *stay, bool is_put)
 {
     bool is_cut_off = stay->attempt > 0 && (stay->line < 0 || stay->line_out < 0);

@@ -54,8 +54,8 @@ bool put_first_message(struct session *session);
 /* Takes the message back that stands first. */
 void drop_first_message(struct messages *messages);
 
-/* Says what happened: to the terminal of the session that listens, by a message with a sentence for people; else by that sentence on standard
- * error. */
+/* Says what happened: to the terminal of the session that listens, by a message with a sentence for people; else by that sentence on
+ * standard error. */
 void tell(const struct event *event, const char *format, ...);
 
 /* Puts the messages that wait, as soon as there is a link. What was put goes into records of its own. */

@@ -139,7 +139,7 @@ static void stop_sending(struct stay *stay, int error)
     stay->line_out = -1;
     if (error == EPIPE) /* the terminal has gone */
         return;
-    stay->ending = LINE_BROKE;
+    stay->broken = LINE_BROKE;
     say("standard output can't be written: %s", cause(error));
 }
 
@@ -160,11 +160,12 @@ static void feed_link(struct session *session)
     in->len = 0;
     if (code == SAM_OK)
         return;
+    end_line(stay);
     if (stay->has_streams) { /* else the next connection brings all of it again */
-        stay->ending = FAULT;
+        stay->line_out = -1; /* nothing goes over it any more */
+        stay->broken = FAULT;
         say("the terminal's stream is wrong (status %u)", (unsigned)code);
     }
-    end_line(stay);
 }
 
 /* Reads what has come over the newest connection. */
@@ -178,7 +179,7 @@ static void read_line(struct session *session)
         if (count < 0 && (errno == EAGAIN || errno == EINTR))
             return;
         if (count < 0 && stay->has_streams) {
-            stay->ending = LINE_BROKE;
+            stay->broken = LINE_BROKE;
             stay->line = -1;
             say("standard input can't be read: %s", cause(errno));
         }
@@ -318,8 +319,8 @@ static enum ending take_what_is_there(struct session *session, const sigset_t *m
         while (ending == GOES_ON && session->stay->has_streams && session->stay->in.len > 0 && is_tried_again(ENOMEM, &tries))
             feed_link(session);
         after = count_of(session->stay, sam_link_received);
-    } while (ending == GOES_ON && after != before && ++pieces <= MOST_PIECES_LEFT);
-    if (ending == GOES_ON && session->stay->has_streams && session->stay->in.len > 0)
+    } while (ending == GOES_ON && !session->wire.is_short && after != before && ++pieces <= MOST_PIECES_LEFT);
+    if (ending == GOES_ON && session->stay->has_streams && session->stay->in.len > 0 && !session->wire.is_short) /* else it is said */
         lose_the_last(session);
     return ending;
 }
@@ -328,13 +329,13 @@ static enum ending take_what_is_there(struct session *session, const sigset_t *m
 static enum ending ending_of_line(struct session *session)
 {
     struct stay *stay = session->stay;
-    bool is_at_its_end = stay->has_streams && stay->line < 0 && stay->ending == GOES_ON && !session->wire.is_short;
+    bool is_at_its_end = stay->has_streams && stay->line < 0 && stay->broken == GOES_ON && !session->wire.is_short;
 
     if (is_at_its_end && sam_host_finish(&session->host) == SAM_TRUNCATED) {
         say("standard input ends inside a message");
         return LINE_BROKE;
     }
-    return stay->ending == GOES_ON ? INPUT_ENDED : stay->ending;
+    return stay->broken == GOES_ON ? INPUT_ENDED : stay->broken;
 }
 
 /* Whether memory is out for what a terminal has sent that is gone, and has been for a while: nobody will send it once more. */
@@ -373,7 +374,8 @@ static enum ending serve_line(struct session *session, const sigset_t *mask)
     return ending == GOES_ON ? ending_of_line(session) : ending;
 }
 
-/* Whether the terminal has the last message, before which so many bytes were put, or can't hear of it. It has what standard output took. */
+/* Whether the terminal has the last message, before which so many bytes were put, or can't hear of it. It has what standard output
+ * took. */
 static bool has_heard_all(struct stay *stay, uint64_t wanted)
 {
     size_t unsent = 0;
@@ -384,8 +386,8 @@ static bool has_heard_all(struct stay *stay, uint64_t wanted)
     return stay->line_out < 0 || (wanted > 0 && is_sent);
 }
 
-/* Puts the last message, and keeps it until the terminal has acknowledged it: for a while where that has left, and for a moment where it may
- * not know. */
+/* Puts the last message, and keeps it until the terminal has acknowledged it: for a while where that has left, and for a moment where it
+ * may not know. */
 static void say_the_end(struct session *session, const sigset_t *mask, int status, bool has_left)
 {
     struct stay *stay = session->stay;

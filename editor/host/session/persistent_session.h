@@ -41,7 +41,8 @@ struct stay {
     struct messages messages;
     struct journal journal;
     struct replay *replay;            /* NULL but while it is made again */
-    enum ending ending;               /* why it ends; LINE_BROKE and FAULT while what has come is still to be taken */
+    enum ending ending;               /* why it ends */
+    enum ending broken;               /* LINE_BROKE or FAULT: what its standard streams came to; GOES_ON before that */
     struct session *heir;             /* what another terminal has made of the session; else NULL */
     uint8_t note[SAM_LINK_MOST_NOTE]; /* of the terminal, that is to be done */
     size_t note_len;

@@ -4,6 +4,7 @@ import shutil
 import struct
 
 from checks import Skipped, expect
+from sulgrevad import NoteKind
 
 from .support import (
     AGE, IS_ROOT, NOBODY, OPEN, SAMHOST, WRITE, Session, as_nobody, expect_equal, expect_line, expect_only, files_below, made,
@@ -323,7 +324,9 @@ def check_long_path(folder):
         session.type("two\n")
         session.write()
         copy = own_copy(folder, absent)
-        expect_line(session.told(), rf"not written: {absent}: File name too long; its text is in {copy}")
+        answer = session.line.messages[-1]
+        expect_equal((answer.kind, answer.tag, answer.copy), (NoteKind.NOT_SAVED, 1, os.fsencode(copy)), "what it answers")
+        expect(f"not written: {absent}: File name too long; its text".startswith(answer.text), "it says something else")
         expect_equal(text_of(copy), "two\n", "the copy")
 
 

@@ -1,6 +1,7 @@
 """Requests for memory that are refused to a session that stays: while it begins and runs, while another terminal takes it over, and while
 another samhost makes it again of its journal."""
 import concurrent.futures
+import os
 
 from checks import GIVEN_UP, Failed, expect, remove
 

@@ -118,7 +118,7 @@ class Session:
             [*prefix, SAMHOST, *options, "--", *files], cwd=folder, stdin=pipe, stdout=pipe, stderr=pipe, bufsize=0,
             env={**os.environ, **more}, preexec_fn=set_limit,
         )  # fmt: skip
-        self.sources, self.has_begun = [self.process.stdout, self.process.stderr], begin
+        self.sources, self.has_begun = [self.process.stderr, self.process.stdout], begin
         if begin:
             self.terminal.open_cmd()
             self.terminal.offer_version(2)

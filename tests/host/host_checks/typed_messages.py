@@ -181,7 +181,8 @@ def check_typed_longest_paths(folder):
         session.type("three\n")
         session.write()
         (refused,) = session.of("NOT_SAVED")
-        expect_equal((refused.code, refused.path, refused.copy), (NoteCode.CHANGED_SINCE, path.encode(), b""), "the answer")
+        wanted = (NoteCode.CHANGED_SINCE, b"", f"{path}.sam-saved".encode())
+        expect_equal((refused.code, refused.path, refused.copy), wanted, "the answer, in which there is no room for the path")
         expect(refused.text.startswith("? write ddd"), f"it says {refused.text!r}")
         session.leave()
 
@@ -201,6 +202,7 @@ def check_typed_over_the_standard_streams(folder):
         expect_equal(session.line.messages[3].number, 0, "the status that it tells")
         expect_equal(session.line.messages[0].path, session.line.id[:8].hex().encode(), "the name of the session")
     expect_equal(text_of(path), "one\ntwo\n", "the file")
+    (folder / "a.txt.sam-saved").unlink()
     stream = message(2) + on_file(OPEN) + typed(1, 0, b"x") + on_file(WRITE)
     expect_equal(run_host(folder, [SAMHOST, "a.txt"], stream), (0, []), "status and lines where the input ends")
     expect_equal(text_of(path), "xone\ntwo\n", "the file")
