@@ -10,6 +10,7 @@ ghost use Rattle.sam_endpoint.specs.HostEndpoints.{fault_place};
 
 use crate::handle::{SamHost, with_end};
 use crate::status::{NO_HANDLE, NONE, OK};
+use crate::telling::{tell, tell_some, tell_two};
 use crate::utf8::{count, countable, runes_from, tell_name, tell_text};
 use std::alloc::Global;
 
@@ -39,13 +40,7 @@ pub extern "C" fn sam_host_fault_place(host: &mut SamHost, place: &mut u64, allo
     ensures kept { host.new.held.end ≡ host.old.held.end }
 {
     with_end!(host alloc end {
-        match end.fault_place() {
-            Some(bytes) => {
-                *place = bytes;
-                OK
-            }
-            None => NONE,
-        }
+        tell_some(end.fault_place(), place)
     })
 }
 
@@ -110,10 +105,7 @@ pub extern "C" fn sam_host_len(host: &mut SamHost, tag: u16, runes: &mut u32, al
 {
     with_end!(host alloc end {
         match end.host().files().text(tag) {
-            Some(text) => {
-                *runes = text.len();
-                OK
-            }
+            Some(text) => tell(text.len(), runes),
             None => NONE,
         }
     })
@@ -132,8 +124,7 @@ pub extern "C" fn sam_host_is_dirty(
 {
     with_end!(host alloc end {
         if end.host().files().has(tag) {
-            *dirty = end.host().files().is_dirty(tag);
-            OK
+            tell(end.host().files().is_dirty(tag), dirty)
         } else {
             NONE
         }
@@ -153,14 +144,7 @@ pub extern "C" fn sam_host_dot(
     ensures kept { host.new.held.end ≡ host.old.held.end }
 {
     with_end!(host alloc held {
-        match held.host().files().dot(tag) {
-            Some(dot) => {
-                *start = dot.0;
-                *end = dot.1;
-                OK
-            }
-            None => NONE,
-        }
+        tell_two(held.host().files().dot(tag), start, end)
     })
 }
 
@@ -207,10 +191,7 @@ pub extern "C" fn sam_host_saved_len(
 {
     with_end!(host alloc end {
         match end.host().files().saved(tag) {
-            Some(saved) => {
-                *runes = count(countable(saved.as_slice()));
-                OK
-            }
+            Some(saved) => tell(count(countable(saved.as_slice())), runes),
             None => NONE,
         }
     })

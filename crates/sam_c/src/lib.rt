@@ -16,6 +16,7 @@ mod scripts;
 mod snapshots;
 mod status;
 mod steps;
+mod telling;
 mod term_calls;
 mod term_events;
 mod term_readers;

@@ -15,6 +15,7 @@ ghost use Rattle.sam_term.specs.Term.{is_changed};
 
 use crate::handle::{SamTerm, with_end};
 use crate::status::{NO_HANDLE, NONE, OK};
+use crate::telling::{tell, tell_some, tell_two};
 use crate::utf8::{countable, runes_from, tell_name, tell_text};
 use sam_endpoint::{TermEndpoint, read_rasp};
 use sam_rasp::Rasp;
@@ -125,13 +126,7 @@ pub extern "C" fn sam_term_fault_place(term: &mut SamTerm, place: &mut u64, allo
     ensures kept { term.new.held.end ≡ term.old.held.end }
 {
     with_end!(term alloc end {
-        match end.fault_place() {
-            Some(bytes) => {
-                *place = bytes;
-                OK
-            }
-            None => NONE,
-        }
+        tell_some(end.fault_place(), place)
     })
 }
 
@@ -198,13 +193,7 @@ pub extern "C" fn sam_term_current(term: &mut SamTerm, tag: &mut u16, alloc: Glo
     ensures kept { term.new.held.end ≡ term.old.held.end }
 {
     with_end!(term alloc end {
-        match end.term().current() {
-            Some(tag_now) => {
-                *tag = tag_now;
-                OK
-            }
-            None => NONE,
-        }
+        tell_some(end.term().current(), tag)
     })
 }
 
@@ -221,10 +210,7 @@ pub extern "C" fn sam_term_is_dirty(
 {
     with_end!(term alloc end {
         match known_file(&end, tag) {
-            Some(file) => {
-                *dirty = file.dirty;
-                OK
-            }
+            Some(file) => tell(file.dirty, dirty),
             None => NONE,
         }
     })
@@ -253,10 +239,7 @@ pub extern "C" fn sam_term_len(term: &mut SamTerm, tag: u16, runes: &mut u32, al
 {
     with_end!(term alloc end {
         match end.term().rasp(tag) {
-            Some(rasp) => {
-                *runes = rasp.len();
-                OK
-            }
+            Some(rasp) => tell(rasp.len(), runes),
             None => NONE,
         }
     })
@@ -275,14 +258,7 @@ pub extern "C" fn sam_term_dot(
     ensures kept { term.new.held.end ≡ term.old.held.end }
 {
     with_end!(term alloc held {
-        match held.term().dot(tag) {
-            Some(range) => {
-                *start = range.0;
-                *end = range.1;
-                OK
-            }
-            None => NONE,
-        }
+        tell_two(held.term().dot(tag), start, end)
     })
 }
 
@@ -300,14 +276,7 @@ pub extern "C" fn sam_term_view_of(
     ensures kept { term.new.held.end ≡ term.old.held.end }
 {
     with_end!(term alloc held {
-        match held.term().view(tag) {
-            Some(range) => {
-                *start = range.0;
-                *end = range.1;
-                OK
-            }
-            None => NONE,
-        }
+        tell_two(held.term().view(tag), start, end)
     })
 }
 
@@ -441,12 +410,6 @@ pub extern "C" fn sam_term_first_gap(
             Some(rasp) => gap_in(rasp, place),
             None => None,
         };
-        match found {
-            Some(first) => {
-                *gap = first;
-                OK
-            }
-            None => NONE,
-        }
+        tell_some(found, gap)
     })
 }

@@ -9,9 +9,31 @@ ghost use Rattle.sam_c.specs.Terms.{rasp_of};
 
 use crate::handle::{SamTerm, with_end};
 use crate::measures::tell_front;
-use crate::status::{NO_HANDLE, NONE, OK};
+use crate::status::{NO_HANDLE, NONE};
+use crate::telling::{tell, tell_some, tell_two};
+use sam_endpoint::TermEndpoint;
 use sam_rasp::Measure;
 use std::alloc::Global;
+
+/// Returns what the loaded runes of an open file from the place `start` to the place `end` take by a measure, and how many there are not
+/// loaded; `None` if the file is not open.
+fn sizes_of(
+    held: &TermEndpoint,
+    tag: u16,
+    measure: Measure,
+    start: u32,
+    end: u32,
+) -> Option<(u32, u32)>
+    ensures { result ≡ option_map (λ text. sizes text measure start end) (rasp_of held.now tag) }
+{
+    match held.term().rasp(tag) {
+        Some(rasp) => {
+            let all = rasp.tally(start, end);
+            Some((all.count(measure), all.gaps))
+        }
+        None => None,
+    }
+}
 
 /// Puts the text of an open file from a place on, up to the first gap, into the buffer in UTF-8, as many whole runes as have room. Hands
 /// out how many bytes and how many runes.
@@ -54,13 +76,8 @@ pub extern "C" fn sam_term_bytes(
     ensures kept { term.new.held.end ≡ term.old.held.end }
 {
     with_end!(term alloc held {
-        match held.term().rasp(tag) {
-            Some(rasp) => {
-                let all = rasp.tally(start, end);
-                *bytes = all.bytes as usize;
-                *gaps = all.gaps;
-                OK
-            }
+        match sizes_of(&held, tag, Measure::Bytes, start, end) {
+            Some(sizes) => tell_two(Some((sizes.0 as usize, sizes.1)), bytes, gaps),
             None => NONE,
         }
     })
@@ -83,10 +100,7 @@ pub extern "C" fn sam_term_place(
 {
     with_end!(term alloc end {
         match end.term().rasp(tag) {
-            Some(rasp) => {
-                *place = rasp.place_after(start, Measure::Bytes, bytes);
-                OK
-            }
+            Some(rasp) => tell(rasp.place_after(start, Measure::Bytes, bytes), place),
             None => NONE,
         }
     })
@@ -109,15 +123,7 @@ pub extern "C" fn sam_term_units(
     ensures kept { term.new.held.end ≡ term.old.held.end }
 {
     with_end!(term alloc held {
-        match held.term().rasp(tag) {
-            Some(rasp) => {
-                let all = rasp.tally(start, end);
-                *units = all.units;
-                *gaps = all.gaps;
-                OK
-            }
-            None => NONE,
-        }
+        tell_two(sizes_of(&held, tag, Measure::Units, start, end), units, gaps)
     })
 }
 
@@ -138,10 +144,7 @@ pub extern "C" fn sam_term_unit_place(
 {
     with_end!(term alloc end {
         match end.term().rasp(tag) {
-            Some(rasp) => {
-                *place = rasp.place_after(start, Measure::Units, units as usize);
-                OK
-            }
+            Some(rasp) => tell(rasp.place_after(start, Measure::Units, units as usize), place),
             None => NONE,
         }
     })
@@ -167,13 +170,7 @@ pub extern "C" fn sam_term_line(
             Some(rasp) => rasp.line_after(start, lines),
             None => None,
         };
-        match found {
-            Some(behind) => {
-                *place = behind;
-                OK
-            }
-            None => NONE,
-        }
+        tell_some(found, place)
     })
 }
 
@@ -197,13 +194,7 @@ pub extern "C" fn sam_term_line_before(
             Some(rasp) => rasp.line_before(start, lines),
             None => None,
         };
-        match found {
-            Some(begin) => {
-                *place = begin;
-                OK
-            }
-            None => NONE,
-        }
+        tell_some(found, place)
     })
 }
 
@@ -224,14 +215,6 @@ pub extern "C" fn sam_term_lines(
     ensures kept { term.new.held.end ≡ term.old.held.end }
 {
     with_end!(term alloc held {
-        match held.term().rasp(tag) {
-            Some(rasp) => {
-                let all = rasp.tally(start, end);
-                *lines = all.newlines;
-                *gaps = all.gaps;
-                OK
-            }
-            None => NONE,
-        }
+        tell_two(sizes_of(&held, tag, Measure::Newlines, start, end), lines, gaps)
     })
 }

@@ -1,5 +1,8 @@
 -- What waits in a host end fits: messages that a framer gave, and the frames of an answer.
-use Rattle.sam_endpoint.proofs.Common.{◌≡◌, subst, ℕ, false, List, [], ◌∷◌, Option, None, arith, All-nil, All-cons, All-tail, Tmesg, terminal, FitInTurn, Held, FitInPlace, FitsLast, StreamFault, CanEncode, Gives, PlainHostEndpoint, IsSound}
+use Rattle.std.proofs.Common.{Result, Ok, Err, refl, sym}
+use Rattle.sam_endpoint.specs.declared.fault.EndpointFault.TheVariants as fault
+use Rattle.sam_endpoint.specs.Duplexes.{PlainDuplex, TakesPiece}
+use Rattle.sam_endpoint.proofs.Common.{◌≡◌, subst, ℕ, false, List, [], ◌∷◌, Option, None, arith, All-nil, All-cons, All-tail, Tmesg, terminal, FitInTurn, Held, FitInPlace, FitsLast, StreamFault, HostStop, EndpointFault, HFrame, PlainHost, CanEncode, Gives, PlainHostEndpoint, IsSound}
 use Rattle.sam_mesg.proofs.Versions.{grows_t}
 use Rattle.sam_host.proofs.FrameFits.{fit_in_last}
 
@@ -22,3 +25,27 @@ answered_sound e g version m sound waited fit broken_by framer = grind (arith, (
 pub taken_sound : (e g : PlainHostEndpoint) (piece : List ℕ) → IsSound e → Gives terminal e.framer piece g.waiting g.broken_by g.framer
     → g.unwritten ≡ e.unwritten → IsSound g
 taken_sound e g piece sound gave same = grind (arith, given_fit)
+
+-- a host end of these two streams
+abbrev pub end_of : PlainHost → List ℕ → PlainDuplex Tmesg HFrame HostStop → PlainHostEndpoint
+end_of h writes d = record {
+  framer = d.framer;
+  host = h;
+  waiting = d.waiting;
+  broken_by = d.broken_by;
+  unwritten = d.unwritten;
+  pending_bytes = d.pending_bytes;
+  writes = writes;
+  stop = d.stop;
+}
+
+-- a piece was taken in, or all is as it was
+pub brought_sound : (h : PlainHost) (writes : List ℕ) (d k : PlainDuplex Tmesg HFrame HostStop) (piece : List ℕ) (result : Result (Unit {0}) (EndpointFault HostStop))
+    → IsSound (end_of h writes d) → TakesPiece terminal d piece result k → IsSound (end_of h writes k)
+brought_sound h writes d k piece (Ok done) sound (ms, broken_by, rest, gives, is) =
+    subst (λ (x : PlainDuplex Tmesg HFrame HostStop). IsSound (end_of h writes x)) (sym is)
+    (taken_sound (end_of h writes d) (end_of h writes (record d { framer = rest; waiting = ms; broken_by = broken_by })) piece sound gives refl)
+brought_sound h writes d k piece (Err fault.OutOfMemory) sound (room, is) = subst (λ (x : PlainDuplex Tmesg HFrame HostStop). IsSound (end_of h writes x)) (sym is) sound
+brought_sound h writes d k piece (Err fault.CountFull) sound (full, is) = subst (λ (x : PlainDuplex Tmesg HFrame HostStop). IsSound (end_of h writes x)) (sym is) sound
+brought_sound h writes d k piece (Err fault.Unfinished) sound took = absurd took
+brought_sound h writes d k piece (Err (fault.Stopped why)) sound took = absurd took

@@ -1,4 +1,5 @@
 pub mod Common
+pub mod Duplexes
 pub mod HostEndpointFits
 pub mod HostEndpointGoing
 pub mod HostEndpointStepping

@@ -1,4 +1,7 @@
 -- One step of a terminal end: what holds of the end after it.
+use Rattle.std.proofs.Common.{Result}
+use Rattle.std.proofs.lemmas.List.Elements.{All-head}
+use Rattle.sam_endpoint.specs.Duplexes.{PlainDuplex, TakesPiece}
 use Rattle.sam_endpoint.proofs.Common.{◌≡◌, refl, ap, sym, subst, ℕ, ◌-◌, ◌≤◌, false, List, [], ◌∷◌, ◌++◌, length, drop, Option, Some, None, Ok, Err, arith, slice_get, IsTrue, All-tail, fits_h, HFrame, Tmesg, host, Held, composed_in, PlainTerminal, UserEvent, act_of, act_on, flush_of, take_of, Acted, Idle, StreamFault, TermStop, EndpointFault, CanEncode, FitMessages, Gives, PlainTermEndpoint, act_touch, kept_after, IsDecided, oldest, refusals_from, ActsFirst, Receives, Tries, stopped_by, All-nil, FitInTurn}
 use Rattle.std.proofs.Common.{IsOk}
 use Rattle.sam_term.specs.Taking.{IsFailure}
@@ -11,7 +14,25 @@ use Rattle.sam_endpoint.proofs.TermEndpointStamps.{act_counts}
 pub first_read : (frames : List HFrame) (frame : HFrame) → slice_get frames 0 ≡ Some frame → frames ≡ frame ∷ drop 1 frames
 first_read frames frame e = grind arith
 
+pub none_first : (frames : List HFrame) → slice_get frames 0 ≡ None → frames ≡ []
+none_first [] none = refl
+none_first (frame ∷ frames) none = absurd (grind arith)
+
+-- the end with these two streams
+abbrev pub with_duplex : PlainTermEndpoint → PlainDuplex HFrame Tmesg TermStop → PlainTermEndpoint
+with_duplex e d = record e {
+  framer = d.framer;
+  waiting = d.waiting;
+  broken_by = d.broken_by;
+  unwritten = d.unwritten;
+  pending_bytes = d.pending_bytes;
+  stop = d.stop;
+}
+
 -- ## Frames
+
+pub first_fits : (frames : List HFrame) (frame : HFrame) → frames ≡ frame ∷ drop 1 frames → CanEncode host frames → IsTrue (fits_h 2 frame.msg)
+first_fits frames frame first fit = All-head (λ (x : HFrame). IsTrue (fits_h 2 x.msg)) frame (drop 1 frames) (subst (λ (xs : List HFrame). CanEncode host xs) first fit)
 
 pub rest_fit : (frames : List HFrame) (frame : HFrame) → frames ≡ frame ∷ drop 1 frames → CanEncode host frames → CanEncode host (drop 1 frames)
 rest_fit frames frame first fit = All-tail (λ (x : HFrame). IsTrue (fits_h 2 x.msg)) frame (drop 1 frames) (subst (λ (xs : List HFrame). CanEncode host xs) first fit)
@@ -72,3 +93,18 @@ frames_fit v (frame ∷ frames) fit = grind (arith, (frames_fit (host.after v fr
 
 pub given_fit : (h : Held) (piece : List ℕ) (frames : List HFrame) (broken_by : Option StreamFault) (k : Held) → Gives host h piece frames broken_by k → CanEncode host frames
 given_fit h piece frames broken_by k e = grind (arith, frames_fit)
+
+-- a piece was taken in, or all is as it was
+pub brought_sound : (e : PlainTermEndpoint) (d k : PlainDuplex HFrame Tmesg TermStop) (piece : List ℕ) (result : Result (Unit {0}) (EndpointFault TermStop))
+    → IsSound (with_duplex e d) → TakesPiece host d piece result k → IsSound (with_duplex e k)
+brought_sound e d k piece (Ok done) sound (frames, broken_by, rest, gives, is) = subst (λ (x : PlainDuplex HFrame Tmesg TermStop). IsSound (with_duplex e x)) (sym is) (record {
+  waiting = given_fit d.framer piece frames broken_by rest gives;
+  unwritten = sound.unwritten;
+  counted = sound.counted;
+  stamped = sound.stamped;
+  reads = λ none. given_reads d.framer piece frames broken_by rest gives none;
+})
+brought_sound e d k piece (Err fault.OutOfMemory) sound (room, is) = subst (λ (x : PlainDuplex HFrame Tmesg TermStop). IsSound (with_duplex e x)) (sym is) sound
+brought_sound e d k piece (Err fault.CountFull) sound (full, is) = subst (λ (x : PlainDuplex HFrame Tmesg TermStop). IsSound (with_duplex e x)) (sym is) sound
+brought_sound e d k piece (Err fault.Unfinished) sound took = absurd took
+brought_sound e d k piece (Err (fault.Stopped why)) sound took = absurd took

@@ -1,4 +1,5 @@
 pub mod Streams
+pub mod Duplexes
 pub mod Naming
 pub mod HostEndpoints
 pub mod HostSteps

@@ -42,17 +42,17 @@ pub record PlainTermEndpoint : Type 0 where
 abbrev pub shown : Inside → PlainTermEndpoint
 shown a =
     record {
-      framer = a.framer;
+      framer = a.duplex.framer;
       term = a.term;
-      waiting = a.waiting.items;
-      broken_by = a.broken_by;
-      unwritten = a.unwritten.items;
-      pending_bytes = a.pending_bytes;
+      waiting = a.duplex.waiting;
+      broken_by = a.duplex.broken_by;
+      unwritten = a.duplex.unwritten;
+      pending_bytes = a.duplex.pending_bytes;
       seen = a.seen;
       events = a.events;
       refusals = a.refusals.items;
       kept = a.changes;
-      stop = a.stop;
+      stop = a.duplex.stop;
     }
 
 abbrev pub new_term_endpoint : PlainTermEndpoint

@@ -9,10 +9,9 @@ ghost use Rattle.sam_endpoint.specs.HostEndpoints.{Adds, Feeds, Finishes, GoesOn
 ghost use Rattle.sam_endpoint.specs.HostRuns.{begun_with};
 ghost use Rattle.sam_endpoint.specs.HostSteps.{Brings, Ends, Handles, HandlesNext, TakesSo, Writes};
 
-use crate::fault::{AddFault, EndpointFault, FinishFault, HostStop, StreamFault};
-use crate::incoming::{drop_first, feed_framer};
+use crate::duplex::Duplex;
+use crate::fault::{AddFault, EndpointFault, FinishFault, HostStop};
 use crate::known::know_frames;
-use sam_frame::{FramerT, PendingBytes};
 use sam_host::{Host, HostFault, Taken};
 use sam_mesg::{HFrame, Tmesg};
 use sam_runes::{ALL_TAGS, MAX_RUNES, MOST_IN_NAME, Text, read_utf8};
@@ -49,25 +48,14 @@ fn write_in(host: &Host, message: &Tmesg) -> Option<u16>
     }
 }
 
-/// Returns the oldest message.
-pub(crate) fn oldest(messages: &VecDeque<Tmesg>) -> &Tmesg
-    requires { 0 < length messages.now.items }
-    ensures { messages.now.items ≡ result.now ∷ drop 1 messages.now.items }
+/// Returns the oldest message that waits.
+pub(crate) fn oldest(duplex: &Duplex<Tmesg, HFrame, HostStop>) -> &Tmesg
+    requires { 0 < length duplex.now.waiting }
+    ensures { duplex.now.waiting ≡ result.now ∷ drop 1 duplex.now.waiting }
 {
-    match messages.front() {
+    match duplex.first() {
         Some(message) => message,
         None => unreachable!(),
-    }
-}
-
-/// Drops the oldest messages, so many.
-fn drop_oldest(messages: &mut VecDeque<Tmesg>, count: usize)
-    ensures { messages.new.items ≡ drop count messages.old.items }
-{
-    let mut dropped = 0;
-    while dropped < count {
-        drop_first(messages);
-        dropped += 1;
     }
 }
 
@@ -98,22 +86,13 @@ fn note(writes: &mut VecDeque<u16>, tag: Option<u16>)
 pub struct HostEndpoint {
     /// Where everything takes its memory from.
     alloc: Global,
-    /// Cuts the terminal's stream into messages. It has not failed while `broken_by` is `None`.
-    framer: FramerT,
     /// The host, as the messages answered so far left it.
     host: Host,
-    /// The messages that came and are not answered yet, the oldest first. There are none after a `feed` that returned `Ok`.
-    pub(crate) waiting: VecDeque<Tmesg>,
-    /// What is wrong with the stream after these messages; `None` if nothing is.
-    pub(crate) broken_by: Option<StreamFault>,
-    /// The frames of the last answer or answers, while their bytes are not pending. There are none after a `feed` that returned `Ok`.
-    pub(crate) unwritten: Vec<HFrame>,
-    /// The bytes for the terminal that were not taken out yet.
-    pending_bytes: PendingBytes,
+    /// The terminal's stream of messages, which wait until they are answered, and the host's of frames. Nothing waits after a `feed` that
+    /// returned `Ok`. The framer has not failed while no fault is known.
+    pub(crate) duplex: Duplex<Tmesg, HFrame, HostStop>,
     /// The tags of files that the terminal had the host write (Twrite) and `next_written` has not handed out, the oldest first.
     writes: VecDeque<u16>,
-    /// Why the endpoint has stopped for good; `None` while it goes on.
-    stop: Option<HostStop>,
 }
 
 impl Model for HostEndpoint {
@@ -123,25 +102,25 @@ impl Model for HostEndpoint {
     ghost Value = { PlainHostEndpoint };
 
     ghost view = { λ a. record {
-      framer = a.framer;
+      framer = a.duplex.framer;
       host = a.host;
-      waiting = a.waiting.items;
-      broken_by = a.broken_by;
-      unwritten = a.unwritten.items;
-      pending_bytes = a.pending_bytes;
+      waiting = a.duplex.waiting;
+      broken_by = a.duplex.broken_by;
+      unwritten = a.duplex.unwritten;
+      pending_bytes = a.duplex.pending_bytes;
       writes = a.writes.items;
-      stop = a.stop;
+      stop = a.duplex.stop;
     } };
 
     ghost invariant = { λ a. IsSound (record {
-      framer = a.framer;
+      framer = a.duplex.framer;
       host = a.host;
-      waiting = a.waiting.items;
-      broken_by = a.broken_by;
-      unwritten = a.unwritten.items;
-      pending_bytes = a.pending_bytes;
+      waiting = a.duplex.waiting;
+      broken_by = a.duplex.broken_by;
+      unwritten = a.duplex.unwritten;
+      pending_bytes = a.duplex.pending_bytes;
       writes = a.writes.items;
-      stop = a.stop;
+      stop = a.duplex.stop;
     }) };
 }
 
@@ -162,14 +141,9 @@ impl HostEndpoint {
     {
         HostEndpoint {
             alloc,
-            framer: FramerT::new(alloc),
             host,
-            waiting: VecDeque::new(alloc),
-            broken_by: None,
-            unwritten: Vec::new(alloc),
-            pending_bytes: PendingBytes::new(alloc),
+            duplex: Duplex::new(alloc),
             writes: VecDeque::new(alloc),
-            stop: None,
         }
     }
 
@@ -254,23 +228,14 @@ impl HostEndpoint {
     pub fn finish(&self) -> Result<(), FinishFault<HostStop>>
         ensures { Finishes self.now result }
     {
-        if let Some(why) = self.stop {
-            return Err(FinishFault::Stopped(why));
-        }
-        if self.broken_by.is_some() || !self.is_idle() {
-            return Err(FinishFault::Unfinished);
-        }
-        if self.framer.finish().is_err() {
-            return Err(FinishFault::Truncated);
-        }
-        Ok(())
+        self.duplex.finish()
     }
 
     /// Returns how many bytes for the terminal wait to be taken out.
     pub fn pending(&self) -> usize
         ensures { result ≡ length self.now.pending_bytes }
     {
-        self.pending_bytes.len()
+        self.duplex.pending()
     }
 
     /// Moves the first bytes for the terminal into the buffer, as many as wait and have room there, and returns how many. The rest of the
@@ -281,14 +246,14 @@ impl HostEndpoint {
         ensures bytes { into.new ≡ take result self.old.pending_bytes ++ drop result into.old }
         ensures rest { self.new ≡ record self.old { pending_bytes = drop result self.old.pending_bytes } }
     {
-        self.pending_bytes.take_into(into)
+        self.duplex.take_out(into)
     }
 
     /// Lends the bytes for the terminal that wait to be taken out, in order.
     pub fn pending_bytes(&self) -> &[u8]
         ensures { result.now ≡ self.now.pending_bytes }
     {
-        self.pending_bytes.as_slice()
+        self.duplex.pending_bytes()
     }
 
     /// Takes out the first `count` bytes for the terminal without moving them, or all if fewer wait. Everything else of the endpoint stays
@@ -296,7 +261,7 @@ impl HostEndpoint {
     pub fn consume(&mut self, count: usize)
         ensures { self.new ≡ record self.old { pending_bytes = drop count self.old.pending_bytes } }
     {
-        self.pending_bytes.consume(count);
+        self.duplex.consume(count);
     }
 
     /// Hands out the oldest tag that the terminal had the host write (Twrite) and that was not handed out before. Returns `None` if there
@@ -326,7 +291,7 @@ impl HostEndpoint {
     pub fn stopped(&self) -> Option<HostStop>
         ensures { result ≡ self.now.stop }
     {
-        self.stop
+        self.duplex.stopped()
     }
 
     /// Returns where the fault of the terminal's stream is at which the endpoint has stopped: how many bytes of the stream stand before the
@@ -334,8 +299,8 @@ impl HostEndpoint {
     pub fn fault_place(&self) -> Option<u64>
         ensures { result ≡ fault_place self.now }
     {
-        match self.stop {
-            Some(HostStop::Stream(_)) => Some(self.framer.place()),
+        match self.duplex.stopped() {
+            Some(HostStop::Stream(_)) => Some(self.duplex.place()),
             Some(HostStop::Refused(_)) | None => None,
         }
     }
@@ -344,14 +309,14 @@ impl HostEndpoint {
     pub fn is_idle(&self) -> bool
         ensures { IsTrue result ↔ IsIdle self.now }
     {
-        self.waiting.is_empty() && self.unwritten.is_empty()
+        self.duplex.is_idle()
     }
 
     /// Returns whether a message waits to be answered.
     pub(crate) fn is_waiting(&self) -> bool
         ensures { IsTrue result ↔ (0 < length self.now.waiting) }
     {
-        !self.waiting.is_empty()
+        self.duplex.is_waiting()
     }
 
     /// Has the host answer the oldest message that waits, which then waits no longer. All memory is had before: after `Unfinished` all is
@@ -363,20 +328,20 @@ impl HostEndpoint {
         if self.writes.reserve(1).is_err() {
             return Err(EndpointFault::Unfinished);
         }
-        let message = oldest(&self.waiting);
+        let message = oldest(&self.duplex);
         let tag = write_in(&self.host, message);
         match self.host.handle_lent(message) {
             Ok(frames) => {
                 know_frames(frames.as_slice());
-                drop_first(&mut self.waiting);
+                self.duplex.drop_oldest(1);
                 note(&mut self.writes, tag);
-                self.unwritten = frames.into_vec();
+                self.duplex.leave_over(frames.into_vec());
                 Ok(())
             }
             Err(HostFault::OutOfMemory) => Err(EndpointFault::Unfinished),
             Err(fault) => {
-                self.stop = Some(HostStop::Refused(fault));
-                Err(EndpointFault::Stopped(HostStop::Refused(fault)))
+                let stop = EndpointFault::Stopped(HostStop::Refused(fault));
+                Err(self.duplex.stop_by(stop))
             }
         }
     }
@@ -388,13 +353,13 @@ impl HostEndpoint {
         ensures took { 0 < result → TakesSo self.old result self.new }
         ensures unchanged { result ≡ 0 → self.new ≡ self.old }
     {
-        let Taken { count, frames } = self.host.handle_edits(&self.waiting);
+        let Taken { count, frames } = self.host.handle_edits(self.duplex.waiting());
         if count == 0 {
             return 0;
         }
         know_frames(frames.as_slice());
-        drop_oldest(&mut self.waiting, count);
-        self.unwritten = frames;
+        self.duplex.drop_oldest(count);
+        self.duplex.leave_over(frames);
         count
     }
 
@@ -414,26 +379,18 @@ impl HostEndpoint {
     pub(crate) fn write_answer(&mut self) -> Result<(), EndpointFault<HostStop>>
         ensures { Writes self.old result self.new }
     {
-        if self.unwritten.is_empty() {
-            return Ok(());
-        }
-        let written = self.pending_bytes.put_messages(self.unwritten.as_slice());
-        if written.is_err() {
-            return Err(EndpointFault::Unfinished);
-        }
-        self.unwritten.clear();
-        Ok(())
+        self.duplex.write()
     }
 
     /// Stops the endpoint for good if the stream shows a fault, once all messages before it are answered.
     pub(crate) fn end(&mut self) -> Result<(), EndpointFault<HostStop>>
         ensures { Ends self.old result self.new }
     {
-        match self.broken_by {
+        match self.duplex.broken_by() {
             None => Ok(()),
             Some(fault) => {
-                self.stop = Some(HostStop::Stream(fault));
-                Err(EndpointFault::Stopped(HostStop::Stream(fault)))
+                let stop = EndpointFault::Stopped(HostStop::Stream(fault));
+                Err(self.duplex.stop_by(stop))
             }
         }
     }
@@ -457,9 +414,6 @@ impl HostEndpoint {
         requires { self.old.broken_by ≡ None }
         ensures { Brings self.old piece.now result self.new }
     {
-        let (messages, broken_by) = feed_framer(&mut self.framer, piece)?;
-        self.waiting = VecDeque::from_vec(messages);
-        self.broken_by = broken_by;
-        Ok(())
+        self.duplex.take_in(piece)
     }
 }

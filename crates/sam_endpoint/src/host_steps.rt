@@ -21,12 +21,7 @@ impl HostEndpoint {
     pub fn bring(&mut self, piece: &[u8]) -> Result<(), BringFault<HostStop>>
         ensures { BringsIn self.old piece.now result self.new }
     {
-        if let Some(why) = self.stopped() {
-            return Err(BringFault::Stopped(why));
-        }
-        if self.broken_by.is_some() || !self.is_idle() {
-            return Err(BringFault::Waiting);
-        }
+        self.duplex.check_ready()?;
         match self.take_in(piece) {
             Ok(()) => Ok(()),
             Err(why) => Err(BringFault::of(why)),
@@ -37,7 +32,7 @@ impl HostEndpoint {
     pub fn next_message(&self) -> Option<&Tmesg>
         ensures { option_copied result ≡ slice_get self.now.waiting 0 }
     {
-        self.waiting.front()
+        self.duplex.first()
     }
 
     /// Goes on by one step with what waits, and says what it did. It writes the frames of the last answer, if some are left over. Else it
@@ -87,7 +82,7 @@ impl HostEndpoint {
     pub fn has_unwritten(&self) -> bool
         ensures { IsTrue result ↔ (0 < length self.now.unwritten) }
     {
-        !self.unwritten.is_empty()
+        self.duplex.has_unwritten()
     }
 
     /// Has the host take what waits first, and says what that was.
@@ -95,7 +90,7 @@ impl HostEndpoint {
         requires { 0 < length self.old.waiting }
         ensures { StepsWaiting self.old result self.new }
     {
-        let (kind, tag) = name_message(oldest(&self.waiting));
+        let (kind, tag) = name_message(oldest(&self.duplex));
         if let Some(tag) = tag {
             let count = self.take_edits();
             if count > 0 {
@@ -112,7 +107,7 @@ impl HostEndpoint {
         ensures steps { StepsWaiting self.old result self.new }
         ensures one { (tag count : ℕ) → result ≡ Ok (Edited tag count) → ⊥ }
     {
-        let (kind, tag) = name_message(oldest(&self.waiting));
+        let (kind, tag) = name_message(oldest(&self.duplex));
         self.answer_first()?;
         Ok(HostStep::Answered { kind, tag })
     }

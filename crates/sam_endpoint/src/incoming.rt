@@ -30,3 +30,14 @@ pub(crate) fn drop_first<M: Drop>(waiting: &mut VecDeque<M>)
 {
     let _first = waiting.pop_front();
 }
+
+/// Drops the oldest of what waits, so many, or all if there are fewer.
+pub(crate) fn drop_oldest<M: Drop>(waiting: &mut VecDeque<M>, count: usize)
+    ensures { waiting.new.items ≡ drop count waiting.old.items }
+{
+    let mut dropped = 0;
+    while dropped < count {
+        drop_first(waiting);
+        dropped += 1;
+    }
+}

@@ -5,6 +5,7 @@
 
 mod changes;
 mod drawing;
+mod duplex;
 mod fault;
 mod host_endpoint;
 mod host_steps;

@@ -1,6 +1,6 @@
 //! A terminal at one end of a stream of bytes each way.
 
-ghost use Rattle.std.specs.Prelude.{◌≡◌, ◌↔◌, IfErr, IfOk, IsOk, IsTrue, None, [], ◌<◌, ◌≤◌, true, false, drop, length, min, option_copied, take, slice_get, ◌++◌};
+ghost use Rattle.std.specs.Prelude.{◌≡◌, ◌↔◌, IfErr, IfOk, IsOk, IsTrue, None, [], ◌<◌, ◌≤◌, true, false, drop, length, min, take, slice_get, ◌++◌};
 ghost use Rattle.sam_endpoint.specs.Streams.{FitMessages};
 ghost use Rattle.sam_endpoint.specs.TermEndpoints.{Asks, Feeds, Finishes, Flushes, GoesOn, IsIdle, Puts, decided, fault_place, new_term_endpoint, under_way};
 ghost use Rattle.sam_endpoint.specs.TermSteps.{Acts, ActsAll, Composes, Decides, Gains, Holds, Receives, ReceivesAll, Resumes, Tries, Writes, end_fault, stopped_by};
@@ -9,11 +9,10 @@ ghost use Rattle.sam_term.specs.Fitting.{AllFit, composed_in};
 ghost use Rattle.sam_term.specs.Term.{act_of, flush_of, take_of};
 
 use crate::changes::{Change, Changes, frame_touch, len_if_open};
-use crate::fault::{EndpointFault, FinishFault, StreamFault, TermStop};
-use crate::incoming::{drop_first, feed_framer};
+use crate::duplex::Duplex;
+use crate::fault::{EndpointFault, FinishFault, TermStop};
 use crate::known::know_messages;
 use crate::step::Decision;
-use sam_frame::{FramerH, PendingBytes};
 use sam_mesg::{Batch, HFrame, Tmesg};
 use sam_term::{Acted, Refusal, TermFault, Terminal, UserEvent};
 use std::alloc::{AllocError, Global};
@@ -36,20 +35,11 @@ use std::marker::Model;
 /// ```
 #[derive(Drop)]
 pub struct TermEndpoint {
-    /// Cuts the host's stream into frames. It has not failed while `broken_by` is `None`.
-    framer: FramerH,
+    /// The host's stream of frames, which wait until they are received, and the terminal's of messages. Nothing waits after a `feed`, `put`
+    /// or `flush_now` that returned `Ok`. The framer has not failed while no fault is known.
+    pub(crate) duplex: Duplex<HFrame, Tmesg, TermStop>,
     /// The terminal, as the frames and events so far left it. It holds at most as many events as `events` counts.
     pub(crate) term: Terminal,
-    /// The frames that came and are not received yet, the oldest first. There are none after a `feed`, `put` or `flush_now` that returned
-    /// `Ok`.
-    pub(crate) waiting: VecDeque<HFrame>,
-    /// What is wrong with the stream after these frames; `None` if nothing is.
-    pub(crate) broken_by: Option<StreamFault>,
-    /// The messages that were composed last, while their bytes are not pending. There are none after a `feed`, `put` or `flush_now` that
-    /// returned `Ok`.
-    pub(crate) unwritten: Vec<Tmesg>,
-    /// The bytes for the host that were not taken out yet.
-    pending_bytes: PendingBytes,
     /// The stamp of the last frame that was received: how many messages the host had taken when it made it; 0 before the first. It is at
     /// most the count of the messages that the terminal composed.
     seen: u64,
@@ -59,8 +49,6 @@ pub struct TermEndpoint {
     refusals: VecDeque<(u64, Refusal)>,
     /// How much of each text is as it was when `changed` was asked of it last.
     changes: Changes,
-    /// Why the endpoint has stopped for good; `None` while it goes on.
-    stop: Option<TermStop>,
 }
 
 impl Model for TermEndpoint {
@@ -81,17 +69,12 @@ impl TermEndpoint {
         ensures { result ≡ new_term_endpoint }
     {
         TermEndpoint {
-            framer: FramerH::new(alloc),
+            duplex: Duplex::new(alloc),
             term: Terminal::new(alloc),
-            waiting: VecDeque::new(alloc),
-            broken_by: None,
-            unwritten: Vec::new(alloc),
-            pending_bytes: PendingBytes::new(alloc),
             seen: 0,
             events: 0,
             refusals: VecDeque::new(alloc),
             changes: Changes::new(alloc),
-            stop: None,
         }
     }
 
@@ -100,18 +83,7 @@ impl TermEndpoint {
     pub(crate) fn write_composed(&mut self) -> Result<(), EndpointFault<TermStop>>
         ensures { Writes self.old result self.new }
     {
-        if self.unwritten.is_empty() {
-            return Ok(());
-        }
-        if self
-            .pending_bytes
-            .put_messages(self.unwritten.as_slice())
-            .is_err()
-        {
-            return Err(EndpointFault::Unfinished);
-        }
-        self.unwritten.clear();
-        Ok(())
+        self.duplex.write()
     }
 
     /// Stops the endpoint for good if the fault is `Stopped`, and returns the fault.
@@ -119,25 +91,22 @@ impl TermEndpoint {
         ensures answer { result ≡ fault }
         ensures stopped { self.new ≡ stopped_by self.old fault }
     {
-        if let EndpointFault::Stopped(why) = fault {
-            self.stop = Some(why);
-        }
-        fault
+        self.duplex.stop_by(fault)
     }
 
     /// Has the terminal receive the oldest frame that waits. Returns whether one waited.
     pub(crate) fn receive_first(&mut self) -> Result<bool, EndpointFault<TermStop>>
         ensures { Receives self.old result self.new }
     {
-        let Some(frame) = first_frame(&self.waiting) else {
+        let Some(frame) = self.duplex.first() else {
             return Ok(false);
         };
         let stamp = frame.seen;
         let touch = frame_touch(&self.term, &frame.msg);
         match receive_now(&mut self.term, frame) {
             Ok(composed) => {
-                drop_first(&mut self.waiting);
-                self.unwritten = composed.into_vec();
+                self.duplex.drop_oldest(1);
+                self.duplex.leave_over(composed.into_vec());
                 self.seen = stamp;
                 self.changes.note(touch);
                 Ok(true)
@@ -162,7 +131,7 @@ impl TermEndpoint {
             Ok(Acted::Idle) => Ok(Decision::Idle),
             Ok(Acted::Locked) => Ok(Decision::Locked),
             Ok(Acted::Done(composed)) => {
-                self.unwritten = composed.into_vec();
+                self.duplex.leave_over(composed.into_vec());
                 self.changes.note(touch);
                 Ok(Decision::Acted)
             }
@@ -220,7 +189,7 @@ impl TermEndpoint {
         ensures { GoesOn self.old result self.new }
     {
         self.receive_all()?;
-        if let Some(why) = self.broken_by {
+        if let Some(why) = self.duplex.broken_by() {
             return Err(self.stop_by(EndpointFault::Stopped(TermStop::Stream(why))));
         }
         self.act_all()
@@ -230,7 +199,7 @@ impl TermEndpoint {
     fn resume(&mut self) -> Result<(), EndpointFault<TermStop>>
         ensures { Resumes self.old result self.new }
     {
-        if let Some(why) = self.stop {
+        if let Some(why) = self.duplex.stopped() {
             return Err(EndpointFault::Stopped(why));
         }
         match self.go_on() {
@@ -244,10 +213,7 @@ impl TermEndpoint {
         requires { self.old.broken_by ≡ None }
         ensures { Gains self.old piece.now result self.new }
     {
-        let (messages, broken_by) = feed_framer(&mut self.framer, piece)?;
-        self.waiting = VecDeque::from_vec(messages);
-        self.broken_by = broken_by;
-        Ok(())
+        self.duplex.take_in(piece)
     }
 
     /// Holds an event after the others, and counts it. The errors are `CountFull` and then `OutOfMemory`.
@@ -271,7 +237,7 @@ impl TermEndpoint {
     {
         match flush_now(&mut self.term) {
             Ok(composed) => {
-                self.unwritten = composed.into_vec();
+                self.duplex.leave_over(composed.into_vec());
                 Ok(())
             }
             Err(fault) => Err(self.stop_by(fault).not_taken()),
@@ -342,23 +308,14 @@ impl TermEndpoint {
     pub fn finish(&self) -> Result<(), FinishFault<TermStop>>
         ensures { Finishes self.now result }
     {
-        if let Some(why) = self.stop {
-            return Err(FinishFault::Stopped(why));
-        }
-        if self.broken_by.is_some() || !self.is_idle() {
-            return Err(FinishFault::Unfinished);
-        }
-        if self.framer.finish().is_err() {
-            return Err(FinishFault::Truncated);
-        }
-        Ok(())
+        self.duplex.finish()
     }
 
     /// Returns how many bytes for the host wait to be taken out.
     pub fn pending(&self) -> usize
         ensures { result ≡ length self.now.pending_bytes }
     {
-        self.pending_bytes.len()
+        self.duplex.pending()
     }
 
     /// Moves the first bytes for the host into the buffer, as many as wait and have room there, and returns how many. The rest of the
@@ -369,14 +326,14 @@ impl TermEndpoint {
         ensures bytes { into.new ≡ take result self.old.pending_bytes ++ drop result into.old }
         ensures rest { self.new ≡ record self.old { pending_bytes = drop result self.old.pending_bytes } }
     {
-        self.pending_bytes.take_into(into)
+        self.duplex.take_out(into)
     }
 
     /// Lends the bytes for the host that wait to be taken out, in order.
     pub fn pending_bytes(&self) -> &[u8]
         ensures { result.now ≡ self.now.pending_bytes }
     {
-        self.pending_bytes.as_slice()
+        self.duplex.pending_bytes()
     }
 
     /// Takes out the first `count` bytes for the host without moving them, or all if there are fewer. Everything else of the endpoint stays
@@ -384,7 +341,7 @@ impl TermEndpoint {
     pub fn consume(&mut self, count: usize)
         ensures { self.new ≡ record self.old { pending_bytes = drop count self.old.pending_bytes } }
     {
-        self.pending_bytes.consume(count);
+        self.duplex.consume(count);
     }
 
     /// Hands out the oldest event that was refused and was not handed out before: its number, counted from 1 over all events that were
@@ -425,7 +382,7 @@ impl TermEndpoint {
     pub fn stopped(&self) -> Option<TermStop>
         ensures { result ≡ self.now.stop }
     {
-        self.stop
+        self.duplex.stopped()
     }
 
     /// Returns where the fault of the host's stream is at which the endpoint has stopped: how many bytes of the stream stand before the
@@ -433,8 +390,8 @@ impl TermEndpoint {
     pub fn fault_place(&self) -> Option<u64>
         ensures { result ≡ fault_place self.now }
     {
-        match self.stop {
-            Some(TermStop::Stream(_)) => Some(self.framer.place()),
+        match self.duplex.stopped() {
+            Some(TermStop::Stream(_)) => Some(self.duplex.place()),
             Some(TermStop::Refused(_)) | None => None,
         }
     }
@@ -444,7 +401,7 @@ impl TermEndpoint {
     pub fn is_idle(&self) -> bool
         ensures { IsTrue result ↔ IsIdle self.now }
     {
-        self.waiting.is_empty() && self.unwritten.is_empty()
+        self.duplex.is_idle()
     }
 
     /// Returns the stamp of the last frame that was received: how many messages the host had taken when it made that frame; 0 before the
@@ -488,17 +445,12 @@ impl TermEndpoint {
         ensures { result ≡ self.term }
     {
         let TermEndpoint {
-            framer: _,
+            duplex: _,
             term,
-            waiting: _,
-            broken_by: _,
-            unwritten: _,
-            pending_bytes: _,
             seen: _,
             events: _,
             refusals: _,
             changes: _,
-            stop: _,
         } = self;
         term
     }
@@ -521,13 +473,6 @@ fn holds_no_event(term: &Terminal) -> bool
     ensures held { result ≡ false → 0 < length term.now.held }
 {
     term.held() == 0
-}
-
-/// Returns the oldest frame.
-pub(crate) fn first_frame(frames: &VecDeque<HFrame>) -> Option<&HFrame>
-    ensures { option_copied result ≡ slice_get frames.now.items 0 }
-{
-    frames.front()
 }
 
 /// Has the terminal receive a frame, and returns what it composes. After an error the terminal is as it was.

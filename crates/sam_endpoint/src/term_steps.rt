@@ -10,7 +10,7 @@ use crate::changes::{change_by, frame_touch, oldest_touch, touched_len};
 use crate::fault::{EndpointFault, TermStop};
 use crate::naming::{name_frame, oldest_file};
 use crate::step::{BringFault, Decision, NextFrame, TermStep};
-use crate::term_endpoint::{TermEndpoint, first_frame};
+use crate::term_endpoint::TermEndpoint;
 use sam_mesg::HFrame;
 use sam_term::UserEvent;
 
@@ -43,10 +43,9 @@ impl TermEndpoint {
         ensures { BringsFrame self.old frame result self.new }
     {
         self.check_ready()?;
-        if self.waiting.reserve(1).is_err() {
+        if self.duplex.put_waiting(frame).is_err() {
             return Err(BringFault::OutOfMemory);
         }
-        self.waiting.push_back_reserved(frame);
         Ok(())
     }
 
@@ -88,13 +87,7 @@ impl TermEndpoint {
         ensures ready { OnOk result (IsReady self.now) }
         ensures not { IfErr result (IsNotReady self.now) }
     {
-        if let Some(why) = self.stopped() {
-            return Err(BringFault::Stopped(why));
-        }
-        if self.broken_by.is_some() || !self.is_idle() {
-            return Err(BringFault::Waiting);
-        }
-        Ok(())
+        self.duplex.check_ready()
     }
 
     /// Returns what the next step that receives a frame begins with: the oldest frame that waits, and the part of its file's text that will
@@ -102,7 +95,7 @@ impl TermEndpoint {
     pub fn next_frame(&self) -> Option<NextFrame>
         ensures { result ≡ option_map (next_frame self.now.term) (slice_get self.now.waiting 0) }
     {
-        let Some(frame) = first_frame(&self.waiting) else {
+        let Some(frame) = self.duplex.first() else {
             return None;
         };
         let (kind, tag) = name_frame(&frame.msg);
@@ -148,21 +141,21 @@ impl TermEndpoint {
     fn has_unwritten(&self) -> bool
         ensures { IsTrue result ↔ (0 < length self.now.unwritten) }
     {
-        !self.unwritten.is_empty()
+        self.duplex.has_unwritten()
     }
 
     /// Returns whether a frame waits to be received.
     fn is_waiting(&self) -> bool
         ensures { IsTrue result ↔ (0 < length self.now.waiting) }
     {
-        !self.waiting.is_empty()
+        self.duplex.is_waiting()
     }
 
     /// Stops the endpoint for good if the stream shows a fault, once all frames before it are received.
     fn end(&mut self) -> Result<(), EndpointFault<TermStop>>
         ensures { Ends self.old result self.new }
     {
-        match self.broken_by {
+        match self.duplex.broken_by() {
             None => Ok(()),
             Some(why) => Err(self.stop_by(EndpointFault::Stopped(TermStop::Stream(why)))),
         }
@@ -173,7 +166,7 @@ impl TermEndpoint {
         requires { 0 < length self.old.waiting }
         ensures { ReceivesStep self.old result self.new }
     {
-        let Some(frame) = first_frame(&self.waiting) else {
+        let Some(frame) = self.duplex.first() else {
             return Ok(TermStep::Idle);
         };
         let (kind, tag) = name_frame(&frame.msg);

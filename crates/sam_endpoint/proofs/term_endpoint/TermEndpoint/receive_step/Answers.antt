@@ -9,7 +9,7 @@ returns c =
     let g : PlainTermEndpoint = c.receive_first.new.self in
     let frame : HFrame = c.in-Some.frame.now in
     let first : slice_get e.waiting 0 ≡ Some frame =
-    ap (λ (x : PlainTermEndpoint). slice_get x.waiting 0) (sym c.self.view_is) ∙ sym c.first_frame.ensures ∙ ap (λ o. option_copied o) c.in-Some.is in
+    ap (λ (x : PlainTermEndpoint). slice_get x.waiting 0) (sym c.self.view_is) ∙ sym c.first.ensures ∙ ap (λ o. option_copied o) c.in-Some.is in
     let changed : c.change_by-change.result ≡ change_between e.term (frame_touch e.term frame.msg) g.term =
     change_told e g frame c.self.inside.term c.self-2.inside.term c.frame_touch-touch.result c.touched_len-before.result c.touched_len.result c.change_by-change.result
     (ap (λ (x : PlainTermEndpoint). x.term) c.self.view_is) (ap (λ (x : PlainTermEndpoint). x.term) c.self-2.view_is) c.frame_touch-touch.ensures c.touched_len-before.ensures
