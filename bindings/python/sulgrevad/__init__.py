@@ -19,8 +19,8 @@ of them reads or writes anything: the program carries the bytes.
 Units: places and lengths count runes (Unicode scalar values, the characters of a `str`), and a text has at most 1,000,000. A text that
 is given may be a `str`, or its UTF-8 as `bytes`.
 
-A `Link` carries the bytes of both, and notes of the program, over connections that may break at any byte: docs/howto/EMBEDDING.md has a
-loop.
+A `Link` carries the bytes of both, and notes of the program, over connections that may break at any byte: docs/howto/RECONNECTING.md has
+the order of calls.
 
 `replay` runs a script of docs/reference/SCRIPTS.md over a host and a terminal of its own.
 
