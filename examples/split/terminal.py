@@ -35,18 +35,18 @@ class Window:
         """Presses the keys that have come, as long as the file is free; sends what they mean, and draws."""
         with contextlib.suppress(curses.error):  # no key is left
             while True:
+                while self.keys and self.terminal.file(TAG).is_free:
+                    self.press(self.keys.pop(0))
+                self.terminal.flush_now()
+                self.link.put(self.terminal.take_out())
+                while self.writer and (data := self.link.take_out(self.link.attempt)):
+                    self.writer.write(data)
+                self.screen.erase()
+                with contextlib.suppress(curses.error, Missing):  # the text is longer than the screen, or not open yet
+                    self.screen.addstr("\n" if self.writer else "no connection\n")
+                    top = self.terminal.line_before(TAG, caret := self.terminal.dot(TAG)[0], LINES_ABOVE) or 0
+                    self.screen.addstr(f"{self.terminal.text(TAG, top, caret - top)}|{self.terminal.text(TAG, caret)}")
                 self.keys.append(self.screen.get_wch())
-        while self.keys and self.terminal.file(TAG).is_free:
-            self.press(self.keys.pop(0))
-        self.terminal.flush_now()
-        self.link.put(self.terminal.take_out())
-        while self.writer and (data := self.link.take_out(self.link.attempt)):
-            self.writer.write(data)
-        self.screen.erase()
-        with contextlib.suppress(curses.error, Missing):  # the text is longer than the screen, or not open yet
-            self.screen.addstr("\n" if self.writer else "no connection\n")
-            top = self.terminal.line_before(TAG, caret := self.terminal.dot(TAG)[0], LINES_ABOVE) or 0
-            self.screen.addstr(f"{self.terminal.text(TAG, top, caret - top)}|{self.terminal.text(TAG, caret)}")
 
     async def carry(self, path):
         """Opens a connection, and carries the session over it until it breaks."""

@@ -10,7 +10,7 @@ import sys
 import threading
 import time
 
-from checks import ROOT, Skipped, expect, expect_equal, wait_until
+from checks import ROOT, Failed, Skipped, expect, expect_equal, wait_until
 
 SPLIT = ROOT / "examples/split"
 NAME = "notes.txt"
@@ -26,6 +26,8 @@ class Line:
     def __init__(self, place, host):
         self.host, self.delay, self.is_cut, self.connections = str(host), 0.0, False, []
         self.sent = 0  # bytes to the host over the newest connection
+        self.count = 0  # of all connections
+        self.lock = threading.Lock()
         self.listener = socket.socket(socket.AF_UNIX)
         self.listener.bind(str(place))
         self.listener.listen()
@@ -34,13 +36,15 @@ class Line:
     def accept(self):
         while True:
             near, _ = self.listener.accept()
-            if self.is_cut:
-                near.close()
-                continue
-            far = socket.socket(socket.AF_UNIX)
-            far.connect(self.host)
-            self.connections += [near, far]
-            self.sent = 0
+            with self.lock:
+                if self.is_cut:
+                    near.close()
+                    continue
+                far = socket.socket(socket.AF_UNIX)
+                far.connect(self.host)
+                self.connections += [near, far]
+                self.sent = 0
+                self.count += 1
             for source, target in ((near, far), (far, near)):
                 threading.Thread(target=self.carry, args=(source, target), daemon=True).start()
 
@@ -56,10 +60,11 @@ class Line:
 
     def cut(self):
         """Ends all connections, and lets none begin until `mend`."""
-        self.is_cut = True
-        while self.connections:
-            with contextlib.suppress(OSError):
-                self.connections.pop().shutdown(socket.SHUT_RDWR)
+        with self.lock:
+            self.is_cut = True
+            while self.connections:
+                with contextlib.suppress(OSError):
+                    self.connections.pop().shutdown(socket.SHUT_RDWR)
 
     def mend(self):
         self.is_cut = False
@@ -70,13 +75,17 @@ class Screen:
 
     def __init__(self, folder, place):
         self.words = ["tmux", "-S", str(folder / f"{place.name}.tmux"), "-f", "/dev/null", "-u"]
-        command = f"exec {shlex.join([sys.executable, str(SPLIT / 'terminal.py'), str(place)])} 2> {shlex.quote(place.name)}.stderr"
+        self.stderr = folder / f"{place.name}.stderr"
+        command = f"exec {shlex.join([sys.executable, str(SPLIT / 'terminal.py'), str(place)])} 2> {shlex.quote(str(self.stderr))}"
         setting = dict(os.environ, **SETTING)
         words = [*self.words, "new-session", "-d", "-x", "80", "-y", "24", command]
         wait_until(lambda: subprocess.run(words, env=setting, cwd=folder, capture_output=True).returncode == 0, "tmux doesn't begin")
 
     def tmux(self, *words):
-        return subprocess.run([*self.words, *words], check=True, capture_output=True, text=True).stdout
+        ran = subprocess.run([*self.words, *words], capture_output=True, text=True)
+        if ran.returncode != 0:
+            raise Failed(f"the terminal has ended: {self.stderr.read_text()}")
+        return ran.stdout
 
     def press(self, *keys):
         self.tmux("send-keys", *keys)
@@ -91,7 +100,7 @@ class Screen:
 
     @property
     def text(self):
-        return "\n".join(self.lines[1:]).replace("|", "")
+        return "\n".join(self.lines[1:]).replace("|", "").rstrip("\n")
 
     def wait_for(self, text):
         wait_until(lambda: self.text == text.rstrip("\n"), lambda: f"the screen doesn't show {text!r}:\n" + "\n".join(self.lines))
@@ -116,7 +125,8 @@ def served(folder, text):
     with open(folder / "host.stderr", "w") as told:
         host = subprocess.Popen([sys.executable, SPLIT / "host.py", NAME], cwd=folder, env=setting, stderr=told)
     try:
-        wait_until((folder / f"{NAME}.socket").exists, lambda: f"the host doesn't listen: {(folder / 'host.stderr').read_text()}")
+        wait_until(lambda: (folder / f"{NAME}.socket").exists() or host.poll() is not None, "the host doesn't begin")
+        expect(host.poll() is None, f"the host has ended: {(folder / 'host.stderr').read_text()}")
         yield Line(folder / "line", folder / f"{NAME}.socket")
         expect(host.poll() is None, f"the host has ended: {(folder / 'host.stderr').read_text()}")
     finally:
@@ -184,6 +194,22 @@ def check_split_editor_is_killed(folder):
             saved(folder, screen, "now not saved: Shopping\n")
 
 
+def check_split_editor_save_fails(folder):
+    """A write that fails loses nothing: the terminal goes on, and a second try writes the text."""
+    with served(folder, "Shopping\n") as line, shown(folder) as screen:
+        screen.wait_for("Shopping\n")
+        screen.type("now ")
+        screen.wait_for("now Shopping\n")
+        in_the_way = folder / f"{NAME}.new"
+        in_the_way.mkdir()
+        connections = line.count
+        screen.press("C-w")
+        wait_until(lambda: line.count > connections, "the host keeps a connection that it doesn't serve")
+        in_the_way.rmdir()
+        screen.type("and then ")
+        saved(folder, screen, "now and then Shopping\n")
+
+
 def check_split_editor_taken_over(folder):
     """Another terminal takes the text over. The first one is refused when it comes back, and changes nothing."""
     with served(folder, "Shopping\n") as line, shown(folder) as first:
@@ -196,6 +222,6 @@ def check_split_editor_taken_over(folder):
             second.type("new ")
             saved(folder, second, "new Shopping\n")
             line.mend()
-            wait_until(lambda: "LINK_OTHER_SESSION" in (folder / "line.stderr").read_text(), "the first terminal isn't refused")
+            wait_until(lambda: "LINK_OTHER_SESSION" in first.stderr.read_text(), "the first terminal isn't refused")
             saved(folder, second, "new Shopping\n")
     expect((folder / NAME).read_text() == "new Shopping\n", "the first terminal has changed the text")
