@@ -173,7 +173,8 @@ def check_split_editor(folder):
             if number % 3 != 2:
                 screen.wait_for_state("")
         screen.press("BSpace", "BSpace", "x", "Enter")
-        saved(folder, screen, typed[:-2] + "x\n")
+        screen.press("C-w", "a", "b", "BSpace", "Enter")  # after the write keys wait for its answer, and then mean what is shown
+        saved(folder, screen, typed[:-2] + "x\na\n")
 
 
 def check_split_editor_is_killed(folder):
@@ -210,18 +211,27 @@ def check_split_editor_save_fails(folder):
         saved(folder, screen, "now and then Shopping\n")
 
 
-def check_split_editor_taken_over(folder):
-    """Another terminal takes the text over. The first one is refused when it comes back, and changes nothing."""
+def taken_over(folder, is_cut):
+    """A second terminal takes the text over. The first one, with a connection or without, types, is refused, and changes nothing."""
     with served(folder, "Shopping\n") as line, shown(folder) as first:
         first.wait_for("Shopping\n")
-        line.cut()
-        first.wait_for_state("no connection")
-        first.type("old ")
+        if is_cut:
+            line.cut()
+            first.wait_for_state("no connection")
         with shown(folder, f"{NAME}.socket") as second:
             second.wait_for("Shopping\n")
             second.type("new ")
             saved(folder, second, "new Shopping\n")
+            first.type("old ")
             line.mend()
             wait_until(lambda: "LINK_OTHER_SESSION" in first.stderr.read_text(), "the first terminal isn't refused")
-            saved(folder, second, "new Shopping\n")
-    expect((folder / NAME).read_text() == "new Shopping\n", "the first terminal has changed the text")
+            second.type("and ")
+            saved(folder, second, "new and Shopping\n")
+
+
+def check_split_editor_taken_over(folder):
+    taken_over(folder, False)
+
+
+def check_split_editor_taken_over_without_a_connection(folder):
+    taken_over(folder, True)
