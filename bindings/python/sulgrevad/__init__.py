@@ -22,8 +22,9 @@ program gives may be a `str`, or its UTF-8 as `bytes`.
 Words: the dot is the selection, a place an offset in runes, the snarf buffer the clipboard, which the host holds. A message goes to the
 host, a frame to the terminal. docs/reference/GLOSSARY.md has the other words.
 
-A `Link` carries the bytes of both, and notes of the program, over connections that may break at any byte: docs/howto/EMBEDDING.md has a
-loop. The notes that samhost and its front ends exchange are read by `read_note` and written by `write_note`: docs/reference/SESSION.md.
+A `Link` carries the bytes of both, and notes of the program, over connections that may break at any byte: docs/howto/RECONNECTING.md has
+the order of calls. The notes that samhost and its front ends exchange are read by `read_note` and written by `write_note`:
+docs/reference/SESSION.md.
 
 `replay` runs a script of docs/reference/SCRIPTS.md over a host and a terminal of its own.
 

@@ -183,7 +183,7 @@ def check_typed_longest_paths(folder):
         (refused,) = session.of("NOT_SAVED")
         wanted = (NoteCode.CHANGED_SINCE, b"", f"{path}.sam-saved".encode())
         expect_equal((refused.code, refused.path, refused.copy), wanted, "the answer, in which there is no room for the path")
-        expect(refused.text.startswith("? write ddd"), f"it says {refused.text!r}")
+        expect(refused.text.startswith("not written: ddd"), f"it says {refused.text!r}")
         session.leave()
 
 

@@ -1,0 +1,52 @@
+"""Programs that the tutorials and how-tos show."""
+import os
+import re
+import subprocess
+import sys
+
+from checks import GIVEN_UP, ROOT, expect
+
+PAGES = sorted([*(ROOT / "docs/tutorials").glob("*.md"), *(ROOT / "docs/howto").glob("*.md")])
+PROGRAM = re.compile(r"^```python\n(# (\w+\.py)\n.*?)^```$.*?^```text\n(.*?)^```$", re.MULTILINE | re.DOTALL)
+WITH_PROGRAMS = {"SPLIT_EDITOR": 5, "SAVING": 1, "UNDO": 1, "CLIPBOARD": 1}  # pages, and how many programs each has
+SPLIT = ROOT / "examples/split"
+MOST_LINES = 100
+
+
+def run(folder, name, text):
+    """What a program of a page prints."""
+    (folder / name).write_text(text)
+    setting = dict(os.environ, PYTHONPATH=str(ROOT / "bindings/python"))
+    ran = subprocess.run([sys.executable, name], cwd=folder, env=setting, capture_output=True, text=True, timeout=GIVEN_UP)
+    expect(ran.returncode == 0, f"{name} ends with status {ran.returncode}:\n{ran.stdout}{ran.stderr}")
+    return ran.stdout
+
+
+def check_programs(folder):
+    """Each program of a page prints what the page says."""
+    counts = {}
+    for page in PAGES:
+        for text, name, wanted in PROGRAM.findall(page.read_text()):
+            printed = run(folder, name, text)
+            expect(printed == wanted, f"{name} of {page.name} prints\n{printed}and the page says\n{wanted}")
+            counts[page.stem] = counts.get(page.stem, 0) + 1
+    expect(counts == WITH_PROGRAMS, f"the pages have so many programs: {counts}")
+
+
+def lines_of_code(text):
+    """How many lines of a program have code: no blank line, comment or docstring."""
+    text = re.sub(r'^ *""".*?"""$', "", text, flags=re.MULTILINE | re.DOTALL)
+    return sum(1 for line in text.splitlines() if line.strip() and not line.lstrip().startswith("#"))
+
+
+def check_split_editor_is_shown(_folder):
+    """The tutorial shows both programs of examples/split as they are, and they have 100 lines of code at most."""
+    page = (ROOT / "docs/tutorials/SPLIT_EDITOR.md").read_text()
+    programs = sorted(path.name for path in SPLIT.iterdir() if path.is_file())
+    expect(programs == ["host.py", "terminal.py"], f"examples/split has {programs}")
+    texts = [(SPLIT / name).read_text() for name in programs]
+    for name, text in zip(programs, texts):
+        expect(f"```python\n{text}```\n" in page, f"docs/tutorials/SPLIT_EDITOR.md doesn't show examples/split/{name} as it is")
+    count = sum(map(lines_of_code, texts))
+    expect(count <= MOST_LINES, f"the split editor has {count} lines of code")
+    expect(f"{count} lines of code" in page, f"docs/tutorials/SPLIT_EDITOR.md doesn't say that there are {count} lines of code")

@@ -1,0 +1,237 @@
+"""The split editor of docs/tutorials/SPLIT_EDITOR.md, over a line that is slow and cut, with a terminal that is killed."""
+import contextlib
+import os
+import shlex
+import shutil
+import signal
+import socket
+import subprocess
+import sys
+import threading
+import time
+
+from checks import ROOT, Failed, Skipped, expect, expect_equal, wait_until
+
+SPLIT = ROOT / "examples/split"
+NAME = "notes.txt"
+SETTING = {"PYTHONPATH": str(ROOT / "bindings/python"), "PYTHONDONTWRITEBYTECODE": "1", "LC_ALL": "C.UTF-8", "SHELL": "/bin/sh"}
+DELAY = 0.15  # seconds that a byte takes each way on a slow line
+HELLO_BYTES = 42
+MOST_PIECE = 50  # bytes that are carried together, so that a cut falls between few of them
+
+
+class Line:
+    """A line to the host's socket, which can be slow, and cut. What is on it then is lost."""
+
+    def __init__(self, place, host):
+        self.host, self.delay, self.is_cut, self.connections = str(host), 0.0, False, []
+        self.sent = 0  # bytes to the host over the newest connection
+        self.count = 0  # of all connections
+        self.lock = threading.Lock()
+        self.listener = socket.socket(socket.AF_UNIX)
+        self.listener.bind(str(place))
+        self.listener.listen()
+        threading.Thread(target=self.accept, daemon=True).start()
+
+    def accept(self):
+        while True:
+            near, _ = self.listener.accept()
+            with self.lock:
+                if self.is_cut:
+                    near.close()
+                    continue
+                far = socket.socket(socket.AF_UNIX)
+                far.connect(self.host)
+                self.connections += [near, far]
+                self.sent = 0
+                self.count += 1
+            for source, target in ((near, far), (far, near)):
+                threading.Thread(target=self.carry, args=(source, target), daemon=True).start()
+
+    def carry(self, source, target):
+        with contextlib.suppress(OSError):
+            while data := source.recv(MOST_PIECE):
+                time.sleep(self.delay)
+                target.sendall(data)
+                self.sent += len(data) if source in self.connections[::2] else 0
+        for end in (source, target):
+            with contextlib.suppress(OSError):
+                end.shutdown(socket.SHUT_RDWR)
+
+    def cut(self):
+        """Ends all connections, and lets none begin until `mend`."""
+        with self.lock:
+            self.is_cut = True
+            while self.connections:
+                with contextlib.suppress(OSError):
+                    self.connections.pop().shutdown(socket.SHUT_RDWR)
+
+    def mend(self):
+        self.is_cut = False
+
+
+class Screen:
+    """A terminal of the split editor on a screen of its own."""
+
+    def __init__(self, folder, place):
+        self.words = ["tmux", "-S", str(folder / f"{place.name}.tmux"), "-f", "/dev/null", "-u"]
+        self.stderr = folder / f"{place.name}.stderr"
+        command = f"exec {shlex.join([sys.executable, str(SPLIT / 'terminal.py'), str(place)])} 2> {shlex.quote(str(self.stderr))}"
+        setting = dict(os.environ, **SETTING)
+        words = [*self.words, "new-session", "-d", "-x", "80", "-y", "24", command]
+        wait_until(lambda: subprocess.run(words, env=setting, cwd=folder, capture_output=True).returncode == 0, "tmux doesn't begin")
+
+    def tmux(self, *words):
+        ran = subprocess.run([*self.words, *words], capture_output=True, text=True)
+        if ran.returncode != 0:
+            raise Failed(f"the terminal has ended: {self.stderr.read_text()}")
+        return ran.stdout
+
+    def press(self, *keys):
+        self.tmux("send-keys", *keys)
+
+    def type(self, text):
+        self.tmux("send-keys", "-l", text)
+
+    @property
+    def lines(self):
+        """The line that says how things stand, and those of the text, with the bar for the caret."""
+        return self.tmux("capture-pane", "-p").rstrip("\n").split("\n")
+
+    @property
+    def text(self):
+        return "\n".join(self.lines[1:]).replace("|", "").rstrip("\n")
+
+    def wait_for(self, text):
+        wait_until(lambda: self.text == text.rstrip("\n"), lambda: f"the screen doesn't show {text!r}:\n" + "\n".join(self.lines))
+
+    def wait_for_state(self, state):
+        wait_until(lambda: self.lines[0].strip() == state, lambda: f"the first line isn't {state!r}:\n" + "\n".join(self.lines))
+
+    def kill(self):
+        os.kill(int(self.tmux("display", "-p", "#{pane_pid}")), signal.SIGKILL)
+
+    def close(self):
+        subprocess.run([*self.words, "kill-server"], capture_output=True)
+
+
+@contextlib.contextmanager
+def served(folder, text):
+    """A host with this text, and a line to it."""
+    if not shutil.which("tmux"):
+        raise Skipped("tmux is not installed")
+    (folder / NAME).write_text(text)
+    setting = dict(os.environ, **SETTING)
+    with open(folder / "host.stderr", "w") as told:
+        host = subprocess.Popen([sys.executable, SPLIT / "host.py", NAME], cwd=folder, env=setting, stderr=told)
+    try:
+        wait_until(lambda: (folder / f"{NAME}.socket").exists() or host.poll() is not None, "the host doesn't begin")
+        expect(host.poll() is None, f"the host has ended: {(folder / 'host.stderr').read_text()}")
+        yield Line(folder / "line", folder / f"{NAME}.socket")
+        expect(host.poll() is None, f"the host has ended: {(folder / 'host.stderr').read_text()}")
+    finally:
+        host.kill()
+        host.wait()
+
+
+@contextlib.contextmanager
+def shown(folder, place="line"):
+    screen = Screen(folder, folder / place)
+    try:
+        yield screen
+    finally:
+        screen.close()
+
+
+def saved(folder, screen, text):
+    """Waits until screen and disk have a text, once it is saved."""
+    screen.wait_for(text)
+    screen.press("C-w")
+    wait_until(lambda: (folder / NAME).read_text() == text, lambda: f"the file is {(folder / NAME).read_text()!r}, not {text!r}")
+
+
+def check_split_editor(folder):
+    """Over a slow line that is cut nine times, also while keys are typed, screen and disk have the same text at the end."""
+    with served(folder, "Shopping\n") as line, shown(folder) as screen:
+        screen.wait_for("Shopping\n")
+        screen.wait_for_state("")
+        screen.press(*["Right"] * 9)
+        typed = "Shopping\n"
+        line.delay = DELAY
+        for number in range(9):
+            word = f"word {number}\n"
+            screen.type(word[:4])
+            if number % 3 != 0:  # else the connection is cut while its hello or those keys are on the way
+                time.sleep(DELAY * number)
+            line.cut()
+            screen.wait_for_state("no connection")
+            screen.type(word[4:-1])
+            screen.press("Enter")
+            typed += word
+            screen.wait_for(typed)  # keys show at once, also without a connection
+            line.mend()
+            if number % 3 != 2:
+                screen.wait_for_state("")
+        screen.press("BSpace", "BSpace", "x", "Enter")
+        screen.press("C-w", "a", "b", "BSpace", "Enter")  # after the write keys wait for its answer, and then mean what is shown
+        saved(folder, screen, typed[:-2] + "x\na\n")
+
+
+def check_split_editor_is_killed(folder):
+    """A terminal is killed, and the next one has all that has come to the host. It saves that."""
+    with served(folder, "Shopping\n") as line:
+        with shown(folder) as screen:
+            screen.wait_for("Shopping\n")
+            screen.type("not saved: ")
+            screen.wait_for("not saved: Shopping\n")
+            line.cut()  # what has not come by now comes with the next connection
+            line.mend()
+            wait_until(lambda: line.sent > HELLO_BYTES, "the terminal doesn't go on")
+            screen.kill()
+        expect_equal((folder / NAME).read_text(), "Shopping\n")
+        with shown(folder) as screen:
+            screen.wait_for("not saved: Shopping\n")
+            screen.type("now ")
+            saved(folder, screen, "now not saved: Shopping\n")
+
+
+def check_split_editor_save_fails(folder):
+    """A write that fails loses nothing: the terminal goes on, and a second try writes the text."""
+    with served(folder, "Shopping\n") as line, shown(folder) as screen:
+        screen.wait_for("Shopping\n")
+        screen.type("now ")
+        screen.wait_for("now Shopping\n")
+        in_the_way = folder / f"{NAME}.new"
+        in_the_way.mkdir()
+        connections = line.count
+        screen.press("C-w")
+        wait_until(lambda: line.count > connections, "the host keeps a connection that it doesn't serve")
+        in_the_way.rmdir()
+        screen.type("and then ")
+        saved(folder, screen, "now and then Shopping\n")
+
+
+def taken_over(folder, is_cut):
+    """A second terminal takes the text over. The first one, with a connection or without, types, is refused, and changes nothing."""
+    with served(folder, "Shopping\n") as line, shown(folder) as first:
+        first.wait_for("Shopping\n")
+        if is_cut:
+            line.cut()
+            first.wait_for_state("no connection")
+        with shown(folder, f"{NAME}.socket") as second:
+            second.wait_for("Shopping\n")
+            second.type("new ")
+            saved(folder, second, "new Shopping\n")
+            first.type("old ")
+            line.mend()
+            wait_until(lambda: "LINK_OTHER_SESSION" in first.stderr.read_text(), "the first terminal isn't refused")
+            second.type("and ")
+            saved(folder, second, "new and Shopping\n")
+
+
+def check_split_editor_taken_over(folder):
+    taken_over(folder, False)
+
+
+def check_split_editor_taken_over_without_a_connection(folder):
+    taken_over(folder, True)
