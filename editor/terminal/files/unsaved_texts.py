@@ -38,8 +38,6 @@ class UnsavedTexts:
         self._saved: Dict[int, int] = {}  # how many of them are in what the host has saved aside
         self._dropped: Dict[int, Tuple[str, str]] = {}  # names and texts of files that were dropped with open eyes, until they are saved
         self.put_off: Dict[int, bool] = {}  # files that are written when the line is back; whether the user is sure, where that is asked
-        self._tags: Dict[str, Set[int]] = {}  # by the names of files, as they are told
-        self._named_of, self._known_tags = (), []  # type: tuple, List[int]  # what these go by
         self._copies = BackupProcess()  # what was written here while the line was lost
         self._here_at: Optional[float] = None  # when
 
@@ -106,27 +104,21 @@ class UnsavedTexts:
         told = said(line)
         if told.what in ("written", "taken back"):
             return False
-        tags = self._tags_of(told) & set(self.editor.tags)
+        tags = set(filter(self.editor.is_users, self._tags_of(told)))
         if told.what in ("failed", "failed and saved"):
             return not tags or any(map(self.editor.is_changed, tags))
         return told.what != "changed" or not tags or bool(tags & set(self.editor.reloading.changed))
 
     def _tags_of(self, told: Said) -> Set[int]:
         """The files that a line of the host may be about, also those that were dropped."""
-        named = self._named()
-        of_names = (named.get(printable(shown_name(name)), set()) for name in told.names)
-        unnamed = {told.tag for known in (self._dropped, self.editor.tags) if told.tag is not None and told.tag in known}
-        return unnamed | next(filter(None, of_names), set())
+        of_names = (self._named(printable(shown_name(name))) for name in told.names)
+        is_unnamed = told.tag is not None and (told.tag in self._dropped or self.editor.is_users(told.tag))
+        return ({told.tag} if is_unnamed else set()) | next(filter(None, of_names), set())
 
-    def _named(self) -> Dict[str, Set[int]]:
-        """The files by their names as they are told. Thousands take long to ask for, so they are kept until some change."""
-        tags, dropped = self.editor.tags, [(tag, name) for tag, (name, _) in self._dropped.items()]
-        of = self.terminal.namings, dropped
-        if self._named_of != of or self._known_tags is not tags:
-            self._named_of, self._known_tags, self._tags = of, tags, {}
-            for tag, name in [*dropped, *((tag, self.name(tag)) for tag in tags)]:
-                self._tags.setdefault(printable(name), set()).add(tag)
-        return self._tags
+    def _named(self, told: str) -> Set[int]:
+        """The files of a name, as it is told."""
+        dropped = {tag for tag, (name, _) in self._dropped.items() if printable(name) == told}
+        return dropped | self.editor.session_files.named(told)
 
     def drop(self, tag: int) -> None:
         """The file is closed."""
@@ -150,7 +142,7 @@ class UnsavedTexts:
             tag, (name, text) = next(iter(self._dropped.items()))
             lines.append(self._kept(name, text, tag))
             del self._dropped[tag]
-        for tag in filter(self.terminal.is_open, self.editor.tags):
+        for tag in self.editor.open_tags:
             is_saved = has_all and (has_ended_well or self._saved.get(tag) == self._changes[tag])
             if self.editor.is_changed(tag) and not is_saved:
                 try:
@@ -225,7 +217,7 @@ class UnsavedTexts:
     def _keep_all_here(self) -> None:
         editor = self.editor
         texts = [(tag, self.name(tag), lambda tag=tag: local_backup.loaded(self.terminal, tag, editor.vault.going))
-                 for tag in filter(self.terminal.is_open, editor.tags) if editor.is_changed(tag)]  # fmt: skip
+                 for tag in editor.open_tags if editor.is_changed(tag)]  # fmt: skip
         texts += [(None, local_backup.TYPED, lambda: editor.typed_ahead), (None, local_backup.COMMAND_LINE, editor.begun_line)]
         texts.append((None, local_backup.CUT, lambda: local_backup.told(editor.cut_text)))
         self._copies.write([((tag, name), text_of) for tag, name, text_of in texts])
@@ -243,7 +235,7 @@ class UnsavedTexts:
 
     def keep_typed(self, text: str, tag: Optional[int] = None) -> str:
         """The same of what was typed and put in nowhere, for a file or for whichever comes: it is in no text, and so in none's file."""
-        known = tag is not None and tag in self.editor.tags
+        known = tag is not None and self.editor.is_users(tag)
         return self._kept(local_backup.TYPED, text, what=f"what was typed{f' for {self.name(tag)}' if known else ''} and not put in")
 
     def keep_late(self) -> List[str]:

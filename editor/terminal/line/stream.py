@@ -6,8 +6,8 @@ from sulgrevad import Edits, Step, Terminal, TerminalDid
 from ..text.texts import GAP, Change, Changes, Texts, received
 
 # Kinds of frames.
-BINDNAME, NEWNAME, GROW, UNLOCK, DATA, UNLOCKFILE, SETDOT, GROWDATA, MOVETO, CLEAN = 66, 68, 70, 72, 73, 75, 76, 77, 78, 79
-CUT, DELNAME, CLOSE = 81, 83, 84
+BINDNAME, NEWNAME, MOVNAME, GROW, UNLOCK, DATA, UNLOCKFILE, SETDOT, GROWDATA, MOVETO = 66, 68, 69, 70, 72, 73, 75, 76, 77, 78
+CLEAN, DIRTY, CUT, DELNAME, CLOSE = 79, 80, 81, 83, 84
 FIRST = bytes.fromhex("41000a00000000000000010002")  # the frame that answers the first message, which offers version 2
 
 Told = Dict[int, Callable[[int], None]]

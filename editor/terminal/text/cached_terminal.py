@@ -41,7 +41,6 @@ class CachedTerminal(Terminal):
         self._refuses = False  # an event may be refused that was not told
         self._is_short = False  # memory was out, so some of what was done may be done later
         self.deeds = 0  # how often something was done
-        self.namings = 0  # how often a name may have changed
         self._opens_command = False  # nothing but the opening of the command file has taken the command lock since
         self.loads: Dict[int, int] = {}  # of files that loads alone have locked since they were free: how many runes the last one asks for
 
@@ -51,10 +50,6 @@ class CachedTerminal(Terminal):
         self.deeds += 1
         self._known.clear()
         self._gaps.clear()
-
-    def _forget_names(self) -> None:
-        self.namings += 1
-        self._names.clear()
 
     def take_out(self, most: Optional[int] = None) -> bytes:
         if not self.pending:
@@ -238,7 +233,7 @@ def _forgetting(deed: Callable[..., Any]) -> Callable[..., Any]:
         finally:  # what was refused memory may be done in part
             self.forget()
             if deed is Terminal.feed:
-                self._forget_names()
+                self._names.clear()
 
     return done
 
@@ -282,7 +277,6 @@ def _step(self: CachedTerminal) -> TerminalDid:
             is_done = False
             self._known.pop(did.tag, None)
         elif did.kind in NAMING:
-            self.namings += 1
             self._names.pop(did.tag, None)
     finally:
         if is_done:
