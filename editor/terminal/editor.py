@@ -1,9 +1,8 @@
 """The editor: what comes from the host, and the keys that act. Windows stand in view/window_layout.py, keys that wait in
 keys/key_queue.py, and what a key does in keys/actions.py."""
 import time
-from bisect import bisect_left
 from collections import deque
-from typing import Callable, Container, FrozenSet, Iterable, List, NamedTuple, Optional, Sequence, Set, Tuple, Union
+from typing import Callable, Container, Iterable, List, Optional, Sequence, Set, Tuple, Union
 
 from .keys.actions import TOO_LONG, Actions
 from .view.colours import Colours
@@ -14,9 +13,10 @@ from .keys.bindings import PLACE, SAM, Input, Key, KeySet, Mouse, Paste, Text
 from .files.recovery import Recovery
 from .text.lines import Numbers
 from .line.host_process import SECONDS_TO_END
-from .view.status_line import REPEAT, Notes, rank_of, words_of
+from .view.status_line import REPEAT, Notes, printable, rank_of, words_of
 from .keys.mouse import Pointer
 from .files.reload import Reload
+from .files.session_files import SessionFiles
 from .text.prefetch import Prefetch
 from sulgrevad import Kind, Note, NoteCode, NoteKind, Refusal, SamError, Status, Terminal
 from .line.stream import Stream
@@ -30,7 +30,6 @@ from .line.delivery import Delivery
 COMMAND_AFTER = 2.0  # seconds of rest after which the command file is opened, if nothing needed it before
 
 
-OWN = "~~"  # what names of hidden files begin with
 ANSWERS = (NoteKind.OPENED, NoteKind.REFUSED, NoteKind.NAMES, NoteKind.ANEW, NoteKind.SHOWN)
 AGES = (NoteCode.NEWER, NoteCode.OLDER)  # of a text that an earlier session left, beside that of its file
 RESTED = 1.0  # seconds since the last key from which on a question is no surprise
@@ -47,15 +46,6 @@ WHY = {
 }
 
 
-class Known(NamedTuple):
-    """All files in their order; those that are not the user's; and his."""
-
-    every: List[int]
-    hidden: Set[Optional[int]]
-    tags: List[int]
-    all: FrozenSet[int]
-
-
 class Editor(WindowLayout, KeyQueue, Actions):
     """The terminal with its windows. Keys come in by `take`, bytes of the host by `feed`, its messages and lines by `hear`."""
 
@@ -69,19 +59,20 @@ class Editor(WindowLayout, KeyQueue, Actions):
         self.terminal, self.clock, self.indents = terminal, clock, indents
         # The names that the files have whose paths the user gave; None where he goes on with a session.
         self.asked_for = None if asked_for is None else {shown_name(path) for path in asked_for}
+        self.session_files = SessionFiles(terminal)
         self.way, self.notes = Delivery(terminal, clock), Notes(clock, self.hint)
         self.vault = UndoStore(terminal, self.texts)
         self.log, self.numbers, self.keeping = Undo(terminal, self.texts, self.vault), Numbers(self.texts), UnsavedTexts(self)
         self.left, self.slices, self.joining, self.reloading = Recovery(self), Prefetch(self), OpenRequests(self), Reload(self)
         told = {Kind.HCLEAN: self._meet_clean, Kind.HCLOSE: self._meet_close, Kind.HMOVETO: self._meet_move, Kind.HSETDOT: self._meet_dot}
-        told.update({Kind.HNEWNAME: self._meet_name, Kind.HDELNAME: self._meet_name})
+        known = self.session_files
+        told.update({Kind.HNEWNAME: known.add, Kind.HMOVNAME: known.rename, Kind.HDELNAME: known.drop})
+        told.update({Kind.HBINDNAME: known.touch, Kind.HDIRTY: known.touch})
         settled = {Kind.HUNLOCK: self._meet_unlock, Kind.HUNLOCKFILE: self._meet_pasted}
         self.colours = Colours(self.name, tell=lambda line: self.notes.keep(1, line))
         self.stream = Stream(terminal, self.texts, told, settled)
         hear = self.log.hear, self.numbers.hear, self.keeping.hear_changes, self.hear_changes, self.hear_run, self.colours.hear
         self.texts.listeners = [*hear]
-        self._known: Optional[Known] = None  # since thousands take long to ask for; None where they were not asked for
-        self._renamed: Set[int] = set()  # files that have come or gone since
         self.pointer, self.menu, self.help = Pointer(self), None, None  # the help lies over all else
         self.is_lost = self.is_leaving = self.is_over = self.has_begun = False
         self.leaves_alone = False  # the user leaves, and the host has not answered that
@@ -123,21 +114,31 @@ class Editor(WindowLayout, KeyQueue, Actions):
     @property
     def tags(self) -> List[int]:
         """The user's files."""
-        hidden = {COMMAND, self.vault.tag, *self.left.tags, *self.reloading.hidden}
-        if self._known is None or self._renamed or self._known.hidden != hidden:
-            every = self.terminal.files() if self._known is None else self._known.every
-            for tag in self._renamed:
-                at = bisect_left(every, tag)
-                was, is_known = every[at : at + 1] == [tag], self.terminal.is_known(tag)
-                every[at : at + was] = [tag] if is_known else []
-            self._renamed.clear()
-            tags = [tag for tag in every if tag not in hidden]
-            self._known = Known(every, hidden, tags, frozenset(tags))
-        return self._known.tags
+        self._hide_files()
+        return self.session_files.tags
+
+    def _hide_files(self) -> None:
+        self.session_files.hide(COMMAND, self.vault.tag, *self.left.tags, *self.reloading.hidden)
+
+    @property
+    def open_tags(self) -> List[int]:
+        """Those that are open, in their order."""
+        return sorted(tag for tag in self.session_files.touched if self.is_users(tag) and self.terminal.is_open(tag))
+
+    @property
+    def changed_tags(self) -> List[int]:
+        """Those that are changed, in their order."""
+        may_be = {*self.session_files.touched, *self.keeping.unwritten}
+        return sorted(tag for tag in may_be if self.is_users(tag) and self.is_changed(tag))
+
+    @property
+    def changed_names(self) -> str:
+        """The names of these."""
+        return ", ".join(map(self.name, self.changed_tags))
 
     def is_users(self, tag: int) -> bool:
         """Whether a file is one of the user's."""
-        return self._known is not None and tag in self._known.all
+        return tag in self.session_files.all
 
     @property
     def is_alone(self) -> bool:
@@ -240,9 +241,6 @@ class Editor(WindowLayout, KeyQueue, Actions):
             self.reloading.forget(tag)
         self.way.confirm()
 
-    def _meet_name(self, tag: int) -> None:
-        self._renamed.add(tag)
-
     def _meet_close(self, tag: int) -> None:
         for memory in (self.log, self.numbers, self.keeping, self.left, self.reloading, self.colours):
             memory.drop(tag)
@@ -324,7 +322,8 @@ class Editor(WindowLayout, KeyQueue, Actions):
     def _meet_files(self) -> None:
         """Shows the first file, and a file that was made; drops the windows of files that were closed."""
         if not self.has_begun and not self.terminal.command_locked:
-            own = [tag for tag in self.tags if self.terminal.name(tag).startswith(OWN)]
+            self._hide_files()
+            own = sorted(filter(self.is_users, self.session_files.own))
             self.vault.find(own)
             self.reloading.find(own)
             self.left.find(own)
@@ -343,7 +342,7 @@ class Editor(WindowLayout, KeyQueue, Actions):
             self.show(current)
         elif gone and not self.files and known:
             is_in_command = self.focus is self.command and self.active is not self.command
-            self.show(next((tag for tag in known if self.terminal.is_open(tag)), known[0]))
+            self.show(next(iter(self.open_tags), known[0]))
             if is_in_command:
                 self.go_to(self.command)
 
@@ -362,7 +361,8 @@ class Editor(WindowLayout, KeyQueue, Actions):
         """Whether there are files whose names the user did not give."""
         if self.asked_for is None:
             return len(known) > 1
-        return len(known) != len(self.asked_for) and any(self.name(tag) not in self.asked_for for tag in known)
+        asked_for = set(map(printable, self.asked_for))
+        return len(known) != len(asked_for) and any(told not in asked_for for told in self.session_files.names)
 
     def update(self) -> None:
         """After keys or bytes: files that came or went, keys that waited, refusals, what the windows show."""
@@ -407,7 +407,8 @@ class Editor(WindowLayout, KeyQueue, Actions):
         """Seconds until something is to be done though nothing comes; None where that has no end. A time that has come since the last
         update counts: else nobody would ask any more for what that left."""
         now = self.clock()
-        waits = [self.way.seconds, self.keeping.seconds_until_here, self.joining.seconds, *(when - now for when in self._asks_at)]
+        waits = [self.way.seconds, self.keeping.seconds_until_here, self.joining.seconds, self.left.seconds]
+        waits += [when - now for when in self._asks_at]
         if not self.is_lost:
             waits.append(self.way.seconds_of_silence)
         waits += [pressed.when + REPEAT - now for pressed in self.deferred if pressed.answers]

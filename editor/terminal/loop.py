@@ -2,6 +2,7 @@
 
 What the user does goes one way: keys, the terminal, the link, the host, the link, the terminal, the screen.
 """
+import contextlib
 import functools
 import gc
 import os
@@ -9,7 +10,7 @@ import select
 import signal
 import time
 from collections import deque
-from typing import Callable, Deque, Dict, List, Optional
+from typing import Callable, Deque, Dict, Iterable, Iterator, List, Optional
 
 from .keys.decoder import Decoder
 from .editor import Editor
@@ -26,6 +27,8 @@ ENDS = (signal.SIGTERM, signal.SIGHUP, signal.SIGINT, signal.SIGQUIT)
 SCREENS = (signal.SIGWINCH, signal.SIGCONT, signal.SIGTSTP)
 RETRY = 0.1  # seconds until that for which the memory was too small is tried again
 LONGEST_UNDRAWN = 0.05  # seconds of an answer that comes without a pause, after which what has come is drawn
+LONGEST_AT_ONCE = 0.01  # seconds that may be worked on what has come before it is looked for keys
+MOST_FED = 16_384  # bytes of that which are taken at once: of frames that tell names, which take longest, that is some 15 milliseconds
 MOST_READ = 65_536  # bytes of keys that are read at once
 # Objects that are made and not freed until it is looked which of them only lead to themselves: a key that comes then waits for that, some
 # 5 milliseconds.
@@ -46,6 +49,7 @@ class Loop:
         self.terminal, self.link, self.screen, self.editor, self.hear = terminal, link, screen, editor, hear
         self.decoder = Decoder(sequences())
         self.keys: Deque[Input] = deque()  # those that the editor has not taken
+        self._came: Deque[Item] = deque()  # what has come of the link, and was not taken yet
         self.is_short = False  # memory was too small since the last pause
         self.ended_by = 0  # the signal that ended the session
         self.drawn_at = 0.0  # when what had come was drawn, or there was nothing more to draw
@@ -77,6 +81,7 @@ class Loop:
             pass
         finally:
             signal.signal(signal.SIGPROF, signal.SIG_IGN)
+            self._take_rest()
             self.editor.take_late([*self.keys, *self.decoder.finish(time.monotonic())])
 
     def _give_up(self, *_) -> None:
@@ -91,15 +96,17 @@ class Loop:
         quiet_at, self._quiet_at = self._quiet_at, 0.0
         since = quiet_at or time.monotonic()
         ready = {} if quiet_at else self._ready(0)
-        if not ready:
+        if not ready and not self._came:
             self.editor.notes.settle(since)
             ready = self._sleep(self._idle())
             self.drawn_at = time.monotonic()
         elif since - self.drawn_at >= LONGEST_UNDRAWN:
-            self.screen.draw(self.editor, self.link)
+            self._idle()
             self.drawn_at = time.monotonic()
         self._is_updated = False
-        self._take_keys(ready)
+        if self._take_keys(ready) and (self._came or len(ready) > 1):  # what they do shows before more is taken
+            self._idle()
+            self.drawn_at = time.monotonic()
         self._take_signals(ready)
         self._take_bytes(ready)
         self._send()
@@ -156,14 +163,16 @@ class Loop:
         gc.collect()
         gc.freeze()
 
-    def _take_keys(self, ready: Dict[int, int]) -> None:
+    def _take_keys(self, ready: Dict[int, int]) -> bool:
+        """Takes what was pressed. Returns whether there was a key."""
         now = time.monotonic()
         if ready.get(KEYBOARD, 0) & (select.POLLHUP | select.POLLERR | select.POLLNVAL):
             self._end(signal.SIGHUP)
-            return
+            return False
         keys = self.decoder.feed(self._read_keys(), now) if KEYBOARD in ready else self.decoder.flush(now)
         self.editor.notes.standing = BROKEN_PASTE if self.decoder.is_broken else ""
         self._act_on(keys)
+        return bool(keys)
 
     def _read_keys(self) -> bytes:
         try:
@@ -241,18 +250,44 @@ class Loop:
             self.editor.arrange(*self.screen.size)
 
     def _take_bytes(self, ready: Dict[int, int]) -> None:
-        for item in self.link.take(ready):
-            self._is_updated = False
-            if isinstance(item, bytes):
-                self._do(functools.partial(self.editor.feed, item))
-                deeds = self.terminal.deeds
-                self._do(self.editor.update)
-                self._is_updated = deeds == self.terminal.deeds and not (self.editor.deferred or self.is_short)
-            else:
-                self.hear(item)
-        if self.link.is_lost and not self.editor.is_over:
+        """Takes what has come, as much of it as leaves a key time; the rest once it was looked for keys."""
+        if not self._came:
+            self._came.extend(pieces_of(self.link.take(ready)))
+        until = time.monotonic() + LONGEST_AT_ONCE
+        while self._came:
+            item = self._came.popleft()
+            self._take(item)
+            has_time = time.monotonic() < until
+            if isinstance(item, bytes) and not (has_time and self._came and isinstance(self._came[0], bytes)):
+                self._update()
+            if not has_time:
+                break
+        if self.link.is_lost and not self._came and not self.editor.is_over:
             self._is_updated = False
             self.editor.lose(self.link.why)
+
+    def _take(self, item: Item) -> None:
+        self._is_updated = False
+        if isinstance(item, bytes):
+            self._do(functools.partial(self.editor.feed, item))
+        else:
+            self.hear(item)
+
+    def _update(self) -> None:
+        """Bytes have come. Where nothing is left to be done by that, it need not be looked for that again before it sleeps."""
+        deeds = self.terminal.deeds
+        self._do(self.editor.update)
+        self._is_updated = deeds == self.terminal.deeds and not (self.editor.deferred or self.is_short)
+
+    def _take_rest(self) -> None:
+        """The session is over: takes what has come and was not taken yet, since it says what has arrived."""
+        came, self._came = self._came, deque()
+        for item in came:
+            with contextlib.suppress(Exception):  # whatever goes wrong, the texts are kept
+                if not isinstance(item, bytes):
+                    self.hear(item)
+                elif not self.editor.is_lost:
+                    self.editor.feed(item)
 
     def _send(self) -> None:
         self.link.send(self.terminal.take_out())
@@ -267,3 +302,12 @@ class Loop:
             self.editor.message = f"there is not enough memory ({error})"
         except SamError as error:
             self.editor.lose(f"the host's stream is wrong ({error})")
+
+
+def pieces_of(items: Iterable[Item]) -> Iterator[Item]:
+    """What has come, with bytes in pieces that take no key's time."""
+    for item in items:
+        if isinstance(item, bytes):
+            yield from (item[at : at + MOST_FED] for at in range(0, len(item), MOST_FED))
+        else:
+            yield item

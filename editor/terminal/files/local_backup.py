@@ -7,7 +7,7 @@ import sys
 import tempfile
 from itertools import chain
 from pathlib import Path
-from typing import Callable, Collection, Dict, Iterator, List, Optional, Tuple
+from typing import Callable, Collection, Dict, Iterator, List, Optional, Set, Tuple
 
 from sulgrevad import Terminal
 from ..text.texts import GAP, Change
@@ -135,29 +135,52 @@ def _note(name: str, path: str) -> None:
             return
 
 
+class Left:
+    """The files of this machine that have texts from earlier sessions: those that were noted, and those in this folder of which nothing
+    was."""
+
+    def __init__(self) -> None:
+        self._noted: Dict[str, List[str]] = {}  # by the numbers of their names
+        self._here: Dict[str, List[str]] = {}  # by their names
+        self._files: Set[str] = set()  # those of the latter that may be of a file that was asked for
+        for folder in _own_folders(makes=False):
+            for path in _entries(folder):
+                self._note(path)
+        known = set(chain.from_iterable(self._noted.values()))
+        for path in _entries(""):
+            if os.path.realpath(path) not in known and _is_own(path):
+                self._here.setdefault(ENDS.sub("", path), []).append(path)
+
+    def _note(self, path: str) -> None:
+        target = os.path.realpath(path)
+        if _is_own(target):
+            self._noted.setdefault(os.path.basename(path).partition("-")[0], []).append(target)
+        else:
+            with contextlib.suppress(OSError):
+                os.unlink(path)  # what it led to is gone
+
+    @property
+    def is_empty(self) -> bool:
+        """Whether there are none, of whatever file."""
+        return not self._noted and not self._here
+
+    def of(self, name: str) -> List[str]:
+        """Those of a name. What is no file's is asked for last: what nobody noted is rather a file's."""
+        if self.is_empty:
+            return []
+        noted, base = self._noted.get(_number(name), []) if self._noted else [], _base(name)
+        if not name.startswith(OF_NO_FILE):
+            self._files.add(base)
+        elif base in self._files:
+            return noted
+        return noted + self._here.get(name, self._here.get(base, []))
+
+
 def left(names: Collection[str]) -> Dict[str, List[str]]:
-    """The files of this machine that have texts of some files, from earlier sessions: those that were noted, and those in this folder of
-    which nothing was."""
-    noted: Dict[str, List[str]] = {}
-    for folder in _own_folders(makes=False):
-        for path in _entries(folder):
-            target = os.path.realpath(path)
-            if _is_own(target):
-                noted.setdefault(os.path.basename(path).partition("-")[0], []).append(target)
-            else:
-                with contextlib.suppress(OSError):
-                    os.unlink(path)  # what it led to is gone
-    known = set(chain.from_iterable(noted.values()))
-    here: Dict[str, List[str]] = {}
-    for path in _entries(""):
-        if os.path.realpath(path) not in known and _is_own(path):
-            here.setdefault(ENDS.sub("", path), []).append(path)
-    if not noted and not here:
-        return {name: [] for name in names}
-    for base in {_base(name) for name in names if not name.startswith(OF_NO_FILE)}:  # what nobody noted is rather a file's
-        here.setdefault(OF_NO_FILE + base, [])
-    of_own = (lambda name: noted.get(_number(name), [])) if noted else lambda _: []
-    return {name: of_own(name) + here.get(name, here.get(_base(name), [])) for name in names}
+    """The files of this machine that have texts of some files, from earlier sessions."""
+    found = Left()
+    of = {name: found.of(name) for name in sorted(names, key=lambda name: name.startswith(OF_NO_FILE))}
+    return {name: of[name] for name in names}
 
 
 def _entries(folder: str) -> List[str]:

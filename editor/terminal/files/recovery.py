@@ -3,7 +3,8 @@ it with its file, or drops it."""
 import os
 import re
 import time
-from typing import Dict, List, NamedTuple, Optional, Tuple, Union
+from collections import deque
+from typing import Deque, Dict, List, NamedTuple, Optional, Tuple, Union
 
 from . import local_backup
 from ..keys.bindings import Input, Key, Mouse, Paste, Text
@@ -16,6 +17,7 @@ from ..view.windows import end_of_load
 # The name in the session of a text that the host saved: the tag of its file, 0 for what was cut last; whether it is newer; and when it
 # was saved.
 NAMED = re.compile(r"~~left~~ ([0-9]{1,5}) ([+-]) (.*)")
+MOST_LOOKED_AT = 500  # files of which it is looked at once whether texts of them are here: that takes some 5 milliseconds
 MOST_COMPARED = 1_000  # lines that differ, from the first to the last, of which it is shown how
 LONGEST_COMPARING = 0.5  # seconds of the processor for that
 REACH = 32_768  # runes that are loaded in one round trip
@@ -49,6 +51,7 @@ class Recovery:
         self._taken: Dict[int, Tuple[List[Old], Step]] = {}  # of a file, what was taken into it and not written yet; and that step of undo
         self._written: List[int] = []  # files that were written since
         self._times: Dict[int, int] = {}  # when files were written last
+        self._unlooked: Deque[int] = deque()  # files of which it isn't known yet whether texts of them are here; COMMAND for what is no file's
         self._warned: Optional[Old] = None  # the text of which the user knows that it lacks something
         self._whole: Optional[Old] = None  # the one from which all came that it lacks
 
@@ -63,11 +66,23 @@ class Recovery:
             found = NAMED.fullmatch(self.terminal.name(tag))
             if found:
                 self.tags[tag] = Old(int(found[1]), found[3], found[2] == "+", tag=tag)
-        names = {tag: self.terminal.name(tag) for tag in self.editor.tags}
-        here = local_backup.left([*names.values(), local_backup.TYPED])
-        for tag, name in [(COMMAND, local_backup.TYPED), *names.items()]:
-            for path in here[name]:
+        self._left_here = local_backup.Left()
+        if not self._left_here.is_empty:
+            self._unlooked = deque([*self.editor.tags, COMMAND])
+            self._look_here()
+
+    def _look_here(self) -> None:
+        """Looks whether texts of files are here, of a few files at once, so that no key waits for that. What is no file's comes last."""
+        for _ in range(min(MOST_LOOKED_AT, len(self._unlooked))):
+            tag = self._unlooked.popleft()
+            name = local_backup.TYPED if tag == COMMAND else self.terminal.name(tag) if self.terminal.is_known(tag) else None
+            for path in [] if name is None else self._left_here.of(name):
                 self._note_here(tag, name, path)
+
+    @property
+    def seconds(self) -> Optional[float]:
+        """0 as long as there are files to look at; None once there are none."""
+        return 0.0 if self._unlooked and not self.editor.is_lost else None
 
     def _note_here(self, tag: int, name: str, path: str) -> None:
         try:
@@ -254,6 +269,7 @@ class Recovery:
     def go_on(self) -> None:
         """Drops what was taken back and is in its file by now, unless it was taken out again, or the write failed."""
         editor = self.editor
+        self._look_here()
         while self._written and editor.way.is_confirmed and not editor.keeping.is_writing(self._written[0]):
             tag = self._written.pop(0)
             olds, step = self._taken.get(tag, ([], None))

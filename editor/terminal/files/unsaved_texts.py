@@ -113,7 +113,7 @@ class UnsavedTexts:
 
     def is_so(self, told: Union[str, Note]) -> bool:
         """Whether what was told of a file still holds: what was not written may have been since, or been read anew."""
-        if isinstance(told, str) or told.tag not in self.editor.tags:
+        if isinstance(told, str) or not self.editor.is_users(told.tag):
             return isinstance(told, str) or rank_of(told) > 0
         if told.kind == NoteKind.NOT_SAVED:
             return self.editor.is_changed(told.tag)
@@ -141,7 +141,7 @@ class UnsavedTexts:
             tag, (name, text) = next(iter(self._dropped.items()))
             lines.append(self._kept(name, text, tag))
             del self._dropped[tag]
-        for tag in filter(self.terminal.is_open, self.editor.tags):
+        for tag in self.editor.open_tags:
             is_saved = has_all and (has_ended_well or self._saved.get(tag) == self._changes[tag])
             if self.editor.is_changed(tag) and not is_saved:
                 try:
@@ -216,7 +216,7 @@ class UnsavedTexts:
     def _keep_all_here(self) -> None:
         editor = self.editor
         texts = [(tag, self.name(tag), lambda tag=tag: local_backup.loaded(self.terminal, tag, editor.vault.going))
-                 for tag in filter(self.terminal.is_open, editor.tags) if editor.is_changed(tag)]  # fmt: skip
+                 for tag in editor.open_tags if editor.is_changed(tag)]  # fmt: skip
         texts += [(None, local_backup.TYPED, lambda: editor.typed_ahead), (None, local_backup.COMMAND_LINE, editor.begun_line)]
         texts.append((None, local_backup.CUT, lambda: local_backup.told(editor.cut_text)))
         self._copies.write([((tag, name), text_of) for tag, name, text_of in texts])
@@ -234,7 +234,7 @@ class UnsavedTexts:
 
     def keep_typed(self, text: str, tag: Optional[int] = None) -> str:
         """The same of what was typed and put in nowhere, for a file or for whichever comes: it is in no text, and so in none's file."""
-        known = tag is not None and tag in self.editor.tags
+        known = tag is not None and self.editor.is_users(tag)
         return self._kept(local_backup.TYPED, text, what=f"what was typed{f' for {self.name(tag)}' if known else ''} and not put in")
 
     def keep_late(self) -> List[str]:

@@ -168,5 +168,5 @@ class Commands:
 
     def may_leave(self, key: str) -> bool:
         """Whether all is written, or the user is sure. If not, it is asked; the same key answers."""
-        unwritten = ", ".join(self.name(tag) for tag in self.tags if self.is_changed(tag))
+        unwritten = self.changed_names
         return not unwritten or self.is_sure(f"not written: {unwritten}. {key} again leaves without them")

@@ -240,7 +240,7 @@ class KeyQueue:
         """Whether the user leaves a host that doesn't answer. Where something may be lost by that, one question is asked, and no more."""
         if self.is_lost or not self.way.is_silent:
             return False
-        unwritten = ", ".join(self.name(tag) for tag in self.tags if self.is_changed(tag))
+        unwritten = self.changed_names
         if self.way.line is not None and (unwritten or self.deferred or not self.way.has_all):
             self._ask(f"{self.of_leaving(STAYS)}{unwritten or 'nothing is unwritten'}", key)
         elif unwritten or self.deferred:

@@ -10,7 +10,7 @@ from collections import deque
 from typing import Callable, Deque, Dict, List, Optional
 
 PIECE = 65_536  # bytes that one call reads
-MOST_AT_ONCE = 131_072  # bytes that are taken before a key is: to handle them takes some 10 milliseconds
+MOST_AT_ONCE = 131_072  # bytes that are taken of the pipe at once
 IN_PIPE = 262_144  # bytes that wait in the pipe, so a relay need not wait for us at each piece
 SECONDS_TO_END = 10  # how long the host may take to end
 SECONDS_OF_SILENCE = 2  # the same where it has not answered for a while

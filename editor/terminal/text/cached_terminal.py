@@ -18,6 +18,7 @@ DEEDS = (
 NAMING = (68, 69, 83)  # the kinds of frames that change a name: Hnewname, Hmovname, Hdelname
 CHECKING = 71  # Hcheck, which may have the terminal ask for more of its file
 LOCKING = ("dclick", "look", "search", "paste", "scroll", "write", "close", "send")  # what locks a file, and isn't only a load
+KEEPING = ("open_cmd", "offer_version")  # what locks all files, though its answer changes no text that is open, and no selection
 DONE = (Step.RECEIVED, Step.ACTED, Step.REFUSED)  # steps that may change anything; the others change counts alone
 COUNTS = (
     "events", "decided", "held", "sent", "under_way", "tags", "unsent", "snarf_len", "version", "command_locked", "exited",
@@ -41,8 +42,7 @@ class CachedTerminal(Terminal):
         self._refuses = False  # an event may be refused that was not told
         self._is_short = False  # memory was out, so some of what was done may be done later
         self.deeds = 0  # how often something was done
-        self.namings = 0  # how often a name may have changed
-        self._opens_command = False  # nothing but the opening of the command file has taken the command lock since
+        self._keeps_texts = False  # nothing but KEEPING has taken the command lock since
         self.loads: Dict[int, int] = {}  # of files that loads alone have locked since they were free: how many runes the last one asks for
 
     def forget(self) -> None:
@@ -51,10 +51,6 @@ class CachedTerminal(Terminal):
         self.deeds += 1
         self._known.clear()
         self._gaps.clear()
-
-    def _forget_names(self) -> None:
-        self.namings += 1
-        self._names.clear()
 
     def take_out(self, most: Optional[int] = None) -> bytes:
         if not self.pending:
@@ -102,9 +98,9 @@ class CachedTerminal(Terminal):
         self._load(tag, place, length)
 
     def is_kept(self, tag: int) -> bool:
-        """Whether an open file is locked, and no answer that is due changes its text or selection: those to loads don't, nor does that
-        which opens the command file."""
-        return self.is_loading(tag) or (self._opens_command and self.command_locked and self.held == 0)
+        """Whether an open file is locked, and no answer that is due changes its text or selection: those to loads don't, nor do those which
+        open the command file or tell names."""
+        return self.is_loading(tag) or (self._keeps_texts and self.command_locked and self.held == 0)
 
     def loading(self) -> Iterator[Tuple[int, int]]:
         """The files that loads alone lock, and how many runes these ask for. Those that are free again are forgotten."""
@@ -223,13 +219,13 @@ class CachedTerminal(Terminal):
 
 
 def _forgetting(deed: Callable[..., Any]) -> Callable[..., Any]:
-    is_locking, is_load, opens_command = (deed.__name__ in names for names in (LOCKING, ("load",), ("open_cmd",)))
+    is_locking, is_load, keeps_texts = (deed.__name__ in names for names in (LOCKING, ("load",), KEEPING))
 
     @wraps(deed)
     def done(self: CachedTerminal, *words: Any, **more: Any) -> Any:
         if is_locking:
             self.loads.pop(words[0], None)
-        self._opens_command = opens_command or (self._opens_command and is_load)
+        self._keeps_texts = keeps_texts or (self._keeps_texts and is_load)
         try:
             return deed(self, *words, **more)
         except MemoryError:
@@ -238,7 +234,7 @@ def _forgetting(deed: Callable[..., Any]) -> Callable[..., Any]:
         finally:  # what was refused memory may be done in part
             self.forget()
             if deed is Terminal.feed:
-                self._forget_names()
+                self._names.clear()
 
     return done
 
@@ -282,7 +278,6 @@ def _step(self: CachedTerminal) -> TerminalDid:
             is_done = False
             self._known.pop(did.tag, None)
         elif did.kind in NAMING:
-            self.namings += 1
             self._names.pop(did.tag, None)
     finally:
         if is_done:

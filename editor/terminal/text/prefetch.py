@@ -68,7 +68,7 @@ class Prefetch:
         on_screen = [editor.active, *editor.files]
         tags = {window.tag: window for window in [*on_screen, *editor.all_windows.values()]}
         for tag, window in tags.items():
-            if tag in editor.tags and window.is_open and self.terminal.first_gap(tag) is not None:
+            if editor.is_users(tag) and window.is_open and self.terminal.first_gap(tag) is not None:
                 yield window
 
     def _load(self, window: Window) -> None:

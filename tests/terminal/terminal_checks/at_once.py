@@ -208,6 +208,19 @@ def check_other_keys_under_loads(folder):
     expect(pair.terminal.locked(1) and editor.deferred and editor.active.ahead is None, "a key is shown ahead while the host pastes")
 
 
+def check_keys_while_names_come(folder):
+    """While the host tells names, as where another program opens a file, typed keys show at once; where it makes a file they don't."""
+    for ask, wanted in (("offer_version", (2,)), ("new_file", ())):
+        pair, editor, _, text = opened(LONG, size=(20, 80))
+        getattr(pair.terminal, ask)(*wanted)
+        editor.take(text("s"))
+        editor.update()
+        expect(pair.terminal.locked(1) and editor.deferred, "this test is wrong: the key acts")
+        expect((editor.active.ahead is not None) == (ask == "offer_version"), f"{ask}: it shows {editor.active.ahead}")
+        pair.finish()
+        expect(pair.host.text(1).startswith("sline"), f"{ask}: the text is {pair.host.text(1)[:20]!r}")
+
+
 def check_keys_of_a_start(folder):
     """The keys of one who types from the first text on show at once, over a slow line, while the file is loaded."""
     most = 0.02 * times_longer()

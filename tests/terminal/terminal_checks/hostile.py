@@ -1,6 +1,7 @@
 """Hostile files, hosts and neighbours: whatever they do no key waits for long, and no command of theirs is run; and why a session can't go
 on, or can't begin."""
 import contextlib
+import gc
 import os
 import random
 import re
@@ -10,13 +11,14 @@ import signal
 import sys
 import threading
 import time
+from collections import deque
 from pathlib import Path
 from types import SimpleNamespace
 
 from checks import Failed, times_longer
 
 from .colours import expect_pygments
-from .messages import first_message, said, wrong_messages, write_note
+from .messages import Note, NoteKind, aside, first_message, not_saved, said, wrong_messages, write_note
 from .pairs import Pair, opened
 from .slow_line import QUIET_LOOP, least_loop
 from .stopped import OnTerminal, cost_of
@@ -27,6 +29,8 @@ RUNES = "αβγδεζηθικλμνξο"  # that are typed: nothing else on the 
 MOST_FOR_A_KEY = 0.05  # seconds of the processor until it shows
 MOST_BESIDE_COLOURS = 0.01  # the same beside a lexer that takes for ever, and what a key costs without one
 SECONDS_TO_END = 5
+MANY_NAMES = 65_000
+FEWEST_HELPS = 5  # that are shown while so many come
 
 
 def hostile(*words):
@@ -226,6 +230,8 @@ def check_floods(folder):
         noise = {"lines": "seq 99999999 >&2 &", "line": "yes | tr -d '\\n' >&2 &"}.get(name, "")
         host = hostile(name) if name in ("flood", "names") else host_that(place, noise, f'exec {SAMHOST_WORD} "$@"')
         with OnTerminal(place, "a.txt", *["b.txt"] * (name == "flood"), host=host) as session:
+            if name == "names":
+                expect_quick_help(session)
             session.read_until({"marks": "◌", "names": "a path opens any"}.get(name, "text of a.txt"))
             if name == "names":
                 session.type("\x1b")  # the menu goes
@@ -236,6 +242,115 @@ def check_floods(folder):
             else:
                 session.rest(1.0)
             expect_quick(session, MOST_FOR_A_KEY, name)
+
+
+def expect_quick_help(session):
+    """While names come, which all other keys wait for, F1 shows the help at once, again and again."""
+    costs = []
+    session.read_until("~~sam~~")
+    while len(costs) < FEWEST_HELPS:
+        before = cost_of(session.process.pid)
+        session.type("\x1bOP")
+        shown = session.read_all_until("Keys")
+        expect("a path opens any" not in shown, f"this test is wrong: all names have come after {len(costs)} keys")
+        costs.append(cost_of(session.process.pid) - before)
+        session.type("\x1bOP")  # the help goes
+        session.read_until("~~sam~~")
+    slowness = max(1, least_loop() / QUIET_LOOP)
+    told = f"while names come keys cost {[f'{cost * 1000:.0f}' for cost in costs]} ms, {slowness:.1f} times slowed"
+    expect(max(costs) < MOST_FOR_A_KEY * slowness, told)
+
+
+class Steps:
+    """What steps cost of the processor, by their names."""
+
+    def __init__(self):
+        self.costs = {}
+
+    @contextlib.contextmanager
+    def step(self, what):
+        before = time.process_time()
+        yield
+        self.costs.setdefault(what, []).append(time.process_time() - before)
+
+    def dearest(self, what):
+        """The dearest of a name; of many all but two, which the work of others may have made dearer."""
+        costs = sorted(self.costs[what])
+        return costs[-3] if len(costs) > 20 else costs[-1]
+
+
+class Told:
+    """A link that brings what a host has said, so much at once as a pipe does."""
+
+    is_lost = False
+
+    def __init__(self, data):
+        self.data = data
+
+    def take(self, ready):
+        from terminal.line.host_process import MOST_AT_ONCE
+
+        piece, self.data = self.data[:MOST_AT_ONCE], self.data[MOST_AT_ONCE:]
+        return [piece] if piece else []
+
+
+def steps_of_names():
+    """The steps in which samterm takes 65,000 names, and what comes after them, each with what the screen shows then."""
+    from terminal import loop
+
+    pair, steps = Pair(random.Random(1), ["a\n"] * MANY_NAMES), Steps()
+    editor, key, text, turns = pair.editor, pair.keys.Key, pair.keys.Text, loop.Loop.__new__(loop.Loop)
+    editor.asked_for = {"file0"}
+    editor.arrange(30, 100)
+    pair.settle()
+    pair.host.feed(bytes(pair.up))
+    pair.up.clear()
+    turns.terminal, turns.editor, turns.link, turns._came, turns.is_short = pair.terminal, editor, Told(pair.host.take_out()), deque(), False
+    while turns.link.data or turns._came:
+        with steps.step("names" if turns.link.data or len(turns._came) > 1 else "the last names"):
+            turns._take_bytes({})
+            pair.settle()
+    while editor.left.seconds == 0:
+        with steps.step("texts that are here"):
+            editor.update()
+    pair.finish()
+    expect(editor.menu is not None and len(editor.tags) == MANY_NAMES, f"there are {len(editor.tags)} files")
+    for pressed in (text("file6"), key("Down"), text("\n"), text("x"), key("F2"), key("Esc"), key("^Q"), key("^T"), key("^Y"), key("Left")):
+        with steps.step(f"{pressed}"):
+            editor.take(pressed)
+            pair.settle()
+        pair.finish()
+    changed = Note(NoteKind.CHANGED, tag=8, path=b"file7", text="file7: another program changed it")
+    for told in (not_saved(65_000), aside(64_999), changed):
+        with steps.step(told.text):
+            editor.hear(told)
+            pair.settle()
+    with steps.step("what is written here while the line is lost"):
+        editor.keeping.write_here()
+    editor.keeping._copies.drop()
+    expect([editor.name(tag) for tag in editor.changed_tags] == ["file60", "file64999"], f"changed are {editor.changed_names}")
+    return steps
+
+
+def check_steps_of_many_names(folder):
+    """Where a host has 65,000 files, each step takes no more time of the processor than a key may wait: as their names come, while texts of
+    earlier sessions are looked for, and at keys and lines of the host afterwards."""
+    from terminal.files import local_backup
+
+    os.environ["XDG_STATE_HOME"], before = str(folder / STATE), os.getcwd()
+    os.chdir(folder)
+    gc.disable()  # as samterm does: it looks for what only leads to itself while its user rests
+    try:
+        for name in ("file3", "file64000", local_backup.TYPED):
+            local_backup.keep(name, "text")
+        tries = [steps_of_names() for _ in range(3)]
+    finally:
+        os.chdir(before)
+        gc.enable()
+    slowness = max(1, least_loop() / QUIET_LOOP)
+    for what in tries[0].costs:
+        least = min(steps.dearest(what) for steps in tries)
+        expect(least < MOST_FOR_A_KEY * slowness, f"{what}: a step costs {least * 1000:.0f} ms, {slowness:.1f} times slowed")
 
 
 def check_long_lines_of_words(folder):

@@ -203,8 +203,8 @@ def check_draws_a_long_answer(folder):
     from terminal import loop
 
     drawn, turns = [], loop.Loop.__new__(loop.Loop)
-    turns.editor, turns.link, turns.drawn_at, turns._quiet_at = None, None, time.monotonic(), 0.0
-    turns.screen = SimpleNamespace(draw=lambda editor, link: drawn.append(time.monotonic()))
+    turns._came, turns.drawn_at, turns._quiet_at = [], time.monotonic(), 0.0
+    turns._idle = lambda: drawn.append(time.monotonic())
     turns._ready = lambda seconds: {0: 1}
     turns._take_keys = turns._take_signals = lambda ready: None
     turns._take_bytes, turns._send = lambda ready: time.sleep(0.02), lambda: None
