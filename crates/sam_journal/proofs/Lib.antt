@@ -1,0 +1,7 @@
+pub mod Checksums
+pub mod Fronts
+pub mod HeadLaws
+pub mod Readings
+pub mod Records
+pub mod Standing
+pub mod Spelling
