@@ -4,7 +4,8 @@ use Rattle.std.proofs.Math.Seq.{drop-append_seam, take-append-add}
 use Rattle.std.proofs.lemmas.Bool.{cases_lt}
 use Rattle.std.proofs.lemmas.List.{drop-drop, nil_from_length, take-append-le}
 use Rattle.sam_journal.specs.Files.{AreRecords, Front, IsHead, IsJournal, Wholes, file_bytes, head, journal_bytes}
-use Rattle.sam_journal.specs.Records.{Entry, IsRecord, NoneStands, Stands, eight, record_bytes, size}
+use Rattle.sam_journal.specs.Records.{Entry, IsFound, IsRecord, NoneStands, Stands, entry_of, record_bytes, size}
+use Rattle.sam_journal.specs.declared.finding.Record.{Record}
 use Rattle.sam_journal.proofs.HeadLaws.{head_length, head_random, long_head}
 use Rattle.sam_journal.proofs.Records.{one_says, one_stands, record_length, says}
 use Rattle.sam_journal.proofs.Standing.{ends_inside, reaches}
@@ -69,7 +70,7 @@ no_records random bytes is = record {
   end_is = sym (file_length random []);
 }
 
-end_of : (random : ℕ) (es : List Entry) (bytes : List ℕ) (end : ℕ) → Front random es bytes end → end ≡ 24 + total es
+pub end_of : (random : ℕ) (es : List Entry) (bytes : List ℕ) (end : ℕ) → Front random es bytes end → end ≡ 24 + total es
 end_of random es bytes end f = f.end_is ∙ file_length random es
 
 pub front_more : (random end : ℕ) (es : List Entry) (bytes : List ℕ) (e : Entry) → Front random es bytes end → Stands random bytes end (length es) e
@@ -115,6 +116,7 @@ first_stands random place number e es bytes rest f = record {
 
 pub from_next : (random place number : ℕ) (e : Entry) (es : List Entry) (bytes rest : List ℕ) → From random bytes place number (e ∷ es) rest
     → From random bytes (place + size e) (suc number) es rest
+unfolding first_stands
 from_next random place number e es bytes rest f = record {
   are = f.are.1;
   whole = behind random place number e bytes (first_stands random place number e es bytes rest f);
@@ -193,6 +195,7 @@ whole_there random place number m e es bytes is cut enough = record {
 next_cut : (random place number m : ℕ) (e : Entry) (es : List Entry) (bytes : List ℕ) → IsRecord place number e
     → drop place bytes ≡ take m (journal_bytes random number (e ∷ es)) → size e ≤ m
     → drop (place + size e) bytes ≡ take (m - size e) (journal_bytes random (suc number) es)
+unfolding whole_there
 next_cut random place number m e es bytes is cut enough =
     behind random place number e bytes (whole_there random place number m e es bytes is cut enough)
     ∙ ap (λ (n : ℕ). take (m - n) (journal_bytes random (suc number) es)) (record_length random number e)
@@ -235,7 +238,7 @@ pub is_cut : (random place number m : ℕ) (es fs : List Entry) (bytes rest : Li
     → NoneStands random bytes (place + total fs) (number + length fs) → Cut es fs m
 is_cut random place number m [] [] bytes rest are cut f none = record { count = 0; taken = refl; all_there = λ all few inside. few }
 is_cut random place number m [] (f ∷ fs) bytes rest are cut x none =
-    absurd (omega (arith, reaches random place number f bytes (first_stands random place number f fs bytes rest x), ap length cut, length-take m []))
+    absurd (omega (arith, reaches random place number f bytes (first_stands random place number f fs bytes rest x), ap length cut, length-take {A = ℕ} m []))
 is_cut random place number m (e ∷ es) [] bytes rest are cut x none =
     none_taken random place number m e es bytes are.0 cut
     (none_moved random (place + 0) place (number + 0) number bytes (omega arith) (omega arith) none) (cases_lt m (size e))
@@ -254,3 +257,40 @@ is_cut random place number m (e ∷ es) (f ∷ fs) bytes rest are cut x none =
       taken = ap (λ (k : Entry). k ∷ fs) same ∙ ap (λ (l : List Entry). e ∷ l) c.taken;
       all_there = one_more_there e es m c.count enough c.all_there;
     }
+
+-- ## What the code keeps
+
+entry_size : (bytes : List ℕ) (found : Record) (place : ℕ) → found.place ≡ place → place + 28 + found.len ≤ length bytes
+    → size (entry_of bytes found) ≡ 28 + found.len
+entry_size bytes found place at inside =
+    omega (arith, length-take found.len (drop (found.place + 24) bytes), length-drop (found.place + 24) bytes, at, inside)
+
+pub record FrontOf (random : ℕ) (bytes : List ℕ) (count end : ℕ) : Type 0 where
+  pub es : List Entry
+  pub front : Front random es bytes end
+  pub count_is : count ≡ length es
+  pub inside : end ≤ length bytes
+
+pub front_found : (random count end : ℕ) (bytes : List ℕ) (found : Record) → FrontOf random bytes count end → IsFound random bytes end found
+    → found.number ≡ count → FrontOf random bytes (count + 1) (end + (28 + found.len))
+front_found random count end bytes found f is same =
+    let e = entry_of bytes found in
+    let there : Stands random bytes end (length f.es) e = subst (λ n. Stands random bytes end n e) (same ∙ f.count_is) is.stands in
+    let grown : end + size e ≡ end + (28 + found.len) = ap (λ (n : ℕ). end + n) (entry_size bytes found end is.place_is is.inside) in
+    record {
+      es = f.es ++ e ∷ [];
+      front = subst (λ n. Front random (f.es ++ e ∷ []) bytes n) grown (front_more random end f.es bytes e f.front there);
+      count_is = omega (arith, f.count_is, length-append f.es (e ∷ []));
+      inside = omega (arith, is.inside);
+    }
+
+pub begun : (random : ℕ) (bytes : List ℕ) → IsHead bytes random → FrontOf random bytes 0 24
+begun random bytes is = record { es = []; front = no_records random bytes is; count_is = refl; inside = long_head random bytes is }
+
+pub counted : (random count end : ℕ) (bytes : List ℕ) → FrontOf random bytes count end → count ≤ end
+counted random count end bytes f = omega (arith, f.count_is, few f.es, end_of random f.es bytes end f.front)
+
+pub wholes_found : (random count end : ℕ) (bytes : List ℕ) → FrontOf random bytes count end → NoneStands random bytes end count
+    → (es : List Entry) × Wholes random es bytes end × (count ≡ length es)
+wholes_found random count end bytes f none =
+    (f.es, record { front = f.front; no_more = subst (λ n. NoneStands random bytes end n) f.count_is none }, f.count_is)

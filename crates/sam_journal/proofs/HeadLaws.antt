@@ -53,6 +53,9 @@ pub wrong_sum : (sum got : ℕ) (bytes : List ℕ) → sum ≡ crc_32c (take 20 
 wrong_sum sum got bytes right sum_fits read fits other random is =
     other (same_four sum got sum_fits fits (ap four right ∙ sym (sum_of_head random bytes is) ∙ sym read))
 
+pub other_version : (got : ℕ) (bytes : List ℕ) → four got ≡ take 4 (drop 8 bytes) → got < 2 ^ 32 → (got ≡ 2 → ⊥) → take 4 (drop 8 bytes) ≡ four 2 → ⊥
+other_version got bytes read fits other is = other (same_four got 2 fits (omega arith) (read ∙ is))
+
 pub both_marks : (bytes : List ℕ) → take 8 bytes ≡ magic → take 4 (drop 8 bytes) ≡ four 2 → take 12 bytes ≡ magic ++ four 2
 both_marks bytes m v = take_both 8 4 bytes ∙ ap (λ (l : List ℕ). l ++ take 4 (drop 8 bytes)) m ∙ ap (λ (l : List ℕ). magic ++ l) v
 

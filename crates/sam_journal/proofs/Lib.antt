@@ -1,4 +1,5 @@
 pub mod Checksums
+pub mod FileLaws
 pub mod Fronts
 pub mod HeadLaws
 pub mod Readings

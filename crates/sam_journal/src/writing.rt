@@ -18,7 +18,6 @@ pub struct Frame {
 
 /// Returns what stands around the body of the record of this number, in the file of this random number, of which so many bytes are durable.
 /// They may be no more than stand before the record, or it is not read. The body has fewer than 2^32 bytes.
-#[tactic(auto, unfolding(crate::specs::Records::eight, crate::specs::Records::four))]
 pub fn frame_of(random: u64, number: u64, durable: u64, body: &[u8]) -> Frame
     requires { length body.now < 2 ^ 32 }
     ensures front { result.front ≡ front random number (record { durable = durable; body = body.now }) }
