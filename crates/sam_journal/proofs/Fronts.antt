@@ -1,14 +1,14 @@
 -- The records from the front on, one after another.
-use Rattle.std.proofs.Common.{◌≡◌, ◌⊎◌, inl, inr, ℕ, zero, suc, ◌+◌, ◌-◌, ◌<◌, ◌≤◌, ◌^◌, List, [], ◌∷◌, ◌++◌, length, take, drop, refl, sym, ap, ◌∙◌, subst, append_assoc, append-nil, arith, length-append, length-drop, length-take, take-append-drop}
+use Rattle.std.proofs.Common.{◌≡◌, ◌⊎◌, inl, inr, ℕ, zero, suc, ◌+◌, ◌-◌, ◌<◌, ◌≤◌, List, [], ◌∷◌, ◌++◌, length, take, drop, refl, sym, ap, ◌∙◌, subst, append_assoc, append-nil, arith, length-append, length-drop, length-take, take-append-drop}
 use Rattle.std.proofs.Math.Seq.{drop-append_seam, take-append-add}
 use Rattle.std.proofs.lemmas.Bool.{cases_lt}
-use Rattle.std.proofs.lemmas.List.{drop-drop, nil_from_length, take-append-le}
-use Rattle.sam_journal.specs.Files.{AreRecords, Front, IsHead, IsJournal, Wholes, file_bytes, head, journal_bytes}
+use Rattle.std.proofs.lemmas.List.{drop-drop, nil_from_length}
+use Rattle.sam_journal.specs.Files.{AreRecords, Front, IsHead, Wholes, file_bytes, head, journal_bytes}
 use Rattle.sam_journal.specs.Records.{Entry, IsFound, IsRecord, NoneStands, Stands, entry_of, record_bytes, size}
 use Rattle.sam_journal.specs.declared.finding.Record.{Record}
-use Rattle.sam_journal.proofs.HeadLaws.{head_length, head_random, long_head}
+use Rattle.sam_journal.proofs.HeadLaws.{head_length, long_head}
 use Rattle.sam_journal.proofs.Records.{one_says, one_stands, record_length, says}
-use Rattle.sam_journal.proofs.Standing.{ends_inside, reaches}
+use Rattle.sam_journal.proofs.Standing.{reaches}
 
 -- ## Lengths
 
@@ -19,8 +19,12 @@ total (e ∷ es) = size e + total es
 pub journal_length : (random number : ℕ) (es : List Entry) → length (journal_bytes random number es) ≡ total es
 journal_length random number [] = refl
 journal_length random number (e ∷ es) =
-    omega (arith, length-append (record_bytes random number e) (journal_bytes random (suc number) es), record_length random number e,
-    journal_length random (suc number) es)
+    omega (
+      arith,
+      length-append (record_bytes random number e) (journal_bytes random (suc number) es),
+      record_length random number e,
+      journal_length random (suc number) es,
+    )
 
 pub file_length : (random : ℕ) (es : List Entry) → length (file_bytes random es) ≡ 24 + total es
 file_length random es = omega (arith, length-append (head random) (journal_bytes random 0 es), head_length random, journal_length random 0 es)
@@ -48,9 +52,11 @@ is_moved p q m n e a b is = subst (λ k. IsRecord q k e) b (subst (λ k. IsRecor
 are_more : (place number : ℕ) (es : List Entry) (e : Entry) → AreRecords place number es → IsRecord (place + total es) (number + length es) e
     → AreRecords place number (es ++ e ∷ [])
 are_more place number [] e are is = (is_moved (place + 0) place (number + 0) number e (omega arith) (omega arith) is, tt)
-are_more place number (x ∷ es) e are is =
-    (are.0, are_more (place + size x) (suc number) es e are.1
-    (is_moved (place + (size x + total es)) (place + size x + total es) (number + suc (length es)) (suc number + length es) e (omega arith) (omega arith) is))
+are_more place number (x ∷ es) e are is = (
+  are.0,
+  are_more (place + size x) (suc number) es e are.1
+      (is_moved (place + (size x + total es)) (place + size x + total es) (number + suc (length es)) (suc number + length es) e (omega arith) (omega arith) is),
+)
 
 total_more : (es : List Entry) (e : Entry) → total (es ++ e ∷ []) ≡ total es + size e
 total_more [] e = omega arith
@@ -78,10 +84,10 @@ pub front_more : (random end : ℕ) (es : List Entry) (bytes : List ℕ) (e : En
 front_more random end es bytes e f s =
     let rest = drop (end + size e) bytes in
     let after : drop end bytes ≡ record_bytes random (length es) e ++ rest =
-        s.whole ∙ ap (λ (l : List ℕ). record_bytes random (length es) e ++ l) (sym (behind random end (length es) e bytes s)) in
+    s.whole ∙ ap (λ (l : List ℕ). record_bytes random (length es) e ++ l) (sym (behind random end (length es) e bytes s)) in
     let joined : file_bytes random (es ++ e ∷ []) ≡ file_bytes random es ++ record_bytes random (length es) e =
-        ap (λ (l : List ℕ). head random ++ l) (one_more random 0 es e ∙ ap (λ (n : ℕ). journal_bytes random 0 es ++ record_bytes random n e) (omega arith))
-        ∙ sym (append_assoc (head random) (journal_bytes random 0 es) (record_bytes random (length es) e)) in
+    ap (λ (l : List ℕ). head random ++ l) (one_more random 0 es e ∙ ap (λ (n : ℕ). journal_bytes random 0 es ++ record_bytes random n e) (omega arith))
+    ∙ sym (append_assoc (head random) (journal_bytes random 0 es) (record_bytes random (length es) e)) in
     record {
       is = (f.is.0, are_more 24 0 es e f.is.1 (is_moved end (24 + total es) (length es) (0 + length es) e (end_of random es bytes end f) (omega arith) s.is));
       whole = f.whole ∙ ap (λ (l : List ℕ). file_bytes random es ++ l) after
@@ -137,12 +143,12 @@ goes_on random place number (e ∷ es) [] bytes x y a b none =
     absurd (none_moved random (place + 0) place (number + 0) number bytes (omega arith) (omega arith) none e (first_stands random place number e es bytes x a))
 goes_on random place number (e ∷ es) (f ∷ fs) bytes x y a b none =
     let same : f ≡ e = (one_stands random place number number f e bytes (first_stands random place number f fs bytes y b)
-        (first_stands random place number e es bytes x a)).1 in
+    (first_stands random place number e es bytes x a)).1 in
     let longs : size f ≡ size e = ap size same in
     let rest = goes_on random (place + size e) (suc number) es fs bytes x y (from_next random place number e es bytes x a)
-        (from_next random place number e fs bytes y (from_same random place number e f fs bytes y same b))
-        (none_moved random (place + (size f + total fs)) (place + size e + total fs) (number + suc (length fs)) (suc number + length fs) bytes
-        (omega (arith, longs)) (omega arith) none) in
+    (from_next random place number e fs bytes y (from_same random place number e f fs bytes y same b))
+    (none_moved random (place + (size f + total fs)) (place + size e + total fs) (number + suc (length fs)) (suc number + length fs) bytes
+    (omega (arith, longs)) (omega arith) none) in
     (rest.0, ap (λ (k : Entry). k ∷ fs) same ∙ ap (λ (l : List Entry). e ∷ l) rest.1)
 
 pub none_at_end : (random end : ℕ) (es : List Entry) (bytes : List ℕ) → Wholes random es bytes end → NoneStands random bytes (24 + total es) (0 + length es)
@@ -206,8 +212,8 @@ same_there : (random place number m : ℕ) (e f : Entry) (es : List Entry) (byte
 same_there random place number m e f es bytes is cut s =
     let all = journal_bytes random number (e ∷ es) in
     let more : all ≡ record_bytes random number f ++ (s.rest ++ drop m all) =
-        sym (take-append-drop m all) ∙ ap (λ (l : List ℕ). l ++ drop m all) (sym cut ∙ s.whole)
-        ∙ append_assoc (record_bytes random number f) s.rest (drop m all) in
+    sym (take-append-drop m all) ∙ ap (λ (l : List ℕ). l ++ drop m all) (sym cut ∙ s.whole)
+    ∙ append_assoc (record_bytes random number f) s.rest (drop m all) in
     (one_says random place number number f e all s.is is (says random number f all (s.rest ++ drop m all) more)
     (says random number e all (journal_bytes random (suc number) es) refl)).1
 
@@ -248,10 +254,10 @@ is_cut random place number m (e ∷ es) (f ∷ fs) bytes rest are cut x none =
     let longs : size f ≡ size e = ap size same in
     let enough : size e ≤ m = omega (arith, longs, reaches random place number f bytes s, ap length cut, taken_most m (journal_bytes random number (e ∷ es))) in
     let c = is_cut random (place + size e) (suc number) (m - size e) es fs bytes rest are.1
-        (next_cut random place number m e es bytes are.0 cut enough)
-        (from_next random place number e fs bytes rest (from_same random place number e f fs bytes rest same x))
-        (none_moved random (place + (size f + total fs)) (place + size e + total fs) (number + suc (length fs)) (suc number + length fs) bytes
-        (omega (arith, longs)) (omega arith) none) in
+    (next_cut random place number m e es bytes are.0 cut enough)
+    (from_next random place number e fs bytes rest (from_same random place number e f fs bytes rest same x))
+    (none_moved random (place + (size f + total fs)) (place + size e + total fs) (number + suc (length fs)) (suc number + length fs) bytes
+    (omega (arith, longs)) (omega arith) none) in
     record {
       count = suc c.count;
       taken = ap (λ (k : Entry). k ∷ fs) same ∙ ap (λ (l : List Entry). e ∷ l) c.taken;

@@ -1,5 +1,5 @@
 -- What a head says.
-use Rattle.std.proofs.Common.{◌≡◌, ℕ, ◌+◌, ◌-◌, ◌<◌, ◌≤◌, ◌^◌, List, [], ◌∷◌, ◌++◌, length, take, drop, Result, Ok, Err, refl, sym, ap, ◌∙◌, subst, append-nil, arith, length-append, length-drop, length-take, take-take, take-append-drop}
+use Rattle.std.proofs.Common.{◌≡◌, ℕ, ◌<◌, ◌≤◌, ◌^◌, List, ◌++◌, length, take, drop, Err, refl, sym, ap, ◌∙◌, arith, length-take, take-take}
 use Rattle.std.proofs.lemmas.List.{drop-take}
 use Rattle.sam_journal.specs.Checksums.{crc_32c}
 use Rattle.sam_journal.specs.Files.{IsHead, ReadsHead, head, magic}
@@ -65,7 +65,7 @@ pub head_read : (random sum got : ℕ) (bytes : List ℕ) → take 8 bytes ≡ m
 unfolding head
 head_read random sum got bytes m v r right read same =
     let summed : take 20 bytes ≡ (magic ++ four 2) ++ eight random =
-        take_both 12 8 bytes ∙ ap (λ (l : List ℕ). l ++ take 8 (drop 12 bytes)) (both_marks bytes m v) ∙ ap (λ (l : List ℕ). (magic ++ four 2) ++ l) (sym r) in
+    take_both 12 8 bytes ∙ ap (λ (l : List ℕ). l ++ take 8 (drop 12 bytes)) (both_marks bytes m v) ∙ ap (λ (l : List ℕ). (magic ++ four 2) ++ l) (sym r) in
     take_both 20 4 bytes
     ∙ ap (λ (l : List ℕ). take 20 bytes ++ l) (sym read ∙ ap four (sym same ∙ right))
     ∙ ap (λ (l : List ℕ). l ++ four (crc_32c l)) summed

@@ -1,5 +1,5 @@
 -- What the code finds.
-use Rattle.std.proofs.Common.{◌≡◌, ◌⊎◌, inl, inr, ℕ, ◌+◌, ◌-◌, ◌<◌, ◌≤◌, ◌^◌, ◌↔◌, Bool, true, false, IsTrue, List, [], ◌∷◌, ◌++◌, length, take, drop, Option, Some, None, refl, sym, ap, ◌∙◌, subst, arith, length-drop, drop-drop}
+use Rattle.std.proofs.Common.{◌≡◌, ◌⊎◌, inl, inr, ℕ, ◌+◌, ◌<◌, ◌≤◌, ◌^◌, ◌↔◌, Bool, true, false, IsTrue, List, length, take, drop, Option, Some, None, refl, sym, ap, ◌∙◌, subst, arith, drop-drop}
 use Rattle.std.proofs.lemmas.Bool.{cases_lt, false≢true}
 use Rattle.std.specs.Prelude.{MatchOption}
 use Rattle.std.specs.Option.{is_some}
@@ -8,7 +8,7 @@ use Rattle.sam_journal.specs.Records.{Entry, IsFound, NoneStands, Stands, eight,
 use Rattle.sam_journal.specs.declared.finding.Record.{Record}
 use Rattle.sam_journal.specs.declared.reading.Next.{Next}
 use Rattle.sam_journal.specs.declared.reading.Next.TheVariants.{End, Torn, Whole}
-use Rattle.sam_journal.proofs.Records.{Says, one_stands, same_eight, says}
+use Rattle.sam_journal.proofs.Records.{one_stands, same_eight, says}
 use Rattle.sam_journal.proofs.Standing.{ends_inside, no_room}
 
 -- ## The next one
@@ -46,9 +46,10 @@ pub names_by : (random place end got : ℕ) (bytes : List ℕ) (found : Option R
     → end < got
     → MatchOption found ((number : ℕ) (e : Entry) → Stands random bytes place number e → ⊥) (λ one. IsFound random bytes place one)
     → IsTrue (is_some found) ↔ NamesMoreAt random bytes place end
-names_by random place end got bytes (Some one) read fits more is =
-    (λ yes. (one.number, entry_of bytes one, is.stands, omega (arith, durable_read random place one.number got (entry_of bytes one) bytes read fits is.stands, more)),
-    λ n. refl)
+names_by random place end got bytes (Some one) read fits more is = (
+  λ yes. (one.number, entry_of bytes one, is.stands, omega (arith, durable_read random place one.number got (entry_of bytes one) bytes read fits is.stands, more)),
+  λ n. refl,
+)
 names_by random place end got bytes None read fits more none =
     decided_not (NamesMoreAt random bytes place end) (λ n. none n.0 n.1 n.2)
 

@@ -1,6 +1,5 @@
 -- Bytes that are written one after another.
-use Rattle.std.proofs.Common.{◌≡◌, ℕ, ◌+◌, List, ◌++◌, length, take, refl, sym, ap, ◌∙◌, arith, take_all}
-use Rattle.sam_journal.specs.Checksums.{crc_32c}
+use Rattle.std.proofs.Common.{◌≡◌, ℕ, ◌+◌, List, ◌++◌, length, take, sym, ap, ◌∙◌, arith, take_all}
 
 -- the front grows by what is written behind it
 pub grown : (at len : ℕ) (new bytes taken front value : List ℕ) → taken ≡ front → bytes ≡ value → length value ≡ len

@@ -1,8 +1,8 @@
 -- Why no record stands at a place, or one does.
-use Rattle.std.proofs.Common.{◌≡◌, ℕ, ◌+◌, ◌-◌, ◌<◌, ◌≤◌, ◌^◌, List, ◌++◌, length, take, drop, refl, sym, ap, ◌∙◌, subst, arith, length-append, length-drop, length-take}
+use Rattle.std.proofs.Common.{◌≡◌, ℕ, ◌+◌, ◌<◌, ◌≤◌, ◌^◌, List, ◌++◌, length, take, drop, sym, ap, ◌∙◌, subst, arith, length-append, length-drop, length-take}
 use Rattle.std.proofs.lemmas.List.{drop-drop}
 use Rattle.sam_journal.specs.Checksums.{crc_32c}
-use Rattle.sam_journal.specs.Records.{Entry, IsFound, IsRecord, Stands, eight, entry_of, four, record_bytes, size}
+use Rattle.sam_journal.specs.Records.{Entry, IsFound, IsRecord, Stands, eight, four, record_bytes, size}
 use Rattle.sam_journal.specs.declared.finding.Record.{Record}
 use Rattle.sam_journal.proofs.Records.{Says, begins, record_length, same_eight, same_four, says}
 

@@ -1,5 +1,5 @@
 -- A journal's file, and what reading it may answer.
-use Rattle.std.specs.Prelude.{◌≡◌, ◌≢◌, ℕ, zero, suc, ◌+◌, ◌^◌, ◌<◌, ◌≤◌, List, [], ◌∷◌, ◌++◌, length, take, drop, Result, Ok, Err}
+use Rattle.std.specs.Prelude.{◌≡◌, ◌≢◌, ℕ, suc, ◌+◌, ◌^◌, ◌<◌, ◌≤◌, List, [], ◌∷◌, ◌++◌, length, take, drop, Result, Ok, Err}
 use Rattle.sam_journal.specs.Checksums.{crc_32c}
 use Rattle.sam_journal.specs.Records.{Entry, IsFound, IsRecord, NoneStands, Stands, eight, four, record_bytes, size}
 use Rattle.sam_journal.specs.declared.reading.Journal.{Journal}

@@ -1,5 +1,5 @@
 -- What holds of a journal's bytes.
-use Rattle.std.specs.Prelude.{◌≡◌, ℕ, ◌+◌, ◌≤◌, List, [], ◌∷◌, ◌++◌, length, take, drop, Result, Ok, Err}
+use Rattle.std.specs.Prelude.{◌≡◌, ℕ, ◌≤◌, List, ◌++◌, length, take, Result, Ok, Err}
 use Rattle.sam_journal.specs.Records.{Entry, Stands}
 use Rattle.sam_journal.specs.Files.{AreRecords, IsHead, IsJournal, NamesNoMore, Reads, Wholes, file_bytes}
 use Rattle.sam_journal.specs.declared.reading.Journal.{Journal}

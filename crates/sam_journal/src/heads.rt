@@ -4,8 +4,8 @@ ghost use Rattle.std.specs.Prelude.{◌≡◌};
 ghost use Rattle.sam_journal.specs.Files.{ReadsHead, head};
 
 use crate::checksum::crc_32c;
-use crate::reading::ReadFault;
 use crate::finding::{eight_at, four_at, write_at};
+use crate::reading::ReadFault;
 
 /// How many bytes the head of a file has: a magic of eight, the version of the format in four, the file's random number in eight, and the sum
 /// of these in four.

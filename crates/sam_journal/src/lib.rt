@@ -5,14 +5,14 @@
 #![tactic(auto)]
 
 mod checksum;
+mod finding;
 mod heads;
 pub mod laws;
 mod reading;
-mod finding;
 mod writing;
 
 pub use checksum::crc_32c;
+pub use finding::{FRONT_BYTES, RECORD_BYTES, Record, record_at};
 pub use heads::{HEAD_BYTES, head, read_head};
 pub use reading::{Journal, Next, ReadFault, next_record, read};
-pub use finding::{FRONT_BYTES, RECORD_BYTES, Record, record_at};
 pub use writing::{Frame, append, frame_of};

@@ -4,8 +4,8 @@ ghost use Rattle.std.specs.Prelude.{◌≡◌, ◌↔◌, List, length, IsTrue};
 ghost use Rattle.sam_journal.specs.Records.{Entry};
 ghost use Rattle.sam_journal.specs.Files.{IsHead, NamesMore, NamesMoreAt, NextIs, Reads, Wholes};
 
-use crate::heads::{HEAD_BYTES, read_head};
 use crate::finding::{RECORD_BYTES, Record, eight_at, record_at};
+use crate::heads::{HEAD_BYTES, read_head};
 use thiserror::Error;
 
 /// Why a file is not read.

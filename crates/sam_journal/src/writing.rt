@@ -38,7 +38,13 @@ pub fn frame_of(random: u64, number: u64, durable: u64, body: &[u8]) -> Frame
 
 /// Puts a record's bytes behind others. An `Err` changes nothing.
 #[tactic(auto, unfolding(crate::specs::Records::record_bytes))]
-pub fn append(out: &mut Vec<u8>, random: u64, number: u64, durable: u64, body: &[u8]) -> Result<(), AllocError>
+pub fn append(
+    out: &mut Vec<u8>,
+    random: u64,
+    number: u64,
+    durable: u64,
+    body: &[u8],
+) -> Result<(), AllocError>
     requires { length body.now < 2 ^ 32 }
     ensures written { IfOk result (λ done. out.new.items ≡ out.old.items ++ record_bytes random number (record { durable = durable; body = body.now })) }
     ensures unchanged { OnErr result (out.new.items ≡ out.old.items) }

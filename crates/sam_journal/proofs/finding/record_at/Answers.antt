@@ -1,4 +1,4 @@
-use Rattle.std.proofs.Common.{◌≡◌, length, drop, refl, sym, ap, ◌∙◌, arith, length-drop}
+use Rattle.std.proofs.Common.{length, refl, ap, arith, length-drop}
 use Rattle.sam_journal.specs.declared.finding.Record.{Record}
 use Rattle.sam_journal.proofs.Standing.{Read, both_right, is_found, no_body, no_durable, no_heading, no_room, no_sum, sums_right}
 use Rattle.sam_journal.proofs.finding.record_at.Goals as goal
