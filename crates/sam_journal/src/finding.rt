@@ -28,6 +28,18 @@ pub struct Record {
     pub len: usize,
 }
 
+impl Record {
+    /// Returns its body, of the bytes of the file in which it was found.
+    pub fn body<'a>(&self, bytes: &'a [u8]) -> &'a [u8]
+        requires { self.now.place + 28 + self.now.len ≤ length bytes.now }
+        ensures { result.now ≡ (entry_of bytes.now self.now).body }
+    {
+        let (_, behind) = bytes.split_at(self.place + FRONT_BYTES);
+        let (body, _) = behind.split_at(self.len);
+        body
+    }
+}
+
 /// Writes the bytes at this place.
 pub fn write_at(out: &mut [u8], at: usize, bytes: &[u8])
     requires { at + length bytes.now ≤ length out.old }
