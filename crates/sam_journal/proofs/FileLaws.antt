@@ -49,17 +49,19 @@ names_both : (random end last : ℕ) (bytes : List ℕ) → end ≡ last → Nam
 names_both random end last bytes same none more =
     omega (arith, none more.0 more.1.0 more.1.1 more.1.2, more.1.3, same)
 
-read_and_damaged : (bytes : List ℕ) (a : Journal) (place : ℕ) → Reads bytes (Ok a) → Reads bytes (Err (Damaged place)) → ⊥
-read_and_damaged bytes a place x y =
-    let same : y.0 ≡ a.random =
-    same_head y.0 a.random bytes (front_head y.0 place y.1 bytes y.2.front) (front_head a.random a.end x.0 bytes x.1.front) in
-    let one = one_list a.random bytes a.end place x.0 y.1 x.1 (wholes_at a.random y.0 place y.1 bytes same y.2) in
-    names_both a.random a.end place bytes one.1 x.3 (subst (λ r. NamesMore r bytes place) same y.3)
+read_and_damaged : (bytes : List ℕ) (a b : Journal) → Reads bytes (Ok a) → Reads bytes (Err (Damaged b)) → ⊥
+read_and_damaged bytes a b x y =
+    let same : b.random ≡ a.random =
+    same_head b.random a.random bytes (front_head b.random b.end y.0 bytes y.1.front) (front_head a.random a.end x.0 bytes x.1.front) in
+    let one = one_list a.random bytes a.end b.end x.0 y.0 x.1 (wholes_at a.random b.random b.end y.0 bytes same y.1) in
+    names_both a.random a.end b.end bytes one.1 x.3 (subst (λ r. NamesMore r bytes b.end) same y.3)
 
-both_damaged : (bytes : List ℕ) (place last : ℕ) → Reads bytes (Err (Damaged place)) → Reads bytes (Err (Damaged last)) → place ≡ last
-both_damaged bytes place last x y =
-    let same : y.0 ≡ x.0 = same_head y.0 x.0 bytes (front_head y.0 last y.1 bytes y.2.front) (front_head x.0 place x.1 bytes x.2.front) in
-    (one_list x.0 bytes place last x.1 y.1 x.2 (wholes_at x.0 y.0 last y.1 bytes same y.2)).1
+both_damaged : (bytes : List ℕ) (a b : Journal) → Reads bytes (Err (Damaged a)) → Reads bytes (Err (Damaged b)) → a ≡ b
+both_damaged bytes a b x y =
+    let same : b.random ≡ a.random =
+    same_head b.random a.random bytes (front_head b.random b.end y.0 bytes y.1.front) (front_head a.random a.end x.0 bytes x.1.front) in
+    let one = one_list a.random bytes a.end b.end x.0 y.0 x.1 (wholes_at a.random b.random b.end y.0 bytes same y.1) in
+    same_journal a b (sym same) (x.2 ∙ ap (λ (l : List Entry). length l) one.0 ∙ sym y.2) one.1
 
 -- a fault of the head, or what has a head
 abbrev pub IsOfHead : ReadFault → Type 0
@@ -67,42 +69,42 @@ IsOfHead Short = Unit {0}
 IsOfHead NotAJournal = Unit {0}
 IsOfHead OtherVersion = Unit {0}
 IsOfHead DamagedHead = Unit {0}
-IsOfHead (Damaged place) = ⊥
+IsOfHead (Damaged j) = ⊥
 
 pub not_refused : (random : ℕ) (bytes : List ℕ) (why : ReadFault) → IsHead bytes random → IsOfHead why → Reads bytes (Err why) → ⊥
 not_refused random bytes Short is of r = no_refusal random bytes Short is r
 not_refused random bytes NotAJournal is of r = no_refusal random bytes NotAJournal is r
 not_refused random bytes OtherVersion is of r = no_refusal random bytes OtherVersion is r
 not_refused random bytes DamagedHead is of r = no_refusal random bytes DamagedHead is r
-not_refused random bytes (Damaged place) is of r = of
+not_refused random bytes (Damaged j) is of r = of
 
 of_head : (bytes : List ℕ) (why : ReadFault) → IsOfHead why → Reads bytes (Err why) → ReadsHead bytes (Err why)
 of_head bytes Short of r = r
 of_head bytes NotAJournal of r = r
 of_head bytes OtherVersion of r = r
 of_head bytes DamagedHead of r = r
-of_head bytes (Damaged place) of r = absurd of
+of_head bytes (Damaged j) of r = absurd of
 
 read_and_refused : (bytes : List ℕ) (a : Journal) (why : ReadFault) → Reads bytes (Ok a) → Reads bytes (Err why) → ⊥
 read_and_refused bytes a Short x y = not_refused a.random bytes Short (front_head a.random a.end x.0 bytes x.1.front) tt y
 read_and_refused bytes a NotAJournal x y = not_refused a.random bytes NotAJournal (front_head a.random a.end x.0 bytes x.1.front) tt y
 read_and_refused bytes a OtherVersion x y = not_refused a.random bytes OtherVersion (front_head a.random a.end x.0 bytes x.1.front) tt y
 read_and_refused bytes a DamagedHead x y = not_refused a.random bytes DamagedHead (front_head a.random a.end x.0 bytes x.1.front) tt y
-read_and_refused bytes a (Damaged place) x y = read_and_damaged bytes a place x y
+read_and_refused bytes a (Damaged j) x y = read_and_damaged bytes a j x y
 
-damaged_and_of_head : (bytes : List ℕ) (place : ℕ) (why : ReadFault) → IsOfHead why → Reads bytes (Err (Damaged place)) → Reads bytes (Err why) → ⊥
-damaged_and_of_head bytes place why of x y = not_refused x.0 bytes why (front_head x.0 place x.1 bytes x.2.front) of y
+damaged_and_of_head : (bytes : List ℕ) (j : Journal) (why : ReadFault) → IsOfHead why → Reads bytes (Err (Damaged j)) → Reads bytes (Err why) → ⊥
+damaged_and_of_head bytes j why of x y = not_refused j.random bytes why (front_head j.random j.end x.0 bytes x.1.front) of y
 
 both_refused : (bytes : List ℕ) (a b : ReadFault) → Reads bytes (Err a) → Reads bytes (Err b) → a ≡ b
-both_refused bytes (Damaged place) (Damaged last) x y = ap (λ n. Damaged n) (both_damaged bytes place last x y)
-both_refused bytes (Damaged place) Short x y = absurd (damaged_and_of_head bytes place Short tt x y)
-both_refused bytes (Damaged place) NotAJournal x y = absurd (damaged_and_of_head bytes place NotAJournal tt x y)
-both_refused bytes (Damaged place) OtherVersion x y = absurd (damaged_and_of_head bytes place OtherVersion tt x y)
-both_refused bytes (Damaged place) DamagedHead x y = absurd (damaged_and_of_head bytes place DamagedHead tt x y)
-both_refused bytes Short (Damaged place) x y = absurd (damaged_and_of_head bytes place Short tt y x)
-both_refused bytes NotAJournal (Damaged place) x y = absurd (damaged_and_of_head bytes place NotAJournal tt y x)
-both_refused bytes OtherVersion (Damaged place) x y = absurd (damaged_and_of_head bytes place OtherVersion tt y x)
-both_refused bytes DamagedHead (Damaged place) x y = absurd (damaged_and_of_head bytes place DamagedHead tt y x)
+both_refused bytes (Damaged j) (Damaged last) x y = ap (λ n. Damaged n) (both_damaged bytes j last x y)
+both_refused bytes (Damaged j) Short x y = absurd (damaged_and_of_head bytes j Short tt x y)
+both_refused bytes (Damaged j) NotAJournal x y = absurd (damaged_and_of_head bytes j NotAJournal tt x y)
+both_refused bytes (Damaged j) OtherVersion x y = absurd (damaged_and_of_head bytes j OtherVersion tt x y)
+both_refused bytes (Damaged j) DamagedHead x y = absurd (damaged_and_of_head bytes j DamagedHead tt x y)
+both_refused bytes Short (Damaged j) x y = absurd (damaged_and_of_head bytes j Short tt y x)
+both_refused bytes NotAJournal (Damaged j) x y = absurd (damaged_and_of_head bytes j NotAJournal tt y x)
+both_refused bytes OtherVersion (Damaged j) x y = absurd (damaged_and_of_head bytes j OtherVersion tt y x)
+both_refused bytes DamagedHead (Damaged j) x y = absurd (damaged_and_of_head bytes j DamagedHead tt y x)
 both_refused bytes Short Short x y = refl
 both_refused bytes Short NotAJournal x y = one_refusal bytes Short NotAJournal x y
 both_refused bytes Short OtherVersion x y = one_refusal bytes Short OtherVersion x y
@@ -159,22 +161,22 @@ longer random durable last es fs bytes f w =
     let on = whole_goes_on random durable last es fs bytes f w in
     omega (arith, end_of random es bytes durable f, end_of random fs bytes last w.front, total_on es on.0, ap total on.1)
 
-not_damaged : (random durable place : ℕ) (es : List Entry) (bytes : List ℕ) → Front random es bytes durable → NamesNoMore random bytes durable
-    → Reads bytes (Err (Damaged place)) → ⊥
-not_damaged random durable place es bytes f none y =
-    let same : y.0 ≡ random = same_head y.0 random bytes (front_head y.0 place y.1 bytes y.2.front) (front_head random durable es bytes f) in
-    let more : NamesMore random bytes place = subst (λ r. NamesMore r bytes place) same y.3 in
+not_damaged : (random durable : ℕ) (j : Journal) (es : List Entry) (bytes : List ℕ) → Front random es bytes durable → NamesNoMore random bytes durable
+    → Reads bytes (Err (Damaged j)) → ⊥
+not_damaged random durable j es bytes f none y =
+    let same : j.random ≡ random = same_head j.random random bytes (front_head j.random j.end y.0 bytes y.1.front) (front_head random durable es bytes f) in
+    let more : NamesMore random bytes j.end = subst (λ r. NamesMore r bytes j.end) same y.3 in
     omega (
       arith,
       none more.0 more.1.0 more.1.1 more.1.2,
       more.1.3,
-      longer random durable place es y.1 bytes f (wholes_at random y.0 place y.1 bytes same y.2),
+      longer random durable j.end es y.0 bytes f (wholes_at random j.random j.end y.0 bytes same y.1),
     )
 
 durable_kept : (random durable : ℕ) (es : List Entry) (bytes : List ℕ) (answer : Result Journal ReadFault) → Front random es bytes durable
     → NamesNoMore random bytes durable → Reads bytes answer → Keeps random es bytes answer
 durable_kept random durable es bytes (Ok j) f none x = keeps_read random durable es bytes j f x
-durable_kept random durable es bytes (Err (Damaged place)) f none x = absurd (not_damaged random durable place es bytes f none x)
+durable_kept random durable es bytes (Err (Damaged j)) f none x = absurd (not_damaged random durable j es bytes f none x)
 durable_kept random durable es bytes (Err Short) f none x = absurd (not_refused random bytes Short (front_head random durable es bytes f) tt x)
 durable_kept random durable es bytes (Err NotAJournal) f none x = absurd (not_refused random bytes NotAJournal (front_head random durable es bytes f) tt x)
 durable_kept random durable es bytes (Err OtherVersion) f none x = absurd (not_refused random bytes OtherVersion (front_head random durable es bytes f) tt x)
@@ -251,26 +253,26 @@ enough_there durable m es fs c inside (inr most) =
     let same = total_whole durable es most in
     omega (arith, ap total c.taken, same, whole, total_taken (length es) c.count es (c.all_there (length es) (omega arith) (omega (arith, inside, same, whole))))
 
-front_damaged : (random durable n place : ℕ) (es : List Entry) → IsJournal random es → length (file_bytes random (take durable es)) ≤ n
+front_damaged : (random durable n : ℕ) (j : Journal) (es : List Entry) → IsJournal random es → length (file_bytes random (take durable es)) ≤ n
     → NamesNoMore random (take n (file_bytes random es)) (length (file_bytes random (take durable es)))
-    → Reads (take n (file_bytes random es)) (Err (Damaged place)) → ⊥
-front_damaged random durable n place es is enough none y =
+    → Reads (take n (file_bytes random es)) (Err (Damaged j)) → ⊥
+front_damaged random durable n j es is enough none y =
     let bytes = take n (file_bytes random es) in
     let inside = file_length random (take durable es) in
-    let same : y.0 ≡ random =
-    same_head y.0 random bytes (front_head y.0 place y.1 bytes y.2.front) (head_front random n es is.0 (omega (arith, inside, enough))) in
-    let w : Wholes random y.1 bytes place = wholes_at random y.0 place y.1 bytes same y.2 in
-    let more : NamesMore random bytes place = subst (λ r. NamesMore r bytes place) same y.3 in
-    let there = enough_there durable (n - 24) es y.1 (cut_of random n place es y.1 is (omega (arith, inside, enough)) w) (omega (arith, inside, enough))
+    let same : j.random ≡ random =
+    same_head j.random random bytes (front_head j.random j.end y.0 bytes y.1.front) (head_front random n es is.0 (omega (arith, inside, enough))) in
+    let w : Wholes random y.0 bytes j.end = wholes_at random j.random j.end y.0 bytes same y.1 in
+    let more : NamesMore random bytes j.end = subst (λ r. NamesMore r bytes j.end) same y.3 in
+    let there = enough_there durable (n - 24) es y.0 (cut_of random n j.end es y.0 is (omega (arith, inside, enough)) w) (omega (arith, inside, enough))
     (cases_lt durable (length es)) in
-    omega (arith, none more.0 more.1.0 more.1.1 more.1.2, more.1.3, there, inside, end_of random y.1 bytes place w.front)
+    omega (arith, none more.0 more.1.0 more.1.1 more.1.2, more.1.3, there, inside, end_of random y.0 bytes j.end w.front)
 
 front_by : (random durable n : ℕ) (es : List Entry) (answer : Result Journal ReadFault) → IsJournal random es
     → length (file_bytes random (take durable es)) ≤ n
     → NamesNoMore random (take n (file_bytes random es)) (length (file_bytes random (take durable es)))
     → 24 ≤ n → Reads (take n (file_bytes random es)) answer → IsOfFront random es n answer
 front_by random durable n es (Ok j) is enough none long x = front_read random n es j is long x
-front_by random durable n es (Err (Damaged place)) is enough none long x = absurd (front_damaged random durable n place es is enough none x)
+front_by random durable n es (Err (Damaged j)) is enough none long x = absurd (front_damaged random durable n j es is enough none x)
 front_by random durable n es (Err Short) is enough none long x =
     absurd (not_refused random (take n (file_bytes random es)) Short (head_front random n es is.0 long) tt x)
 front_by random durable n es (Err NotAJournal) is enough none long x =

@@ -64,13 +64,13 @@ ReadsHead bytes (Err Short) = length bytes < 24
 ReadsHead bytes (Err NotAJournal) = (24 ≤ length bytes) × (take 8 bytes ≢ magic)
 ReadsHead bytes (Err OtherVersion) = (24 ≤ length bytes) × (take 8 bytes ≡ magic) × (take 4 (drop 8 bytes) ≢ four 2)
 ReadsHead bytes (Err DamagedHead) = (24 ≤ length bytes) × (take 12 bytes ≡ magic ++ four 2) × ((random : ℕ) → IsHead bytes random → ⊥)
-ReadsHead bytes (Err (Damaged place)) = ⊥
+ReadsHead bytes (Err (Damaged j)) = ⊥
 
 -- The file is damaged if its whole records end before a place up to which a whole record, anywhere in it, says that it was durable. Else all
 -- behind them is a torn end.
 abbrev pub Reads : List ℕ → Result Journal ReadFault → Type 0
 Reads bytes (Ok j) = (es : List Entry) × Wholes j.random es bytes j.end × (j.count ≡ length es) × NamesNoMore j.random bytes j.end
-Reads bytes (Err (Damaged end)) = (random : ℕ) × (es : List Entry) × Wholes random es bytes end × NamesMore random bytes end
+Reads bytes (Err (Damaged j)) = (es : List Entry) × Wholes j.random es bytes j.end × (j.count ≡ length es) × NamesMore j.random bytes j.end
 Reads bytes (Err why) = ReadsHead bytes (Err why)
 
 -- what stands at a place, where the record of this number would

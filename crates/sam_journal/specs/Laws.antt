@@ -45,4 +45,4 @@ abbrev pub DamageIsTold : Type 0
 DamageIsTold = (random : ℕ) (bytes : List ℕ) (place number : ℕ) (e : Entry) (answer : Result Journal ReadFault)
     → IsHead bytes random → Stands random bytes place number e
     → ((es : List Entry) → AreRecords 24 0 es → take e.durable bytes ≡ take e.durable (file_bytes random es) → ⊥)
-    → Reads bytes answer → (end : ℕ) × (answer ≡ Err (Damaged end))
+    → Reads bytes answer → (j : Journal) × (answer ≡ Err (Damaged j))

@@ -23,19 +23,19 @@ pub enum ReadFault {
     /// The sum of its head is wrong.
     #[error("a damaged head")]
     DamagedHead,
-    /// The whole records from the front on end at this place, and a record behind it says that more was durable.
-    #[error("damaged at byte {0}")]
-    Damaged(usize),
+    /// Behind these whole records stands none, and yet a record anywhere behind them says that more was durable.
+    #[error("a damaged journal")]
+    Damaged(Journal),
 }
 
-/// A file that was read.
+/// The whole records of a file, from the front on.
 #[derive(Clone, Copy, Debug, PartialEq, Eq, Drop)]
 pub struct Journal {
-    /// Its random number.
+    /// The file's random number.
     pub random: u64,
-    /// How many whole records it has.
+    /// How many there are.
     pub count: u64,
-    /// The place at which they end. All behind it is torn, and is to be cut.
+    /// The place at which they end. If the file is not damaged, all behind it is torn, and is to be cut.
     pub end: usize,
 }
 
@@ -110,8 +110,9 @@ pub fn read(bytes: &[u8]) -> Result<Journal, ReadFault>
 {
     let random = read_head(bytes)?;
     let (count, end) = whole_records(bytes, random);
+    let journal = Journal { random, count, end };
     if names_more(bytes, random, end) {
-        return Err(ReadFault::Damaged(end));
+        return Err(ReadFault::Damaged(journal));
     }
-    Ok(Journal { random, count, end })
+    Ok(journal)
 }

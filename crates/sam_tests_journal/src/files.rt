@@ -108,11 +108,11 @@ fn torn_end_is_no_damage(rt: HostRuntime) {
 fn damage_is_told(rt: HostRuntime) {
     assert_eq!(rt;
         read(&turned(HEAD_BYTES + 1)),
-        Err(ReadFault::Damaged(HEAD_BYTES))
+        Err(ReadFault::Damaged(none))
     );
     assert_eq!(rt;
         read(&turned(HEAD_BYTES + 25)),
-        Err(ReadFault::Damaged(HEAD_BYTES))
+        Err(ReadFault::Damaged(none))
     );
     assert_eq!(rt; read(&turned(13)), Err(ReadFault::DamagedHead));
     assert_eq!(rt; read(&turned(11)), Err(ReadFault::OtherVersion));
