@@ -81,6 +81,13 @@ const char *sam_status_text(sam_status status)
         TEXT(SAM_LINK_BAD_LENGTH, "a packet came with a length that its kind can't have, and the connection is over");
         TEXT(SAM_LINK_ACK_AHEAD, "bytes are acknowledged that did not go, and the connection is over");
         TEXT(SAM_LINK_NO_ROOM, "the buffer has less room than the longest note, 4,096 bytes");
+        TEXT(SAM_JOURNAL_SHORT, "the journal has fewer bytes than its head, 24");
+        TEXT(SAM_JOURNAL_NOT_A_JOURNAL, "the bytes are not those of a journal");
+        TEXT(SAM_JOURNAL_OTHER_VERSION, "the journal has another version of the format");
+        TEXT(SAM_JOURNAL_DAMAGED_HEAD, "the journal is damaged: the sum of its head is wrong");
+        TEXT(SAM_JOURNAL_DAMAGED, "the journal is damaged: its whole records end before what was durable");
+        TEXT(SAM_JOURNAL_TORN, "no whole record of this number stands at this place of the journal");
+        TEXT(SAM_JOURNAL_TOO_LONG, "the body of the record has 2^32 bytes or more");
     }
     return "unknown status";
 }

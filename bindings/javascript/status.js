@@ -57,6 +57,13 @@ export const Status = Object.freeze({
   LINK_BAD_LENGTH: 204,
   LINK_ACK_AHEAD: 205,
   LINK_NO_ROOM: 206,
+  JOURNAL_SHORT: 257,
+  JOURNAL_NOT_A_JOURNAL: 258,
+  JOURNAL_OTHER_VERSION: 259,
+  JOURNAL_DAMAGED_HEAD: 260,
+  JOURNAL_DAMAGED: 261,
+  JOURNAL_TORN: 262,
+  JOURNAL_TOO_LONG: 263,
 });
 
 /** The name of a status and a sentence about it, as "SAM_NOT_TEXT: the bytes are not UTF-8"; "unknown status" for any other number. */

@@ -61,6 +61,13 @@ export declare const Status: {
   readonly LINK_BAD_LENGTH: 204;
   readonly LINK_ACK_AHEAD: 205;
   readonly LINK_NO_ROOM: 206;
+  readonly JOURNAL_SHORT: 257;
+  readonly JOURNAL_NOT_A_JOURNAL: 258;
+  readonly JOURNAL_OTHER_VERSION: 259;
+  readonly JOURNAL_DAMAGED_HEAD: 260;
+  readonly JOURNAL_DAMAGED: 261;
+  readonly JOURNAL_TORN: 262;
+  readonly JOURNAL_TOO_LONG: 263;
 };
 
 /** The name of a status and a sentence about it. */

@@ -106,14 +106,14 @@ fn torn_end_is_no_damage(rt: HostRuntime) {
 
 #[test]
 fn damage_is_told(rt: HostRuntime) {
-    assert_eq!(rt;
-        read(&turned(HEAD_BYTES + 1)),
-        Err(ReadFault::Damaged(none))
-    );
-    assert_eq!(rt;
-        read(&turned(HEAD_BYTES + 25)),
-        Err(ReadFault::Damaged(none))
-    );
+    let none = Journal {
+        random: RANDOM,
+        count: 0,
+        end: HEAD_BYTES,
+    };
+    let damaged = Err(ReadFault::Damaged(none));
+    assert_eq!(rt; read(&turned(HEAD_BYTES + 1)), damaged);
+    assert_eq!(rt; read(&turned(HEAD_BYTES + 25)), damaged);
     assert_eq!(rt; read(&turned(13)), Err(ReadFault::DamagedHead));
     assert_eq!(rt; read(&turned(11)), Err(ReadFault::OtherVersion));
     assert_eq!(rt; read(&turned(1)), Err(ReadFault::NotAJournal));

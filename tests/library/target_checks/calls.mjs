@@ -93,7 +93,8 @@ function note(told) {
 const SPACE = library.malloc(BigInt(SPACE_SIZE));
 const HANDLES = library.malloc(96n);
 const HANDLE_OF = { host: 0, term: 32, link: 64 }; // where the two handles of a kind stand
-const OUT_BYTES = { did: 39, state: 68, file: 25, bytes16: 16, bytes42: 42 }; // that are compared: of a struct all but what fills it up
+// Bytes that are compared: of a struct all but what fills it up.
+const OUT_BYTES = { did: 39, state: 68, file: 25, record: 32, frame: 28, bytes16: 16, bytes24: 24, bytes42: 42 };
 let baseline = 0n; // how many requests were made when the session began
 part(HANDLES, 96).fill(0);
 

@@ -21,6 +21,8 @@ union out {
     sam_did did;
     sam_state state;
     sam_file file;
+    sam_record record;
+    sam_record_frame frame;
     uint8_t u8;
     uint16_t u16;
     uint32_t u32;
