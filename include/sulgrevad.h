@@ -171,7 +171,7 @@ enum sam_status {
     SAM_LINK_ACK_AHEAD = SAM_LINK + 13,    /* bytes were acknowledged that didn't go; this connection is over */
     SAM_LINK_NO_ROOM = SAM_LINK + 14,      /* the buffer has less room than the longest note */
 
-    SAM_JOURNAL = 256, /* why the bytes of a journal are not read, or a record not written */
+    SAM_JOURNAL = 256,                           /* why the bytes of a journal are not read, or a record not written */
     SAM_JOURNAL_SHORT = SAM_JOURNAL + 1,         /* a file of fewer than 24 bytes */
     SAM_JOURNAL_NOT_A_JOURNAL = SAM_JOURNAL + 2, /* a file that begins otherwise */
     SAM_JOURNAL_OTHER_VERSION = SAM_JOURNAL + 3, /* a file of another version of the format */
