@@ -185,6 +185,15 @@ enum sam_status {
     SAM_NOTE_BAD_PATH = SAM_NOTE + 4,   /* a byte of a path is 0 */
     SAM_NOTE_BAD_TEXT = SAM_NOTE + 5,   /* the text is not UTF-8 */
 
+    SAM_JOURNAL = 256,                           /* why the bytes of a journal are not read, or a record not written */
+    SAM_JOURNAL_SHORT = SAM_JOURNAL + 1,         /* a file of fewer than 24 bytes */
+    SAM_JOURNAL_NOT_A_JOURNAL = SAM_JOURNAL + 2, /* a file that begins otherwise */
+    SAM_JOURNAL_OTHER_VERSION = SAM_JOURNAL + 3, /* a file of another version of the format */
+    SAM_JOURNAL_DAMAGED_HEAD = SAM_JOURNAL + 4,  /* the sum of the head is wrong */
+    SAM_JOURNAL_DAMAGED = SAM_JOURNAL + 5,       /* the whole records end before what was durable, as a record behind them says */
+    SAM_JOURNAL_TORN = SAM_JOURNAL + 6,          /* no whole record of this number stands there */
+    SAM_JOURNAL_TOO_LONG = SAM_JOURNAL + 7,      /* a body of 2^32 bytes or more */
+
     SAM_STATUS_WIDTH = 0x7FFFFFFF /* never returned: it keeps the type at 32 bits under any compiler's options */
 };
 typedef enum sam_status sam_status;
@@ -1082,6 +1091,60 @@ SAM_MUST_USE sam_status sam_note_read(const uint8_t *bytes, size_t len, sam_note
  * room for; SAM_NOTE_BAD_PATH; SAM_NOTE_BAD_TEXT. */
 SAM_MUST_USE sam_status sam_note_write(const sam_note *note, const uint8_t *path, const uint8_t *copy, const uint8_t *text, uint8_t *into,
                                        size_t room, size_t *len);
+
+/* ==== A journal ====
+ *
+ * A journal is a file that only grows, so that what a program did is found again after a crash. It is a head and records, and a record is
+ * bytes of the program's. The calls have no handle, take no memory, and read and write no file: the program lends them bytes.
+ *
+ *     sam_journal_head(random, head)                  a new file begins with this
+ *     sam_journal_frame(random, n, durable, ..)       the n-th record: frame.front, its body, frame.back
+ *     sam_journal_read(bytes, len, ..)                after a crash: how many whole records, and where they end
+ *     sam_journal_next(bytes, len, 24, random, 0, ..) the first of them, and so on
+ *
+ * Each record says how many bytes of the file were durable when it was made: written, and then made safe by fdatasync or its like. A crash may
+ * lose or turn what was not durable, in any order of its blocks. So the file is damaged if its whole records end before a place up to which
+ * a whole record, anywhere in it, says that it was durable; else all behind them is torn, and is cut before the next record is written.
+ * The random number of a file, which its sums are of too, is chosen anew for each: what is left on the disk of an older one is no record. */
+
+#define SAM_JOURNAL_HEAD_BYTES 24 /* bytes of the head: the first record stands there */
+#define SAM_RECORD_FRONT_BYTES 24 /* bytes of a record before its body */
+#define SAM_RECORD_BACK_BYTES 4   /* bytes of a record behind its body */
+
+/* What stands around the body of a record. */
+struct sam_record_frame {
+    uint8_t front[SAM_RECORD_FRONT_BYTES]; /* the bytes before it */
+    uint8_t back[SAM_RECORD_BACK_BYTES];   /* the bytes behind it */
+};
+typedef struct sam_record_frame sam_record_frame;
+
+/* A whole record of a file. */
+struct sam_record {
+    uint64_t durable; /* how many bytes of the file were durable when it was made */
+    size_t body;      /* the place of its body in the file, in bytes from 0 */
+    size_t len;       /* how many bytes its body has */
+    size_t next;      /* the place behind the record, where the next one stands */
+};
+typedef struct sam_record sam_record;
+
+/* Writes the head of the file of this random number. Returns SAM_OK. */
+SAM_MUST_USE sam_status sam_journal_head(uint64_t random, uint8_t into[SAM_JOURNAL_HEAD_BYTES]);
+
+/* Hands out what stands around a body in the file of this random number: in the record of this number, counted from 0, that is made when so
+ * many bytes of the file are durable. They may be no more than stand before the record, or it is not read again. Refused:
+ * SAM_JOURNAL_TOO_LONG. */
+SAM_MUST_USE sam_status sam_journal_frame(uint64_t random, uint64_t number, uint64_t durable, const uint8_t *body, size_t len,
+                                          sam_record_frame *frame);
+
+/* Reads a whole file: hands out its random number, how many whole records it has from the front on, and the place in bytes at which they
+ * end. SAM_JOURNAL_DAMAGED hands out the same of what stands before the damage. Refused, in this order: SAM_JOURNAL_SHORT,
+ * SAM_JOURNAL_NOT_A_JOURNAL, SAM_JOURNAL_OTHER_VERSION, SAM_JOURNAL_DAMAGED_HEAD. */
+SAM_MUST_USE sam_status sam_journal_read(const uint8_t *bytes, size_t len, uint64_t *random, uint64_t *count, size_t *end);
+
+/* Hands out the record of this number that stands at this place of a file. Its random number is what sam_journal_read hands out. SAM_NONE if
+ * the file ends there. Refused: SAM_JOURNAL_TORN. */
+SAM_MUST_USE sam_status sam_journal_next(const uint8_t *bytes, size_t len, size_t place, uint64_t random, uint64_t number,
+                                         sam_record *found);
 
 /* ==== Scripts ==== */
 

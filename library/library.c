@@ -87,6 +87,13 @@ const char *sam_status_text(sam_status status)
         TEXT(SAM_NOTE_BAD_LENGTH, "the message has too few bytes or too many for its fields, or more than there is room for");
         TEXT(SAM_NOTE_BAD_PATH, "a path in the message has a zero byte");
         TEXT(SAM_NOTE_BAD_TEXT, "the text of the message is not UTF-8");
+        TEXT(SAM_JOURNAL_SHORT, "the journal has fewer bytes than its head, 24");
+        TEXT(SAM_JOURNAL_NOT_A_JOURNAL, "the bytes are not those of a journal");
+        TEXT(SAM_JOURNAL_OTHER_VERSION, "the journal has another version of the format");
+        TEXT(SAM_JOURNAL_DAMAGED_HEAD, "the journal is damaged: the sum of its head is wrong");
+        TEXT(SAM_JOURNAL_DAMAGED, "the journal is damaged: its whole records end before what was durable");
+        TEXT(SAM_JOURNAL_TORN, "no whole record of this number stands at this place of the journal");
+        TEXT(SAM_JOURNAL_TOO_LONG, "the body of the record has 2^32 bytes or more");
     }
     return "unknown status";
 }

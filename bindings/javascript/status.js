@@ -62,6 +62,13 @@ export const Status = Object.freeze({
   NOTE_BAD_LENGTH: 227,
   NOTE_BAD_PATH: 228,
   NOTE_BAD_TEXT: 229,
+  JOURNAL_SHORT: 257,
+  JOURNAL_NOT_A_JOURNAL: 258,
+  JOURNAL_OTHER_VERSION: 259,
+  JOURNAL_DAMAGED_HEAD: 260,
+  JOURNAL_DAMAGED: 261,
+  JOURNAL_TORN: 262,
+  JOURNAL_TOO_LONG: 263,
 });
 
 /** The kinds of messages and frames (enum sam_kind of sulgrevad.h); docs/reference/PROTOCOL.md says what each means. */

@@ -120,6 +120,13 @@ export declare const Status: {
   readonly NOTE_BAD_LENGTH: 227;
   readonly NOTE_BAD_PATH: 228;
   readonly NOTE_BAD_TEXT: 229;
+  readonly JOURNAL_SHORT: 257;
+  readonly JOURNAL_NOT_A_JOURNAL: 258;
+  readonly JOURNAL_OTHER_VERSION: 259;
+  readonly JOURNAL_DAMAGED_HEAD: 260;
+  readonly JOURNAL_DAMAGED: 261;
+  readonly JOURNAL_TORN: 262;
+  readonly JOURNAL_TOO_LONG: 263;
 };
 
 /** Returns the name of a status and a sentence about it, or "unknown status" for any other number. */

@@ -89,6 +89,7 @@ PLACES = {
     "sam_local": (480, 7, "as if no network"),
     "sam_crossing": (444, 8, "crossing messages agree"),
     "sam_link": (86, 7, "over lines that break"),
+    "sam_journal": (1010, 4, "records after a crash"),
     "sam_sides": (354, 9, "what each side did"),
     "sam_endpoint": (720, 9, "a side with its bytes"),
     "sam_frame": (120, 10, "streams of messages"),
@@ -100,7 +101,7 @@ PLACES = {
     "sam_runes": (370, 12, "texts as lists of runes"),
 }
 LEFT_OUT = {
-    *("sam_tests", "sam_tests_threads", "sam_test_support", "sam_examples"),
+    *("sam_tests", "sam_tests_journal", "sam_tests_threads", "sam_test_support", "sam_examples"),
     "sam_note",  # its two arrows would cross the whole picture
 }
 
@@ -146,7 +147,7 @@ def crates_picture():
         kind = "side" if name in ("sam_host", "sam_term") else "box"
         parts += [box(x - BOX_WIDTH / 2, y - BOX_HEIGHT / 2, BOX_WIDTH, BOX_HEIGHT, kind)]
         parts += [text(x, y - 3, name, "name"), text(x, y + 13, words, "grey")]
-    return picture("The crates and what each stands on", 1000, FIRST_ROW + ROW_HEIGHT * 12 + 44, parts)
+    return picture("The crates and what each stands on", 1100, FIRST_ROW + ROW_HEIGHT * 12 + 44, parts)
 
 
 # ---- The threads

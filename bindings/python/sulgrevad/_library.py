@@ -61,6 +61,18 @@ class CNote(ctypes.Structure):
     ]  # fmt: skip
 
 
+class RecordFrame(ctypes.Structure):
+    """sam_record_frame: what stands around the body of a record of a journal."""
+
+    _fields_ = [("front", c_uint8 * 24), ("back", c_uint8 * 4)]
+
+
+class Record(ctypes.Structure):
+    """sam_record: a whole record of a journal."""
+
+    _fields_ = [("durable", c_uint64), ("body", c_size_t), ("len", c_size_t), ("next", c_size_t)]
+
+
 class Handle(ctypes.Structure):
     """sam_host, sam_term and sam_link; empty if all bytes are zero."""
 
@@ -128,6 +140,10 @@ FREE_SIGNATURES: Dict[str, Tuple[Tuple[Any, ...], Any]] = {
     "link_write_refusal": ((c_uint32, *_BYTES, POINTER(c_char)), c_uint32),
     "note_read": ((*_BYTES, POINTER(CNote)), c_uint32),
     "note_write": ((POINTER(CNote), c_char_p, c_char_p, c_char_p, *_BUFFER, _SIZE), c_uint32),
+    "journal_head": ((c_uint64, POINTER(c_char)), c_uint32),
+    "journal_frame": ((c_uint64, c_uint64, c_uint64, *_BYTES, POINTER(RecordFrame)), c_uint32),
+    "journal_read": ((*_BYTES, _U64, _U64, _SIZE), c_uint32),
+    "journal_next": ((*_BYTES, c_size_t, c_uint64, c_uint64, POINTER(Record)), c_uint32),
 }
 
 

@@ -9,6 +9,7 @@ pub mod Measures
 pub mod LinkStatus
 pub mod Links
 pub mod Notes
+pub mod Journals
 pub mod Walking
 pub mod Steps
 pub mod Snapshots

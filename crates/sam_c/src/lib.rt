@@ -6,6 +6,7 @@
 mod handle;
 mod host_calls;
 mod host_readers;
+mod journal_calls;
 mod link_calls;
 mod link_status;
 mod measures;
@@ -24,6 +25,7 @@ mod term_texts;
 mod utf8;
 
 pub use handle::{SamHost, SamLink, SamTerm};
+pub use journal_calls::{SamJournalHead, SamRecord, SamRecordFrame};
 pub use link_calls::{SamLinkHello, SamLinkId};
 pub use note_calls::SamNote;
 pub use snapshots::{SamTermFile, SamTermState};

@@ -94,7 +94,7 @@ const SPACE = library.malloc(BigInt(SPACE_SIZE));
 const HANDLES = library.malloc(96n);
 const HANDLE_OF = { host: 0, term: 32, link: 64 }; // where the two handles of a kind stand
 // That are compared: of a struct all but what fills it up.
-const OUT_BYTES = { did: 39, state: 68, file: 25, note: 64, bytes16: 16, bytes42: 42 };
+const OUT_BYTES = { did: 39, state: 68, file: 25, note: 64, record: 32, frame: 28, bytes16: 16, bytes24: 24, bytes42: 42 };
 let baseline = 0n; // how many requests were made when the session began
 part(HANDLES, 96).fill(0);
 

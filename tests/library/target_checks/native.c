@@ -22,6 +22,8 @@ union out {
     sam_state state;
     sam_file file;
     sam_note note;
+    sam_record record;
+    sam_record_frame frame;
     uint8_t u8;
     uint16_t u16;
     uint32_t u32;

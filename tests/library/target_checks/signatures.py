@@ -5,12 +5,12 @@ import re
 DECLARATION = re.compile(r"^(?:SAM_MUST_USE )?sam_status (sam_\w+)\(([^)]*)\);", re.M)
 FIELDS = {
     "uint8_t": "u8", "uint16_t": "u16", "uint32_t": "u32", "uint64_t": "u64", "size_t": "size", "bool": "truth", "sam_status": "status",
-    "sam_did": "did", "sam_state": "state", "sam_file": "file", "sam_note": "note",
+    "sam_did": "did", "sam_state": "state", "sam_file": "file", "sam_note": "note", "sam_record": "record", "sam_record_frame": "frame",
 }
 NUMBERS = {"uint16_t": "u16", "uint32_t": "u32", "uint64_t": "u64", "size_t": "size", "bool": "truth"}
-ARRAYS = {"SAM_LINK_ID_BYTES": 16, "SAM_LINK_HELLO_BYTES": 42}
+ARRAYS = {"SAM_LINK_ID_BYTES": 16, "SAM_LINK_HELLO_BYTES": 42, "SAM_JOURNAL_HEAD_BYTES": 24}
 # Bytes that are compared of what is handed out: of a struct all but those that fill it up.
-OUT = {"did": 39, "state": 68, "file": 25, "note": 64, "bytes16": 16, "bytes42": 42}
+OUT = {"did": 39, "state": 68, "file": 25, "note": 64, "record": 32, "frame": 28, "bytes16": 16, "bytes24": 24, "bytes42": 42}
 OUT_ELSE = 8
 ROOMS = {"uint8_t *": 1, "uint32_t *": 4, "sam_place *": 16}  # bytes of each thing that a room is for
 ROOM_KINDS = tuple(f"room{size}" for size in ROOMS.values())

@@ -66,6 +66,13 @@ pub const SAM_NOTE_BAD_FIELD: sam_status = 226;
 pub const SAM_NOTE_BAD_LENGTH: sam_status = 227;
 pub const SAM_NOTE_BAD_PATH: sam_status = 228;
 pub const SAM_NOTE_BAD_TEXT: sam_status = 229;
+pub const SAM_JOURNAL_SHORT: sam_status = 257;
+pub const SAM_JOURNAL_NOT_A_JOURNAL: sam_status = 258;
+pub const SAM_JOURNAL_OTHER_VERSION: sam_status = 259;
+pub const SAM_JOURNAL_DAMAGED_HEAD: sam_status = 260;
+pub const SAM_JOURNAL_DAMAGED: sam_status = 261;
+pub const SAM_JOURNAL_TORN: sam_status = 262;
+pub const SAM_JOURNAL_TOO_LONG: sam_status = 263;
 
 /// The sides of a link, and the states of a connection.
 pub const SAM_LINK_TERMINAL: u32 = 0;
@@ -271,6 +278,24 @@ pub struct sam_file {
 pub struct sam_place {
     pub start: usize,
     pub len: usize,
+}
+
+/// What stands around the body of a record of a journal.
+#[derive(Clone, Copy, Debug, Default, PartialEq, Eq)]
+#[repr(C)]
+pub struct sam_record_frame {
+    pub front: [u8; 24],
+    pub back: [u8; 4],
+}
+
+/// A whole record of a journal.
+#[derive(Clone, Copy, Debug, Default, PartialEq, Eq)]
+#[repr(C)]
+pub struct sam_record {
+    pub durable: u64,
+    pub body: usize,
+    pub len: usize,
+    pub next: usize,
 }
 
 /// The number by which `sam_term_read` stands for a rune that is not loaded.
@@ -806,6 +831,33 @@ extern "C" {
         into: *mut u8,
         room: usize,
         len: *mut usize,
+    ) -> sam_status;
+    /// Writes the head of the file of this random number. Returns SAM_OK.
+    pub fn sam_journal_head(random: u64, into: *mut u8) -> sam_status;
+    /// Hands out what stands around a body in the file of this random number: in the record of this number, counted from 0, that is made
+    /// when so many bytes of the file are durable. They may be no more than stand before the record, or it is not read again. Refused:
+    /// SAM_JOURNAL_TOO_LONG.
+    pub fn sam_journal_frame(
+        random: u64,
+        number: u64,
+        durable: u64,
+        body: *const u8,
+        len: usize,
+        frame: *mut sam_record_frame,
+    ) -> sam_status;
+    /// Reads a whole file: hands out its random number, how many whole records it has from the front on, and the place in bytes at which
+    /// they end. SAM_JOURNAL_DAMAGED hands out the same of what stands before the damage. Refused, in this order: SAM_JOURNAL_SHORT,
+    /// SAM_JOURNAL_NOT_A_JOURNAL, SAM_JOURNAL_OTHER_VERSION, SAM_JOURNAL_DAMAGED_HEAD.
+    pub fn sam_journal_read(bytes: *const u8, len: usize, random: *mut u64, count: *mut u64, end: *mut usize) -> sam_status;
+    /// Hands out the record of this number that stands at this place of a file. Its random number is what sam_journal_read hands out.
+    /// SAM_NONE if the file ends there. Refused: SAM_JOURNAL_TORN.
+    pub fn sam_journal_next(
+        bytes: *const u8,
+        len: usize,
+        place: usize,
+        random: u64,
+        number: u64,
+        found: *mut sam_record,
     ) -> sam_status;
     /// Runs a script over a host and a terminal of its own, and hands out the output of its `show` lines, in bytes. It takes no handle.
     /// docs/reference/SCRIPTS.md explains the language. All lines are read before the first is done. At SAM_OK *out_len is the number of

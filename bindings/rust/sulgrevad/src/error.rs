@@ -329,9 +329,9 @@ mod tests {
         (136, Refusal::BadVersion),
     ];
 
-    /// Those that no safe call hands on: SAM_OK, SAM_NO_HANDLE, SAM_MADE, SAM_NONE, SAM_LINK_NO_ROOM, and SAM_SCRIPT_LINE, which `replay`
-    /// gives its line.
-    const OTHERS: [u32; 6] = [0, 4, 5, 7, 161, 206];
+    /// Those that no safe call hands on: SAM_OK, SAM_NO_HANDLE, SAM_MADE, SAM_NONE, SAM_LINK_NO_ROOM, those of a
+    /// journal, which has no safe calls, and SAM_SCRIPT_LINE, which `replay` gives its line.
+    const OTHERS: [u32; 13] = [0, 4, 5, 7, 161, 206, 257, 258, 259, 260, 261, 262, 263];
 
     #[test]
     fn each_number_is_its_error() {
@@ -352,7 +352,7 @@ mod tests {
             let refusals = REFUSALS.iter().map(|(number, _)| number);
             errors.chain(refusals).chain(&OTHERS).any(|number| *number == status)
         };
-        for status in 0..256 {
+        for status in 0..512 {
             assert_eq!(is_listed(status), status_text(status) != "unknown status", "{status}");
         }
     }

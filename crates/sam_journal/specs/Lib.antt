@@ -1,0 +1,4 @@
+pub mod Checksums
+pub mod Records
+pub mod Files
+pub mod Laws
