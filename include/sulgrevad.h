@@ -171,6 +171,13 @@ enum sam_status {
     SAM_LINK_ACK_AHEAD = SAM_LINK + 13,    /* bytes were acknowledged that didn't go; this connection is over */
     SAM_LINK_NO_ROOM = SAM_LINK + 14,      /* the buffer has less room than the longest note */
 
+    SAM_NOTE = 224, /* why bytes are no message of a session, or a message is not written: they are tested in this order */
+    SAM_NOTE_BAD_KIND = SAM_NOTE + 1,   /* no kind has this number: a message of a later version, which is skipped */
+    SAM_NOTE_BAD_FIELD = SAM_NOTE + 2,  /* sam_note_write: a field that the kind has not is not 0 or not empty */
+    SAM_NOTE_BAD_LENGTH = SAM_NOTE + 3, /* too few bytes or too many for its fields; above 4,096, or more than there is room for */
+    SAM_NOTE_BAD_PATH = SAM_NOTE + 4,   /* a byte of a path is 0 */
+    SAM_NOTE_BAD_TEXT = SAM_NOTE + 5,   /* the text is not UTF-8 */
+
     SAM_STATUS_WIDTH = 0x7FFFFFFF /* never returned: it keeps the type at 32 bits under any compiler's options */
 };
 typedef enum sam_status sam_status;
@@ -880,6 +887,95 @@ SAM_MUST_USE sam_status sam_link_unsent(sam_link *link, size_t *count);
 
 /* How many bytes of the other side's stream have come. */
 SAM_MUST_USE sam_status sam_link_received(sam_link *link, uint64_t *count);
+
+/* ==== The messages of a session ====
+ *
+ * What samhost and its front ends tell each other in the notes of a link: docs/reference/SESSION.md says what each means. A message has a
+ * kind and some of seven fields. Neither call takes a handle or memory. */
+
+/* What follows is written by tools/session_messages, from the tables of docs/reference/SESSION.md. */
+/* The kinds of messages, with their fields: up to 64 those from the terminal. */
+enum sam_note_kind {
+    SAM_NOTE_OPEN = 1,        /* request, path: joins the file, or the folder, at the path */
+    SAM_NOTE_COMPLETE = 2,    /* request, path: asks for the names that complete the path */
+    SAM_NOTE_RELOAD = 3,      /* request, tag: reads a file anew from its disk */
+    SAM_NOTE_RELOADED = 4,    /* tag, number: the user's edits have made the file what the file `number` has */
+    SAM_NOTE_WRITE = 5,       /* request, tag: asks what becomes of the Twrite of this file that comes next */
+    SAM_NOTE_SESSION = 65,    /* number, path, text: the first message: version of the messages, name of the session, machine */
+    SAM_NOTE_SAID = 66,       /* text: words for people */
+    SAM_NOTE_SHOWN = 67,      /* tag, number: another program wants the file shown at the line `number`, if not 0 */
+    SAM_NOTE_TAKEN_OVER = 68, /* text: another terminal, at the machine that the text names, has the session now */
+    SAM_NOTE_ENDED = 69,      /* code, number: the session is over, with this exit status: the last message */
+    SAM_NOTE_OPENED = 70,     /* request, tag: the file of an Open */
+    SAM_NOTE_REFUSED = 71,    /* request, code, text: what was asked for is not done, and why */
+    SAM_NOTE_NAMES = 72,      /* request, code, path: names, each with a newline behind it; those of folders end in `/` */
+    SAM_NOTE_ANEW = 73,       /* request, number: the file of the tag `number` has what stands on the disk */
+    SAM_NOTE_SAVED = 74,      /* request, tag, code, path, copy, text: a write went to the disk, at the path */
+    SAM_NOTE_NOT_SAVED = 75,  /* request, tag, code, path, copy, text: a write failed, and why; its text is in the copy, if not empty */
+    SAM_NOTE_CHANGED = 76,    /* tag, code, path, text: another program changed the file, or removed it */
+    SAM_NOTE_DATED = 77,      /* tag, number, path: the file was written last at this time, in seconds since 1970 */
+    SAM_NOTE_EARLIER = 78,    /* tag, code, number, path, copy, text: an earlier session left a text in the copy, of the time `number` */
+    SAM_NOTE_ASIDE = 79,      /* tag, code, path, copy, text: a text that is on no disk under its name is in the copy */
+    SAM_NOTE_LOST = 80,       /* tag, code, path, text: a text could be saved nowhere, and why */
+    SAM_NOTE_NO_JOURNAL = 81, /* code, text: what is done from now on survives no crash, and why */
+};
+
+/* What happened, or why. A number that isn't here comes from a later version, and counts as SAM_NOTE_OTHER. */
+enum sam_note_code {
+    SAM_NOTE_NO_CODE = 0,         /* nothing to say */
+    SAM_NOTE_NO_SPACE = 1,        /* the disk is full */
+    SAM_NOTE_NO_PERMISSION = 2,   /* the system allows it not */
+    SAM_NOTE_READ_ONLY = 3,       /* it can only be read */
+    SAM_NOTE_NOT_FOUND = 4,       /* it is not there */
+    SAM_NOTE_IS_FOLDER = 5,       /* it is a folder */
+    SAM_NOTE_NOT_TEXT = 6,        /* it is no UTF-8, or has a zero byte */
+    SAM_NOTE_TOO_LONG = 7,        /* it has too many characters */
+    SAM_NOTE_TOO_MANY = 8,        /* there are too many files */
+    SAM_NOTE_NO_MEMORY = 9,       /* out of memory */
+    SAM_NOTE_NO_NAME = 10,        /* the file has no name */
+    SAM_NOTE_CHANGED_SINCE = 11,  /* another program changed the file; the next write replaces it, and keeps what it has */
+    SAM_NOTE_EXISTS_ALREADY = 12, /* it is there, and this session hasn't read it; the next write replaces it, and keeps what it has */
+    SAM_NOTE_TAKEN_UNSAVED = 13,  /* it was not written before this terminal took the session over */
+    SAM_NOTE_NO_SUCH_FILE = 14,   /* no file has this tag */
+    SAM_NOTE_OTHER = 15,          /* the text says what */
+    SAM_NOTE_HAS_MORE = 16,       /* there are more */
+    SAM_NOTE_REPLACED = 17,       /* what another program had written there is in the copy */
+    SAM_NOTE_BROKEN = 18,         /* a write broke off, and what the file was is in the copy */
+    SAM_NOTE_NEWER = 19,          /* the copy is newer than the file */
+    SAM_NOTE_OLDER = 20,          /* the copy is older than the file */
+    SAM_NOTE_CUT = 21,            /* of what was cut last */
+    SAM_NOTE_UNNAMED = 22,        /* of a file without a name */
+    SAM_NOTE_FAILED = 23,         /* the disk failed */
+};
+/* Up to here by tools/session_messages. */
+
+/* A message. What a kind has not is 0 or empty. */
+struct sam_note {
+    uint8_t kind;     /* enum sam_note_kind */
+    uint8_t code;     /* enum sam_note_code, or a number of a later version */
+    uint16_t tag;     /* of a file */
+    uint32_t request; /* the number that the terminal gave a request; 0: no request asked for this */
+    uint64_t number;  /* a version, a line, a time, another tag or a status, as the kind says */
+    size_t path_at;   /* where a path stands in the bytes that were read, and how many bytes it has */
+    size_t path_len;
+    size_t copy_at; /* the same of a second path */
+    size_t copy_len;
+    size_t text_at; /* the same of words for people, in UTF-8 */
+    size_t text_len;
+};
+typedef struct sam_note sam_note;
+
+/* Reads the message that bytes spell, all of them. Refused, in this order, and the note is then as it was: SAM_NOTE_BAD_KIND (skip such a
+ * message: it comes from a later version); SAM_NOTE_BAD_LENGTH if there is no byte, if there are too few or too many for the fields of the
+ * kind, or more than 4,096; SAM_NOTE_BAD_PATH; SAM_NOTE_BAD_TEXT. */
+SAM_MUST_USE sam_status sam_note_read(const uint8_t *bytes, size_t len, sam_note *note);
+
+/* Writes the bytes of a message into the buffer, at most SAM_LINK_MOST_NOTE, and hands out how many. The bytes of path, copy and text are
+ * read from these pointers, by the lengths in the note; where they stood is not read. Refused, in this order, and what `into` and `len`
+ * lead to is then as it was: SAM_NOTE_BAD_KIND; SAM_NOTE_BAD_FIELD; SAM_NOTE_BAD_LENGTH for more than 4,096 bytes, or more than there is
+ * room for; SAM_NOTE_BAD_PATH; SAM_NOTE_BAD_TEXT. */
+SAM_MUST_USE sam_status sam_note_write(const sam_note *note, const uint8_t *path, const uint8_t *copy, const uint8_t *text, uint8_t *into,
+                                       size_t room, size_t *len);
 
 /* ==== Scripts ==== */
 

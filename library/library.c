@@ -1,4 +1,5 @@
-/* The calls of the library that are C, and not proved: its version, words for a status, and a loop of proved calls. */
+/* The calls of the library that are C, and not proved: its version, words for a status, a loop of proved calls, and one that hands a proved
+ * call the lengths beside the pointers. */
 #include "sulgrevad.h"
 
 /* The kinds of the frames that edit a text, by their numbers on the wire. */
@@ -81,6 +82,11 @@ const char *sam_status_text(sam_status status)
         TEXT(SAM_LINK_BAD_LENGTH, "a packet came with a length that its kind can't have, and the connection is over");
         TEXT(SAM_LINK_ACK_AHEAD, "bytes are acknowledged that did not go, and the connection is over");
         TEXT(SAM_LINK_NO_ROOM, "the buffer has less room than the longest note, 4,096 bytes");
+        TEXT(SAM_NOTE_BAD_KIND, "no kind of message has this number");
+        TEXT(SAM_NOTE_BAD_FIELD, "the message has a field that its kind has not");
+        TEXT(SAM_NOTE_BAD_LENGTH, "the message has too few bytes or too many for its fields, or more than there is room for");
+        TEXT(SAM_NOTE_BAD_PATH, "a path in the message has a zero byte");
+        TEXT(SAM_NOTE_BAD_TEXT, "the text of the message is not UTF-8");
     }
     return "unknown status";
 }
@@ -114,4 +120,14 @@ sam_status sam_term_step_edits(sam_term *term, uint32_t first, sam_did *did, siz
             ++*got;
     }
     return SAM_OK;
+}
+
+/* The proved function of this name, which takes the length of each of the bytes beside their pointer. */
+sam_status proved_sam_note_write(const sam_note *note, const uint8_t *path, size_t path_len, const uint8_t *copy, size_t copy_len,
+                                 const uint8_t *text, size_t text_len, uint8_t *into, size_t room, size_t *len);
+
+sam_status sam_note_write(const sam_note *note, const uint8_t *path, const uint8_t *copy, const uint8_t *text, uint8_t *into, size_t room,
+                          size_t *len)
+{
+    return proved_sam_note_write(note, path, note->path_len, copy, note->copy_len, text, note->text_len, into, room, len);
 }

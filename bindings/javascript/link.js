@@ -5,7 +5,7 @@ import { Status, errorOf } from "./status.js";
 
 const ID_BYTES = 16;
 const HELLO_BYTES = 42;
-const MOST_NOTE = 4096;
+export const MOST_NOTE = 4096;
 const MOST_BODY = 4096; // bytes that one packet has for the program
 const MOST_PLACES = 256; // of bytes in a piece, that are handed out at once
 const PLACE_SIZE = 16; // bytes of a place: two numbers of 64 bits
@@ -25,13 +25,13 @@ export const What = Object.freeze({
   WRONG_COUNT: 23,
 });
 
-function bytesIn(bytes) {
-  if (!(bytes instanceof Uint8Array)) throw new TypeError("a link takes a Uint8Array");
+export function bytesIn(bytes) {
+  if (!(bytes instanceof Uint8Array)) throw new TypeError("a Uint8Array is wanted");
   return bytes;
 }
 
 /** Makes a call without a handle, of bytes that it is lent, and throws what it answers other than SAM_OK. */
-function ask(bytes, calling) {
+export function ask(bytes, calling) {
   lend([bytesIn(bytes)], (places) => {
     if (places === null) throw errorOf(Status.NO_MEMORY);
     const code = calling(places[0], BigInt(bytes.length));

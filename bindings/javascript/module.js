@@ -103,8 +103,13 @@ export function bytesOut(length) {
   return part(SPACE, length);
 }
 
+/** The text that bytes are in UTF-8. */
+export function textOf(bytes) {
+  return DECODER.decode(bytes);
+}
+
 export function textOut(length) {
-  return DECODER.decode(bytesOut(length));
+  return textOf(bytesOut(length));
 }
 
 /** So many numbers of 32 bits that a call wrote. */
@@ -155,6 +160,11 @@ function index(number, end) {
   if (typeof number !== "number") throw new TypeError(`${typeof number === "symbol" ? "a symbol" : number} is not a number`);
   if (!Number.isInteger(number) || number < 0 || number > end) throw new RangeError(`${number} is not a whole number from 0 to ${end}`);
   return number;
+}
+
+/** The number, if it is one that a byte can be. */
+export function byte(number) {
+  return index(number, 255);
 }
 
 /** The number, if it is one that a tag or a version can be. */

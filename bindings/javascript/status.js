@@ -57,6 +57,11 @@ export const Status = Object.freeze({
   LINK_BAD_LENGTH: 204,
   LINK_ACK_AHEAD: 205,
   LINK_NO_ROOM: 206,
+  NOTE_BAD_KIND: 225,
+  NOTE_BAD_FIELD: 226,
+  NOTE_BAD_LENGTH: 227,
+  NOTE_BAD_PATH: 228,
+  NOTE_BAD_TEXT: 229,
 });
 
 /** The name of a status and a sentence about it, as "SAM_NOT_TEXT: the bytes are not UTF-8"; "unknown status" for any other number. */
@@ -118,6 +123,9 @@ export class TerminalRefused extends SamError {}
 /** A call of a link was refused, or bytes are no hello (SAM_LINK_..). The link goes on. */
 export class LinkFault extends SamError {}
 
+/** Bytes are no message of a session, or a message can't be written (SAM_NOTE_..). */
+export class NoteFault extends SamError {}
+
 /** A script can't be replayed (SAM_SCRIPT_..). `line` is its first wrong line, counted from 1, or if none is wrong the line at which
  * nothing is there to take; null if a count is full. */
 export class ScriptFault extends SamError {
@@ -137,6 +145,7 @@ const KINDS = {
   HostRefused,
   TerminalRefused,
   LinkFault,
+  NoteFault,
   ScriptFault,
 };
 for (const [name, kind] of Object.entries(KINDS)) kind.prototype.name = name;
@@ -150,6 +159,7 @@ const FAMILIES = [
   [96, 128, TerminalRefused],
   [160, 192, ScriptFault],
   [192, 224, LinkFault],
+  [224, 256, NoteFault],
 ];
 
 /** The error of a status code. */

@@ -61,6 +61,11 @@ export declare const Status: {
   readonly LINK_BAD_LENGTH: 204;
   readonly LINK_ACK_AHEAD: 205;
   readonly LINK_NO_ROOM: 206;
+  readonly NOTE_BAD_KIND: 225;
+  readonly NOTE_BAD_FIELD: 226;
+  readonly NOTE_BAD_LENGTH: 227;
+  readonly NOTE_BAD_PATH: 228;
+  readonly NOTE_BAD_TEXT: 229;
 };
 
 /** The name of a status and a sentence about it. */
@@ -109,6 +114,8 @@ export declare class HostRefused extends SamError {}
 export declare class TerminalRefused extends SamError {}
 /** A call of a link was refused, or bytes are no hello. The link goes on. */
 export declare class LinkFault extends SamError {}
+/** Bytes are no message of a session, or a message can't be written. */
+export declare class NoteFault extends SamError {}
 /** A script can't be replayed; `line` is the line that is wrong or can't be done, counted from 1; null if a count is full. */
 export declare class ScriptFault extends SamError {
   line: number | null;
@@ -484,3 +491,81 @@ export declare class Link extends Held {
   /** How many bytes of the other side's stream have come. */
   readonly received: number;
 }
+
+// What follows is written by tools/session_messages, from the tables of docs/reference/SESSION.md.
+/** The kinds of messages: up to 64 those from the terminal. */
+export declare const NoteKind: {
+  readonly OPEN: 1;
+  readonly COMPLETE: 2;
+  readonly RELOAD: 3;
+  readonly RELOADED: 4;
+  readonly WRITE: 5;
+  readonly SESSION: 65;
+  readonly SAID: 66;
+  readonly SHOWN: 67;
+  readonly TAKEN_OVER: 68;
+  readonly ENDED: 69;
+  readonly OPENED: 70;
+  readonly REFUSED: 71;
+  readonly NAMES: 72;
+  readonly ANEW: 73;
+  readonly SAVED: 74;
+  readonly NOT_SAVED: 75;
+  readonly CHANGED: 76;
+  readonly DATED: 77;
+  readonly EARLIER: 78;
+  readonly ASIDE: 79;
+  readonly LOST: 80;
+  readonly NO_JOURNAL: 81;
+};
+
+/** What happened, or why. A number that isn't here comes from a later version, and counts as OTHER. */
+export declare const NoteCode: {
+  readonly NO_CODE: 0;
+  readonly NO_SPACE: 1;
+  readonly NO_PERMISSION: 2;
+  readonly READ_ONLY: 3;
+  readonly NOT_FOUND: 4;
+  readonly IS_FOLDER: 5;
+  readonly NOT_TEXT: 6;
+  readonly TOO_LONG: 7;
+  readonly TOO_MANY: 8;
+  readonly NO_MEMORY: 9;
+  readonly NO_NAME: 10;
+  readonly CHANGED_SINCE: 11;
+  readonly EXISTS_ALREADY: 12;
+  readonly TAKEN_UNSAVED: 13;
+  readonly NO_SUCH_FILE: 14;
+  readonly OTHER: 15;
+  readonly HAS_MORE: 16;
+  readonly REPLACED: 17;
+  readonly BROKEN: 18;
+  readonly NEWER: 19;
+  readonly OLDER: 20;
+  readonly CUT: 21;
+  readonly UNNAMED: 22;
+  readonly FAILED: 23;
+};
+// Up to here by tools/session_messages.
+
+/** A message of a session, which samhost and its front ends exchange as a note of a link. What its kind has not is 0 or empty. A number of
+ * 64 bits is exact up to 2^53. */
+export type Note = {
+  kind: number;
+  request: number;
+  tag: number;
+  code: number;
+  number: number;
+  path: Uint8Array;
+  copy: Uint8Array;
+  text: string;
+};
+
+/** The message that the bytes spell, all of them. Throws NoteFault, with the code NOTE_BAD_KIND for a kind that isn't in the table (skip
+ * such a message: it comes from a later version), NOTE_BAD_LENGTH, NOTE_BAD_PATH or NOTE_BAD_TEXT; NoMemory. */
+export declare function readNote(bytes: Uint8Array): Note;
+
+/** The bytes of a message. Throws NoteFault, with the code NOTE_BAD_KIND, NOTE_BAD_FIELD if a field that the kind has not is not 0 or not
+ * empty, NOTE_BAD_LENGTH for more than 4,096 bytes, NOTE_BAD_PATH for a zero byte in a path, or NOTE_BAD_TEXT for a lone surrogate in the
+ * text; NoMemory. */
+export declare function writeNote(note: Partial<Note> & { kind: number }): Uint8Array;

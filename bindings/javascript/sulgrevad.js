@@ -1,6 +1,7 @@
 /* A proved host and a proved terminal for editors whose screen and text live apart, after Rob Pike's sam. README.md explains it. */
 export { Link, What, readHello, writeRefusal } from "./link.js";
 export { memory } from "./module.js";
+export { NoteCode, NoteKind, readNote, writeNote } from "./note.js";
 export { replay } from "./scripts.js";
 export { Host, Terminal } from "./sides.js";
 export {
@@ -12,6 +13,7 @@ export {
   Missing,
   NoMemory,
   NotText,
+  NoteFault,
   SamError,
   ScriptFault,
   Status,

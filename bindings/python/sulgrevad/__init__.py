@@ -20,7 +20,7 @@ Units: places and lengths count runes (Unicode scalar values, the characters of 
 is given may be a `str`, or its UTF-8 as `bytes`.
 
 A `Link` carries the bytes of both, and notes of the program, over connections that may break at any byte: docs/howto/EMBEDDING.md has a
-loop.
+loop. The notes that samhost and its front ends exchange are read by `read_note` and written by `write_note`: docs/reference/SESSION.md.
 
 `replay` runs a script of docs/reference/SCRIPTS.md over a host and a terminal of its own.
 
@@ -48,6 +48,7 @@ too; but nothing that a link hands out.
 """
 from sulgrevad.edits import Edit, Edits, Pieces
 from sulgrevad.link import HELLO_BYTES, MOST_NOTE, Hello, Link, What, read_hello, write_refusal
+from sulgrevad.note import Note, NoteCode, NoteKind, read_note, write_note
 from sulgrevad.scripts import replay
 from sulgrevad.sides import Change, FileState, Host, HostDid, NextFrame, Refusal, Terminal, TerminalDid, TerminalState
 from sulgrevad.status import (
@@ -58,6 +59,7 @@ from sulgrevad.status import (
     LinkFault,
     Missing,
     NoMemory,
+    NoteFault,
     NotText,
     SamError,
     ScriptFault,
@@ -76,7 +78,8 @@ __version__ = "0.1.0"
 
 __all__ = [
     "HELLO_BYTES", "MOST_NOTE", "AddRefused", "Change", "CountFull", "Edit", "Edits", "FileState", "HandleFault", "Hello", "Host",
-    "HostDid", "HostRefused", "Link", "LinkFault", "Missing", "NextFrame", "NoMemory", "NotText", "Pieces", "Refusal", "SamError",
-    "ScriptFault", "Status", "Step", "StreamFault", "Terminal", "TerminalDid", "TerminalRefused", "TerminalState", "Unfinished", "Waiting",
-    "What", "error_of", "library_version", "read_hello", "replay", "status_text", "write_refusal",
+    "HostDid", "HostRefused", "Link", "LinkFault", "Missing", "NextFrame", "NoMemory", "NotText", "Note", "NoteCode", "NoteFault",
+    "NoteKind", "Pieces", "Refusal", "SamError", "ScriptFault", "Status", "Step", "StreamFault", "Terminal", "TerminalDid",
+    "TerminalRefused", "TerminalState", "Unfinished", "Waiting", "What", "error_of", "library_version", "read_hello", "read_note", "replay",
+    "status_text", "write_note", "write_refusal",
 ]  # fmt: skip

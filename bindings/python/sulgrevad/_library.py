@@ -51,6 +51,16 @@ class Place(ctypes.Structure):
     _fields_ = [("start", c_size_t), ("len", c_size_t)]
 
 
+class CNote(ctypes.Structure):
+    """sam_note: a message of a session."""
+
+    _fields_ = [
+        ("kind", c_uint8), ("code", c_uint8), ("tag", c_uint16), ("request", c_uint32), ("number", c_uint64),
+        ("path_at", c_size_t), ("path_len", c_size_t), ("copy_at", c_size_t), ("copy_len", c_size_t),
+        ("text_at", c_size_t), ("text_len", c_size_t),
+    ]  # fmt: skip
+
+
 class Handle(ctypes.Structure):
     """sam_host, sam_term and sam_link; empty if all bytes are zero."""
 
@@ -116,6 +126,8 @@ FREE_SIGNATURES: Dict[str, Tuple[Tuple[Any, ...], Any]] = {
     "replay": ((*_BYTES, *_BUFFER, _SIZE, _SIZE), c_uint32),
     "link_read_hello": ((*_BYTES, _U32, POINTER(c_char), _U64), c_uint32),
     "link_write_refusal": ((c_uint32, *_BYTES, POINTER(c_char)), c_uint32),
+    "note_read": ((*_BYTES, POINTER(CNote)), c_uint32),
+    "note_write": ((POINTER(CNote), c_char_p, c_char_p, c_char_p, *_BUFFER, _SIZE), c_uint32),
 }
 
 

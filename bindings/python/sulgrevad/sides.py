@@ -26,7 +26,7 @@ _FEW_RUNES = c_uint32 * FEW
 _STATE, _FILE = Struct("5Q2N2IH2?"), Struct("5I6?")  # what State and File have, in their order
 
 # The first number that is too great for a type of an argument.
-_END = {c_uint16: 2**16, c_uint32: 2**32, c_uint64: 2**64, c_size_t: 2 ** (8 * ctypes.sizeof(c_size_t))}
+_END = {c_uint8: 2**8, c_uint16: 2**16, c_uint32: 2**32, c_uint64: 2**64, c_size_t: 2 ** (8 * ctypes.sizeof(c_size_t))}
 
 _AnyHeld = TypeVar("_AnyHeld", bound="Held")
 
@@ -114,12 +114,12 @@ class FileState(NamedTuple):
     view: Tuple[int, int]
 
 
-def _index(kind: Any, number: SupportsIndex) -> int:
+def index(kind: Any, number: SupportsIndex) -> int:
     """The number as an int, since ctypes takes no other. ValueError for one that C's type can't hold."""
-    index = operator.index(number)
-    if not 0 <= index < _END[kind]:
+    whole = operator.index(number)
+    if not 0 <= whole < _END[kind]:
         raise ValueError(f"{number} is not from 0 to {_END[kind] - 1}")
-    return index
+    return whole
 
 
 # Of each call that was made, for each argument after the handle the first number that is too great; 0 for no number.
@@ -163,7 +163,7 @@ class Held:
         words: Any = arguments
         for end, word in zip(_ENDS.get(whole) or _ends_of(whole), arguments):
             if end and (type(word) is not int or not 0 <= word < end):
-                words = [_index(kind, word) if kind in _END else word for kind, word in zip(function.argtypes[1:], arguments)]
+                words = [index(kind, word) if kind in _END else word for kind, word in zip(function.argtypes[1:], arguments)]
                 break
         try:
             status: int = function(byref(self._handle), *words)

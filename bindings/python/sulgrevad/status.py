@@ -63,6 +63,11 @@ class Status(enum.IntEnum):
     LINK_BAD_LENGTH = 204
     LINK_ACK_AHEAD = 205
     LINK_NO_ROOM = 206
+    NOTE_BAD_KIND = 225
+    NOTE_BAD_FIELD = 226
+    NOTE_BAD_LENGTH = 227
+    NOTE_BAD_PATH = 228
+    NOTE_BAD_TEXT = 229
 
 
 class Step(enum.IntEnum):
@@ -169,6 +174,10 @@ class LinkFault(SamError):
     """A call of a link was refused, or bytes are no hello (SAM_LINK_..). The link goes on."""
 
 
+class NoteFault(SamError, ValueError):
+    """Bytes are no message of a session, or a message can't be written (SAM_NOTE_..)."""
+
+
 class ScriptFault(SamError, ValueError):
     """A script can't be replayed (SAM_SCRIPT_..). `line` is its first wrong line, counted from 1, or if none is wrong the line at
     which nothing is there to take; None if a count is full."""
@@ -193,6 +202,7 @@ FAMILIES = (
     (range(96, 128), TerminalRefused),
     (range(160, 192), ScriptFault),
     (range(192, 224), LinkFault),
+    (range(224, 256), NoteFault),
 )
 
 

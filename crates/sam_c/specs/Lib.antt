@@ -8,6 +8,7 @@ pub mod Scripts
 pub mod Measures
 pub mod LinkStatus
 pub mod Links
+pub mod Notes
 pub mod Walking
 pub mod Steps
 pub mod Snapshots

@@ -1,6 +1,6 @@
-//! The host, the terminal and a link for C, and the replay of scripts. Each export does what a call of a lower crate does, and states its
-//! clauses again over the value that the handle holds, or over the bytes that it is given. What a C program owes, and what each call does,
-//! stands in include/sulgrevad.h.
+//! The host, the terminal, a link and its messages for C, and the replay of scripts. Each export does what a call of a lower crate does,
+//! and states its clauses again over the value that the handle holds, or over the bytes that it is given. What a C program owes, and what
+//! each call does, stands in include/sulgrevad.h.
 #![tactic(auto)]
 
 mod handle;
@@ -10,6 +10,7 @@ mod link_calls;
 mod link_status;
 mod measures;
 mod members;
+mod note_calls;
 mod parts;
 mod scripts;
 mod snapshots;
@@ -23,5 +24,6 @@ mod utf8;
 
 pub use handle::{SamHost, SamLink, SamTerm};
 pub use link_calls::{SamLinkHello, SamLinkId};
+pub use note_calls::SamNote;
 pub use snapshots::{SamTermFile, SamTermState};
 pub use steps::SamDid;

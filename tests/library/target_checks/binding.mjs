@@ -1,7 +1,8 @@
 /* What bindings/javascript promises: results, errors by code, texts, ends, numbers. Node and a page of a browser run it. */
 import * as sulgrevad from "../../../bindings/javascript/sulgrevad.js";
 
-const { Host, Link, Terminal, Status, What, memory, readHello, replay, statusText, libraryVersion, writeRefusal } = sulgrevad;
+const { Host, Link, NoteCode, NoteKind, Terminal, Status, What, memory, readHello, readNote, replay, statusText } = sulgrevad;
+const { libraryVersion, writeNote, writeRefusal } = sulgrevad;
 const KEYS = 20000;
 
 function expect(holds, told) {
@@ -330,6 +331,33 @@ function checkRefusedLink() {
   same(link.putCount, 0);
 }
 
+function checkNotes() {
+  const bytes = (text) => new TextEncoder().encode(text);
+  const shown = ({ kind, request = 0, tag = 0, code = 0, number = 0, path = [], copy = [], text = "" }) => {
+    return [kind, request, tag, code, number, [...path], [...copy], text];
+  };
+  const spelled = Uint8Array.of(1, 0, 0, 0, 7, 0, 6, ...bytes("/tmp/a"));
+  const open = { kind: NoteKind.OPEN, request: 7, path: bytes("/tmp/a") };
+  same([...writeNote(open)], [...spelled]);
+  same(shown(readNote(spelled)), shown(open));
+  const numbers = { kind: NoteKind.EARLIER, tag: 65535, code: NoteCode.OLDER, number: 2 ** 53 - 1 };
+  const earlier = { ...numbers, path: bytes("/é"), copy: bytes("/b"), text: "Ü\u0000\ufeff" };
+  same(shown(readNote(writeNote(earlier))), shown(earlier));
+  same(readNote(writeNote({ kind: NoteKind.ENDED, code: 255 })).code, NoteCode.OTHER);
+  const aside = { kind: NoteKind.ASIDE, path: bytes("/\u0000"), copy: bytes("/\u0000"), text: "a\ud834" };
+  throws("NoteFault", "NOTE_BAD_KIND", () => writeNote({ ...aside, kind: 6 }));
+  throws("NoteFault", "NOTE_BAD_FIELD", () => writeNote({ ...aside, request: 1 }));
+  throws("NoteFault", "NOTE_BAD_LENGTH", () => writeNote({ ...aside, text: "x".repeat(4097) }));
+  throws("NoteFault", "NOTE_BAD_PATH", () => writeNote({ ...aside, path: bytes("/") }));
+  throws("NoteFault", "NOTE_BAD_TEXT", () => writeNote({ ...aside, path: bytes("/"), copy: bytes("/") }));
+  throws("NoteFault", "NOTE_BAD_KIND", () => readNote(Uint8Array.of(64)));
+  throws("NoteFault", "NOTE_BAD_LENGTH", () => readNote(bytes("B")));
+  throws("NoteFault", "NOTE_BAD_PATH", () => readNote(Uint8Array.of(2, 0, 0, 0, 0, 0, 1, 0)));
+  throws("NoteFault", "NOTE_BAD_TEXT", () => readNote(Uint8Array.of(66, 0, 1, 0xff)));
+  throwsPlain(RangeError, () => writeNote({ kind: 256 }));
+  throwsPlain(TypeError, () => writeNote({ kind: NoteKind.OPEN, path: "/" }));
+}
+
 function checkMemory() {
   const [host, terminal, tag] = opened(["one", "abc"]);
   memory.limit(memory.taken);
@@ -361,7 +389,7 @@ function keyTime() {
 
 const CHECKS = [
   ...[checkTexts, checkFiles, checkEditing, checkRefusals, checkSteps, checkStates, checkNumbers, checkEnds],
-  ...[checkLink, checkRefusedLink, checkMemory, checkScripts],
+  ...[checkLink, checkRefusedLink, checkNotes, checkMemory, checkScripts],
 ];
 
 /** Runs all checks. Throws where one fails; returns what was measured. */

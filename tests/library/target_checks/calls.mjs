@@ -93,7 +93,8 @@ function note(told) {
 const SPACE = library.malloc(BigInt(SPACE_SIZE));
 const HANDLES = library.malloc(96n);
 const HANDLE_OF = { host: 0, term: 32, link: 64 }; // where the two handles of a kind stand
-const OUT_BYTES = { did: 39, state: 68, file: 25, bytes16: 16, bytes42: 42 }; // that are compared: of a struct all but what fills it up
+// That are compared: of a struct all but what fills it up.
+const OUT_BYTES = { did: 39, state: 68, file: 25, note: 64, bytes16: 16, bytes42: 42 };
 let baseline = 0n; // how many requests were made when the session began
 part(HANDLES, 96).fill(0);
 
@@ -274,7 +275,8 @@ const RARE = new Set([
   ...["sam_term_exit", "sam_term_close", "sam_replay"],
 ]);
 const BAD_STREAMS = new Set(["sam_host_feed", "sam_term_feed"]);
-const COMMON = CALLS.map(([name]) => name).filter((name) => !RARE.has(name) && !BAD_STREAMS.has(name) && !name.startsWith("sam_link_"));
+const ELSEWHERE = /^sam_(link|note)_/;
+const COMMON = CALLS.map(([name]) => name).filter((name) => !RARE.has(name) && !BAD_STREAMS.has(name) && !ELSEWHERE.test(name));
 const LINK_CALLS = CALLS.map(([name]) => name).filter((name) => !RARE.has(name) && name.startsWith("sam_link_"));
 
 function common() {
@@ -356,6 +358,30 @@ function link() {
   }
 }
 
+// ---- Messages of a session
+
+const KINDS = [1, 2, 3, 4, 5, ...Array.from({ length: 17 }, (_, at) => 65 + at)];
+const HAS = [
+  ...["rp", "rp", "rt", "tn", "rt", "npx", "x", "tn", "x", "cn", "rt", "rcx", "rcp", "rn", "rtcpyx", "rtcpyx", "tcpx", "tnp"],
+  ...["tcnpyx", "tcpyx", "tcpx", "cx"],
+];
+
+/** A message, most often with the fields of its kind alone, is written; and what was written, perhaps with another byte, is read. */
+function message() {
+  const at = chance(KINDS.length);
+  const has = (field) => (HAS[at].includes(field) ? chance(20) > 0 : chance(200) === 0);
+  const record = new DataView(new ArrayBuffer(64));
+  record.setUint8(0, chance(40) === 0 ? chance(256) : KINDS[at]);
+  record.setUint8(1, has("c") ? chance(256) : 0);
+  record.setUint16(2, has("t") ? chance(65536) : 0, true);
+  record.setUint32(4, has("r") ? chance(2 ** 31) * 2 : 0, true);
+  record.setBigUint64(8, has("n") ? BigInt(chance(2 ** 31)) * 8589934592n + BigInt(chance(2 ** 31)) : 0n, true);
+  const pieces = [..."pyx"].map((field) => (has(field) ? text().slice(0, chance(100) === 0 ? 9000 : 60) : new Uint8Array(0)));
+  pieces.forEach((piece, place) => record.setBigUint64(24 + 16 * place, BigInt(piece.length), true));
+  const room = chance(10) === 0 ? chance(80) : chance(5000);
+  make("sam_note_read", spoiled(moved(make("sam_note_write", new Uint8Array(record.buffer), ...pieces, room))));
+}
+
 function longEdit() {
   make("sam_term_edit", 0, 1 + chance(2), chance(50), 50 + chance(50), ENCODER.encode(any(PIECES).repeat(1 + chance(300))));
 }
@@ -370,6 +396,7 @@ function one() {
   else if (drawn < 350) carry(drawn % 2 === 1, 1 + chance(600));
   else if (drawn < 450) make("sam_term_type", 0, 1 + chance(2), text());
   else if (drawn < 650) link();
+  else if (drawn < 680) message();
   else common();
 }
 

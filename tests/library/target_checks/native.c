@@ -21,6 +21,7 @@ union out {
     sam_did did;
     sam_state state;
     sam_file file;
+    sam_note note;
     uint8_t u8;
     uint16_t u16;
     uint32_t u32;

@@ -5,28 +5,32 @@ import re
 DECLARATION = re.compile(r"^(?:SAM_MUST_USE )?sam_status (sam_\w+)\(([^)]*)\);", re.M)
 FIELDS = {
     "uint8_t": "u8", "uint16_t": "u16", "uint32_t": "u32", "uint64_t": "u64", "size_t": "size", "bool": "truth", "sam_status": "status",
-    "sam_did": "did", "sam_state": "state", "sam_file": "file",
+    "sam_did": "did", "sam_state": "state", "sam_file": "file", "sam_note": "note",
 }
 NUMBERS = {"uint16_t": "u16", "uint32_t": "u32", "uint64_t": "u64", "size_t": "size", "bool": "truth"}
 ARRAYS = {"SAM_LINK_ID_BYTES": 16, "SAM_LINK_HELLO_BYTES": 42}
 # Bytes that are compared of what is handed out: of a struct all but those that fill it up.
-OUT = {"did": 39, "state": 68, "file": 25, "bytes16": 16, "bytes42": 42}
+OUT = {"did": 39, "state": 68, "file": 25, "note": 64, "bytes16": 16, "bytes42": 42}
 OUT_ELSE = 8
 ROOMS = {"uint8_t *": 1, "uint32_t *": 4, "sam_place *": 16}  # bytes of each thing that a room is for
+ROOM_KINDS = tuple(f"room{size}" for size in ROOMS.values())
 HANDLES = {"sam_host": "host", "sam_term": "term", "sam_link": "link"}
 
 
 def kinds_of(words):
-    """What each argument is: a handle, a number, lent bytes or a room (two arguments each), an array, or what is handed out."""
+    """What each argument is: a handle, a number, lent bytes or a room (two arguments each), lent bytes whose length isn't told beside them
+    (an array, a message, or what a message tells the length of), or what is handed out."""
     kinds = []
     while words:
         kind, name, array = re.fullmatch(r"(.*?)(\w+)(?:\[(\w+)\])?", words.pop(0)).groups()
         kind = kind.strip()
         if array:
             kinds.append(f"{'lent' if kind.startswith('const') else 'out bytes'}{ARRAYS[array]}")
-        elif kind == "const uint8_t *":
+        elif kind == "const uint8_t *" and words[0].startswith("size_t "):
             kinds.append("lent")
             words.pop(0)
+        elif kind.startswith("const "):
+            kinds.append("lent64" if kind == "const sam_note *" else "lent0")
         elif name in ("into", "out", "places"):
             kinds.append(f"room{ROOMS[kind]}")
             words.pop(0)
@@ -51,7 +55,7 @@ def signatures(header):
 
 def case(code, name, kinds):
     """The C code of a call: it gets the arguments, makes it, and writes the answer."""
-    makers = {"lent": "lent()", "lent16": "lent()", **{f"room{size}": f"filled({size})" for size in ROOMS.values()}}
+    makers = dict.fromkeys(("lent", "lent0", "lent16", "lent64"), "lent()") | {f"room{size}": f"filled({size})" for size in ROOMS.values()}
     makers |= {handle: f"{handle}()" for handle in HANDLES.values()}
     types = {**{handle: f"{kind} *" for kind, handle in HANDLES.items()}, **{field: f"{kind} " for kind, field in NUMBERS.items()}}
     makers |= {field: f"({kind})number()" for kind, field in NUMBERS.items()}
@@ -66,7 +70,7 @@ def case(code, name, kinds):
             words.append(f"a{at}")
         else:
             lines.append(f"struct lent a{at} = {makers[kind]};")
-            words += [f"(void *)a{at}.at", *([] if kind == "lent16" else [f"a{at}.length"])]
+            words += [f"(void *)a{at}.at", *([f"a{at}.length"] if kind in ("lent", *ROOM_KINDS) else [])]
             after += [f"put(a{at}.at, a{at}.length * {kind[4:]});"] if kind.startswith("room") else []
             after.append(f"free(a{at}.at);")
     body = "\n        ".join([*lines, f"put_number({name}({', '.join(words)}));", *after, "break;"])

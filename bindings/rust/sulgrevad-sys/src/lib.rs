@@ -61,6 +61,11 @@ pub const SAM_LINK_BAD_KIND: sam_status = 203;
 pub const SAM_LINK_BAD_LENGTH: sam_status = 204;
 pub const SAM_LINK_ACK_AHEAD: sam_status = 205;
 pub const SAM_LINK_NO_ROOM: sam_status = 206;
+pub const SAM_NOTE_BAD_KIND: sam_status = 225;
+pub const SAM_NOTE_BAD_FIELD: sam_status = 226;
+pub const SAM_NOTE_BAD_LENGTH: sam_status = 227;
+pub const SAM_NOTE_BAD_PATH: sam_status = 228;
+pub const SAM_NOTE_BAD_TEXT: sam_status = 229;
 
 /// The sides of a link, and how a connection stands.
 pub const SAM_LINK_TERMINAL: u32 = 0;
@@ -78,6 +83,76 @@ pub const SAM_LINK_WELCOME: u32 = 4;
 pub const SAM_LINK_ID_BYTES: usize = 16;
 pub const SAM_LINK_HELLO_BYTES: usize = 42;
 pub const SAM_LINK_MOST_NOTE: usize = 4096;
+
+// What follows is written by tools/session_messages, from the tables of docs/reference/SESSION.md.
+/// The kinds of messages.
+pub const SAM_NOTE_OPEN: u8 = 1;
+pub const SAM_NOTE_COMPLETE: u8 = 2;
+pub const SAM_NOTE_RELOAD: u8 = 3;
+pub const SAM_NOTE_RELOADED: u8 = 4;
+pub const SAM_NOTE_WRITE: u8 = 5;
+pub const SAM_NOTE_SESSION: u8 = 65;
+pub const SAM_NOTE_SAID: u8 = 66;
+pub const SAM_NOTE_SHOWN: u8 = 67;
+pub const SAM_NOTE_TAKEN_OVER: u8 = 68;
+pub const SAM_NOTE_ENDED: u8 = 69;
+pub const SAM_NOTE_OPENED: u8 = 70;
+pub const SAM_NOTE_REFUSED: u8 = 71;
+pub const SAM_NOTE_NAMES: u8 = 72;
+pub const SAM_NOTE_ANEW: u8 = 73;
+pub const SAM_NOTE_SAVED: u8 = 74;
+pub const SAM_NOTE_NOT_SAVED: u8 = 75;
+pub const SAM_NOTE_CHANGED: u8 = 76;
+pub const SAM_NOTE_DATED: u8 = 77;
+pub const SAM_NOTE_EARLIER: u8 = 78;
+pub const SAM_NOTE_ASIDE: u8 = 79;
+pub const SAM_NOTE_LOST: u8 = 80;
+pub const SAM_NOTE_NO_JOURNAL: u8 = 81;
+
+/// The codes.
+pub const SAM_NOTE_NO_CODE: u8 = 0;
+pub const SAM_NOTE_NO_SPACE: u8 = 1;
+pub const SAM_NOTE_NO_PERMISSION: u8 = 2;
+pub const SAM_NOTE_READ_ONLY: u8 = 3;
+pub const SAM_NOTE_NOT_FOUND: u8 = 4;
+pub const SAM_NOTE_IS_FOLDER: u8 = 5;
+pub const SAM_NOTE_NOT_TEXT: u8 = 6;
+pub const SAM_NOTE_TOO_LONG: u8 = 7;
+pub const SAM_NOTE_TOO_MANY: u8 = 8;
+pub const SAM_NOTE_NO_MEMORY: u8 = 9;
+pub const SAM_NOTE_NO_NAME: u8 = 10;
+pub const SAM_NOTE_CHANGED_SINCE: u8 = 11;
+pub const SAM_NOTE_EXISTS_ALREADY: u8 = 12;
+pub const SAM_NOTE_TAKEN_UNSAVED: u8 = 13;
+pub const SAM_NOTE_NO_SUCH_FILE: u8 = 14;
+pub const SAM_NOTE_OTHER: u8 = 15;
+pub const SAM_NOTE_HAS_MORE: u8 = 16;
+pub const SAM_NOTE_REPLACED: u8 = 17;
+pub const SAM_NOTE_BROKEN: u8 = 18;
+pub const SAM_NOTE_NEWER: u8 = 19;
+pub const SAM_NOTE_OLDER: u8 = 20;
+pub const SAM_NOTE_CUT: u8 = 21;
+pub const SAM_NOTE_UNNAMED: u8 = 22;
+pub const SAM_NOTE_FAILED: u8 = 23;
+
+// Up to here by tools/session_messages.
+
+/// A message of a session. What its kind has not is 0 or empty.
+#[derive(Clone, Copy, Debug, Default, PartialEq, Eq)]
+#[repr(C)]
+pub struct sam_note {
+    pub kind: u8,
+    pub code: u8,
+    pub tag: u16,
+    pub request: u32,
+    pub number: u64,
+    pub path_at: usize,
+    pub path_len: usize,
+    pub copy_at: usize,
+    pub copy_len: usize,
+    pub text_at: usize,
+    pub text_len: usize,
+}
 
 /// What a step did: one of the numbers below, or one that this crate doesn't know.
 pub type sam_step = u32;
@@ -626,6 +701,23 @@ extern "C" {
     /// How many bytes of the other side's stream have come.
     pub fn sam_link_received(link: *mut sam_link, count: *mut u64) -> sam_status;
 
+    /// Reads the message that bytes spell, all of them. Refused, in this order, and the note is then as it was: SAM_NOTE_BAD_KIND (skip
+    /// such a message: it comes from a later version); SAM_NOTE_BAD_LENGTH if there is no byte, if there are too few or too many for the
+    /// fields of the kind, or more than 4,096; SAM_NOTE_BAD_PATH; SAM_NOTE_BAD_TEXT.
+    pub fn sam_note_read(bytes: *const u8, len: usize, note: *mut sam_note) -> sam_status;
+    /// Writes the bytes of a message into the buffer, at most SAM_LINK_MOST_NOTE, and hands out how many. The bytes of path, copy and text
+    /// are read from these pointers, by the lengths in the note; where they stood is not read. Refused, in this order, and what `into` and
+    /// `len` lead to is then as it was: SAM_NOTE_BAD_KIND; SAM_NOTE_BAD_FIELD; SAM_NOTE_BAD_LENGTH for more than 4,096 bytes, or more than
+    /// there is room for; SAM_NOTE_BAD_PATH; SAM_NOTE_BAD_TEXT.
+    pub fn sam_note_write(
+        note: *const sam_note,
+        path: *const u8,
+        copy: *const u8,
+        text: *const u8,
+        into: *mut u8,
+        room: usize,
+        len: *mut usize,
+    ) -> sam_status;
     /// Runs a script over a host and a terminal of its own, and hands out what its `show` lines print: docs/reference/SCRIPTS.md explains
     /// the language. It takes no handle. All lines are read before the first is done. SAM_OK: *out_len is the number of all bytes that are
     /// printed, and the first of them stand in `out`, as many as have room. The rest of the buffer is as it was. If *out_len is above

@@ -145,6 +145,22 @@ family! {
     }
 }
 
+family! {
+    /// Why bytes are no message of a session, or why a message isn't written.
+    NoteFault {
+        /// No kind has this number: a message of a later version, which is skipped.
+        BadKind = SAM_NOTE_BAD_KIND,
+        /// A field that the kind has not is not 0 or not empty. Only `write_note` returns it.
+        BadField = SAM_NOTE_BAD_FIELD,
+        /// Too few bytes or too many for the fields, or more than 4,096.
+        BadLength = SAM_NOTE_BAD_LENGTH,
+        /// A byte of a path is 0.
+        BadPath = SAM_NOTE_BAD_PATH,
+        /// The text is not UTF-8. Only `read_note` returns it.
+        BadText = SAM_NOTE_BAD_TEXT,
+    }
+}
+
 /// Why a call did not do what it was asked. Each has its number in sulgrevad.h.
 #[derive(Clone, Copy, Debug, PartialEq, Eq)]
 #[non_exhaustive]
@@ -172,6 +188,8 @@ pub enum Error {
     TermRefused(TermFault),
     /// A call of a link was refused. The link goes on.
     Link(LinkFault),
+    /// Bytes are no message of a session, or a message isn't written.
+    Note(NoteFault),
     /// The first wrong line of a script, counted from 1; or if none is wrong the line at which nothing is there to take.
     ScriptLine(usize),
     /// A line of a script would count more than 2^64-1 messages.
@@ -197,6 +215,7 @@ impl Error {
                 .or_else(|| HostFault::of(status).map(Error::HostRefused))
                 .or_else(|| TermFault::of(status).map(Error::TermRefused))
                 .or_else(|| LinkFault::of(status).map(Error::Link))
+                .or_else(|| NoteFault::of(status).map(Error::Note))
                 .unwrap_or(Error::Unknown(status)),
         }
     }
@@ -215,6 +234,7 @@ impl Error {
             Error::HostRefused(why) => why.status(),
             Error::TermRefused(why) => why.status(),
             Error::Link(why) => why.status(),
+            Error::Note(why) => why.status(),
             Error::ScriptLine(_) => sys::SAM_SCRIPT_LINE,
             Error::ScriptCountFull => sys::SAM_SCRIPT_COUNT_FULL,
             Error::Unknown(status) => status,
@@ -250,7 +270,7 @@ mod tests {
     use super::*;
 
     /// The numbers of sulgrevad.h, with the errors that they are.
-    const ERRORS: [(u32, Error); 40] = [
+    const ERRORS: [(u32, Error); 45] = [
         (1, Error::NoMemory),
         (2, Error::Unfinished),
         (3, Error::CountFull),
@@ -291,6 +311,11 @@ mod tests {
         (203, Error::Link(LinkFault::BadKind)),
         (204, Error::Link(LinkFault::BadLength)),
         (205, Error::Link(LinkFault::AckAhead)),
+        (225, Error::Note(NoteFault::BadKind)),
+        (226, Error::Note(NoteFault::BadField)),
+        (227, Error::Note(NoteFault::BadLength)),
+        (228, Error::Note(NoteFault::BadPath)),
+        (229, Error::Note(NoteFault::BadText)),
     ];
 
     const REFUSALS: [(u32, Refusal); 8] = [

@@ -38,13 +38,15 @@
 mod error;
 mod host;
 mod link;
+mod note;
 mod script;
 mod step;
 mod terminal;
 
-pub use error::{Error, HostFault, LinkFault, Refusal, StreamFault, TermFault};
+pub use error::{Error, HostFault, LinkFault, NoteFault, Refusal, StreamFault, TermFault};
 pub use host::Host;
 pub use link::{read_hello, write_refusal, Hello, Link, Phase, Place, Role, What, HELLO_BYTES, MOST_NOTE};
+pub use note::{read_note, write_note, Note, NoteCode, NoteKind};
 pub use script::replay;
 pub use step::{HostStep, NextFrame, TermStep};
 pub use terminal::{Change, FileState, TermState, Terminal};
