@@ -845,7 +845,8 @@ SAM_MUST_USE sam_status sam_term_snarf_len(sam_term *term, uint32_t *runes);
  *
  * A link carries the bytes of a session, and notes of the program, over connections that may break at any byte: each byte and each note
  * comes out at the other side once and in order. Each side has an end. docs/reference/LINK.md has the bytes that they say to each other,
- * docs/howto/EMBEDDING.md a loop of events. An end opens no connection and knows no clock, as a host and a terminal read and write nothing.
+ * docs/howto/RECONNECTING.md the order of the calls. An end opens no connection and knows no clock, as a host and a terminal read and write
+ * nothing.
  * The terminal's side opens a connection and calls; the host's side answers:
  *
  *     sam_link_call(&link, false, &attempt)           the terminal opened a connection
