@@ -122,6 +122,8 @@ class Session:
             if self.editor.typed_ahead:
                 say(f"samterm: typed while the host was left, and put in nowhere: {self.editor.typed_ahead!r}")
             self.editor.deferred.clear()
+        elif not (self.editor.is_lost or self.ended_by or self.link.stays):
+            say(f"samterm: the host has {self._seconds_to_end} seconds to save what it got; ^C doesn't wait for it")
 
     @property
     def _seconds_to_end(self) -> int:
@@ -133,7 +135,7 @@ class Session:
     @property
     def _stays(self) -> bool:
         """Whether the session goes on at the host without us."""
-        return self.link.ended_with is None and not self.link.is_lost
+        return self.link.stays and self.link.ended_with is None and not self.link.is_lost
 
     def _tell_of_staying(self) -> None:
         """How the user comes back to a session that stays, and what that lacks."""

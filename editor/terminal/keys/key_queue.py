@@ -241,7 +241,7 @@ class KeyQueue:
         if self.is_lost or not self.way.is_silent:
             return False
         unwritten = self.changed_names
-        if self.way.line is not None and (unwritten or self.deferred or not self.way.has_all):
+        if self.way.line is not None and self.way.line.stays and (unwritten or self.deferred or not self.way.has_all):
             self._ask(f"{self.of_leaving(STAYS)}{unwritten or 'nothing is unwritten'}", key)
         elif unwritten or self.deferred:
             self._ask(f"{self.of_leaving(SILENT)}: {unwritten or 'keys that wait'}", key)

@@ -575,8 +575,8 @@ class PersistentSession:
     def close(
         self, hear: Callable[[str], None], take: Callable[[bytes], None] = lambda data: None, seconds: float = SECONDS_TO_END
     ) -> Optional[int]:
-        """Sends what waits, and passes on what still comes. Where the session ends, waits for that, and returns its status; else for the
-        host's word that it has all, and returns None: the session stays."""
+        """Sends what waits, and passes on what still comes. Where the session ends, or ends with its line, waits for that, and returns its
+        status, None where it doesn't end; else waits for the host's word that it has all, and returns None: the session stays."""
         until = self.clock() + seconds
         while self.ended_with is None and self.clock() < until and not self.is_lost and self.relay is not None:
             if not self.ends and self.has_all:
@@ -587,13 +587,16 @@ class PersistentSession:
                     take(item)
                 elif isinstance(item, str):
                     hear(item)
-        if self.relay is not None and self.ended_with is not None:
+        status = self.ended_with
+        if self.relay is not None and status is not None:
             self.relay.close(hear, seconds=SECONDS_TO_GO)
+        elif self.relay is not None and not self.stays:  # the process is the host, which saves what it has
+            status = self.relay.close(hear, seconds=max(SECONDS_TO_GO, until - self.clock()))
         self._drop()
         self._network.close()
         for relay in self._old:
             relay.is_over(waits=True)
-        return self.ended_with
+        return status
 
     ends = False  # whether the user has left, so that the session ends
     stays = True  # whether the session goes on where the line breaks

@@ -29,7 +29,7 @@ LONG = "".join(LINES)
 class Line:
     """What the editor knows of a line to a session that stays, as a check says."""
 
-    late_after, round_trip, has_all, told = 1.0, 0.0, True, "LINE LOST"
+    late_after, round_trip, has_all, told, stays = 1.0, 0.0, True, "LINE LOST", True
 
     def __init__(self):
         self.is_broken, self.silence, self.notes = False, 0.0, []

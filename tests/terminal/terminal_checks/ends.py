@@ -5,7 +5,7 @@ import signal
 import sys
 import time
 
-from .support import SAMHOST, SAMHOST_WORD, SAMTERM, SAMTERM_WORD, Session, expect, expect_sleep, host_that, made, wait_for_text, wait_until
+from .support import SAMHOST, SAMTERM, SAMTERM_WORD, Session, expect, expect_sleep, made, wait_for_text, wait_until
 
 
 def check_kill_host(folder):
@@ -31,20 +31,22 @@ def check_kill_host(folder):
 
 
 def check_saved_here(folder):
-    """At its end samterm writes what a host that doesn't end well has not said that it saved: to this folder, or to the user's own where
-    nothing can be written here. The status says that something is left."""
+    """At its end samterm writes what a host that was killed has not said that it saved: to this folder, or to the user's own where nothing
+    can be written here. The status says that something is left."""
     gone = "sh -c 'mkdir gone; cd gone; rmdir ../gone; exec \"$0\" \"$@\"'"  # a folder that is gone takes no file, of nobody
     own = r"\.state/sulgrevad/[0-9a-f]{16}-a\.txt\.sam-here"
     for at, (program, kept) in enumerate(((SAMTERM, r"a\.txt\.sam-here"), (f"{gone} {sys.executable} {SAMTERM_WORD}", own))):
         place = folder / str(at)
         place.mkdir()
         (path,) = made(place, a="one\n")
-        host = host_that(place, f"{SAMHOST_WORD} \"$@\" 2> /dev/null", "exit 255")  # it saves the text, and says nothing
-        with Session(place, str(path), host=host, program=program) as session:
+        with Session(place, str(path), program=program) as session:
             session.wait_for("one")
             session.type("typed ")
             session.wait_for("typed one")
-            session.leave_unwritten(3)
+            os.kill(session.processes()[SAMHOST.name], signal.SIGKILL)
+            session.wait_for("the host is gone")
+            session.keys("C-q")
+            session.wait_for_end(3)
         left = {str(entry.relative_to(place)): entry.read_text() for entry in place.rglob("*.sam-here*") if not entry.is_symlink()}
         expect(list(left.values()) == ["typed one\n"] and re.fullmatch(kept, *left), f"{program}: there are {left}")
         expect(f"/{next(iter(left))}" in (place / "stderr").read_text(), f"{program}: the file is not named")

@@ -6,7 +6,8 @@ import re
 import signal
 import time
 
-from .messages import Note, NoteCode, NoteKind, aside, lost, not_saved, said
+from .hostile import hostile
+from .messages import Note, NoteCode, NoteKind, aside, first_message, lost, not_saved, said, write_note
 from .pairs import Pair, opened
 from .support import READ_AFTER, SAMHOST, SAMHOST_WORD, Session, change_two, expect, host_that, made, wait_for_text, wait_until
 
@@ -249,11 +250,9 @@ def check_worst_line_of_many(folder):
 
 def check_text_lost(folder):
     """The exit status tells that a text could not be saved anywhere."""
-    made(folder, a="one\n")
-    host = host_that(folder, f"{SAMHOST_WORD} \"$@\"", "echo 'samhost: the text of a.txt is lost: no room' >&2", "exit 5")
-    with Session(folder, "a.txt", host=host) as session:
-        session.wait_for("one")
-        session.wait_for_quiet()
+    notes = first_message(), lost(1), Note(NoteKind.ENDED, number=5)
+    with Session(folder, "a.txt", "b.txt", host=hostile("notes", *(write_note(note).hex() for note in notes))) as session:
+        session.wait_for("is lost: No space left on device")
         session.keys("C-q")
         session.wait_for_end(5)
 
