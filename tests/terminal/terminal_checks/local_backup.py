@@ -271,9 +271,16 @@ def check_no_own_folder(folder):
 class Ending:
     """The link of a session that ends. The host takes as many bytes as it is given time for, tells some lines, and ends with a status."""
 
+    stays = is_lost = is_broken = False
+    ended_with, silence, late_after, round_trip = None, 0.0, 1.0, 0.0
+
     def __init__(self, pair, taken, lines, status):
         self.pair, self.taken, self.lines, self.status = pair, taken, lines, status
         self.waiting = bytearray(pair.up)
+
+    @property
+    def has_all(self):
+        return not self.waiting
 
     def send(self, data=b""):
         self.waiting += data
@@ -307,12 +314,12 @@ def ended(pair, taken, lines, status):
 def check_end_without_the_last_bytes(folder):
     """At the end a status of 0 says nothing of what the host has not got: the stream may have been cut between two messages, or a signal
     may have ended the host. What it is told to have saved then lacks something."""
-    told = (SAVED.format("file0", "file0"),)
+    told = (aside(1),)
     for taken, status, lines, wanted in (
         (None, 0, told, []), (None, None, told, []), (None, 255, told, []), (None, None, (), [("file0", "xya\n")]),
         (0, 0, told, [("file0", "xya\n")]), (0, 0, (), [("file0", "xya\n")]), (0, 255, told, [("file0", "xya\n")]),
-        (None, 5, ("samhost: the text of file0 is lost: no room",), [("file0", "xya\n")]),
-        (None, 0, ("samhost: the text of file0 is lost: no room",), [("file0", "xya\n")]),
+        (None, 5, (lost(1),), [("file0", "xya\n")]),
+        (None, 0, (lost(1),), [("file0", "xya\n")]),
     ):  # fmt: skip
         pair, editor, _, text = opened("a\n")
         pair.press(text("x"))
@@ -486,7 +493,7 @@ def check_change_without_memory(folder):
         expect(("nothing more" in editor.message) == (taken == 0), f"{taken} pieces: ^Z tells {editor.message!r}")
         rest = "".join(pieces[taken:count]) if count > 1 else "x"
         pair.press(pair.keys.Text("more"))
-        ended(pair, None, (SAVED.format("file0", "file0"),), 0).expect([("typed", rest)], f"{taken} of {count} pieces came")
+        ended(pair, None, (aside(1),), 0).expect([("typed", rest)], f"{taken} of {count} pieces came")
 
 
 # ---- Numbers, keys and control characters
