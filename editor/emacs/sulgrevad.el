@@ -797,11 +797,11 @@ Return whether there was any."
       ((guard (not (or (string-empty-p text) (sulgrevad--is-plain-save note)))) (message "samhost: %s" text)))))
 
 (defun sulgrevad--is-plain-save (note)
-  "Whether NOTE tells of a write that replaced nobody's text."
+  "Whether NOTE is of a write that replaced nobody's text."
   (and (eq 'saved (sulgrevad-note-kind note)) (= 0 (sulgrevad-note-code note))))
 
 (defun sulgrevad--meet-failure (note)
-  "Keep in mind that a write failed, of which NOTE tells."
+  "Keep in mind that a write failed, as NOTE has it."
   (let ((tag (sulgrevad-note-tag note)))
     (if (eql tag sulgrevad--writing) (setq sulgrevad--complaint note)
       (push (cons tag note) sulgrevad--unwritten)
