@@ -54,7 +54,7 @@ class Recovery:
         self._taken: Dict[int, Tuple[List[Old], Step]] = {}  # of a file, what was taken into it and not written yet; and that step of undo
         self._written: List[int] = []  # files that were written since
         self._times: Dict[str, int] = {}  # when files were written last, by their names as they are told
-        self._unlooked: Deque[int] = deque()  # files of which it isn't known yet whether texts of them are here; COMMAND for what is no file's
+        self._unlooked: Deque[int] = deque()  # files of which texts may be here, as nobody has looked; COMMAND for what is no file's
         self._warned: Optional[Old] = None  # the text of which the user knows that it lacks something
         self._whole: Optional[Old] = None  # the one from which all came that it lacks
 

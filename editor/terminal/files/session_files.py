@@ -1,7 +1,7 @@
 """The files of the session, by what the host's frames tell. There may be tens of thousands, so what a frame, a key or a line costs here
 doesn't grow with their number."""
 from bisect import bisect_left
-from typing import Dict, FrozenSet, Iterator, List, Optional, Set, Tuple
+from typing import Dict, FrozenSet, Iterator, List, Optional, Set
 
 from sulgrevad import Terminal
 from ..view.status_line import printable
@@ -21,7 +21,8 @@ class SessionFiles:
         self._known: Set[int] = set()  # all files
         self._hidden: FrozenSet[Optional[int]] = frozenset()
         self._names: Dict[int, str] = {}  # as they are told
-        self._tags: Dict[str, Tuple[int, ...]] = {}  # by these
+        self._tags: Dict[str, int] = {}  # by each of these a file of that name
+        self._others: Dict[str, Set[int]] = {}  # and the others that have it, too
 
     def hide(self, *hidden: Optional[int]) -> None:
         """These files are hidden, and no others."""
@@ -61,17 +62,22 @@ class SessionFiles:
             self.own.discard(tag)
         self._forget_name(tag)
         told = self._names[tag] = printable(name or f"unnamed-{tag}")
-        self._tags[told] = (*self._tags.get(told, ()), tag)
+        if self._tags.setdefault(told, tag) != tag:
+            self._others.setdefault(told, set()).add(tag)
 
     def _forget_name(self, tag: int) -> None:
-        name = self._names.pop(tag, None)
-        if name is None:
+        told = self._names.pop(tag, None)
+        if told is None:
             return
-        others = tuple(other for other in self._tags[name] if other != tag)
-        if others:
-            self._tags[name] = others
+        others = self._others.get(told, set())
+        if self._tags[told] != tag:
+            others.remove(tag)
+        elif others:
+            self._tags[told] = others.pop()
         else:
-            del self._tags[name]
+            del self._tags[told]
+        if not others:
+            self._others.pop(told, None)
 
     def touch(self, tag: int) -> None:
         """A file is opened, or changed at the host."""
@@ -94,4 +100,5 @@ class SessionFiles:
 
     def named(self, told: str) -> Set[int]:
         """The user's files of a name, as it is told."""
-        return {tag for tag in self._tags.get(told, ()) if tag in self.all}
+        tags = {self._tags[told], *self._others.get(told, ())} if told in self._tags else set()
+        return tags & self.all
