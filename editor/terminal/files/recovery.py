@@ -77,12 +77,18 @@ class Recovery:
             self._look_here()
 
     def _look_here(self) -> None:
-        """Looks whether texts of files are here, of a few files at once, so that no key waits for that. What is no file's comes last."""
+        """Looks whether texts of files are here, of a few files at once, so that no key waits for that. What is no file's is looked for last,
+        and told first."""
+        found: Deque[Tuple[int, str, str]] = deque()
         for _ in range(min(MOST_LOOKED_AT, len(self._unlooked))):
             tag = self._unlooked.popleft()
-            name = local_backup.TYPED if tag == COMMAND else self.terminal.name(tag) if self.terminal.is_known(tag) else None
-            for path in [] if name is None else self._left_here.of(name):
-                self._note_here(tag, name, path)
+            if tag == COMMAND:
+                found.extendleft((tag, local_backup.TYPED, path) for path in reversed(self._left_here.of(local_backup.TYPED)))
+            elif self.terminal.is_known(tag):
+                name = self.terminal.name(tag)
+                found.extend((tag, name, path) for path in self._left_here.of(name))
+        for tag, name, path in found:
+            self._note_here(tag, name, path)
 
     @property
     def seconds(self) -> Optional[float]:
