@@ -51,7 +51,7 @@ class Recovery:
         self._taken: Dict[int, Tuple[List[Old], Step]] = {}  # of a file, what was taken into it and not written yet; and that step of undo
         self._written: List[int] = []  # files that were written since
         self._times: Dict[int, int] = {}  # when files were written last
-        self._unlooked: Deque[int] = deque()  # files of which it isn't known yet whether texts of them are here; COMMAND for what is no file's
+        self._unlooked: Deque[int] = deque()  # files of which texts may be here, as nobody has looked; COMMAND for what is no file's
         self._warned: Optional[Old] = None  # the text of which the user knows that it lacks something
         self._whole: Optional[Old] = None  # the one from which all came that it lacks
 
@@ -72,12 +72,18 @@ class Recovery:
             self._look_here()
 
     def _look_here(self) -> None:
-        """Looks whether texts of files are here, of a few files at once, so that no key waits for that. What is no file's comes last."""
+        """Looks whether texts of files are here, of a few files at once, so that no key waits for that. What is no file's is looked for last,
+        and told first."""
+        found: Deque[Tuple[int, str, str]] = deque()
         for _ in range(min(MOST_LOOKED_AT, len(self._unlooked))):
             tag = self._unlooked.popleft()
-            name = local_backup.TYPED if tag == COMMAND else self.terminal.name(tag) if self.terminal.is_known(tag) else None
-            for path in [] if name is None else self._left_here.of(name):
-                self._note_here(tag, name, path)
+            if tag == COMMAND:
+                found.extendleft((tag, local_backup.TYPED, path) for path in reversed(self._left_here.of(local_backup.TYPED)))
+            elif self.terminal.is_known(tag):
+                name = self.terminal.name(tag)
+                found.extend((tag, name, path) for path in self._left_here.of(name))
+        for tag, name, path in found:
+            self._note_here(tag, name, path)
 
     @property
     def seconds(self) -> Optional[float]:

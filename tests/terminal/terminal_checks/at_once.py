@@ -9,7 +9,7 @@ from pathlib import Path
 from checks import Skipped, expect_equal, times_longer
 
 from .breaks import Line
-from .key_times import after_the_start, of_words, until_all_is_loaded
+from .key_times import LINE, LINES, PACE, ROW, WORDS, after_the_start, of_words, until_all_is_loaded
 from .pairs import LONG, Pair, loads_of, opened
 from .stopped import RUNES, OnTerminal, share_of
 from .support import expect
@@ -132,6 +132,25 @@ def check_whole_file_at_rest(folder):
     expect(not loads, f"a slice begins right after a key: {loads}")
     run_until(pair, pressed + 8)
     expect(len(loads) > 1, f"it loads no more: {loads}")
+
+
+def check_words_meet_no_lock(folder):
+    """Of one who types words from the first text on, eight keys a second, no key waits and none meets a lock, however slow the line is:
+    nothing is asked for meanwhile."""
+    text = "".join(map(LINE.format, range(LINES)))
+    for each_way in (0.0, 0.05, 0.3):
+        pair = slow(text, speed=1_000_000, each_way=each_way, size=(30, 100))
+        until_text(pair)
+        start, typed, loads = pair.now, "", loads_of(pair)
+        for number in range(WORDS):
+            run_until(pair, start + number * PACE)
+            typed += "\n" if number % ROW == ROW - 1 else "x"
+            expect(not pair.editor.is_lock_held, f"{each_way} s each way: key {number} meets a lock; it asks by {loads}")
+            pair.editor.take(pair.keys.Text(typed[-1]))
+            expect(not pair.editor.deferred, f"{each_way} s each way: key {number} waits")
+            expect_equal(pair.editor.active.read(0, len(typed)), typed)
+        run_until(pair, pair.now + 2)
+        expect(pair.host.text(1).startswith(typed + LINE.format(0)), f"{each_way} s each way: the host has {pair.host.text(1)[:120]!r}")
 
 
 def check_keys_under_loads(folder):

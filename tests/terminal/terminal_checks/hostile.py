@@ -305,7 +305,8 @@ def steps_of_names():
     pair.settle()
     pair.host.feed(bytes(pair.up))
     pair.up.clear()
-    turns.terminal, turns.editor, turns.link, turns._came, turns.is_short = pair.terminal, editor, Told(pair.host.take_out()), deque(), False
+    turns.terminal, turns.editor, turns.link = pair.terminal, editor, Told(pair.host.take_out())
+    turns._came, turns.is_short = deque(), False
     while turns.link.data or turns._came:
         with steps.step("names" if turns.link.data or len(turns._came) > 1 else "the last names"):
             turns._take_bytes({})
@@ -351,6 +352,41 @@ def check_steps_of_many_names(folder):
     for what in tries[0].costs:
         least = min(steps.dearest(what) for steps in tries)
         expect(least < MOST_FOR_A_KEY * slowness, f"{what}: a step costs {least * 1000:.0f} ms, {slowness:.1f} times slowed")
+
+
+def check_files_of_many_names(folder):
+    """The files and their names are known as they come, get other ones, share them, and go; and thousands of one name cost little."""
+    from terminal.files.session_files import SessionFiles
+
+    numbers, names = random.Random(5), {}
+    files = SessionFiles(SimpleNamespace(name=names.__getitem__))
+    files.hide(0, None)
+    for _ in range(4000):
+        tag, draw = numbers.randrange(12), numbers.random()
+        if draw < 0.2 and tag in names:
+            del names[tag]
+            files.drop(tag)
+        elif draw < 0.3:
+            files.hide(0, tag)
+            files.hide(0, None)
+        elif tag in names:
+            names[tag] = numbers.choice(("a", "b", "c\x9b", "~~d", ""))
+            files.rename(tag)
+        else:
+            names[tag] = ""
+            files.add(tag)
+        users = {tag: name for tag, name in names.items() if tag != 0}
+        expect(files.tags == sorted(users) and files.all == set(users), f"the files are {files.tags}, wanted {sorted(users)}")
+        expect(files.own == {tag for tag, name in names.items() if name.startswith("~~")}, f"own are {files.own}")
+        wanted = [(users[tag] or f"unnamed-{tag}").replace("\x9b", "?") for tag in sorted(users)]
+        expect([*files.names] == wanted, f"the names are {[*files.names]}, wanted {wanted}")
+    names.update(dict.fromkeys(range(1, MANY_NAMES), "a"))
+    before = time.process_time()
+    for tag in range(1, MANY_NAMES):
+        files.add(tag)
+        files.rename(tag)
+    cost, slowness = time.process_time() - before, max(1, least_loop() / QUIET_LOOP)
+    expect(cost < slowness, f"{MANY_NAMES} files of a name cost {cost:.1f} s of the processor, {slowness:.1f} times slowed")
 
 
 def check_long_lines_of_words(folder):

@@ -8,7 +8,8 @@ LINE = "{:05} the quick brown fox jumps over the lazy dog and runs away from it\
 FIRST = "00000 the quick"  # what shows first
 PAUSES = (0.0, 0.3, 1.0, 2.0, 5.0, 10.0)  # seconds after that at which keys are pressed
 PACE = 0.12  # seconds from a key to the next of one who types words
-WORDS = 100  # keys of these
+ROW = len(RUNES)  # keys of a row, of which Enter is the last: a row that is drawn again has no rune twice
+WORDS = 104  # keys of these, of which 100 are no Enter
 
 
 def made_file(folder):
@@ -45,10 +46,10 @@ def of_words(folder, line, **more):
         for number in range(WORDS):
             while (left := start + number * PACE - time.monotonic()) > 0:
                 session.read(left)
-            if number % len(RUNES) == len(RUNES) - 1:  # a row that is drawn again has no rune twice
+            if number % ROW == ROW - 1:
                 session.type("\r")
             else:
-                found.append(shown_after(session, RUNES[number % len(RUNES)]))
+                found.append(shown_after(session, RUNES[number % ROW]))
     return found
 
 

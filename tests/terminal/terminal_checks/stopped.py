@@ -133,7 +133,8 @@ def cost_of(process):
 
 def share_of(numbers, hundredths):
     """What so many of a hundred are at most."""
-    return sorted(numbers)[len(numbers) * hundredths // 100]
+    count = -(-len(numbers) * hundredths // 100)
+    return sorted(numbers)[max(0, count - 1)]
 
 
 class Measured:
