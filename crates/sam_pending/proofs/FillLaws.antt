@@ -1,14 +1,14 @@
 -- Members of the rasp that are loaded.
-use Rattle.std.proofs.Common.{◌≡◌, refl, sym, ap, ◌∙◌, subst, ℕ, zero, suc, ◌+◌, ◌-◌, ◌≤◌, Bool, true, false, cond, List, [], ◌∷◌, ◌++◌, map, length, take, drop, reverse, Option, Some, None, arith, append_assoc, append-nil, length-append, length-drop, length-take-le, drop-drop, take-take}
-use Rattle.std.proofs.lemmas.List.{length-map, take-map, drop-map, map-append, reverse-append}
-use Rattle.sam_pending.specs.Cells.{PartialText, Cell, Change, put, all_put, in_rasp, is_shown, shown_of, take_by, drop_by, loaded, filled}
-use Rattle.sam_pending.specs.Runs.{counts, held, typed_by, runes_of, room, rooms, cells, cells_of, reach, Within, front, back, above, filled_run, filled_runs, filling_change, filling_changes}
+use Rattle.std.proofs.Common.{◌≡◌, refl, sym, ap, ◌∙◌, ℕ, ◌+◌, ◌≤◌, List, [], ◌∷◌, ◌++◌, map, length, take, drop, reverse, Option, Some, None, arith, append_assoc, length-append, length-drop, length-take-le}
+use Rattle.std.proofs.lemmas.List.{length-map, take-map, drop-map}
+use Rattle.sam_pending.specs.Cells.{PartialText, Cell, Change, all_put, in_rasp, is_shown, shown_of, take_by, drop_by, loaded, filled}
+use Rattle.sam_pending.specs.Runs.{counts, held, typed_by, runes_of, rooms, cells_of, Within, front, back, above, filled_runs, filling_changes}
 use Rattle.sam_pending.specs.declared.run.Run.{Run}
 use Rattle.sam_pending.specs.declared.run.Run.TheVariants.{Held, Typed}
 use Rattle.sam_pending.specs.declared.run.Side.{Side}
-use Rattle.sam_pending.specs.declared.run.Side.TheVariants.{Above, Below}
+use Rattle.sam_pending.specs.declared.run.Side.TheVariants.{Below}
 use Rattle.sam_pending.proofs.CellLaws.{members-append, take-drop-by, put-last}
-use Rattle.sam_pending.proofs.RunLaws.{split, runes-size, within-front, within-back, rooms-front, cells_of-front, cells_of-same, cells-before, take-front, drop-front, drop-more}
+use Rattle.sam_pending.proofs.RunLaws.{split, runes-size, within-front, within-back, rooms-front, cells_of-front, cells-before, drop-front, drop-more}
 use Rattle.sam_pending.proofs.SendLaws.{replaced-block, shown-held, shown-typed, placed}
 
 loaded-held : (m : PartialText) (s : List ℕ) (d : Option ℕ) (c : List Cell) → length m ≤ length s

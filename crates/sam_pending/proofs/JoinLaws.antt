@@ -1,10 +1,10 @@
 -- Runs that stand for the same cells.
-use Rattle.std.proofs.Common.{◌≡◌, refl, sym, ap, ◌∙◌, subst, ℕ, zero, suc, ◌+◌, ◌-◌, ◌≤◌, Bool, true, false, cond, nat_le, List, [], ◌∷◌, ◌++◌, map, length, take, drop, Option, Some, None, is_none, nat_eq, arith, append_assoc, append-nil, drop-drop, take-append-drop, take-take}
-use Rattle.std.proofs.lemmas.List.{map-append, length-map, drop-take}
+use Rattle.std.proofs.Common.{◌≡◌, refl, sym, ap, ◌∙◌, subst, ℕ, zero, suc, ◌+◌, ◌-◌, ◌≤◌, Bool, true, false, cond, nat_le, List, [], ◌∷◌, ◌++◌, map, take, drop, Option, Some, None, is_none, nat_eq, arith, append_assoc, append-nil, drop-drop, take-append-drop, take-take}
+use Rattle.std.proofs.lemmas.List.{map-append, drop-take}
 use Rattle.std.specs.Option.{option_eq}
 use Rattle.std.proofs.lemmas.Bool.Decides.{nat_tests, leb_tells}
-use Rattle.sam_pending.specs.Cells.{PartialText, Cell}
-use Rattle.sam_pending.specs.Runs.{held, typed_by, runes_of, room, rooms, wait, waits, above, cells, cells_of, reach, Within, size, run_counts, head_of, tail_of, front, back, IsSame}
+use Rattle.sam_pending.specs.Cells.{PartialText}
+use Rattle.sam_pending.specs.Runs.{held, typed_by, runes_of, room, rooms, wait, waits, above, cells, cells_of, Within, size, run_counts, head_of, tail_of, front, back, IsSame}
 use Rattle.sam_pending.specs.declared.run.Stretch.{Stretch}
 use Rattle.sam_pending.specs.declared.run.Run.{Run}
 use Rattle.sam_pending.specs.declared.run.Run.TheVariants.{Held, Typed}

@@ -1,11 +1,9 @@
 -- Runs over a text that is written anew.
 use Rattle.std.proofs.Common.{◌≡◌, refl, sym, ap, ◌∙◌, subst, ℕ, ◌+◌, ◌≤◌, Bool, true, false, cond, List, [], ◌∷◌, ◌++◌, map, length, take, drop, Option, Some, None, is_none, arith, append_assoc, append-nil, length-append, length-drop}
-use Rattle.sam_pending.specs.Cells.{PartialText, Cell}
-use Rattle.sam_pending.specs.Runs.{held, typed_by, runes_of, room, rooms, wait, waits, above, cells, cells_of, reach, Within, size, run_counts, kept_text, kept_run, kept_runs}
-use Rattle.sam_pending.specs.declared.run.Stretch.{Stretch}
+use Rattle.sam_pending.specs.Cells.{PartialText}
+use Rattle.sam_pending.specs.Runs.{held, typed_by, runes_of, rooms, wait, waits, above, cells_of, reach, Within, kept_text, kept_runs}
 use Rattle.sam_pending.specs.declared.run.Run.{Run}
 use Rattle.sam_pending.specs.declared.run.Run.TheVariants.{Held, Typed}
-use Rattle.sam_pending.specs.declared.run.Side.TheVariants.{Above}
 use Rattle.sam_pending.proofs.RunLaws.{take-front, drop-front, runes-size}
 
 pub kept-push : (text : List ℕ) (x : Run) (xs : List Run) → kept_text text (x ∷ []) ++ kept_text text xs ≡ kept_text text (x ∷ xs)

@@ -1,23 +1,22 @@
 -- Layers: runs over a text, and the rasp below.
-use Rattle.std.proofs.Common.{◌≡◌, refl, sym, ap, ◌∙◌, subst, ℕ, zero, suc, ◌+◌, ◌-◌, ◌≤◌, ◌<◌, Bool, true, false, cond, nat_eq, nat_le, IsTrue, List, [], ◌∷◌, ◌++◌, map, length, take, drop, reverse, Option, Some, None, is_none, arith, append_assoc, append-nil, length-append, length-drop, length-take-le, take-append-drop, ◌&&◌}
-use Rattle.std.proofs.lemmas.List.{drop-append-le, take-append-le}
+use Rattle.std.proofs.Common.{◌≡◌, refl, sym, ap, ◌∙◌, subst, ℕ, ◌+◌, ◌-◌, ◌≤◌, ◌<◌, Bool, true, false, cond, nat_eq, List, [], ◌∷◌, ◌++◌, map, length, take, drop, reverse, replicate, Some, None, arith, length-append, length-drop, length-take-le, take-append-drop, ◌&&◌}
+use Rattle.std.proofs.lemmas.List.{drop-append-le, take-append-le, length-map, length-replicate}
 use Rattle.std.proofs.lemmas.Bool.Decides.{nat_tests}
 use Rattle.sam_runes.specs.Texts.{max_runes}
 use Rattle.sam_runes.specs.declared.edit.Edit.{Edit}
-use Rattle.sam_pending.specs.Cells.{PartialText, Cell, is_group, all_put, rasp_of, shown_of, shown_place, resting, replaced, inserted, removed, filled, sent}
-use Rattle.sam_pending.specs.Runs.{held, typed_by, runes_of, room, rooms, wait, waits, above, cells, cells_of, reach, Within, size, run_counts, front, back, dying_run, dying_runs, waiting_run, waiting_runs, sent_run, sent_runs, run_rests, rests, IsSame, kept_text, kept_runs, left_rooms, put_runs, taken_runs, edit_changes, removal_changes}
-use Rattle.sam_pending.specs.Layers.{Layer, IsLayer, IsTidied, cells_over, most_kept}
+use Rattle.sam_pending.specs.Cells.{PartialText, is_group, all_put, rasp_of, shown_of, shown_place, resting, replaced, inserted, removed, sent}
+use Rattle.sam_pending.specs.Runs.{spot, held, typed_by, runes_of, room, rooms, wait, waits, above, cells, cells_of, reach, Within, size, front, back, dying_runs, waiting_runs, sent_run, sent_runs, run_rests, rests, IsSame, kept_text, kept_runs, left_rooms, put_runs, taken_runs, edit_changes, removal_changes}
+use Rattle.sam_pending.specs.Layers.{Layer, IsLayer, IsTidied, most_kept, part_members}
 use Rattle.sam_pending.specs.declared.run.Stretch.{Stretch}
 use Rattle.sam_pending.specs.declared.run.Run.{Run}
 use Rattle.sam_pending.specs.declared.run.Run.TheVariants.{Held, Typed}
-use Rattle.sam_pending.specs.declared.run.Side.{Side}
 use Rattle.sam_pending.specs.declared.run.Side.TheVariants.{Above, Below}
-use Rattle.sam_pending.proofs.RunLaws.{replaced_runs, inserted_runs, removed_runs, rooms-append, rooms-front, rooms-waiting, within-front, within-back, within-append, within-more, dies, take-front, drop-front, take-whole}
-use Rattle.sam_pending.proofs.JoinLaws.{waits-append, waits-split, rooms-split, above-split}
+use Rattle.sam_pending.proofs.RunLaws.{runes-size, replaced_runs, inserted_runs, removed_runs, rooms-append, rooms-front, rooms-waiting, within-front, within-back, within-append, within-more, dies, drop-front, take-whole}
+use Rattle.sam_pending.proofs.JoinLaws.{waits-append, waits-split, rooms-split}
 use Rattle.sam_pending.proofs.KeptLaws.{kept-runs, kept-rooms, kept-waits, kept-above, kept-within, kept-length}
 use Rattle.sam_pending.proofs.SendLaws.{above_shown, sent-runs, kept_all, placed, removed_told}
 use Rattle.sam_pending.proofs.FillLaws.{fills, filled_shown}
-use Rattle.sam_pending.proofs.SpotLaws.{spot_stands}
+use Rattle.sam_pending.proofs.SpotLaws.{Stands, StandsAt, spot_stands}
 
 pub above-most : (xs : List Run) → above xs ≤ rooms xs + waits xs
 above-most [] = omega arith
@@ -258,6 +257,8 @@ pub record Sends (text : List ℕ) (xs after : List Run) (es : List Edit) (g : �
       → all_put (all_put r (reverse (removal_changes (taken_runs g 0 xs)))) (reverse (edit_changes es)) ≡ rasp_of (sent g (cells_of text r xs))
   pub cells : (r : PartialText) → rooms xs ≡ length r
       → cells_of text (all_put (all_put r (reverse (removal_changes (taken_runs g 0 xs)))) (reverse (edit_changes es))) after ≡ sent g (cells_of text r xs)
+  pub over : (r : PartialText) → rooms xs ≡ length r
+      → rooms after ≡ length (all_put (all_put r (reverse (removal_changes (taken_runs g 0 xs)))) (reverse (edit_changes es)))
 
 pub sends : (text : List ℕ) (xs after : List Run) (es : List Edit) (g : ℕ) → IsLayer (record { text = text; runs = xs }) → rooms (sent_runs g xs) ≤ max_runes
     → IsSame after (sent_runs g xs)
@@ -273,6 +274,7 @@ sends text xs after es g h m same made = record {
   rasp = λ r e. rasp r e;
   cells = λ r e.
       ap (λ z. cells_of text z after) (rasp r e) ∙ (same.cells text (rasp_of (sent g (cells_of text r xs))) ∙ (sent-runs g text xs r h.within e).is);
+  over = λ r e. same.rooms ∙ ((sent-runs g text xs r h.within e).holds ∙ sym (ap length (rasp r e)));
 }
   where
     rasp : (r : PartialText) → rooms xs ≡ length r
@@ -325,3 +327,48 @@ pub ruleset bring_facts = (sends)
 pub ruleset replace_facts = (above-most)
 
 pub ruleset shown_facts = (spot_stands)
+
+pub within-kept : (text : List ℕ) (xs : List Run) → IsLayer (record { text = text; runs = xs }) → Within most_kept xs
+within-kept text xs h = within-more (length text) most_kept xs h.text h.within
+
+-- ## What stands at a place
+
+part-is : (text : List ℕ) (r : PartialText) (y : Run) (n : ℕ) → map (λ c. c.member) (cells text (drop n r) y) ≡ part_members text r y n
+part-is text r (Held k d) n = held-members (take k (drop n r))
+  where
+    held-members : (m : PartialText) → map (λ c. c.member) (map (held d) m) ≡ m
+    held-members [] = refl
+    held-members (x ∷ m) = ap (λ z. x ∷ z) (held-members m)
+part-is text r (Typed s g d) n = typed-members (runes_of text s)
+  where
+    typed-members : (m : List ℕ) → map (λ c. c.member) (map (typed_by g d) m) ≡ map Some m
+    typed-members [] = refl
+    typed-members (x ∷ m) = ap (λ z. Some x ∷ z) (typed-members m)
+
+part-length : (text : List ℕ) (r : PartialText) (y : Run) (n : ℕ) → reach y ≤ length text → n + room y ≤ length r → length (part_members text r y n) ≡ size y
+part-length text r (Held k d) n w l = length-take-le k (drop n r) (omega (arith, l, length-drop n r))
+part-length text r (Typed s g d) n w l = length-map (runes_of text s) Some ∙ runes-size text s w
+
+pub shown_there : (text : List ℕ) (xs : List Run) (p n : ℕ) (y : Run) (r : PartialText) → IsLayer (record { text = text; runs = xs }) → spot p 0 xs ≡ Some (y, n) → rooms xs ≡ length r
+    → (0 < length (part_members text r y n))
+    × (take (length (part_members text r y n)) (drop p (shown_of (cells_of text r xs))) ≡ part_members text r y n)
+shown_there text xs p n y r h e l =
+    let s : Stands text r (cells_of text r xs) p y n = subst (StandsAt text r (cells_of text r xs) p) e (spot_stands xs text r p 0 h.within (omega (arith, l))) in
+    let k = part-length text r y n s.within s.there in (
+      omega (arith, k, s.some),
+      ap (λ j. take j (drop p (shown_of (cells_of text r xs)))) k ∙ (s.is ∙ part-is text r y n),
+    )
+
+pub shown_none : (text : List ℕ) (xs : List Run) (p : ℕ) → IsLayer (record { text = text; runs = xs }) → spot p 0 xs ≡ None → above xs ≤ p
+shown_none text xs p h e =
+    let r : PartialText = replicate (rooms xs) None in
+    let l : length r ≡ rooms xs = length-replicate (rooms xs) None in
+    let s : length (shown_of (cells_of text r xs)) ≤ p = subst (StandsAt text r (cells_of text r xs) p) e (spot_stands xs text r p 0 h.within (omega (arith, l))) in
+    omega (arith, s, above_shown xs text r h.within (omega (arith, l)))
+
+pub shown_reach : (text : List ℕ) (xs : List Run) (p n : ℕ) (y : Run) → IsLayer (record { text = text; runs = xs }) → spot p 0 xs ≡ Some (y, n) → reach y ≤ length text
+shown_reach text xs p n y h e =
+    let r : PartialText = replicate (rooms xs) None in
+    let l : length r ≡ rooms xs = length-replicate (rooms xs) None in
+    let s : Stands text r (cells_of text r xs) p y n = subst (StandsAt text r (cells_of text r xs) p) e (spot_stands xs text r p 0 h.within (omega (arith, l))) in
+    s.within

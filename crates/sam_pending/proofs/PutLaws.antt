@@ -1,11 +1,11 @@
 -- Insertions that are made in pieces.
-use Rattle.std.proofs.Common.{◌≡◌, refl, sym, ap, ◌∙◌, subst, ℕ, ◌+◌, ◌-◌, ◌≤◌, Bool, true, false, cond, List, [], ◌∷◌, ◌++◌, map, length, take, drop, reverse, slice_range, Option, Some, None, arith, append_assoc, append-nil, length-append, length-drop, length-take-le, take-append-drop, nat_eq}
-use Rattle.std.proofs.lemmas.List.{map-append, length-map, reverse-append, length-take}
+use Rattle.std.proofs.Common.{◌≡◌, refl, sym, ap, ◌∙◌, subst, ℕ, ◌+◌, ◌≤◌, Bool, true, false, cond, List, [], ◌∷◌, ◌++◌, map, length, take, drop, reverse, slice_range, Option, Some, arith, append_assoc, append-nil, length-append, length-take-le, take-append-drop, nat_eq}
+use Rattle.std.proofs.lemmas.List.{map-append, reverse-append, length-take}
 use Rattle.sam_runes.specs.declared.edit.Edit.{Edit}
 use Rattle.sam_runes.proofs.EditLaws.{split_take}
 use Rattle.sam_runes.specs.Texts.{most_in_message}
 use Rattle.sam_pending.specs.Cells.{PartialText, Change, put, all_put, is_group}
-use Rattle.sam_pending.specs.Runs.{runes_of, room, insertion, put_run, put_runs, left_room, left_rooms, edit_change, edit_changes}
+use Rattle.sam_pending.specs.Runs.{runes_of, room, insertion, put_run, put_runs, left_room, edit_change, edit_changes}
 use Rattle.sam_pending.specs.Layers.{AreShort}
 use Rattle.sam_pending.specs.Puts.{Puts, PutsRun, PutsAll}
 use Rattle.sam_pending.specs.declared.run.Stretch.{Stretch}
@@ -90,8 +90,12 @@ all-grown text g n [] v = omega arith
 all-grown text g n (x ∷ xs) v =
     let rest = put_runs text g (n + left_room g x) xs in
     let u = all_put v (reverse rest) in
-    omega (arith, all-grown text g (n + left_room g x) xs v, grown text g n x u,
-    ap length (ap (all_put v) (reverse-append (put_run text g n x) rest) ∙ all_put-append v (reverse rest) (reverse (put_run text g n x))))
+    omega (
+      arith,
+      all-grown text g (n + left_room g x) xs v,
+      grown text g n x u,
+      ap length (ap (all_put v) (reverse-append (put_run text g n x) rest) ∙ all_put-append v (reverse rest) (reverse (put_run text g n x))),
+    )
 
 pub puts-run : (text : List ℕ) (g n : ℕ) (s : Stretch) (b : ℕ) (d : Option ℕ) (old es : List Edit) → is_group g d ≡ false → nat_eq g b ≡ true
     → Puts n (runes_of text s) old es → PutsRun text g n (Typed s b d) old es

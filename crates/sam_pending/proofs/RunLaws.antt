@@ -5,7 +5,7 @@ use Rattle.std.proofs.lemmas.Bool.{leb-true, le-leb}
 use Rattle.std.proofs.lemmas.Bool.Decides.{leb_tells}
 use Rattle.std.proofs.lemmas.List.Elements.{filter-append}
 use Rattle.sam_pending.specs.Cells.{PartialText, Cell, in_rasp, is_shown, is_group, take_by, drop_by, part_by, waiting_of, dying, resting, inserted, removed, replaced}
-use Rattle.sam_pending.specs.Runs.{counts, held, typed_by, runes_of, room, rooms, cells, cells_of, reach, Within, run_counts, size, head_of, tail_of, front, back, waiting_run, waiting_runs, dying_run, dying_runs}
+use Rattle.sam_pending.specs.Runs.{counts, held, typed_by, runes_of, room, rooms, cells, cells_of, reach, Within, run_counts, size, head_of, tail_of, front, back, waiting_runs, dying_run, dying_runs}
 use Rattle.sam_pending.specs.declared.run.Stretch.{Stretch}
 use Rattle.sam_pending.specs.declared.run.Run.{Run}
 use Rattle.sam_pending.specs.declared.run.Run.TheVariants.{Held, Typed}

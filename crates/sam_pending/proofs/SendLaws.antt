@@ -1,16 +1,14 @@
 -- Runs of a group that comes to the rasp, and what is told of runs.
-use Rattle.std.proofs.Common.{Bool, List, None, Option, Some, [], ap, append-nil, append_assoc, arith, cond, drop, drop-drop, eq-eqb, false, is_none, length, length-append, length-drop, length-take-le, map, nat_eq, nat_le, not, refl, reverse, subst, suc, sym, take, take-append-drop, true, zero, ℕ, ◌++◌, ◌+◌, ◌-◌, ◌<◌, ◌∙◌, ◌∷◌, ◌≡◌, ◌≤◌}
+use Rattle.std.proofs.Common.{Bool, List, None, Option, Some, [], ap, append-nil, append_assoc, arith, cond, drop, drop-drop, eq-eqb, false, is_none, length, length-append, length-drop, length-take-le, map, nat_eq, not, refl, reverse, subst, suc, sym, take, take-append-drop, true, zero, ℕ, ◌++◌, ◌+◌, ◌-◌, ◌∙◌, ◌∷◌, ◌≡◌, ◌≤◌}
 use Rattle.std.proofs.lemmas.List.{length-map, reverse-append, map-append}
 use Rattle.std.proofs.lemmas.List.Elements.{filter-append}
-use Rattle.sam_pending.specs.Cells.{Cell, Change, PartialText, all_put, arrived, dies_of, drop_by, dying, in_rasp, is_group, is_shown, loaded, filled, part_by, put, rasp_of, removed, replaced, resting, sent, shown_of, shown_place, take_by, typed, waiting_of}
-use Rattle.sam_pending.specs.Runs.{front, back, head_of, tail_of, run_counts, held, typed_by, runes_of, reach, Within, room, rooms, cells, cells_of, size, sent_run, sent_runs, taken_run, taken_runs, put_run, put_runs, insertion, left_room, left_rooms, gone_run, gone_runs, filled_run, filled_runs, filling_changes, removal_changes, above}
+use Rattle.sam_pending.specs.Cells.{Cell, PartialText, all_put, arrived, dies_of, drop_by, dying, in_rasp, is_group, is_shown, part_by, put, rasp_of, removed, replaced, resting, sent, shown_of, shown_place, take_by, typed, waiting_of}
+use Rattle.sam_pending.specs.Runs.{front, back, held, typed_by, runes_of, reach, Within, room, rooms, cells, cells_of, sent_run, sent_runs, taken_run, taken_runs, put_run, put_runs, left_room, left_rooms, gone_runs, removal_changes, above}
 use Rattle.sam_pending.specs.declared.run.Run.{Run}
 use Rattle.sam_pending.specs.declared.run.Run.TheVariants.{Held, Typed}
-use Rattle.sam_pending.specs.declared.run.Side.{Side}
-use Rattle.sam_pending.specs.declared.run.Side.TheVariants.{Above, Below}
+use Rattle.sam_pending.specs.declared.run.Side.TheVariants.{Below}
 use Rattle.sam_pending.proofs.CellLaws.{members-append, members-three, members-parted, put-last}
-use Rattle.sam_pending.proofs.RunLaws.{split, runes-size, within-front, within-back, rooms-front, cells_of-append, cells_of-front, take-front, drop-front, waiting-held, waiting-typed, rooms-append, joined, cells-before}
-use Rattle.sam_pending.proofs.JoinLaws.{above-append}
+use Rattle.sam_pending.proofs.RunLaws.{split, runes-size, within-front, within-back, cells_of-append, cells_of-front, take-front, drop-front, waiting-held, waiting-typed, rooms-append}
 use Rattle.sam_pending.proofs.PutLaws.{all_put-append}
 
 sent-append : (g : ℕ) (a b : List Cell) → sent g (a ++ b) ≡ sent g a ++ sent g b

@@ -1,11 +1,10 @@
 -- What stands at a place of what is shown.
-use Rattle.std.proofs.Common.{◌≡◌, refl, sym, ap, ◌∙◌, subst, ℕ, zero, suc, ◌+◌, ◌-◌, ◌≤◌, ◌<◌, Bool, true, false, cond, nat_le, List, [], ◌∷◌, ◌++◌, map, length, take, drop, Option, Some, None, arith, append_assoc, length-append, length-drop, drop-drop}
+use Rattle.std.proofs.Common.{◌≡◌, refl, sym, ap, ◌∙◌, subst, ℕ, ◌+◌, ◌-◌, ◌≤◌, ◌<◌, Bool, true, false, cond, nat_le, List, [], ◌∷◌, ◌++◌, map, length, take, drop, Option, Some, None, arith, length-append, length-drop, drop-drop}
 use Rattle.std.proofs.lemmas.List.{length-map, drop-map, drop-append-le}
 use Rattle.std.proofs.lemmas.Bool.{leb-true}
 use Rattle.std.proofs.lemmas.Bool.Decides.{leb_tells}
-use Rattle.std.specs.List.{filter}
 use Rattle.sam_pending.specs.Cells.{PartialText, Cell, is_shown, shown_of}
-use Rattle.sam_pending.specs.Runs.{held, typed_by, runes_of, counts, run_counts, room, rooms, cells, cells_of, reach, Within, size, head_of, tail_of, spot}
+use Rattle.sam_pending.specs.Runs.{counts, run_counts, room, rooms, cells, cells_of, reach, Within, size, head_of, tail_of, spot}
 use Rattle.sam_pending.specs.declared.run.Run.{Run}
 use Rattle.sam_pending.specs.declared.run.Run.TheVariants.{Held, Typed}
 use Rattle.sam_pending.specs.declared.run.Side.TheVariants.{Above}

@@ -3,8 +3,9 @@ use Rattle.std.specs.Prelude.{◌≡◌, ◌≤◌, ℕ, List, [], ◌∷◌, le
 use Rattle.sam_runes.specs.Texts.{max_runes, most_in_message}
 use Rattle.sam_runes.specs.declared.edit.Edit.{Edit}
 use Rattle.sam_pending.specs.Cells.{PartialText, Cell, all_put}
-use Rattle.sam_pending.specs.Runs.{cells_of, rooms, waits, above, newest_of, Within, sent_runs, removal_changes, edit_changes}
+use Rattle.sam_pending.specs.Runs.{runes_of, cells_of, rooms, waits, above, newest_of, Within, sent_runs, removal_changes, edit_changes}
 use Rattle.sam_pending.specs.declared.run.Run.{Run}
+use Rattle.sam_pending.specs.declared.run.Run.TheVariants.{Held, Typed}
 use Rattle.sam_pending.specs.declared.told.Sent.{Sent}
 use Rattle.sam_pending.specs.declared.told.Shown.{Shown}
 use Rattle.sam_pending.specs.declared.told.Shown.TheVariants.{Rasp, Waiting}
@@ -72,3 +73,8 @@ AreShort (e ∷ es) = (length e.text ≤ most_in_message) × AreShort es
 abbrev pub shown_members : PartialText → Shown → PartialText
 shown_members r (Rasp p n) = take n (drop p r)
 shown_members r (Waiting s) = map Some s.now
+
+-- the same of a run whose members stand in the rasp from that place on
+abbrev pub part_members : List ℕ → PartialText → Run → ℕ → PartialText
+part_members t r (Held n d) at = take n (drop at r)
+part_members t r (Typed s g d) at = map Some (runes_of t s)

@@ -1,7 +1,7 @@
 -- Words of this crate's private calls alone: insertions that are made in pieces, the last of a list first.
 use Rattle.std.specs.Prelude.{◌≡◌, ℕ, ◌+◌, ◌≤◌, List, [], ◌∷◌, length, reverse}
 use Rattle.sam_runes.specs.declared.edit.Edit.{Edit}
-use Rattle.sam_pending.specs.Cells.{PartialText, Change, put, all_put}
+use Rattle.sam_pending.specs.Cells.{PartialText, all_put}
 use Rattle.sam_pending.specs.Runs.{insertion, put_run, put_runs, left_rooms, edit_changes}
 use Rattle.sam_pending.specs.declared.run.Run.{Run}
 

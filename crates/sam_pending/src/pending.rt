@@ -131,7 +131,13 @@ impl Pending {
     /// rasp, the runes that wait (with what goes) and these are more than `MAX_RUNES` together; `OutOfMemory`. After an error all is
     /// unchanged. No lock is an error.
     #[tactic(auto, using(crate::proofs::LayerLaws::replace_facts))]
-    pub fn replace(&mut self, group: u32, p: u32, q: u32, runes: &[char]) -> Result<(), PendingFault>
+    pub fn replace(
+        &mut self,
+        group: u32,
+        p: u32,
+        q: u32,
+        runes: &[char],
+    ) -> Result<(), PendingFault>
         requires { newest_group self.old ≤ group }
         ensures ok { OnOk result ((r : PartialText) → IsOver r self.old → cells_over r self.new ≡ replaced group p q runes.now (cells_over r self.old)) }
         ensures rasp { OnOk result (rasp_length self.new ≡ rasp_length self.old) }
@@ -272,6 +278,7 @@ impl Pending {
         ensures rasp { IfOk result (λ sends. (r : PartialText) → IsOver r self.old → sent_text r sends ≡ rasp_of (sent group (cells_over r self.old))) }
         ensures cells { IfOk result (λ sends. (r : PartialText) → IsOver r self.old
             → cells_over (sent_text r sends) self.new ≡ sent group (cells_over r self.old)) }
+        ensures over { IfOk result (λ sends. (r : PartialText) → IsOver r self.old → IsOver (sent_text r sends) self.new) }
         ensures short { IfOk result (λ sends. AreShort sends.insertions.items) }
         ensures len { OnOk result (rasp_length self.new ≡ sent_length group self.old) }
         ensures long { (result ≡ Err PendingFault.TooLong) ↔ (max_runes < sent_length group self.old) }
@@ -300,6 +307,7 @@ impl Pending {
         ensures rasp { IfOk result (λ sends. (r : PartialText) → IsOver r self.old → sent_text r sends ≡ rasp_of (sent group (cells_over r self.old))) }
         ensures cells { IfOk result (λ sends. (r : PartialText) → IsOver r self.old
             → cells_over (sent_text r sends) self.new ≡ sent group (cells_over r self.old)) }
+        ensures over { IfOk result (λ sends. (r : PartialText) → IsOver r self.old → IsOver (sent_text r sends) self.new) }
         ensures short { IfOk result (λ sends. AreShort sends.insertions.items) }
         ensures len { OnOk result (rasp_length self.new ≡ sent_length group self.old) }
         ensures err { OnErr result ((self.new ≡ self.old) × (result ≡ Err PendingFault.OutOfMemory)) }
@@ -323,12 +331,6 @@ impl Pending {
             → (0 < length (shown_members r x)) × (take (length (shown_members r x)) (drop place (shown_of (cells_over r self.now))) ≡ shown_members r x)) }
     {
         let (run, at) = runs::shown_run(self.runs.as_slice(), place)?;
-        match run {
-            Run::Held(count, _) => Some(Shown::Rasp(at, count)),
-            Run::Typed(runes, _, _) => {
-                let end = (runes.start + runes.count) as usize;
-                Some(Shown::Waiting(&self.text.as_slice()[runes.start as usize..end]))
-            }
-        }
+        Some(runs::part_of(self.text.as_slice(), run, at))
     }
 }

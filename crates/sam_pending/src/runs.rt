@@ -4,13 +4,13 @@ ghost use Rattle.std.specs.Prelude.{◌≡◌, ◌≤◌, ◌<◌, ◌+◌, ◌-
 ghost use Rattle.sam_pending.specs.Runs.{front, back, rooms, room, waits, wait, waiting_run, waiting_runs, dying_run, dying_runs, above, gone_run, gone_runs, filled_run, filled_runs, sent_run, sent_runs, taken_run, taken_runs, newest_of, rests, reach, Within, size, IsSame, kept_run, kept_runs, kept_text, runes_of, spot, put_runs, left_room, left_rooms, edit_changes};
 ghost use Rattle.sam_pending.specs.Puts.{Puts, PutsRun};
 ghost use Rattle.sam_pending.specs.Cells.{PartialText, all_put};
-ghost use Rattle.sam_pending.specs.Layers.{most_kept, AreShort};
+ghost use Rattle.sam_pending.specs.Layers.{most_kept, shown_members, part_members, AreShort};
 ghost use Rattle.sam_pending.specs.declared.run.Run.{Run};
 ghost use Rattle.sam_pending.specs.declared.run.Run.TheVariants.{Held, Typed};
 ghost use Rattle.sam_pending.specs.declared.run.Side.TheVariants.{Below, Above};
 
 use crate::run::{Run, Side, Stretch};
-use crate::told::{Filling, Removal};
+use crate::told::{Filling, Removal, Shown};
 use sam_runes::{Edit, MOST_IN_MESSAGE, Runes};
 use std::alloc::{AllocError, Global};
 
@@ -405,6 +405,21 @@ pub(crate) fn shown_run(runs: &[Run], place: u32) -> Option<(Run, u32)>
     None
 }
 
+/// Returns what the run shows: members of the rasp from place `at` on, or runes of the text.
+pub(crate) fn part_of(text: &[char], run: Run, at: u32) -> Shown<'_>
+    requires within { reach run ≤ length text.now }
+    requires text { length text.now < 2 ^ 32 }
+    ensures { (r : PartialText) → shown_members r result ≡ part_members text.now r run at }
+{
+    match run {
+        Run::Held(count, _) => Shown::Rasp(at, count),
+        Run::Typed(runes, _, _) => {
+            let end = (runes.start + runes.count) as usize;
+            Shown::Waiting(&text[runes.start as usize..end])
+        }
+    }
+}
+
 /// Puts insertions of the runes at place `at` at the end of the edits, each of at most `MOST_IN_MESSAGE` runes. The only error is out of
 /// memory.
 #[tactic(auto, using(crate::proofs::PutLaws::piece_facts))]
@@ -595,13 +610,7 @@ fn sent_room(run: Run, group: u32) -> u32
     ensures most { result ≤ room run + wait run }
 {
     match run {
-        Run::Held(count, died) => {
-            if died == Some(group) {
-                0
-            } else {
-                count
-            }
-        }
+        Run::Held(count, died) => { if died == Some(group) { 0 } else { count } }
         Run::Typed(runes, born, died) => {
             if died != Some(group) && group == born {
                 runes.count

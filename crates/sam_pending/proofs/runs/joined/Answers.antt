@@ -1,4 +1,4 @@
-use Rattle.std.proofs.Common.{arith, subst, sym, ap, ◌∙◌, ◌++◌, ◌+◌, ◌∷◌, [], drop, None, slice_index_or}
+use Rattle.std.proofs.Common.{subst, ◌++◌, ◌+◌, ◌∷◌, drop, None, slice_index_or}
 use Rattle.std.proofs.lemmas.List.{drop_more}
 use Rattle.sam_pending.specs.Runs.{IsSame}
 use Rattle.sam_pending.proofs.JoinLaws.{join_goes, join_stays}

@@ -1,7 +1,4 @@
-use Rattle.std.proofs.Common.{◌≡◌, ◌+◌, ap, subst, sym, ◌∙◌, refl, length, take, arith}
-use Rattle.sam_runes.specs.Texts.{most_in_message}
-use Rattle.sam_pending.specs.Layers.{AreShort}
-use Rattle.sam_pending.specs.Puts.{Puts}
+use Rattle.std.proofs.Common.{ap, refl, length, arith}
 use Rattle.sam_pending.proofs.PutLaws.{puts-piece, short-push, slice-short}
 use Rattle.sam_pending.proofs.runs.push_pieces.Goals as goal
 
