@@ -1,17 +1,19 @@
 -- Layers: runs over a text, and the rasp below.
-use Rattle.std.proofs.Common.{◌≡◌, refl, sym, ap, ◌∙◌, subst, ℕ, ◌+◌, ◌-◌, ◌≤◌, ◌<◌, Bool, true, false, cond, nat_eq, List, [], ◌∷◌, ◌++◌, map, length, take, drop, reverse, replicate, Some, None, arith, length-append, length-drop, length-take-le, take-append-drop, ◌&&◌}
+use Rattle.std.proofs.Common.{Option, ◌≡◌, refl, sym, ap, ◌∙◌, subst, ℕ, ◌+◌, ◌-◌, ◌≤◌, ◌<◌, Bool, true, false, cond, nat_eq, List, [], ◌∷◌, ◌++◌, map, length, take, drop, reverse, replicate, Some, None, arith, length-append, length-drop, length-take-le, take-append-drop, ◌&&◌, not, max}
 use Rattle.std.proofs.lemmas.List.{drop-append-le, take-append-le, length-map, length-replicate}
 use Rattle.std.proofs.lemmas.Bool.Decides.{nat_tests}
+use Rattle.std.proofs.lemmas.List.Elements.{All-append, All-map, All-nil, filter-append}
+use Rattle.std.specs.List.{All}
 use Rattle.sam_runes.specs.Texts.{max_runes}
 use Rattle.sam_runes.specs.declared.edit.Edit.{Edit}
-use Rattle.sam_pending.specs.Cells.{PartialText, is_group, all_put, rasp_of, shown_of, shown_place, resting, replaced, inserted, removed, sent}
-use Rattle.sam_pending.specs.Runs.{spot, held, typed_by, runes_of, room, rooms, wait, waits, above, cells, cells_of, reach, Within, size, front, back, dying_runs, waiting_runs, sent_run, sent_runs, run_rests, rests, IsSame, kept_text, kept_runs, left_rooms, put_runs, taken_runs, edit_changes, removal_changes}
+use Rattle.sam_pending.specs.Cells.{PartialText, is_group, all_put, rasp_of, shown_of, shown_place, resting, replaced, inserted, removed, sent, IsNewest, IsUpTo, waiting_of, in_rasp, Cell}
+use Rattle.sam_pending.specs.Runs.{spot, held, typed_by, runes_of, room, rooms, wait, waits, above, cells, cells_of, reach, Within, size, front, back, dying_runs, waiting_runs, sent_run, sent_runs, run_rests, rests, IsSame, kept_text, kept_runs, left_rooms, put_runs, taken_runs, edit_changes, removal_changes, group_or, newest_run, newest_of}
 use Rattle.sam_pending.specs.Layers.{Layer, IsLayer, IsTidied, most_kept, part_members}
 use Rattle.sam_pending.specs.declared.run.Stretch.{Stretch}
 use Rattle.sam_pending.specs.declared.run.Run.{Run}
 use Rattle.sam_pending.specs.declared.run.Run.TheVariants.{Held, Typed}
 use Rattle.sam_pending.specs.declared.run.Side.TheVariants.{Above, Below}
-use Rattle.sam_pending.proofs.RunLaws.{runes-size, replaced_runs, inserted_runs, removed_runs, rooms-append, rooms-front, rooms-waiting, within-front, within-back, within-append, within-more, dies, drop-front, take-whole}
+use Rattle.sam_pending.proofs.RunLaws.{waiting-held, waiting-typed, runes-size, replaced_runs, inserted_runs, removed_runs, rooms-append, rooms-front, rooms-waiting, within-front, within-back, within-append, within-more, dies, drop-front, take-whole}
 use Rattle.sam_pending.proofs.JoinLaws.{waits-append, waits-split, rooms-split}
 use Rattle.sam_pending.proofs.KeptLaws.{kept-runs, kept-rooms, kept-waits, kept-above, kept-within, kept-length}
 use Rattle.sam_pending.proofs.SendLaws.{above_shown, sent-runs, kept_all, placed, removed_told}
@@ -372,3 +374,57 @@ shown_reach text xs p n y h e =
     let l : length r ≡ rooms xs = length-replicate (rooms xs) None in
     let s : Stands text r (cells_of text r xs) p y n = subst (StandsAt text r (cells_of text r xs) p) e (spot_stands xs text r p 0 h.within (omega (arith, l))) in
     s.within
+
+-- ## Groups and what waits
+
+up-to : (a b : ℕ) (o : Option ℕ) → a ≤ b → IsUpTo a o → IsUpTo b o
+up-to a b None l h = tt
+up-to a b (Some g) l h = omega (arith, l, h)
+
+newer : (a b : ℕ) (cs : List Cell) → a ≤ b → All (IsNewest a) cs → All (IsNewest b) cs
+newer a b cs l h = λ k d i. let p = h k d i in (up-to a b _ l p.0, up-to a b _ l p.1)
+
+of-group : (g : ℕ) (o : Option ℕ) → group_or o ≤ g → IsUpTo g o
+of-group g None l = tt
+of-group g (Some h) l = l
+
+run-newest : (x : Run) (text : List ℕ) (r : PartialText) → All (IsNewest (newest_run x)) (cells text r x)
+run-newest (Held n d) text r = All-map (IsNewest (group_or d)) (held d) (take n r) (λ k y i. (tt, of-group (group_or d) d (omega arith)))
+run-newest (Typed s b d) text r =
+    let g = max b (group_or d) in
+    All-map (IsNewest g) (typed_by b d) (runes_of text s) (λ k y i. (grind arith, of-group g d (grind arith)))
+
+none-left : (x : Run) (text : List ℕ) (r : PartialText) → nat_eq (size x) 0 ≡ true → cells text r x ≡ []
+none-left (Held n d) text r e = let z : n ≡ 0 = grind (arith, e, nat_tests) in ap (λ k. map (held d) (take k r)) z
+none-left (Typed s b d) text r e = let z : s.count ≡ 0 = grind (arith, e, nat_tests) in ap (λ k. map (typed_by b d) (take k (drop s.start text))) z
+
+pub newest_cells : (xs : List Run) (text : List ℕ) (r : PartialText) → All (IsNewest (newest_of xs)) (cells_of text r xs)
+newest_cells [] text r = All-nil (IsNewest 0)
+newest_cells (x ∷ xs) text r = step (nat_eq (size x) 0) refl (newest_cells xs text (drop (room x) r))
+  where
+    step : (t : Bool) → nat_eq (size x) 0 ≡ t → All (IsNewest (newest_of xs)) (cells_of text (drop (room x) r) xs)
+        → All (IsNewest (cond t (newest_of xs) (max (newest_run x) (newest_of xs)))) (cells text r x ++ cells_of text (drop (room x) r) xs)
+    step true e h = subst (λ z. All (IsNewest (newest_of xs)) (z ++ cells_of text (drop (room x) r) xs)) (sym (none-left x text r e)) h
+    step false e h =
+        let g = max (newest_run x) (newest_of xs) in
+        All-append (IsNewest g) (cells text r x) (cells_of text (drop (room x) r) xs)
+        (newer (newest_run x) g (cells text r x) (grind arith) (run-newest x text r))
+        (newer (newest_of xs) g (cells_of text (drop (room x) r) xs) (grind arith) h)
+
+pub waits_cells : (xs : List Run) (text : List ℕ) (r : PartialText) → Within (length text) xs → length (waiting_of (cells_of text r xs)) ≡ waits xs
+waits_cells [] text r w = refl
+waits_cells (Held n d ∷ xs) text r w =
+    ap length (filter-append (λ c. not (in_rasp c)) (map (held d) (take n r)) (cells_of text (drop n r) xs) ∙ ap (λ z. z ++ waiting_of (cells_of text (drop n r) xs)) (waiting-held d (take n r)))
+    ∙ (waits_cells xs text (drop n r) w.1 ∙ omega arith)
+waits_cells (Typed s g d ∷ xs) text r w =
+    let m = runes_of text s in
+    omega (
+      arith,
+      ap length (filter-append (λ c. not (in_rasp c)) (map (typed_by g d) m) (cells_of text r xs) ∙ ap (λ z. z ++ waiting_of (cells_of text r xs)) (waiting-typed g d m)),
+      length-append (map (typed_by g d) m) (waiting_of (cells_of text r xs)),
+      length-map m (typed_by g d),
+      runes-size text s w.0,
+      waits_cells xs text r w.1,
+    )
+
+pub ruleset waiting_facts = (above-most, waits_cells)

@@ -1,8 +1,8 @@
 //! `Pending`: edits of one file that wait, over its rasp.
 
-ghost use Rattle.std.specs.Prelude.{◌≡◌, ◌⊎◌, ◌<◌, ◌≤◌, ◌+◌, ◌-◌, ◌++◌, ◌↔◌, IsTrue, ℕ, List, [], ◌∷◌, length, take, drop, map, reverse, Some, Err, IfOk, OnOk, OnErr, MatchOption};
+ghost use Rattle.std.specs.Prelude.{◌≡◌, ◌⊎◌, ◌<◌, ◌≤◌, ◌+◌, ◌-◌, ◌++◌, ◌↔◌, IsTrue, ℕ, List, [], ◌∷◌, length, take, drop, map, reverse, Some, Err, IfOk, OnOk, OnErr, MatchOption, All};
 ghost use Rattle.sam_runes.specs.Texts.{max_runes};
-ghost use Rattle.sam_pending.specs.Cells.{PartialText, all_put, rasp_of, shown_of, shown_place, resting, replaced, inserted, removed, filled, sent};
+ghost use Rattle.sam_pending.specs.Cells.{PartialText, all_put, rasp_of, shown_of, shown_place, waiting_of, IsNewest, resting, replaced, inserted, removed, filled, sent};
 ghost use Rattle.sam_pending.specs.Runs.{rests, removal_changes, filling_changes};
 ghost use Rattle.sam_pending.specs.Layers.{cells_over, rasp_length, waiting_length, shown_length, newest_group, sent_length, sent_text, shown_members, IsOver, IsTidied, AreShort, most_kept};
 
@@ -67,7 +67,7 @@ impl Pending {
         ensures len { IfOk result (λ l. rasp_length l ≡ len) }
         ensures rests { IfOk result (λ l. (r : PartialText) → IsOver r l → cells_over r l ≡ resting r) }
         ensures long { (result ≡ Err PendingFault.TooLong) ↔ (max_runes < len) }
-        ensures position { OnErr result ((result ≡ Err PendingFault.TooLong) ⊎ (result ≡ Err PendingFault.OutOfMemory)) }
+        ensures err { OnErr result ((result ≡ Err PendingFault.TooLong) ⊎ (result ≡ Err PendingFault.OutOfMemory)) }
     {
         if len > MAX_RUNES {
             return Err(PendingFault::TooLong);
@@ -100,9 +100,10 @@ impl Pending {
     }
 
     /// Returns how many runes wait, those that a later group removes among them.
-    #[tactic(auto, using(crate::proofs::LayerLaws::length_facts))]
+    #[tactic(auto, using(crate::proofs::LayerLaws::waiting_facts))]
     pub fn waiting(&self) -> u32
         ensures len { result ≡ waiting_length self.now }
+        ensures cells { (r : PartialText) → length (waiting_of (cells_over r self.now)) ≡ result }
         ensures limit { result ≤ max_runes }
     {
         runs::waiting_len(self.runs.as_slice())
@@ -118,8 +119,10 @@ impl Pending {
     }
 
     /// Returns the newest group that waits; 0 if none does.
+    #[tactic(auto, using(crate::proofs::LayerLaws::newest_cells))]
     pub fn newest(&self) -> u32
-        ensures { result ≡ newest_group self.now }
+        ensures value { result ≡ newest_group self.now }
+        ensures cells { (r : PartialText) → All (IsNewest result) (cells_over r self.now) }
     {
         runs::newest(self.runs.as_slice())
     }
