@@ -7,7 +7,8 @@ use Rattle.sam_pending.specs.declared.run.Run.{Run}
 
 -- the edits es are the old ones and insertions of the runes s at place n
 pub record Puts (n : ℕ) (s : List ℕ) (old es : List Edit) : Type 0 where
-  pub made : (v : PartialText) → n ≤ length v → all_put v (reverse (edit_changes es)) ≡ all_put (all_put v (insertion n s ∷ [])) (reverse (edit_changes old))
+  pub made : (v : PartialText) → n ≤ length v
+      → all_put v (reverse (edit_changes es)) ≡ all_put (all_put v (insertion n s ∷ [])) (reverse (edit_changes old))
 
 -- the edits es are the old ones and what group g puts in by the run x, of runes of this text, where n members stand before it
 pub record PutsRun (text : List ℕ) (g n : ℕ) (x : Run) (old es : List Edit) : Type 0 where

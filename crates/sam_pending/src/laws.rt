@@ -40,7 +40,7 @@ pub fn runes_are_stored()
         × (take (shown_place p cs) (shown_of (filled p s cs)) ≡ take (shown_place p cs) (shown_of cs)) }
 {}
 
-/// States that no frame takes away, adds or reorders what waits.
+/// States that no frame takes away, adds or reorders what waits. Only a file that is closed loses it.
 pub fn nothing_typed_is_lost()
     ensures inserted { (cs : List Cell) (p : ℕ) (new : PartialText) → waiting_of (inserted p new cs) ≡ waiting_of cs }
     ensures removed { (cs : List Cell) (p q : ℕ) → waiting_of (removed p q cs) ≡ waiting_of cs }

@@ -36,8 +36,9 @@ const SPARE: usize = 1_024;
 /// let sends = pending.send(1)?; // `!` comes in at place 11 of the rasp
 /// ```
 ///
-/// The cost of each call is linear in the number of runs: stretches of cells of one sort. Each change makes at most two more, and those
-/// that can be one are joined. So runes that are typed one after another are one run.
+/// The cost of each call is linear in the number of runs, which are stretches of cells of one sort, and in the runes that it is given or
+/// hands out. Each change makes at most three runs more, and those that can be one are joined: runes that are typed one after another are
+/// one run. At times the runes that wait are copied, when as many came to the rasp or went since the last time.
 #[derive(Drop)]
 pub struct Pending {
     /// The runes that wait, and some that wait no more.
@@ -142,7 +143,8 @@ impl Pending {
         runes: &[char],
     ) -> Result<(), PendingFault>
         requires { newest_group self.old ≤ group }
-        ensures ok { OnOk result ((r : PartialText) → IsOver r self.old → cells_over r self.new ≡ replaced group p q runes.now (cells_over r self.old)) }
+        ensures ok { OnOk result ((r : PartialText) → IsOver r self.old
+            → cells_over r self.new ≡ replaced group p q runes.now (cells_over r self.old)) }
         ensures rasp { OnOk result (rasp_length self.new ≡ rasp_length self.old) }
         ensures position { (result ≡ Err PendingFault.BadPosition) ↔ ((q < p) ⊎ (shown_length self.old < q)) }
         ensures long { (result ≡ Err PendingFault.TooLong) ↔ ((p ≤ q) × (q ≤ shown_length self.old) × (0 < length runes.now)
@@ -167,7 +169,8 @@ impl Pending {
     fn put(&mut self, group: u32, p: u32, q: u32, runes: &[char]) -> Result<(), PendingFault>
         requires ascending { p ≤ q }
         requires waiting { waiting_length self.old + length runes.now ≤ max_runes }
-        ensures ok { OnOk result ((r : PartialText) → IsOver r self.old → cells_over r self.new ≡ replaced group p q runes.now (cells_over r self.old)) }
+        ensures ok { OnOk result ((r : PartialText) → IsOver r self.old
+            → cells_over r self.new ≡ replaced group p q runes.now (cells_over r self.old)) }
         ensures rasp { OnOk result (rasp_length self.new ≡ rasp_length self.old) }
         ensures err { OnErr result ((self.new ≡ self.old) × (result ≡ Err PendingFault.OutOfMemory)) }
     {
@@ -227,8 +230,8 @@ impl Pending {
         Ok(place)
     }
 
-    /// Takes on that the host removed what stood from place `p` to place `q` of the rasp. Returns what goes of what is shown, as removals in
-    /// ascending places: they are made one after another, the last one first. What waits between stays.
+    /// Takes on that the host removed what stood from place `p` to place `q` of the rasp. Returns what goes of what is shown, as removals
+    /// in ascending places: they are made one after another, the last one first. What waits between stays.
     ///
     /// Errors, in this order: `BadPosition` if `q` is less than `p` or past the end of the rasp; `OutOfMemory`. After an error all is
     /// unchanged.
@@ -237,10 +240,12 @@ impl Pending {
         ensures cells { OnOk result ((r : PartialText) → IsOver r self.old
             → cells_over (take p r ++ drop q r) self.new ≡ removed p q (cells_over r self.old)) }
         ensures told { IfOk result (λ told. (r : PartialText) → IsOver r self.old
-            → all_put (shown_of (cells_over r self.old)) (reverse (removal_changes told.items)) ≡ shown_of (removed p q (cells_over r self.old))) }
+            → all_put (shown_of (cells_over r self.old)) (reverse (removal_changes told.items))
+            ≡ shown_of (removed p q (cells_over r self.old))) }
         ensures rasp { OnOk result (rasp_length self.new + (q - p) ≡ rasp_length self.old) }
         ensures position { (result ≡ Err PendingFault.BadPosition) ↔ ((q < p) ⊎ (rasp_length self.old < q)) }
-        ensures err { OnErr result ((self.new ≡ self.old) × ((result ≡ Err PendingFault.BadPosition) ⊎ (result ≡ Err PendingFault.OutOfMemory))) }
+        ensures err { OnErr result ((self.new ≡ self.old)
+            × ((result ≡ Err PendingFault.BadPosition) ⊎ (result ≡ Err PendingFault.OutOfMemory))) }
     {
         if p > q || q > runs::rasp_len(self.runs.as_slice()) {
             return Err(PendingFault::BadPosition);
@@ -259,7 +264,8 @@ impl Pending {
         ensures cells { OnOk result ((r : PartialText) (s : List ℕ) → IsOver r self.now → length s ≡ count
             → cells_over (take p r ++ map Some s ++ drop (p + count) r) self.now ≡ filled p s (cells_over r self.now)) }
         ensures told { IfOk result (λ told. (r : PartialText) (s : List ℕ) → IsOver r self.now → length s ≡ count
-            → all_put (shown_of (cells_over r self.now)) (reverse (filling_changes s told.items)) ≡ shown_of (filled p s (cells_over r self.now))) }
+            → all_put (shown_of (cells_over r self.now)) (reverse (filling_changes s told.items))
+            ≡ shown_of (filled p s (cells_over r self.now))) }
         ensures position { (result ≡ Err PendingFault.BadPosition) ↔ (rasp_length self.now < p + count) }
         ensures err { OnErr result ((result ≡ Err PendingFault.BadPosition) ⊎ (result ≡ Err PendingFault.OutOfMemory)) }
     {
@@ -271,21 +277,24 @@ impl Pending {
         Ok(told)
     }
 
-    /// Brings a group to the rasp: returns its edits, which the caller makes there. What is shown stays. The oldest group that waits goes
-    /// first. A caller makes all removals first, one after another, the last one of the list first; then all insertions, the last one first.
+    /// Brings a group to the rasp: returns its edits, which the caller makes there. What is shown stays. A caller sends the oldest group
+    /// that waits first. It makes all removals first, one after another, the last one of the list first; then all insertions, the last one
+    /// first. These have at most `MOST_IN_MESSAGE` runes each.
     ///
     /// Errors, in this order: `TooLong` if the rasp would have more than `MAX_RUNES` members, because the host put more in meanwhile;
     /// `OutOfMemory`. After an error all is unchanged.
     #[tactic(auto, using(crate::proofs::LayerLaws::send_facts))]
     pub fn send(&mut self, group: u32) -> Result<Sent, PendingFault>
-        ensures rasp { IfOk result (λ sends. (r : PartialText) → IsOver r self.old → sent_text r sends ≡ rasp_of (sent group (cells_over r self.old))) }
+        ensures rasp { IfOk result (λ sends. (r : PartialText) → IsOver r self.old
+            → sent_text r sends ≡ rasp_of (sent group (cells_over r self.old))) }
         ensures cells { IfOk result (λ sends. (r : PartialText) → IsOver r self.old
             → cells_over (sent_text r sends) self.new ≡ sent group (cells_over r self.old)) }
         ensures over { IfOk result (λ sends. (r : PartialText) → IsOver r self.old → IsOver (sent_text r sends) self.new) }
         ensures short { IfOk result (λ sends. AreShort sends.insertions.items) }
         ensures len { OnOk result (rasp_length self.new ≡ sent_length group self.old) }
         ensures long { (result ≡ Err PendingFault.TooLong) ↔ (max_runes < sent_length group self.old) }
-        ensures err { OnErr result ((self.new ≡ self.old) × ((result ≡ Err PendingFault.TooLong) ⊎ (result ≡ Err PendingFault.OutOfMemory))) }
+        ensures err { OnErr result ((self.new ≡ self.old)
+            × ((result ≡ Err PendingFault.TooLong) ⊎ (result ≡ Err PendingFault.OutOfMemory))) }
     {
         if self.sent_len(group) > MAX_RUNES {
             return Err(PendingFault::TooLong);
@@ -307,7 +316,8 @@ impl Pending {
     #[tactic(auto, using(crate::proofs::LayerLaws::bring_facts))]
     fn bring(&mut self, group: u32) -> Result<Sent, PendingFault>
         requires { sent_length group self.old ≤ max_runes }
-        ensures rasp { IfOk result (λ sends. (r : PartialText) → IsOver r self.old → sent_text r sends ≡ rasp_of (sent group (cells_over r self.old))) }
+        ensures rasp { IfOk result (λ sends. (r : PartialText) → IsOver r self.old
+            → sent_text r sends ≡ rasp_of (sent group (cells_over r self.old))) }
         ensures cells { IfOk result (λ sends. (r : PartialText) → IsOver r self.old
             → cells_over (sent_text r sends) self.new ≡ sent group (cells_over r self.old)) }
         ensures over { IfOk result (λ sends. (r : PartialText) → IsOver r self.old → IsOver (sent_text r sends) self.new) }
@@ -326,12 +336,13 @@ impl Pending {
         })
     }
 
-    /// Returns what stands from that place of what is shown on: so many members of the rasp, or runes that wait; `None` from the end on. The
-    /// next call is for the place after these, so what is shown can be read piece by piece.
+    /// Returns what stands from that place of what is shown on: so many members of the rasp, or runes that wait; `None` from the end on.
+    /// The next call is for the place after these, so what is shown can be read piece by piece.
     #[tactic(auto, using(crate::proofs::LayerLaws::shown_facts))]
     pub fn shown_at(&self, place: u32) -> Option<Shown<'_>>
         ensures { MatchOption result (shown_length self.now ≤ place) (λ x. (r : PartialText) → IsOver r self.now
-            → (0 < length (shown_members r x)) × (take (length (shown_members r x)) (drop place (shown_of (cells_over r self.now))) ≡ shown_members r x)) }
+            → (0 < length (shown_members r x))
+            × (take (length (shown_members r x)) (drop place (shown_of (cells_over r self.now))) ≡ shown_members r x)) }
     {
         let (run, at) = runs::shown_run(self.runs.as_slice(), place)?;
         Some(runs::part_of(self.text.as_slice(), run, at))

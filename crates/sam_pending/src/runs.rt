@@ -24,8 +24,10 @@ fn sort(
     run: Run,
 ) -> Result<u32, AllocError>
     requires { reach run ≤ most_kept }
-    ensures front { IfOk result (λ n. (rest : List Run) → before.new.items ++ front side n rest ≡ before.old.items ++ front side left (run ∷ rest)) }
-    ensures back { IfOk result (λ n. (rest : List Run) → behind.new.items ++ back side n rest ≡ behind.old.items ++ back side left (run ∷ rest)) }
+    ensures front { IfOk result (λ n. (rest : List Run) →
+        before.new.items ++ front side n rest ≡ before.old.items ++ front side left (run ∷ rest)) }
+    ensures back { IfOk result (λ n. (rest : List Run) →
+        behind.new.items ++ back side n rest ≡ behind.old.items ++ back side left (run ∷ rest)) }
 {
     if left == 0 {
         behind.push(run)?;
@@ -516,7 +518,8 @@ pub(crate) fn replaced(
     requires ascending { p ≤ q }
     requires within { Within most_kept runs.now }
     ensures { IfOk result (λ after. let rest = back Above p runs.now in
-        IsSame after.items (front Above p runs.now ++ Typed stretch group None ∷ [] ++ dying_runs group (front Above (q - p) rest) ++ back Above (q - p) rest)) }
+        IsSame after.items (front Above p runs.now ++ Typed stretch group None ∷ []
+        ++ dying_runs group (front Above (q - p) rest) ++ back Above (q - p) rest)) }
 {
     let (mut before, rest) = split(alloc, runs, Side::Above, p)?;
     let (middle, behind) = split(alloc, rest.as_slice(), Side::Above, q - p)?;
@@ -559,7 +562,8 @@ pub(crate) fn removed(
     requires ascending { p ≤ q }
     requires within { Within most_kept runs.now }
     requires shown { above runs.now < 2 ^ 32 }
-    ensures told { IfOk result (λ told. told.0.items ≡ gone_runs (above (front Below p runs.now)) (front Below (q - p) (back Below p runs.now))) }
+    ensures told { IfOk result (λ told.
+        told.0.items ≡ gone_runs (above (front Below p runs.now)) (front Below (q - p) (back Below p runs.now))) }
     ensures runs { IfOk result (λ told. let rest = back Below p runs.now in
         IsSame told.1.items (front Below p runs.now ++ waiting_runs (front Below (q - p) rest) ++ back Below (q - p) rest)) }
 {
@@ -584,7 +588,8 @@ pub(crate) fn loaded(
     requires within { Within most_kept runs.now }
     requires shown { above runs.now < 2 ^ 32 }
     requires held { rooms runs.now < 2 ^ 32 }
-    ensures { IfOk result (λ told. told.items ≡ filled_runs (above (front Below p runs.now)) 0 (front Below count (back Below p runs.now))) }
+    ensures { IfOk result (λ told.
+        told.items ≡ filled_runs (above (front Below p runs.now)) 0 (front Below count (back Below p runs.now))) }
 {
     let (before, rest) = split(alloc, runs, Side::Below, p)?;
     let (middle, _) = split(alloc, rest.as_slice(), Side::Below, count)?;
