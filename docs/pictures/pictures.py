@@ -98,10 +98,11 @@ PLACES = {
     "sam_mesg": (190, 11, "messages and their bytes"),
     "sam_text": (370, 11, "files, command lines"),
     "sam_rasp": (550, 11, "texts with gaps"),
+    "sam_pending": (730, 11, "edits that wait"),
     "sam_runes": (370, 12, "texts as lists of runes"),
 }
 LEFT_OUT = {
-    *("sam_tests", "sam_tests_journal", "sam_tests_threads", "sam_test_support", "sam_examples"),
+    *("sam_tests", "sam_tests_journal", "sam_tests_pending", "sam_tests_threads", "sam_test_support", "sam_examples"),
     "sam_note",  # its two arrows would cross the whole picture
 }
 

@@ -1,0 +1,10 @@
+pub mod CellLaws
+pub mod GroupLaws
+pub mod RunLaws
+pub mod JoinLaws
+pub mod KeptLaws
+pub mod PutLaws
+pub mod SendLaws
+pub mod FillLaws
+pub mod SpotLaws
+pub mod LayerLaws

@@ -1,0 +1,80 @@
+-- What waits over a rasp: runs, and the text of the runes in them. The rasp itself stands elsewhere.
+use Rattle.std.specs.Prelude.{◌≡◌, ◌≤◌, ℕ, List, [], ◌∷◌, length, take, drop, map, reverse, Some}
+use Rattle.sam_runes.specs.Texts.{max_runes, most_in_message}
+use Rattle.sam_runes.specs.declared.edit.Edit.{Edit}
+use Rattle.sam_pending.specs.Cells.{PartialText, Cell, all_put}
+use Rattle.sam_pending.specs.Runs.{runes_of, cells_of, rooms, waits, above, newest_of, Within, sent_runs, removal_changes, edit_changes}
+use Rattle.sam_pending.specs.declared.run.Run.{Run}
+use Rattle.sam_pending.specs.declared.run.Run.TheVariants.{Held, Typed}
+use Rattle.sam_pending.specs.declared.told.Sent.{Sent}
+use Rattle.sam_pending.specs.declared.told.Shown.{Shown}
+use Rattle.sam_pending.specs.declared.told.Shown.TheVariants.{Rasp, Waiting}
+
+pub record Layer : Type 0 where
+  pub text : List ℕ
+  pub runs : List Run
+
+-- the cells over a rasp with these members
+abbrev pub cells_over : PartialText → Layer → List Cell
+cells_over r l = cells_of l.text r l.runs
+
+-- how many members its rasp has
+abbrev pub rasp_length : Layer → ℕ
+rasp_length l = rooms l.runs
+
+-- how many runes wait, those that a later group removes among them
+abbrev pub waiting_length : Layer → ℕ
+waiting_length l = waits l.runs
+
+-- how many members are shown
+abbrev pub shown_length : Layer → ℕ
+shown_length l = above l.runs
+
+-- the newest group that waits; 0 where none does
+abbrev pub newest_group : Layer → ℕ
+newest_group l = newest_of l.runs
+
+-- the layer is one over that rasp
+abbrev pub IsOver : PartialText → Layer → Type 0
+IsOver r l = rasp_length l ≡ length r
+
+-- the most runes that the text keeps, those that wait no more among them
+abbrev pub most_kept : ℕ
+most_kept = 4_000_000
+
+-- what is true of each layer
+pub record IsLayer (l : Layer) : Type 0 where
+  pub text : length l.text ≤ most_kept
+  pub within : Within (length l.text) l.runs
+  pub rasp : rasp_length l ≤ max_runes
+  pub waiting : waiting_length l ≤ max_runes
+
+-- the layer stands for the same cells
+pub record IsTidied (l k : Layer) : Type 0 where
+  pub cells : (r : PartialText) → IsOver r l → cells_over r k ≡ cells_over r l
+  pub rasp : rasp_length k ≡ rasp_length l
+  pub waiting : waiting_length k ≡ waiting_length l
+  pub shown : shown_length k ≡ shown_length l
+
+-- how many members the rasp has once the group came to it
+abbrev pub sent_length : ℕ → Layer → ℕ
+sent_length g l = rooms (sent_runs g l.runs)
+
+-- the rasp after the edits of a group: all removals, the last first, and then all insertions, the last first
+abbrev pub sent_text : PartialText → Sent → PartialText
+sent_text r s = all_put (all_put r (reverse (removal_changes s.removals.items))) (reverse (edit_changes s.insertions.items))
+
+-- no edit has more runes than a message takes
+abbrev pub AreShort : List Edit → Type 0
+AreShort [] = Unit {0}
+AreShort (e ∷ es) = (length e.text ≤ most_in_message) × AreShort es
+
+-- what stands at a place of the shown text, over that rasp
+abbrev pub shown_members : PartialText → Shown → PartialText
+shown_members r (Rasp p n) = take n (drop p r)
+shown_members r (Waiting s) = map Some s.now
+
+-- the same of a run whose members stand in the rasp from that place on
+abbrev pub part_members : List ℕ → PartialText → Run → ℕ → PartialText
+part_members t r (Held n d) at = take n (drop at r)
+part_members t r (Typed s g d) at = map Some (runes_of t s)

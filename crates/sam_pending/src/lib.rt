@@ -1,0 +1,14 @@
+//! Edits that wait: a layer over a rasp. What the user does is shown at once, and comes to the rasp once the file is free. Begin with
+//! `Pending`; the module `laws` says what is true of the cells that its clauses speak of.
+#![tactic(auto)]
+
+mod fault;
+pub mod laws;
+mod pending;
+mod run;
+mod runs;
+mod told;
+
+pub use fault::PendingFault;
+pub use pending::Pending;
+pub use told::{Filling, Removal, Sent, Shown};

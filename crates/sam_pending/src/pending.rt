@@ -1,0 +1,350 @@
+//! `Pending`: edits of one file that wait, over its rasp.
+
+ghost use Rattle.std.specs.Prelude.{◌≡◌, ◌⊎◌, ◌<◌, ◌≤◌, ◌+◌, ◌-◌, ◌++◌, ◌↔◌, IsTrue, ℕ, List, [], ◌∷◌, length, take, drop, map, reverse, Some, Err, IfOk, OnOk, OnErr, MatchOption, All};
+ghost use Rattle.sam_runes.specs.Texts.{max_runes};
+ghost use Rattle.sam_pending.specs.Cells.{PartialText, all_put, rasp_of, shown_of, shown_place, waiting_of, IsNewest, resting, replaced, inserted, removed, filled, sent};
+ghost use Rattle.sam_pending.specs.Runs.{rests, removal_changes, filling_changes};
+ghost use Rattle.sam_pending.specs.Layers.{cells_over, rasp_length, waiting_length, shown_length, newest_group, sent_length, sent_text, shown_members, IsOver, IsTidied, AreShort, most_kept};
+
+use crate::fault::PendingFault;
+use crate::run::{Run, Stretch};
+use crate::runs;
+use crate::told::{Filling, Removal, Sent, Shown};
+use sam_runes::MAX_RUNES;
+use std::alloc::Global;
+use std::marker::Model;
+
+/// The most runes that the text keeps, those that wait no more among them.
+const MOST_KEPT: usize = 4_000_000;
+
+/// How many runes that wait no more may stand in the text besides as many as wait.
+const SPARE: usize = 1_024;
+
+/// Edits of one file that wait, over its rasp.
+///
+/// A user changes the text that is shown, at once, also while the host has locked the file. Each change belongs to a *group*. The rasp has
+/// the changes of a group once it is sent; until then they wait. Frames of the host change the rasp, and through it what is shown. What a
+/// user put in before stays, wherever the host changes the text round it.
+///
+/// The rasp stands elsewhere: here is how many members (runes and gaps) it has, and what waits between them. A clause sees the cells of
+/// both: `cells_over r self` over a rasp `r` of that length.
+///
+/// ```rust
+/// let mut pending = Pending::new(alloc, 5)?; // `hello`, and nothing waits
+/// pending.replace(1, 5, 5, &['!'])?; // `hello!` is shown
+/// let place = pending.insert_by_host(5, 6)?; // the host put ` world` in at place 5 of the rasp: it is shown at 5, before the `!`
+/// let sends = pending.send(1)?; // `!` comes in at place 11 of the rasp
+/// ```
+///
+/// The cost of each call is linear in the number of runs, which are stretches of cells of one sort, and in the runes that it is given or
+/// hands out. Each change makes at most three runs more, and those that can be one are joined: runes that are typed one after another are
+/// one run. At times the runes that wait are copied, when as many came to the rasp or went since the last time.
+#[derive(Drop)]
+pub struct Pending {
+    /// The runes that wait, and some that wait no more.
+    text: Vec<char>,
+    /// The cells in order.
+    runs: Vec<Run>,
+    /// What gives the memory.
+    alloc: Global,
+}
+
+impl Model for Pending {
+    ghost use Rattle.sam_pending.specs.Layers.{Layer, IsLayer};
+
+    ghost Value = { Layer };
+
+    ghost view = { λ s. record { text = s.text.items; runs = s.runs.items } };
+
+    ghost invariant = { λ s. IsLayer (record { text = s.text.items; runs = s.runs.items }) };
+}
+
+impl Pending {
+    /// Returns the layer over a rasp of `len` members, in which nothing waits.
+    ///
+    /// Errors, in this order: `TooLong` if `len` is above `MAX_RUNES`; `OutOfMemory`.
+    #[tactic(auto, using(crate::proofs::LayerLaws::new_facts))]
+    pub fn new(alloc: Global, len: u32) -> Result<Pending, PendingFault>
+        ensures len { IfOk result (λ l. rasp_length l ≡ len) }
+        ensures rests { IfOk result (λ l. (r : PartialText) → IsOver r l → cells_over r l ≡ resting r) }
+        ensures long { (result ≡ Err PendingFault.TooLong) ↔ (max_runes < len) }
+        ensures err { OnErr result ((result ≡ Err PendingFault.TooLong) ⊎ (result ≡ Err PendingFault.OutOfMemory)) }
+    {
+        if len > MAX_RUNES {
+            return Err(PendingFault::TooLong);
+        }
+        let mut runs = Vec::new(alloc);
+        runs.push(Run::Held(len, None))?;
+        Ok(Pending {
+            text: Vec::new(alloc),
+            runs,
+            alloc,
+        })
+    }
+
+    /// Returns how many members the rasp has.
+    #[tactic(auto, using(crate::proofs::LayerLaws::length_facts))]
+    pub fn rasp_len(&self) -> u32
+        ensures len { result ≡ rasp_length self.now }
+        ensures limit { result ≤ max_runes }
+    {
+        runs::rasp_len(self.runs.as_slice())
+    }
+
+    /// Returns how many members (runes and gaps) are shown.
+    #[tactic(auto, using(crate::proofs::LayerLaws::length_facts))]
+    pub fn shown_len(&self) -> u32
+        ensures len { result ≡ shown_length self.now }
+        ensures cells { (r : PartialText) → IsOver r self.now → length (shown_of (cells_over r self.now)) ≡ result }
+    {
+        runs::shown_len(self.runs.as_slice())
+    }
+
+    /// Returns how many runes wait, those that a later group removes among them.
+    #[tactic(auto, using(crate::proofs::LayerLaws::waiting_facts))]
+    pub fn waiting(&self) -> u32
+        ensures len { result ≡ waiting_length self.now }
+        ensures cells { (r : PartialText) → length (waiting_of (cells_over r self.now)) ≡ result }
+        ensures limit { result ≤ max_runes }
+    {
+        runs::waiting_len(self.runs.as_slice())
+    }
+
+    /// Returns whether nothing waits: then the rasp is shown.
+    #[tactic(auto, using(crate::proofs::LayerLaws::rests_facts))]
+    pub fn is_resting(&self) -> bool
+        ensures value { result ≡ rests self.now.runs }
+        ensures rests { IsTrue result → (r : PartialText) → IsOver r self.now → cells_over r self.now ≡ resting r }
+    {
+        runs::rest(self.runs.as_slice())
+    }
+
+    /// Returns the newest group that waits; 0 if none does.
+    #[tactic(auto, using(crate::proofs::LayerLaws::newest_cells))]
+    pub fn newest(&self) -> u32
+        ensures value { result ≡ newest_group self.now }
+        ensures cells { (r : PartialText) → All (IsNewest result) (cells_over r self.now) }
+    {
+        runs::newest(self.runs.as_slice())
+    }
+
+    /// Puts `runes` in the place of what is shown from place `p` to place `q`, in that group, which is not older than `newest`. They stand
+    /// behind what is shown before `p`. Runes that the group itself put in go for good; others go once the group is sent.
+    ///
+    /// Errors, in this order: `BadPosition` if `q` is less than `p` or past the end of what is shown; `TooLong` if there are runes and the
+    /// rasp, the runes that wait (with what goes) and these are more than `MAX_RUNES` together; `OutOfMemory`. After an error all is
+    /// unchanged. No lock is an error.
+    #[tactic(auto, using(crate::proofs::LayerLaws::replace_facts))]
+    pub fn replace(
+        &mut self,
+        group: u32,
+        p: u32,
+        q: u32,
+        runes: &[char],
+    ) -> Result<(), PendingFault>
+        requires { newest_group self.old ≤ group }
+        ensures ok { OnOk result ((r : PartialText) → IsOver r self.old
+            → cells_over r self.new ≡ replaced group p q runes.now (cells_over r self.old)) }
+        ensures rasp { OnOk result (rasp_length self.new ≡ rasp_length self.old) }
+        ensures position { (result ≡ Err PendingFault.BadPosition) ↔ ((q < p) ⊎ (shown_length self.old < q)) }
+        ensures long { (result ≡ Err PendingFault.TooLong) ↔ ((p ≤ q) × (q ≤ shown_length self.old) × (0 < length runes.now)
+            × (max_runes < rasp_length self.old + waiting_length self.old + length runes.now)) }
+        ensures err { OnErr result (self.new ≡ self.old) }
+    {
+        if p > q || q > self.shown_len() {
+            return Err(PendingFault::BadPosition);
+        }
+        let kept = (self.rasp_len() + self.waiting()) as usize;
+        let room = (MAX_RUNES as usize).saturating_sub(kept);
+        if !runes.is_empty() && runes.len() > room {
+            return Err(PendingFault::TooLong);
+        }
+        self.put(group, p, q, runes)?;
+        self.tidy();
+        Ok(())
+    }
+
+    /// As `replace`, where the places are good and there is room.
+    #[tactic(auto, using(crate::proofs::LayerLaws::put_facts))]
+    fn put(&mut self, group: u32, p: u32, q: u32, runes: &[char]) -> Result<(), PendingFault>
+        requires ascending { p ≤ q }
+        requires waiting { waiting_length self.old + length runes.now ≤ max_runes }
+        ensures ok { OnOk result ((r : PartialText) → IsOver r self.old
+            → cells_over r self.new ≡ replaced group p q runes.now (cells_over r self.old)) }
+        ensures rasp { OnOk result (rasp_length self.new ≡ rasp_length self.old) }
+        ensures err { OnErr result ((self.new ≡ self.old) × (result ≡ Err PendingFault.OutOfMemory)) }
+    {
+        if runes.len() > MOST_KEPT - self.text.len() {
+            return Err(PendingFault::OutOfMemory);
+        }
+        let stretch = Stretch {
+            start: self.text.len() as u32,
+            count: runes.len() as u32,
+        };
+        let after = runs::replaced(self.alloc, self.runs.as_slice(), stretch, group, p, q)?;
+        self.text.extend_from_slice(runes)?;
+        self.runs = after;
+        Ok(())
+    }
+
+    /// Writes the text anew without the runes that wait no more, if these are many and there is memory. The cells stay.
+    #[tactic(auto, using(crate::proofs::LayerLaws::tidy_facts))]
+    fn tidy(&mut self)
+        ensures { IsTidied self.old self.new }
+    {
+        let waiting = runs::waiting_len(self.runs.as_slice()) as usize;
+        if self.text.len() <= 2 * waiting + SPARE {
+            return;
+        }
+        let made = runs::kept(self.alloc, self.text.as_slice(), self.runs.as_slice());
+        if let Ok((text, runs)) = made {
+            self.text = text;
+            self.runs = runs;
+        }
+    }
+
+    /// Takes on that the host put `count` members in at place `p` of the rasp. Returns the place of what is shown where they stand: before
+    /// what waits there.
+    ///
+    /// Errors, in this order: `BadPosition` if `p` is past the end of the rasp; `TooLong` if the rasp would have more than `MAX_RUNES`
+    /// members; `OutOfMemory`. After an error all is unchanged.
+    #[tactic(auto, using(crate::proofs::LayerLaws::insert_facts))]
+    pub fn insert_by_host(&mut self, p: u32, count: u32) -> Result<u32, PendingFault>
+        ensures cells { OnOk result ((r new : PartialText) → IsOver r self.old → length new ≡ count
+            → cells_over (take p r ++ new ++ drop p r) self.new ≡ inserted p new (cells_over r self.old)) }
+        ensures place { IfOk result (λ place. (r : PartialText) → IsOver r self.old → place ≡ shown_place p (cells_over r self.old)) }
+        ensures rasp { OnOk result (rasp_length self.new ≡ rasp_length self.old + count) }
+        ensures position { (result ≡ Err PendingFault.BadPosition) ↔ (rasp_length self.old < p) }
+        ensures long { (result ≡ Err PendingFault.TooLong) ↔ ((p ≤ rasp_length self.old) × (max_runes < rasp_length self.old + count)) }
+        ensures err { OnErr result (self.new ≡ self.old) }
+    {
+        let len = runs::rasp_len(self.runs.as_slice());
+        if p > len {
+            return Err(PendingFault::BadPosition);
+        }
+        if count > MAX_RUNES - len {
+            return Err(PendingFault::TooLong);
+        }
+        let (place, after) = runs::inserted(self.alloc, self.runs.as_slice(), p, count)?;
+        self.runs = after;
+        Ok(place)
+    }
+
+    /// Takes on that the host removed what stood from place `p` to place `q` of the rasp. Returns what goes of what is shown, as removals
+    /// in ascending places: they are made one after another, the last one first. What waits between stays.
+    ///
+    /// Errors, in this order: `BadPosition` if `q` is less than `p` or past the end of the rasp; `OutOfMemory`. After an error all is
+    /// unchanged.
+    #[tactic(auto, using(crate::proofs::LayerLaws::remove_facts))]
+    pub fn remove_by_host(&mut self, p: u32, q: u32) -> Result<Vec<Removal>, PendingFault>
+        ensures cells { OnOk result ((r : PartialText) → IsOver r self.old
+            → cells_over (take p r ++ drop q r) self.new ≡ removed p q (cells_over r self.old)) }
+        ensures told { IfOk result (λ told. (r : PartialText) → IsOver r self.old
+            → all_put (shown_of (cells_over r self.old)) (reverse (removal_changes told.items))
+            ≡ shown_of (removed p q (cells_over r self.old))) }
+        ensures rasp { OnOk result (rasp_length self.new + (q - p) ≡ rasp_length self.old) }
+        ensures position { (result ≡ Err PendingFault.BadPosition) ↔ ((q < p) ⊎ (rasp_length self.old < q)) }
+        ensures err { OnErr result ((self.new ≡ self.old)
+            × ((result ≡ Err PendingFault.BadPosition) ⊎ (result ≡ Err PendingFault.OutOfMemory))) }
+    {
+        if p > q || q > runs::rasp_len(self.runs.as_slice()) {
+            return Err(PendingFault::BadPosition);
+        }
+        let (told, after) = runs::removed(self.alloc, self.runs.as_slice(), p, q)?;
+        self.runs = after;
+        Ok(told)
+    }
+
+    /// Tells what becomes of what is shown as `count` runes are stored in the rasp from place `p` on: the stretches whose runes came in, in
+    /// ascending places. Nothing moves, and nothing here changes.
+    ///
+    /// Errors, in this order: `BadPosition` if `p + count` is past the end of the rasp; `OutOfMemory`.
+    #[tactic(auto, using(crate::proofs::LayerLaws::fill_facts))]
+    pub fn fill_by_host(&self, p: u32, count: u32) -> Result<Vec<Filling>, PendingFault>
+        ensures cells { OnOk result ((r : PartialText) (s : List ℕ) → IsOver r self.now → length s ≡ count
+            → cells_over (take p r ++ map Some s ++ drop (p + count) r) self.now ≡ filled p s (cells_over r self.now)) }
+        ensures told { IfOk result (λ told. (r : PartialText) (s : List ℕ) → IsOver r self.now → length s ≡ count
+            → all_put (shown_of (cells_over r self.now)) (reverse (filling_changes s told.items))
+            ≡ shown_of (filled p s (cells_over r self.now))) }
+        ensures position { (result ≡ Err PendingFault.BadPosition) ↔ (rasp_length self.now < p + count) }
+        ensures err { OnErr result ((result ≡ Err PendingFault.BadPosition) ⊎ (result ≡ Err PendingFault.OutOfMemory)) }
+    {
+        let len = runs::rasp_len(self.runs.as_slice());
+        if p > len || count > len - p {
+            return Err(PendingFault::BadPosition);
+        }
+        let told = runs::loaded(self.alloc, self.runs.as_slice(), p, count)?;
+        Ok(told)
+    }
+
+    /// Brings a group to the rasp: returns its edits, which the caller makes there. What is shown stays. A caller sends the oldest group
+    /// that waits first. It makes all removals first, one after another, the last one of the list first; then all insertions, the last one
+    /// first. These have at most `MOST_IN_MESSAGE` runes each.
+    ///
+    /// Errors, in this order: `TooLong` if the rasp would have more than `MAX_RUNES` members, because the host put more in meanwhile;
+    /// `OutOfMemory`. After an error all is unchanged.
+    #[tactic(auto, using(crate::proofs::LayerLaws::send_facts))]
+    pub fn send(&mut self, group: u32) -> Result<Sent, PendingFault>
+        ensures rasp { IfOk result (λ sends. (r : PartialText) → IsOver r self.old
+            → sent_text r sends ≡ rasp_of (sent group (cells_over r self.old))) }
+        ensures cells { IfOk result (λ sends. (r : PartialText) → IsOver r self.old
+            → cells_over (sent_text r sends) self.new ≡ sent group (cells_over r self.old)) }
+        ensures over { IfOk result (λ sends. (r : PartialText) → IsOver r self.old → IsOver (sent_text r sends) self.new) }
+        ensures short { IfOk result (λ sends. AreShort sends.insertions.items) }
+        ensures len { OnOk result (rasp_length self.new ≡ sent_length group self.old) }
+        ensures long { (result ≡ Err PendingFault.TooLong) ↔ (max_runes < sent_length group self.old) }
+        ensures err { OnErr result ((self.new ≡ self.old)
+            × ((result ≡ Err PendingFault.TooLong) ⊎ (result ≡ Err PendingFault.OutOfMemory))) }
+    {
+        if self.sent_len(group) > MAX_RUNES {
+            return Err(PendingFault::TooLong);
+        }
+        let sends = self.bring(group)?;
+        self.tidy();
+        Ok(sends)
+    }
+
+    /// Returns how many members the rasp has once the group came to it.
+    #[tactic(auto, using(crate::proofs::LayerLaws::length_facts))]
+    fn sent_len(&self, group: u32) -> u32
+        ensures { result ≡ sent_length group self.now }
+    {
+        runs::sent_len(self.runs.as_slice(), group)
+    }
+
+    /// As `send`, where the rasp has room.
+    #[tactic(auto, using(crate::proofs::LayerLaws::bring_facts))]
+    fn bring(&mut self, group: u32) -> Result<Sent, PendingFault>
+        requires { sent_length group self.old ≤ max_runes }
+        ensures rasp { IfOk result (λ sends. (r : PartialText) → IsOver r self.old
+            → sent_text r sends ≡ rasp_of (sent group (cells_over r self.old))) }
+        ensures cells { IfOk result (λ sends. (r : PartialText) → IsOver r self.old
+            → cells_over (sent_text r sends) self.new ≡ sent group (cells_over r self.old)) }
+        ensures over { IfOk result (λ sends. (r : PartialText) → IsOver r self.old → IsOver (sent_text r sends) self.new) }
+        ensures short { IfOk result (λ sends. AreShort sends.insertions.items) }
+        ensures len { OnOk result (rasp_length self.new ≡ sent_length group self.old) }
+        ensures err { OnErr result ((self.new ≡ self.old) × (result ≡ Err PendingFault.OutOfMemory)) }
+    {
+        let text = self.text.as_slice();
+        let insertions = runs::insertions(self.alloc, text, self.runs.as_slice(), group)?;
+        let (removals, left) = runs::sent(self.alloc, self.runs.as_slice(), group)?;
+        let after = runs::joined(self.alloc, left.as_slice())?;
+        self.runs = after;
+        Ok(Sent {
+            removals,
+            insertions,
+        })
+    }
+
+    /// Returns what stands from that place of what is shown on: so many members of the rasp, or runes that wait; `None` from the end on.
+    /// The next call is for the place after these, so what is shown can be read piece by piece.
+    #[tactic(auto, using(crate::proofs::LayerLaws::shown_facts))]
+    pub fn shown_at(&self, place: u32) -> Option<Shown<'_>>
+        ensures { MatchOption result (shown_length self.now ≤ place) (λ x. (r : PartialText) → IsOver r self.now
+            → (0 < length (shown_members r x))
+            × (take (length (shown_members r x)) (drop place (shown_of (cells_over r self.now))) ≡ shown_members r x)) }
+    {
+        let (run, at) = runs::shown_run(self.runs.as_slice(), place)?;
+        Some(runs::part_of(self.text.as_slice(), run, at))
+    }
+}

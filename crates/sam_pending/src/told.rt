@@ -1,0 +1,42 @@
+//! What calls of `Pending` tell their caller.
+
+use sam_runes::Edit;
+
+/// A removal: what stands from place `p` to place `q` goes.
+#[derive(Clone, Copy, Debug, PartialEq, Eq)]
+pub struct Removal {
+    /// The place where it begins.
+    pub p: u32,
+    /// The place where it ends.
+    pub q: u32,
+}
+
+/// A stretch of the shown text whose runes came in.
+#[derive(Clone, Copy, Debug, PartialEq, Eq)]
+pub struct Filling {
+    /// The place of the shown text where it begins.
+    pub place: u32,
+    /// Which of the runes that came in stands there, counted from 0.
+    pub from: u32,
+    /// How many runes it has.
+    pub count: u32,
+}
+
+/// What stands from a place of the shown text on.
+pub enum Shown<'a> {
+    /// Members of the rasp: from this place of the rasp on, so many of them.
+    Rasp(u32, u32),
+    /// Runes that wait.
+    Waiting(&'a [char]),
+}
+
+/// The edits by which a group comes to the rasp: first all removals are made, one after another, the last one of the list first; then all
+/// insertions, the last one first.
+#[derive(Drop)]
+pub struct Sent {
+    /// The removals, in ascending places of the rasp as it was.
+    pub removals: Vec<Removal>,
+    /// The insertions, in ascending places of the rasp without what the removals took. Each has at most `MOST_IN_MESSAGE` runes, and
+    /// several may stand at one place.
+    pub insertions: Vec<Edit>,
+}

@@ -1,0 +1,125 @@
+//! Steps of a layer of edits that wait, and what is shown after them.
+use sam_pending::{Pending, PendingFault, Sent, Shown};
+use sam_test_support::lent;
+
+/// A call, or a look with its answer.
+#[derive(Clone, Copy)]
+enum Step<'a> {
+    /// The runes in place of what is shown between two places, in this group or in the newest.
+    Replace(u32, u32, u32, &'a [char]),
+    /// So many runes typed one after another, each behind the other, from this place on.
+    Keys(u32, u32),
+    /// The host puts so many members in at a place, and they are shown at another.
+    Insert(u32, u32, u32),
+    /// The host removes what stands between two places, and so many stretches of what is shown go.
+    Remove(u32, u32, usize),
+    /// The host stores so many runes from a place on, and so many stretches of what is shown have them.
+    Fill(u32, u32, usize),
+    /// A group comes to the rasp, by so many removals and insertions.
+    Send(u32, usize, usize),
+    /// How many pieces what is shown has, and how many members.
+    Pieces(u32, u32),
+    /// How many runes wait, and how many members the rasp has.
+    Waits(u32, u32),
+    /// Nothing waits.
+    Rests,
+}
+
+/// How many pieces a test reads at most.
+const MOST_PIECES: u32 = 100;
+
+fn pieces(pending: &Pending) -> u32 {
+    let mut place: u32 = 0;
+    for count in 0..MOST_PIECES {
+        let Some(shown) = pending.shown_at(place) else {
+            return count;
+        };
+        let len = match shown {
+            Shown::Rasp(_, count) => count,
+            Shown::Waiting(runes) => runes.len() as u32,
+        };
+        place = place.saturating_add(len);
+    }
+    MOST_PIECES
+}
+
+fn keys(pending: &mut Pending, place: u32, count: u32) -> Result<(), PendingFault> {
+    for key in 0..count {
+        let at = place.saturating_add(key);
+        let group = pending.newest();
+        pending.replace(group, at, at, ['x'].as_slice())?;
+    }
+    Ok(())
+}
+
+fn has(sends: &Sent, removals: usize, insertions: usize) -> bool {
+    sends.removals.len() == removals && sends.insertions.len() == insertions
+}
+
+/// Whether a call is taken on, or a look has its answer.
+fn is_right(pending: &mut Pending, step: Step<'_>) -> Result<bool, PendingFault> {
+    match step {
+        Step::Replace(group, p, q, runes) => {
+            let newest = pending.newest().max(group);
+            pending.replace(newest, p, q, runes)?;
+            Ok(true)
+        }
+        Step::Keys(place, count) => {
+            keys(pending, place, count)?;
+            Ok(true)
+        }
+        Step::Insert(p, count, place) => Ok(pending.insert_by_host(p, count)? == place),
+        Step::Remove(p, q, told) => Ok(pending.remove_by_host(p, q)?.len() == told),
+        Step::Fill(p, count, told) => Ok(pending.fill_by_host(p, count)?.len() == told),
+        Step::Send(group, removals, insertions) => {
+            Ok(has(&pending.send(group)?, removals, insertions))
+        }
+        Step::Pieces(count, len) => Ok(pieces(pending) == count && pending.shown_len() == len),
+        Step::Waits(count, len) => Ok(pending.waiting() == count && pending.rasp_len() == len),
+        Step::Rests => Ok(pending.is_resting()),
+    }
+}
+
+/// The number of the first step, counted from 0, that is refused or answered otherwise.
+fn first_wrong(pending: &mut Pending, steps: &[Step<'_>]) -> Option<usize> {
+    for (at, step) in steps.iter().enumerate() {
+        if is_right(pending, *step) != Ok(true) {
+            return Some(at);
+        }
+    }
+    None
+}
+
+/// `hello` gets a `!`, and the host ` world` before it; `ell` goes, and the host takes `lo w`; all comes to the rasp.
+const STORY: [Step<'_>; 9] = [
+    Step::Replace(1, 5, 5, &['!']),
+    Step::Insert(5, 6, 5),
+    Step::Pieces(2, 12),
+    Step::Replace(2, 1, 4, &[]),
+    Step::Fill(0, 11, 2),
+    Step::Remove(3, 7, 1),
+    Step::Send(1, 0, 1),
+    Step::Send(2, 1, 0),
+    Step::Rests,
+];
+
+/// Runes that are typed one after another are one run, and once they are sent all that is shown is one run of the rasp.
+const MANY_KEYS: [Step<'_>; 6] = [
+    Step::Replace(1, 2, 2, &['y']),
+    Step::Keys(3, 1_000),
+    Step::Pieces(3, 1_006),
+    Step::Waits(1_001, 5),
+    Step::Send(1, 0, 2),
+    Step::Pieces(1, 1_006),
+];
+
+#[test]
+fn edits_wait_and_are_sent(rt: HostRuntime) {
+    for steps in [STORY.as_slice(), MANY_KEYS.as_slice()] {
+        let wrong = match Pending::new(rt.alloc(), 5) {
+            Ok(pending) => lent(pending, |pending| first_wrong(pending, steps)),
+            Err(_) => Some(0),
+        };
+        assert_eq!(rt; wrong, None);
+    }
+}
