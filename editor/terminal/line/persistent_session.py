@@ -124,7 +124,9 @@ class PersistentSession:
         self._push()
 
     def connect(self, in_front: bool = False) -> None:
-        """Tries another connection now."""
+        """Tries another connection now, if the session stays."""
+        if not self.stays:
+            return
         self._drop()
         self._call(["--attach", self.name], in_front)
 
@@ -591,7 +593,8 @@ class PersistentSession:
         if self.relay is not None and status is not None:
             self.relay.close(hear, seconds=SECONDS_TO_GO)
         elif self.relay is not None and not self.stays:  # the process is the host, which saves what it has
-            status = self.relay.close(hear, seconds=max(SECONDS_TO_GO, until - self.clock()))
+            relay, self.relay = self.relay, None
+            status = relay.close(hear, seconds=max(SECONDS_TO_GO, until - self.clock()))
         self._drop()
         self._network.close()
         for relay in self._old:

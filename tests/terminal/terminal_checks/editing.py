@@ -30,6 +30,8 @@ def edit_all(folder, slow):
     left = {entry.name for entry in folder.iterdir()} - {"a.txt", "status", "stderr", ".tmux"}
     expect(not left, f"other files are left: {left}")
 
+SLOW_TRIP = 1500  # milliseconds each way: so long that a key comes before its answer
+
 
 def check_edit(folder):
     edit_all(folder, None)
@@ -87,15 +89,14 @@ def check_crossing(folder):
     """A paste is under way: what is typed into the file meanwhile waits, and comes in after what was pasted."""
     long = "ab" * 300  # a shorter text is pasted here, by typing it
     (path,) = made(folder, a=f"{long}\nc\n")
-    with Session(folder, "a.txt", width=160) as session:
+    with Session(folder, "a.txt", slow=SLOW_TRIP, width=160) as session:
         session.wait_for("abab")
         session.wait_for_quiet()
-        with session.stopped_host():
-            session.keys("S-Down", "S-Left", "C-x", "C-v", "C-v")
-            wait_until(lambda: session.held() == 1, "the second paste doesn't wait for the first")
-            session.type("typed")
-            wait_until(lambda: session.held() > 1, "what is typed doesn't wait")
-            expect(session.rows("a.txt")[:2] == ["", "c"], f"the text is {session.rows('a.txt')}")
+        session.keys("S-Down", "S-Left", "C-x", "C-v", "C-v")
+        wait_until(lambda: session.held() == 1, "the second paste doesn't wait for the first")
+        session.type("typed")
+        wait_until(lambda: session.held() > 1, "what is typed doesn't wait")
+        expect(session.rows("a.txt")[:2] == ["", "c"], f"the text is {session.rows('a.txt')}")
         session.wait_for_quiet()
         session.keys("C-w")
         wait_for_text(path, f"{long}{long}typed\nc\n")
@@ -184,27 +185,25 @@ def check_send(folder):
 def check_leave_waits(folder):
     """An edit is held, or a paste is under way: leaving waits for it, and then asks, since the file was not written."""
     made(folder, a="one one\n")
-    with Session(folder, "a.txt") as session:
+    with Session(folder, "a.txt", slow=SLOW_TRIP) as session:
         session.wait_for("one one")
         session.wait_for_quiet()
-        with session.stopped_host():
-            session.keys("S-Right", "C-c", "C-l")
-            session.wait_for("locked: this")
-            before = session.held()
-            session.type("x")
-            wait_until(lambda: session.held() > before, "what is typed doesn't wait")
-            expect(not session.shows("* a.txt"), "a held edit is shown as a change")
-            session.keys("C-q")
-            session.wait_for("keys wait for the host")
+        session.keys("S-Right", "C-c", "C-l")
+        session.wait_for("locked: this")
+        before = session.held()
+        session.type("x")
+        wait_until(lambda: session.held() > before, "what is typed doesn't wait")
+        expect(not session.shows("* a.txt"), "a held edit is shown as a change")
+        session.keys("C-q")
+        session.wait_for("keys wait for the host")
         session.wait_for("not written: a.txt")
         session.keys("C-w")
         wait_until(lambda: not session.shows("* a.txt"), "the file is still marked as changed")
         session.wait_for_quiet()
-        with session.stopped_host():
-            session.keys("C-l")
-            session.type("y")
-            session.keys("C-q")
-            session.wait_for("keys wait for the host")
+        session.keys("C-l")
+        session.type("y")
+        session.keys("C-q")
+        session.wait_for("keys wait for the host")
         session.answer("not written: a.txt", "C-q")
         session.wait_for_end(0)
 

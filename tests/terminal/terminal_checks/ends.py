@@ -113,7 +113,7 @@ def check_leave_without_the_host(folder):
             session.keys("C-v")
             session.type("waits")
             session.keys("C-q")
-            session.answer("^Q again leaves without them", "C-q")
+            session.answer("^Q again leaves", "C-q")
             wait_until(lambda: "^C" in (folder / "stderr").read_text(), "it isn't told")
             start = time.monotonic()
             os.kill(terminal, signal.SIGINT)  # `^C` would end the shell, too, that notes the status
