@@ -50,13 +50,13 @@ struct record {
 };
 
 struct journal {
-    int file;             /* -1 where there is none */
-    bool is_unsynced;     /* something may not be on the disk */
-    uint64_t random;      /* of the file */
-    uint64_t count;       /* its records */
-    uint64_t len;         /* its bytes */
-    uint64_t durable;     /* how many of these are on the disk */
-    uint64_t damaged_at;  /* where its whole records end before what was on the disk */
+    int file;            /* -1 where there is none */
+    bool is_unsynced;    /* something may not be on the disk */
+    uint64_t random;     /* of the file */
+    uint64_t count;      /* its records */
+    uint64_t len;        /* its bytes */
+    uint64_t durable;    /* how many of these are on the disk */
+    uint64_t damaged_at; /* where its whole records end before what was on the disk */
 };
 
 /* The place of a record in a journal, its number, and how much was on the disk when the one before it was made. */
