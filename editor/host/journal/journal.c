@@ -1,12 +1,13 @@
 /* journal.c: what a session that stays has done, in a file that only grows, so that another samhost can be the very same one.
  *
- * The file begins with a mark and two versions: its own, and that of the library. A record has the length of its body in four bytes, its
- * kind, the body, and CRC-32C of all these. Numbers have the highest byte first. A record is written once its step is done, and before
- * anything that rests on it goes out. The library's host and link are what these steps make of them, so nothing else has to be kept.
+ * Its bytes are those of the library's journals (sulgrevad.h), whose clauses say what is read of them after a crash. The body of a record begins
+ * with its step. Numbers have the highest byte first. A record is written once its step is done, and before anything that rests on it goes
+ * out. The library's host and link are what these steps make of them, so nothing else has to be kept.
  *
  * What is written survives the process. It is on the disk before anything is sent that rests on it, before a file is written, and after a
- * pause; so what a power cut takes nobody has heard of. A record says where that was so: what is wrong before it is damage, and what is
- * wrong behind the last one is torn. Where the file can't be written any more it goes, and the session stays without it.
+ * pause; so what a power cut takes nobody has heard of. Each record says how much was on the disk when it was made, and one is added after
+ * each sync to say so: what is wrong before that is damage, and what is wrong behind it is torn. Where the file can't be written any more it
+ * goes, and the session stays without it.
  */
 #define _GNU_SOURCE
 #include <errno.h>
@@ -14,6 +15,7 @@
 #include <stdlib.h>
 #include <string.h>
 #include <sys/mman.h>
+#include <sys/random.h>
 #include <sys/stat.h>
 #include <sys/uio.h>
 #include <time.h>
@@ -22,6 +24,7 @@
 #include "journal/journal.h"
 #include "disk/errors.h"
 #include "disk/paths.h"
+#include "limits.h"
 #include "session/messages.h"
 #include "session/persistent_session.h"
 #include "session/session.h"
@@ -29,58 +32,10 @@
 #include "sulgrevad.h"
 
 enum {
-    JOURNAL_VERSION = 2,
-    MARK_LEN = 8,
-    FRONT_LEN = MARK_LEN + 8, /* of the file */
-    HEAD_LEN = 5,             /* of a record */
-    SUM_LEN = 4,
     ROOM_FIRST = 256,
-    MOST_BODY = 1 << 26,   /* bytes of the body of a record */
-    MOST_BEHIND = 1 << 26, /* bytes behind a wrong record in which whole ones are looked for */
-    MOST_SUMMED = 1 << 28  /* bytes of what may be records there that are summed up */
+    MOST_BODY = 1 << 26,  /* bytes of the body of a record */
+    MOST_BEHIND = 1 << 26 /* bytes behind the whole records in which others are looked for */
 };
-
-#define MARK "\x89samjrn\n"
-#define POLYNOMIAL UINT32_C(0x82F63B78) /* Castagnoli's, its lowest bit first */
-
-/* ---- Sums ---- */
-
-enum { AT_ONCE = 8 }; /* bytes that a step of the sum takes */
-
-/* What a byte makes of the sum, with so many zeros behind it. */
-static uint32_t sum_tables[AT_ONCE][256];
-
-static void make_tables(void)
-{
-    for (uint32_t byte = 0; byte < 256; byte++) {
-        uint32_t sum = byte;
-        for (int bit = 0; bit < 8; bit++)
-            sum = sum >> 1 ^ ((sum & 1) != 0 ? POLYNOMIAL : 0);
-        sum_tables[0][byte] = sum;
-    }
-    for (int zeros = 1; zeros < AT_ONCE; zeros++) {
-        for (uint32_t byte = 0; byte < 256; byte++) {
-            uint32_t before = sum_tables[zeros - 1][byte];
-            sum_tables[zeros][byte] = before >> 8 ^ sum_tables[0][before & 0xFF];
-        }
-    }
-}
-
-/* CRC-32C of bytes behind others, whose sum is given; 0 where there are none. */
-static uint32_t sum_of(uint32_t sum, const uint8_t *bytes, size_t len)
-{
-    if (sum_tables[0][1] == 0)
-        make_tables();
-    sum = ~sum;
-    for (; len >= AT_ONCE; bytes += AT_ONCE, len -= AT_ONCE) {
-        uint32_t low = sum ^ ((uint32_t)bytes[0] | (uint32_t)bytes[1] << 8 | (uint32_t)bytes[2] << 16 | (uint32_t)bytes[3] << 24);
-        sum = sum_tables[7][low & 0xFF] ^ sum_tables[6][low >> 8 & 0xFF] ^ sum_tables[5][low >> 16 & 0xFF] ^ sum_tables[4][low >> 24] ^
-              sum_tables[3][bytes[4]] ^ sum_tables[2][bytes[5]] ^ sum_tables[1][bytes[6]] ^ sum_tables[0][bytes[7]];
-    }
-    for (size_t at = 0; at < len; at++)
-        sum = sum >> 8 ^ sum_tables[0][(sum ^ bytes[at]) & 0xFF];
-    return ~sum;
-}
 
 /* ---- Numbers ---- */
 
@@ -228,29 +183,50 @@ static int write_all(int file, struct iovec *parts, int count)
     return 0;
 }
 
+/* Writes the next record, of this body. */
+static int write_record(struct journal *journal, uint8_t *body, size_t len)
+{
+    sam_record_frame frame;
+
+    if (len > MOST_BODY || sam_journal_frame(journal->random, journal->count, journal->durable, body, len, &frame) != SAM_OK)
+        return EFBIG;
+    struct iovec parts[] = {{frame.front, sizeof frame.front}, {body, len}, {frame.back, sizeof frame.back}};
+    int error = write_all(journal->file, parts, 3);
+    journal->count++;
+    journal->len += sizeof frame + len;
+    journal->is_unsynced = true;
+    return error;
+}
+
 void add_record(struct session *session, enum step step, const uint8_t *bytes, size_t len)
 {
     struct journal *journal = &session->stay->journal;
-    uint8_t head[HEAD_LEN], sum[SUM_LEN];
+    uint8_t body[1 + PIECE];
 
     if (journal->file < 0)
         return;
-    put_number(head, len, 4);
-    head[4] = (uint8_t)step;
-    put_number(sum, sum_of(sum_of(0, head, HEAD_LEN), bytes, len), SUM_LEN);
-    struct iovec parts[] = {{head, HEAD_LEN}, {(void *)bytes, len}, {sum, SUM_LEN}};
-    int error = len > MOST_BODY ? EFBIG : write_all(journal->file, parts, 3);
-    journal->is_unsynced = true;
+    body[0] = (uint8_t)step;
+    if (len > 0 && len <= PIECE)
+        memcpy(body + 1, bytes, len);
+    int error = len > PIECE ? EFBIG : write_record(journal, body, 1 + len);
     if (error != 0)
         lose_journal(session, error);
 }
 
 void add_body(struct session *session, enum step step, struct body *body)
 {
-    if (session->stay->journal.file >= 0 && body->is_short)
-        lose_journal(session, ENOMEM);
-    else
-        add_record(session, step, body->bytes, body->len);
+    struct journal *journal = &session->stay->journal;
+
+    if (journal->file >= 0) {
+        int error = ENOMEM;
+        if (has_room(body, 1) && !body->is_short) {
+            memmove(body->bytes + 1, body->bytes, body->len);
+            body->bytes[0] = (uint8_t)step;
+            error = write_record(journal, body->bytes, 1 + body->len);
+        }
+        if (error != 0)
+            lose_journal(session, error);
+    }
     free(body->bytes);
 }
 
@@ -265,6 +241,7 @@ void sync_journal(struct session *session)
         lose_journal(session, errno);
         return;
     }
+    journal->durable = journal->len;
     add_record(session, STEP_SYNCED, NULL, 0);
     journal->is_unsynced = false; /* that may be missing after a power cut */
 }
@@ -273,20 +250,22 @@ void sync_journal(struct session *session)
 
 int make_journal(struct stay *stay, const char *name)
 {
-    uint8_t front[FRONT_LEN];
-    int file, error = make_in_home(&stay->home, name, O_RDWR | O_TRUNC | O_APPEND, &file);
+    uint8_t head[SAM_JOURNAL_HEAD_BYTES];
+    struct journal journal = {.is_unsynced = true, .len = sizeof head};
+    int error = make_in_home(&stay->home, name, O_RDWR | O_TRUNC | O_APPEND, &journal.file);
 
     if (error != 0)
         return error;
-    memcpy(front, MARK, MARK_LEN);
-    put_number(front + MARK_LEN, JOURNAL_VERSION, 4);
-    put_number(front + MARK_LEN + 4, sam_library_version(), 4);
-    struct iovec part = {front, FRONT_LEN};
-    error = write_all(file, &part, 1);
+    if (getrandom(&journal.random, sizeof journal.random, 0) != sizeof journal.random)
+        error = errno;
+    else if (sam_journal_head(journal.random, head) == SAM_OK) {
+        struct iovec part = {head, sizeof head};
+        error = write_all(journal.file, &part, 1);
+    }
     if (error != 0)
-        close(file);
+        close(journal.file);
     else
-        stay->journal = (struct journal){.file = file, .is_unsynced = true};
+        stay->journal = journal;
     return error;
 }
 
@@ -295,7 +274,7 @@ bool has_journal(const struct home *home)
     return faccessat(home->folder, JOURNAL, F_OK, 0) == 0;
 }
 
-/* Has an open journal be readable. Of one that lacks its front there is nothing to read. */
+/* Has an open journal be readable. Of one that lacks its head there is nothing to read. */
 static int map_records(int file, struct text *all, struct stat *status)
 {
     *all = (struct text){0};
@@ -303,7 +282,7 @@ static int map_records(int file, struct text *all, struct stat *status)
         return errno;
     if (!S_ISREG(status->st_mode) || status->st_uid != geteuid())
         return EPERM;
-    if (status->st_size < FRONT_LEN)
+    if (status->st_size < SAM_JOURNAL_HEAD_BYTES)
         return 0;
     void *bytes = mmap(NULL, (size_t)status->st_size, PROT_READ, MAP_PRIVATE, file, 0);
     if (bytes == MAP_FAILED)
@@ -312,73 +291,67 @@ static int map_records(int file, struct text *all, struct stat *status)
     return 0;
 }
 
-int open_journal(struct stay *stay, struct text *all, enum journal_kind *kind)
+/* Reads the head alone: its records are read one by one. */
+static sam_status read_head(const struct text *all, uint64_t *random)
+{
+    uint64_t count;
+    size_t end;
+
+    return sam_journal_read(all->bytes, all->len < SAM_JOURNAL_HEAD_BYTES ? 0 : SAM_JOURNAL_HEAD_BYTES, random, &count, &end);
+}
+
+int open_journal(struct stay *stay, struct text *all, sam_status *head)
 {
     struct stat status;
     int file = openat(stay->home.folder, JOURNAL, O_RDWR | O_APPEND | O_NOFOLLOW | O_CLOEXEC);
 
     *all = (struct text){0};
-    *kind = JOURNAL_UNKNOWN;
+    *head = SAM_JOURNAL_SHORT;
     if (file < 0)
         return errno;
     stay->journal = (struct journal){.file = file, .is_unsynced = true}; /* who wrote it may have been killed before */
     int error = map_records(file, all, &status);
-    if (error != 0 || all->len == 0)
-        return error;
-    if (memcmp(all->bytes, MARK, MARK_LEN) == 0 && number_at(all->bytes + MARK_LEN, 4) == JOURNAL_VERSION)
-        *kind = number_at(all->bytes + MARK_LEN + 4, 4) == sam_library_version() ? JOURNAL_SAME : JOURNAL_OTHER_LIBRARY;
-    return 0;
+    if (error == 0)
+        *head = read_head(all, &stay->journal.random);
+    return error;
 }
 
-size_t first_record(void)
+struct record_place first_record(void)
 {
-    return FRONT_LEN;
+    return (struct record_place){.at = SAM_JOURNAL_HEAD_BYTES};
 }
 
-/* How many bytes the body has of a record that may begin at a place, as its head says; false where none can. */
-static bool may_begin(const struct text *all, size_t at, size_t *len)
+bool next_record(const struct text *all, uint64_t random, struct record_place *place, struct record *record)
 {
-    size_t left = all->len - at;
-    const uint8_t *head = all->bytes + at;
+    const size_t most = sizeof(sam_record_frame) + MOST_BODY; /* a longer one was never written, and isn't summed up */
+    size_t len = all->len - place->at <= most ? all->len : place->at + most;
+    sam_record found;
 
-    *len = 0;
-    if (left < HEAD_LEN + SUM_LEN || head[4] < STEP_START || head[4] > LAST_STEP)
+    if (sam_journal_next(all->bytes, len, place->at, random, place->number, &found) != SAM_OK)
         return false;
-    *len = (size_t)number_at(head, 4);
-    return *len <= MOST_BODY && *len <= left - HEAD_LEN - SUM_LEN;
-}
-
-static bool has_right_sum(const uint8_t *head, size_t len)
-{
-    return number_at(head + HEAD_LEN + len, SUM_LEN) == sum_of(0, head, HEAD_LEN + len);
-}
-
-bool has_records_behind(const struct text *all, size_t at, enum step step)
-{
-    size_t len, summed = 0;
-
-    if (all->len - at > MOST_BEHIND)
-        return true;
-    for (; at < all->len; at++) {
-        if (!may_begin(all, at, &len) || (step != 0 && all->bytes[at + 4] != step))
-            continue;
-        summed += len;
-        if (summed > MOST_SUMMED || has_right_sum(all->bytes + at, len))
-            return true;
-    }
-    return false;
-}
-
-bool next_record(const struct text *all, size_t *at, struct record *record)
-{
-    size_t len;
-    const uint8_t *head = all->bytes + *at;
-
-    if (!may_begin(all, *at, &len) || !has_right_sum(head, len))
-        return false;
-    *record = (struct record){.step = (enum step)head[4], .body = head + HEAD_LEN, .len = len};
-    *at += HEAD_LEN + len + SUM_LEN;
+    const uint8_t *body = all->bytes + found.body;
+    bool is_step = found.len > 0 && body[0] >= STEP_START && body[0] <= LAST_STEP;
+    *record = (struct record){.is_wrong = !is_step};
+    if (is_step)
+        *record = (struct record){.step = (enum step)body[0], .body = body + 1, .len = found.len - 1};
+    *place = (struct record_place){found.next, place->number + 1, found.durable};
     return true;
+}
+
+bool is_journal_damaged(const struct text *all, size_t end)
+{
+    uint64_t random, count;
+
+    if (end == all->len)
+        return false;
+    return all->len - end > MOST_BEHIND || sam_journal_read(all->bytes, all->len, &random, &count, &end) == SAM_JOURNAL_DAMAGED;
+}
+
+void go_on_behind(struct journal *journal, const struct record_place *end)
+{
+    journal->count = end->number;
+    journal->len = end->at;
+    journal->durable = end->durable;
 }
 
 int cut_journal(struct stay *stay, const struct text *all, size_t len)
@@ -409,11 +382,13 @@ bool is_left_alone(const struct home *home)
     struct stat status;
     struct text all = {0};
     struct record record = {.is_wrong = true};
-    size_t at = FRONT_LEN;
+    struct record_place first = first_record();
+    uint64_t random;
     int64_t longest = -1;
     int file = openat(home->folder, JOURNAL, O_RDONLY | O_NOFOLLOW | O_CLOEXEC);
 
-    if (file >= 0 && map_records(file, &all, &status) == 0 && all.len > 0 && next_record(&all, &at, &record) && record.step == STEP_START) {
+    bool is_read = file >= 0 && map_records(file, &all, &status) == 0 && read_head(&all, &random) == SAM_OK;
+    if (is_read && next_record(&all, random, &first, &record) && record.step == STEP_START) {
         free(take_words(&record)); /* its folder; the mode of new files and the file for undo follow */
         (void)take_number(&record);
         (void)take_number(&record);

@@ -6,12 +6,14 @@
 #include <stddef.h>
 #include <stdint.h>
 
+#include "sulgrevad.h"
+
 struct home;
 struct session;
 struct stay;
 struct text;
 
-/* What a record of a journal is of. */
+/* What a record of a journal is of: the first byte of its body. */
 enum step {
     STEP_START = 1, /* the session: its folder, and what the words said */
     STEP_FILE,      /* a file that the host was given */
@@ -24,7 +26,7 @@ enum step {
     STEP_DONE,      /* a file was written, or saved before it was closed; how that is answered, and what is known of the file since */
     STEP_KEPT,      /* what is known of a file since its text was saved aside */
     STEP_KEPT_CUT,  /* the copy of what was cut last */
-    STEP_SYNCED     /* nothing: all that stands before this was on the disk */
+    STEP_SYNCED     /* nothing, but a record: it says that all before it was on the disk */
 };
 
 enum { LAST_STEP = STEP_SYNCED };
@@ -39,7 +41,7 @@ struct body {
     bool is_short; /* memory was out */
 };
 
-/* A record that is read, of which the body goes as it is taken. */
+/* A record that is read, of which the body goes as it is taken, but for the step. */
 struct record {
     enum step step;
     const uint8_t *body;
@@ -48,25 +50,38 @@ struct record {
 };
 
 struct journal {
-    int file;         /* -1 where there is none */
-    bool is_unsynced; /* something may not be on the disk */
+    int file;            /* -1 where there is none */
+    bool is_unsynced;    /* something may not be on the disk */
+    uint64_t random;     /* of the file */
+    uint64_t count;      /* its records */
+    uint64_t len;        /* its bytes */
+    uint64_t durable;    /* how many of these are on the disk */
+    uint64_t damaged_at; /* where its whole records end before what was on the disk */
 };
 
-enum journal_kind { JOURNAL_UNKNOWN, JOURNAL_OTHER_LIBRARY, JOURNAL_SAME };
+/* The place of a record in a journal, its number, and how much was on the disk when the one before it was made. */
+struct record_place {
+    size_t at;
+    uint64_t number, durable;
+};
 
 /* Makes a journal of this name in the folder of a session, in the place of one that is there. */
 int make_journal(struct stay *stay, const char *name);
 bool has_journal(const struct home *home);
 
-/* Opens the journal that is there, and hands out all that it has, which stays readable until close_records. */
-int open_journal(struct stay *stay, struct text *all, enum journal_kind *kind);
+/* Opens the journal that is there, and hands out all that it has, which stays readable until close_records; and what the library says of its
+ * head. */
+int open_journal(struct stay *stay, struct text *all, sam_status *head);
 void close_records(struct text *all);
 
 /* Whether a session whose samhost is gone has been alone for longer than it may be, as its journal says. */
 bool is_left_alone(const struct home *home);
 
-/* Cuts the journal to its whole records. What is cut off stays beside it. */
+/* Cuts the journal to its whole records, and has the cut be on the disk. What is cut off stays beside it. */
 int cut_journal(struct stay *stay, const struct text *all, size_t len);
+
+/* Has the next record be added at this place, where the whole ones end. */
+void go_on_behind(struct journal *journal, const struct record_place *end);
 
 /* Tells that there is no journal, and why. */
 void tell_no_journal(int error);
@@ -78,14 +93,14 @@ void add_body(struct session *session, enum step step, struct body *body);
 /* Has all that was written be on the disk. */
 void sync_journal(struct session *session);
 
-/* Where the first record begins; and the record there, of which the place goes on to the next one. False at the end, or where the rest is
- * torn. */
-size_t first_record(void);
-bool next_record(const struct text *all, size_t *at, struct record *record);
+/* The place of the first record; and the record of a place in the file of this random number, of which the place goes on to the next one.
+ * False at the end, or where the rest is torn or damaged. */
+struct record_place first_record(void);
+bool next_record(const struct text *all, uint64_t random, struct record_place *place, struct record *record);
 
-/* Whether a whole record, of this kind or where it is 0 of any, stands somewhere behind a place where none begins. Where much stands there
- * it counts as if one did. */
-bool has_records_behind(const struct text *all, size_t at, enum step step);
+/* Whether a journal whose whole records end there is damaged, as a record behind them says. Where much stands there it counts as if one
+ * did. */
+bool is_journal_damaged(const struct text *all, size_t end);
 
 /* What a body has, in order. Words may be NULL; they are taken into memory of the caller's. */
 void add_number(struct body *body, uint64_t number);

@@ -221,6 +221,7 @@ void note_start(struct session *session)
     add_number(&body, session->mode_of_new_files);
     add_number(&body, session->vault);
     add_number(&body, (uint64_t)stay->longest_alone);
+    add_number(&body, sam_library_version());
     free(folder);
     add_body(session, STEP_START, &body);
     for (size_t tag = 1; tag < tags; tag++)

@@ -148,6 +148,7 @@ static void take_start(struct session *session, struct record *record)
     session->mode_of_new_files = (mode_t)take_number(record);
     session->vault = (uint16_t)take_number(record);
     session->stay->longest_alone = (int64_t)take_number(record);
+    session->stay->replay->is_other = take_number(record) != sam_library_version();
     umask(0666 & ~session->mode_of_new_files);
     if (folder == NULL || chdir(folder) != 0) {
         say("%s: %s", folder == NULL ? "the folder of the session" : folder, cause(errno));
@@ -300,16 +301,16 @@ static void replay_step(struct session *session, struct record *record)
 
 /* ---- All of them ---- */
 
-/* Finds what was done to files, which the steps before it ask for. Hands out where the last whole record ends; 0 where the session had not
- * begun. */
-static size_t find_done(const struct text *all, struct replay *replay)
+/* Finds what was done to files, which the steps before it ask for. Hands out where the last whole record ends. Returns whether the session
+ * had begun. */
+static bool find_done(const struct text *all, uint64_t random, struct record_place *end, struct replay *replay)
 {
-    size_t at = first_record(), room = 0;
+    size_t room = 0;
     bool has_begun = false;
 
-    for (struct record record; next_record(all, &at, &record);) {
+    *end = first_record();
+    for (struct record record; next_record(all, random, end, &record);) {
         has_begun |= record.step == STEP_BEGUN;
-        replay->has_marks |= record.step == STEP_SYNCED;
         if (record.step != STEP_DONE)
             continue;
         if (replay->count == room) {
@@ -317,22 +318,23 @@ static size_t find_done(const struct text *all, struct replay *replay)
             struct record *done = realloc(replay->done, room * sizeof *done);
             if (done == NULL) {
                 replay->fault = REPLAY_SHORT;
-                return at;
+                return has_begun;
             }
             replay->done = done;
         }
         replay->done[replay->count++] = record;
     }
-    return has_begun ? at : 0;
+    return has_begun;
 }
 
 static void replay_all(struct session *session, const struct text *all, size_t end)
 {
     struct stay *stay = session->stay;
+    struct record_place place = first_record();
     struct record record;
 
     session->wire.carrier = &by_journal;
-    for (size_t at = first_record(); at < end && stay->replay->fault == REPLAY_OK && next_record(all, &at, &record);)
+    while (place.at < end && stay->replay->fault == REPLAY_OK && next_record(all, stay->journal.random, &place, &record))
         replay_step(session, &record);
     if (stay->replay->fault == REPLAY_OK)
         catch_up(session);
@@ -344,42 +346,51 @@ static void replay_all(struct session *session, const struct text *all, size_t e
 }
 
 /* Cuts off what a crash has left of the last records. Where the journal is damaged instead, it stays as it is: the disk had what stands
- * before a mark. */
-static enum replay_fault cut_to_whole_records(struct stay *stay, const struct text *all, size_t end, struct replay *replay)
+ * before what its records say. */
+static enum replay_fault cut_to_whole_records(struct stay *stay, const struct text *all, bool has_begun, struct replay *replay)
 {
-    if (end == 0 && all->len == first_record())
+    size_t end = stay->journal.len;
+
+    if (!has_begun && all->len == first_record().at)
         return REPLAY_NOTHING;
-    replay->is_damaged = end == 0 || has_records_behind(all, end, replay->has_marks ? STEP_SYNCED : 0);
-    if (end == 0)
+    replay->is_damaged = !has_begun || is_journal_damaged(all, end);
+    stay->journal.damaged_at = end;
+    if (!has_begun)
         return REPLAY_DAMAGED;
     return replay->is_damaged || end == all->len || cut_journal(stay, all, end) == 0 ? REPLAY_OK : REPLAY_UNREADABLE;
+}
+
+/* What there is of a journal of which the library says this. */
+static enum replay_fault fault_of_head(sam_status head)
+{
+    return head == SAM_OK ? REPLAY_OK : head == SAM_JOURNAL_OTHER_VERSION ? REPLAY_OTHER : REPLAY_DAMAGED;
 }
 
 enum replay_fault begin_again(struct session *session)
 {
     struct stay *stay = session->stay;
     struct replay replay = {0};
+    struct record_place end;
     struct text all;
-    enum journal_kind kind;
-    int error = open_journal(stay, &all, &kind);
+    sam_status head;
+    int error = open_journal(stay, &all, &head);
 
-    if (error != 0)
-        replay.fault = REPLAY_UNREADABLE;
-    else if (kind == JOURNAL_UNKNOWN) /* it lacks its front, or that is another */
-        replay.fault = all.len == 0 ? REPLAY_DAMAGED : REPLAY_OTHER;
-    else if (!make_session(session))
+    replay.fault = error != 0 ? REPLAY_UNREADABLE : fault_of_head(head);
+    if (replay.fault == REPLAY_OK && !make_session(session))
         replay.fault = REPLAY_SHORT;
-    size_t end = replay.fault == REPLAY_OK ? find_done(&all, &replay) : 0;
-    if (replay.fault == REPLAY_OK)
-        replay.fault = cut_to_whole_records(stay, &all, end, &replay);
+    bool has_begun = replay.fault == REPLAY_OK && find_done(&all, stay->journal.random, &end, &replay);
+    if (replay.fault == REPLAY_OK) {
+        go_on_behind(&stay->journal, &end);
+        replay.fault = cut_to_whole_records(stay, &all, has_begun, &replay);
+    }
     stay->replay = &replay;
     if (replay.fault == REPLAY_OK)
-        replay_all(session, &all, end);
+        replay_all(session, &all, end.at);
     stay->replay = NULL;
     free(replay.done);
     free(replay.said.bytes);
     close_records(&all);
     if (replay.is_damaged && (replay.fault == REPLAY_OK || replay.fault == REPLAY_DIFFERS))
         return REPLAY_DAMAGED;
-    return replay.fault != REPLAY_OK || kind == JOURNAL_SAME ? replay.fault : REPLAY_OTHER;
+    return replay.fault == REPLAY_OK && replay.is_other ? REPLAY_OTHER : replay.fault;
 }

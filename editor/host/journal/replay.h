@@ -28,7 +28,7 @@ struct replay {
     size_t count, next;
     struct body said; /* what the host said before, and has not said again */
     size_t came;      /* how many bytes came for the host since it caught up */
-    bool has_marks;   /* it says what was on the disk; one of an older samhost doesn't */
+    bool is_other;    /* another version of the library has written it */
     bool is_damaged;  /* what was done behind its end is not known */
     enum replay_fault fault;
 };

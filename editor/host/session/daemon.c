@@ -5,6 +5,7 @@
 #define _GNU_SOURCE
 #include <errno.h>
 #include <fcntl.h>
+#include <inttypes.h>
 #include <stdio.h>
 #include <stdlib.h>
 #include <string.h>
@@ -276,8 +277,6 @@ static const char *why_not_again(enum replay_fault fault)
         return "the folder in which it began can't be entered";
     case REPLAY_UNREADABLE:
         return "its journal can't be read, or not be cut to its whole records";
-    case REPLAY_DAMAGED:
-        return "its journal is damaged";
     default:
         return "it had not begun";
     }
@@ -307,7 +306,10 @@ static int give_up(struct session *session, enum replay_fault fault, bool is_att
     bool is_for_ever = is_known || is_wrong || fault == REPLAY_NOTHING;
 
     say_gathered(session);
-    say("session %s can't go on: %s", home->name, why_not_again(fault));
+    if (fault == REPLAY_DAMAGED)
+        say("session %s can't go on: its journal is damaged at byte %" PRIu64, home->name, session->stay->journal.damaged_at);
+    else
+        say("session %s can't go on: %s", home->name, why_not_again(fault));
     bool is_saved = !is_known || close_session(session, INPUT_ENDED) == STATUS_OK;
     if (is_wrong)
         is_saved = keep_wrong(home);

@@ -17,7 +17,8 @@ from link_model import What
 from .line import Staying, home_of, is_running, pid_of
 from .support import SAMHOST, expect_equal, made, names_in, text_of
 
-FRONT = 16  # bytes of a journal before its first record
+HEAD = 24  # bytes of a journal before its first record
+FRONT, BACK = 24, 4  # bytes of a record before its body, and behind it
 HELLO, UP, DOWN, DONE = 4, 5, 6, 9  # kinds of records: a connection, bytes that came, bytes that the host said, a file that was written
 
 
@@ -49,14 +50,36 @@ def killed(folder):
 
 def records_of(journal):
     """Where the records of a journal begin, with their kinds; and where they end."""
-    found, at = [], FRONT
-    while at + 9 <= len(journal):
-        length = struct.unpack(">I", journal[at : at + 4])[0]
-        if at + 9 + length > len(journal):
+    found, at = [], HEAD
+    while at + FRONT + BACK <= len(journal):
+        length = struct.unpack(">I", journal[at + 8 : at + 12])[0]
+        if at + FRONT + length + BACK > len(journal):
             break
-        found.append((at, journal[at + 4]))
-        at += 9 + length
+        found.append((at, journal[at + FRONT]))
+        at += FRONT + length + BACK
     return found, at
+
+
+def durable_of(journal, at):
+    """How many bytes of a journal were on the disk when the record of a place was made."""
+    return struct.unpack(">Q", journal[at + 12 : at + 20])[0]
+
+
+def spelled(journal, number, durable, body):
+    """A record for a journal."""
+    random_number = bytes(journal[12:20])
+    front = struct.pack(">QIQ", number, len(body), durable)
+    front += struct.pack(">I", crc(random_number + front))
+    return front + body + struct.pack(">I", crc(random_number + front + body))
+
+
+def with_turned(journal, at, place):
+    """A journal with a bit turned in this byte of the body of the record of a place, and with the sum that is right then."""
+    number, length, durable = struct.unpack(">QIQ", journal[at : at + 20])
+    body = bytearray(journal[at + FRONT : at + FRONT + length])
+    body[place] ^= 1
+    record = spelled(journal, number, durable, bytes(body))
+    return journal[:at] + record + journal[at + len(record) :]
 
 
 def check_journal_goes_on(folder):
@@ -168,7 +191,7 @@ def check_journal_torn(folder):
                 expect_equal(session.text(), "one\ntwo\nthree\nfour\n", f"cut by {cut}: the text")
             else:
                 expect_equal(answer, What.WRONG_COUNT, f"cut by {cut}: the answer")
-            expect(left > FRONT, "this test is wrong: it cuts the front")
+            expect(left > HEAD, "this test is wrong: it cuts the head")
 
 
 def check_journal_with_a_wrong_byte(folder):
@@ -183,7 +206,7 @@ def check_journal_with_a_wrong_byte(folder):
             journal = home_of(room, session.name) / "journal"
             data = bytearray(journal.read_bytes())
             last = records_of(data)[0][-1][0]
-            data[{"kind": last + 4, "body": last + 5, "sum": len(data) - 1}[place]] ^= 1
+            data[{"kind": last + FRONT, "body": last + FRONT + 1, "sum": len(data) - 1}[place]] ^= 1
             journal.write_bytes(data)
             session.drop()
             session.attach()
@@ -209,16 +232,21 @@ def check_journal_behind_garbage(folder):
 
 def check_journal_of_another_version(folder):
     """A journal of another version is told of, and not used; where only the library differs the texts are saved aside."""
-    for at in (11, 15):  # the last byte of each version
-        place = folder / str(at)
+    for what in ("format", "first format", "library"):
+        place = folder / what
         place.mkdir()
         made(place, a="one\n")
         with Staying(place, "a.txt") as session:
             session.type("two\n")
             kill(place, session)
             journal = home_of(place, session.name) / "journal"
-            data = bytearray(journal.read_bytes())
-            data[at] ^= 1
+            data = journal.read_bytes()
+            if what == "format":
+                data = data[:8] + struct.pack(">I", 3) + data[12:]
+            elif what == "first format":  # it had the library's version there, and records with other heads
+                data = data[:8] + struct.pack(">II", 1, 256) + struct.pack(">IB", 0, 3) + bytes(4) + data[HEAD:]
+            else:
+                data = with_turned(data, HEAD, -1)
             journal.write_bytes(data)
             session.drop()
             session.attach()
@@ -226,7 +254,7 @@ def check_journal_of_another_version(folder):
             expect_equal(session.wait(), 7, "the status")
             said = session.process.stderr.read().decode()
             expect(f"samhost: session {session.name} can't go on: its journal is of another version" in said, f"it says {said!r}")
-            if at == 15:
+            if what == "library":
                 expect_equal(text_of(place / "a.txt.sam-saved"), "one\ntwo\n", "the copy")
                 expect("its text is in a.txt.sam-saved" in said, f"it says {said!r}")
                 expect(not home_of(place, session.name).exists(), "its folder stays")
@@ -237,13 +265,9 @@ def check_journal_that_differs(folder):
     with typed(folder) as session:
         kill(folder, session)
         journal = home_of(folder, session.name) / "journal"
-        data = bytearray(journal.read_bytes())
-        records, _ = records_of(data)
-        at = [at for at, kind in records if kind == 6][-1]  # what the host has said last
-        length = struct.unpack(">I", data[at : at + 4])[0]
-        data[at + 5] ^= 1
-        data[at + 5 + length : at + 9 + length] = struct.pack(">I", crc(data[at : at + 5 + length]))
-        journal.write_bytes(data)
+        data = journal.read_bytes()
+        at = [at for at, kind in records_of(data)[0] if kind == DOWN][-1]  # what the host has said last
+        journal.write_bytes(with_turned(data, at, 1))
         session.drop()
         session.attach()
         expect_equal((session.refusal(), session.wait()), (What.NO_SESSION, 7), "the answer, and the status")
@@ -269,9 +293,12 @@ def check_journal_has_crc_32c(folder):
     with Staying(folder, "a.txt") as session:
         data = (home_of(folder, session.name) / "journal").read_bytes()
         records, end = records_of(data)
+        expect_equal(struct.unpack(">I", data[HEAD - 4 : HEAD])[0], crc(data[: HEAD - 4]), "the sum of the head")
         ends = [at for at, _ in records[1:]] + [end]
-        for (at, _), after in zip(records, ends):
-            expect_equal(struct.unpack(">I", data[after - 4 : after])[0], crc(data[at : after - 4]), f"the sum of the record at {at}")
+        for number, ((at, _), after) in enumerate(zip(records, ends)):
+            record = spelled(data, number, durable_of(data, at), data[at + FRONT : after - BACK])
+            expect_equal(data[at:after], record, f"the record at {at}")
+            expect(durable_of(data, at) <= at, f"the record at {at} says that more was on the disk than stood before it")
         session.leave()
 
 
@@ -353,7 +380,7 @@ def check_journal_before_acknowledgements(folder):
             session.type("three\n")
             tracer.terminate()
         forms = {
-            r"writev\(\d+, \[\{iov_base=\"(\\x..){4}\\x05": "up",
+            r"writev\(\d+, \[\{iov_base=\"(\\x..){24}\", iov_len=24\}, \{iov_base=\"\\x05": "up",
             r"fdatasync\(": "on disk",
             r"sendto\(.*\\x03\\x00\\x08": "acknowledged",
         }

@@ -5,7 +5,7 @@ import struct
 import subprocess
 
 from checks import GIVEN_UP, Skipped, expect, times_slower, wait_until
-from host_checks.journals import FRONT, crc, kill, records_of, typed
+from host_checks.journals import BACK, FRONT, HEAD, crc, durable_of, kill, records_of, spelled, typed
 from host_checks.line import Staying, home_of
 from host_checks.power import seconds_of_children
 from host_checks.support import SAMHOST, expect_equal, made, names_in, text_of
@@ -129,8 +129,10 @@ def check_damaged_behind_the_last_sync(folder):
         journal = home_of(folder, session.name) / "journal"
         data = journal.read_bytes()
         synced = max(at for at, kind in records_of(data)[0] if kind == SYNCED)
-        lost, whole = spelled(5, b"never acknowledged"), spelled(5, b"nor this")
-        journal.write_bytes(data[: synced + 9] + bytes(len(lost)) + whole)
+        count = len(records_of(data[:synced])[0]) + 1
+        lost = spelled(data, count, synced, b"\5never acknowledged")
+        whole = spelled(data, count + 1, synced, b"\5nor this")
+        journal.write_bytes(data[: synced + FRONT + 1 + BACK] + bytes(len(lost)) + whole)
         session.abandon()
         session.type("three\n")
         expect_equal(session.text(), "one\ntwo\nthree\n", "the text")
@@ -138,24 +140,26 @@ def check_damaged_behind_the_last_sync(folder):
         session.leave()
 
 
-def spelled(kind, body):
-    """A record of a journal."""
-    record = struct.pack(">IB", len(body), kind) + body
-    return record + struct.pack(">I", crc(record))
-
-
-def check_damaged_of_an_older_version(folder):
-    """A journal of a samhost that notes no syncs is damaged where any whole record stands behind a wrong one."""
+def check_damaged_at_many_places(folder):
+    """A bit that turns at any of 64 places of a journal is told as damage, with the place where the whole records end, if it is in what was on
+    the disk; so is one in the head, but for the version. Behind that it is a torn end, and the session has what stands before."""
     killed = Killed(folder)
-    older = b"".join(killed.journal[at:after] for at, kind, after in killed.records if kind != SYNCED)
-    killed.restore(killed.journal[:FRONT] + older)
-    ended = killed.run("--end", killed.name)
-    got = ended.returncode, text_of(folder / "a.txt.sam-saved")
-    expect_equal(got, (0, "one\n0\n1\n2\n3\n4\n5\n"), f"after {ended.stderr!r} what comes of it")
-    killed.restore(killed.journal[:FRONT] + older[:-60] + bytes([older[-60] ^ 1]) + older[-59:])
-    ended = killed.run("--end", killed.name)
-    expect_equal(ended.returncode, 1, f"after {ended.stderr!r} the status")
-    expect((killed.home / "journal.wrong").exists(), "the journal is not kept")
+    durable = max(durable_of(killed.journal, at) for at, _, _ in killed.records)
+    places = {len(killed.journal) * number // 64 for number in range(64)} | {durable - 1, durable, len(killed.journal) - 1}
+    for place in sorted(places):
+        killed.restore(killed.flipped(place))
+        ended = killed.run("--end", killed.name)
+        said = ended.stderr.decode()
+        if place >= durable:
+            expect_equal(ended.returncode, 0, f"byte {place}: after {said!r} the status")
+            continue
+        wrong = max([at for at, _, _ in killed.records if at <= place], default=0)
+        is_version = 8 <= place < 12
+        wanted = "its journal is of another version" if is_version else f"its journal is damaged at byte {wrong}\n"
+        expect_equal(ended.returncode, 1, f"byte {place}: after {said!r} the status")
+        expect(wanted in said, f"byte {place}: it says {said!r}")
+        kept = "journal" if is_version else "journal.wrong"
+        expect_equal((killed.home / kept).read_bytes(), killed.flipped(place), f"byte {place}: the journal that is kept")
 
 
 def check_damaged_tail_is_kept(folder):
@@ -200,12 +204,12 @@ def check_damaged_tail_without_room(folder):
 
 
 def check_damaged_to_nothing(folder):
-    """A journal that lacks its front is told as damaged, and kept; one that has no more than that had not begun, and goes."""
+    """A journal that lacks its head is told as damaged, and kept; one that has no more than that had not begun, and goes."""
     killed = Killed(folder)
-    for size in (0, 10, FRONT):
+    for size in (0, 10, HEAD):
         killed.restore(killed.journal[:size])
         ended = killed.run("--end", killed.name)
-        is_kept = size < FRONT
+        is_kept = size < HEAD
         expect_equal(ended.returncode, int(is_kept), f"{size} bytes: after {ended.stderr!r} the status")
         found = b"its journal is damaged" in ended.stderr, (killed.home / "journal.wrong").exists()
         expect_equal(found, (is_kept, is_kept), f"{size} bytes: whether it is told, and kept")
@@ -215,7 +219,10 @@ def check_damaged_to_nothing(folder):
 def check_damaged_lengths_cost_little(folder):
     """A record that claims gigabytes, in a file that has as many, is damage, and found quickly; so are many zeros."""
     killed = Killed(folder)
-    for name, head in (("a long record", struct.pack(">IB", 0xFFFFFFF0, 5)), ("zeros", b"")):
+    number, durable = len(killed.records) - 1, killed.records[-1][0]
+    long_one = spelled(killed.journal, number, durable, b"")[:8] + struct.pack(">I", 0xFFFFFFF0) + struct.pack(">Q", durable)
+    long_one += struct.pack(">I", crc(killed.journal[12:20] + long_one))
+    for name, head in (("a long record", long_one), ("zeros", b"")):
         killed.restore(killed.journal[: killed.records[-1][0]] + head)
         os.truncate(killed.home / "journal", 5 << 30)
         before = seconds_of_children()
