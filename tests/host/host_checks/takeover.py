@@ -56,7 +56,7 @@ def check_taken_with_texts_and_marks(folder):
             new.type("three\n")
             new.write(1)
             expect_equal(text_of(first), "one\ntwo\nthree\n", "the file")
-            expect_equal([said for said in new.said() if said.startswith("? ")], [line], "what it says of the write")
+            expect_equal([said for said in new.said() if said.startswith("not written: ")], [line], "what it says of the write")
             new.leave()
             wait_until(lambda: not home_of(folder, new.name).exists(), "its folder stays")
     expect_equal(text_of(second), "other\nmore\n", "the other file")
