@@ -155,6 +155,8 @@ class Session:
         status = None
         try:
             status = self._end_link()
+            if status == 0 and not self.link.stays:  # so the host has saved what was cut, too
+                keeping.is_cut_saved = True
         finally:
             self.say_told()
             self._keep_here((status == 0 or (self._stays and self.editor.way.has_all)) and not keeping.is_hopeless)

@@ -92,7 +92,7 @@ def check_crossing(folder):
     with Session(folder, "a.txt", slow=SLOW_TRIP, width=160) as session:
         session.wait_for("abab")
         session.wait_for_quiet()
-        session.keys("S-Down", "S-Left", "C-x", "C-v", "C-v")
+        session.keys(*["S-Down"] * 4, "S-Left", "C-x", "C-v", "C-v")  # four rows are the first line
         wait_until(lambda: session.held() == 1, "the second paste doesn't wait for the first")
         session.type("typed")
         wait_until(lambda: session.held() > 1, "what is typed doesn't wait")

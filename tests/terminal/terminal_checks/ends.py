@@ -119,8 +119,7 @@ def check_leave_without_the_host(folder):
             os.kill(terminal, signal.SIGINT)  # `^C` would end the shell, too, that notes the status
             session.wait_for_end(3)
             expect(time.monotonic() - start < 5, "it waits all the same")
-        wait_for_text(folder / "a.txt.sam-here", "ne\n")
-        wait_for_text(folder / "typed.sam-here", "waits")
+        wait_for_text(folder / "a.txt.sam-here", "owaitsne\n")
 
 
 def check_kill_terminal(folder):

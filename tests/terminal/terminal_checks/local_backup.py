@@ -127,7 +127,7 @@ def check_undo_while_the_host_is_lost(folder):
 
 
 def check_signal_before_a_key_arrives(folder):
-    """The same with a real host, which tells that it has saved while the last key is on the way."""
+    """The same with a real host, which saves and ends while the last key is on the way."""
     made(folder, a="one\n")
     saved = folder / "a.txt.sam-saved"
     with Session(folder, "a.txt", slow=LINK) as session:
@@ -140,7 +140,7 @@ def check_signal_before_a_key_arrives(folder):
         session.type("late ")
         session.wait_for("typed late one")
         os.kill(host, signal.SIGTERM)
-        session.wait_for("was not written; its text is in")
+        wait_until(lambda: (stat_of(host) or "Z")[0] == "Z", "the host doesn't end")
         os.kill(line, signal.SIGCONT)
         session.wait_for("the host is gone")
         session.keys("C-q")

@@ -253,6 +253,7 @@ def check_text_lost(folder):
     notes = first_message(), lost(1), Note(NoteKind.ENDED, number=5)
     with Session(folder, "a.txt", "b.txt", host=hostile("notes", *(write_note(note).hex() for note in notes))) as session:
         session.wait_for("is lost: No space left on device")
+        session.read("is lost: No space left on device")
         session.keys("C-q")
         session.wait_for_end(5)
 
