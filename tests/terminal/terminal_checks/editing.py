@@ -87,19 +87,19 @@ def check_on_the_way(folder):
 
 def check_crossing(folder):
     """A paste is under way: what is typed into the file meanwhile waits, and comes in after what was pasted."""
-    long = "ab" * 300  # a shorter text is pasted here, by typing it
-    (path,) = made(folder, a=f"{long}\nc\n")
+    long = "ab" * 2500  # a shorter text is pasted here, by typing it
+    (path,) = made(folder, a=f"{long}c\n")
     with Session(folder, "a.txt", slow=SLOW_TRIP, width=160) as session:
         session.wait_for("abab")
         session.wait_for_quiet()
-        session.keys(*["S-Down"] * 4, "S-Left", "C-x", "C-v", "C-v")  # four rows are the first line
+        session.keys("S-End", "S-Left", "C-x", "C-v", "C-v")
         wait_until(lambda: session.held() == 1, "the second paste doesn't wait for the first")
         session.type("typed")
         wait_until(lambda: session.held() > 1, "what is typed doesn't wait")
-        expect(session.rows("a.txt")[:2] == ["", "c"], f"the text is {session.rows('a.txt')}")
+        expect(session.rows("a.txt")[0] == "c", f"the text is {session.rows('a.txt')}")
         session.wait_for_quiet()
         session.keys("C-w")
-        wait_for_text(path, f"{long}{long}typed\nc\n")
+        wait_for_text(path, f"{long}{long}typedc\n")
         session.leave()
 
 
@@ -200,12 +200,15 @@ def check_leave_waits(folder):
         session.keys("C-w")
         wait_until(lambda: not session.shows("* a.txt"), "the file is still marked as changed")
         session.wait_for_quiet()
-        session.keys("C-l")
+        session.keys("S-Left", "C-l")
         session.type("y")
         session.keys("C-q")
         session.wait_for("keys wait for the host")
-        session.answer("not written: a.txt", "C-q")
-        session.wait_for_end(0)
+        session.wait_for("not written: a.txt")
+        session.keys("C-w")
+        wait_until(lambda: not session.shows("* a.txt"), "the file is still marked as changed")
+        session.wait_for_quiet()
+        session.leave()
 
 
 def check_leave_asks(folder):

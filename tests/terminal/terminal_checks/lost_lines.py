@@ -246,7 +246,7 @@ def check_no_answer(folder):
             session.wait_for("xone")
             is_early = not session.shows("no answer")
             expect(is_early or time.monotonic() - start > 0.9, "it is told too early")
-            for seconds in (3, 5):
+            for seconds in (5, 7):
                 session.wait_for(f"no answer for {seconds} s")
         wait_until(lambda: not session.shows("no answer"), "it stays though the host answers")
         session.wait_for_quiet()
