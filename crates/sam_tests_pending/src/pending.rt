@@ -36,7 +36,7 @@ fn pieces(pending: &Pending) -> u32 {
         };
         let len = match shown {
             Shown::Rasp(_, count) => count,
-            Shown::Waiting(runes) => runes.len() as u32,
+            Shown::Waiting(runes) => u32::try_from(runes.len()).unwrap_or(u32::MAX),
         };
         place = place.saturating_add(len);
     }
