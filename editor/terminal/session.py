@@ -214,10 +214,10 @@ def run_session(wish: Wish, link: PersistentSession) -> int:
         session.has_colours = not wish.shows.plain and not os.environ.get("NO_COLOR")
         if not session.begin():
             session.say_told()
-            ended_with = link.early_status
+            ended_with, is_old = link.early_status, link.refused_words and not wish.takes_over
             link.close(say)
             why = f"it ended with status {ended_with}, and no session has begun" if ended_with else "the host doesn't answer"
-            why = TOO_OLD if link.refused_words and not wish.takes_over else why
+            why = TOO_OLD if is_old else why
             say(f"samterm: {shlex.join(wish.command)}: {why}")
             return STATUS_NO_HOST
         session.run()

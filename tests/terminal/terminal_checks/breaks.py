@@ -19,7 +19,7 @@ from .pairs import LONG as MANY_LINES
 from .pairs import in_a_small_window, loads_of, opened
 from .slow_line import QUIET_LOOP, least_loop
 from .stopped import MOST_FOR_A_KEY
-from .support import COMMAND_WINDOW, READ_AFTER, SAMHOST, SAMHOST_WORD, STATE, Session, expect, made, wait_for_text, wait_until
+from .support import COMMAND_WINDOW, READ_AFTER, SAMHOST, SAMHOST_WORD, STATE, Session, expect, host_that, made, wait_for_text, wait_until
 
 MOST_LOADED = 30_000  # runes at once
 LINES = [f"line {number} {'x' * (number * 7 % 60)}\n" for number in range(1, 1501)]
@@ -644,20 +644,13 @@ def check_host_is_killed(folder):
 
 
 def check_old_host(folder):
-    """Where samhost is too old for a session that stays, it is run without, which is told."""
-    (path,) = made(folder, a="one\n")
-    host = folder / "host"
-    usage = "usage: samhost [--undo] [--times] [--] [FILE ..]"
-    host.write_text(f'#!/bin/sh\n[ "$1" = --serve ] && echo "{usage}" >&2 && exit 2\nexec {SAMHOST_WORD} "$@"\n')
-    host.chmod(0o755)
-    with Session(folder, "a.txt", host=str(host), stays=True) as session:
-        session.wait_for("one")
-        session.type("x")
-        session.keys("C-w")
-        wait_for_text(path, "xone\n")
-        session.leave()
+    """Where samhost knows of no session that stays, no session begins, and why is told."""
+    made(folder, a="one\n")
+    host = host_that(folder, '[ "$1" = --serve ] && echo "usage: samhost [--undo] [--times] [--] [FILE ..]" >&2 && exit 2')
+    with Session(folder, "a.txt", host=host, stays=True) as session:
+        session.wait_for_end(1)
     told = (folder / "stderr").read_text()
-    expect("too old for a session that stays" in told and "usage" not in told, f"it tells {told!r}")
+    expect("that samhost is too old" in told, f"it tells {told!r}")
 
 
 def check_break_while_leaving(folder):
