@@ -66,7 +66,8 @@ def expect_end(session, what):
     """The session is over soon."""
     until = time.monotonic() + SECONDS_TO_END * times_longer()
     while session.process.poll() is None and time.monotonic() < until:
-        session.read(0.05)
+        with contextlib.suppress(OSError):  # its end of the terminal goes before it does
+            session.read(0.05)
     expect(session.process.poll() is not None, f"{what}: it doesn't end")
 
 
