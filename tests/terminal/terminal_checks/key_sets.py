@@ -9,7 +9,7 @@ from checks import expect_equal
 
 from .messages import replacing
 from .pairs import opened
-from .support import PAGE, ROOT, SAMTERM, SAMTERM_WORD, Session, expect, made, wait_for_text, wait_until
+from .support import KEYS_PAGE, ROOT, SAMTERM, SAMTERM_WORD, Session, expect, made, wait_for_text, wait_until
 
 USUAL_WORD = f"{SAMTERM_WORD} --keys usual"
 
@@ -259,10 +259,10 @@ def check_file_named_as_the_option(folder):
 
 
 def check_keys_that_differ_in_pages(folder):
-    """The tables of docs/howto/EDITOR.md and of the manual have each action whose keys differ, with the keys of both sets."""
+    """The tables of docs/reference/KEYS.md and of the manual have each action whose keys differ, with the keys of both sets."""
     sam, usual = (key_sets()[name].bindings for name in ("sam", "usual"))
     keys = [(other.keys, each.keys) for each, other in zip(sam, usual) if other.keys != each.keys]
-    page, manual = PAGE.read_text(), (ROOT / "man/samterm.1").read_text()
+    page, manual = KEYS_PAGE.read_text(), (ROOT / "man/samterm.1").read_text()
     rows = re.findall(r"^.* \| (`.*`) \| (`.*`)$", page.partition("Does | `usual` | `sam`\n")[2].partition("\n\n")[0], re.MULTILINE)
     expect_equal(rows, [tuple(" or ".join(f"`{key}`" for key in each) for each in row) for row in keys])
     rows = re.findall(r"^\.It .* Ta (.*) Ta (.*)$", manual.partition("Ta Sy usual Ta Sy sam\n")[2].partition(".El")[0], re.MULTILINE)

@@ -5,7 +5,7 @@ import time
 from importlib.machinery import SourceFileLoader
 from importlib.util import module_from_spec, spec_from_loader
 
-from .support import PAGE, ROOT, SAMTERM, Session, expect, made
+from .support import KEYS_PAGE, PAGE, ROOT, SAMTERM, Session, expect, made
 
 
 def picture(folder):
@@ -30,9 +30,8 @@ def picture(folder):
 def check_page(folder):
     """The keys, the picture and the form of the table are those that the programs print."""
     keys = subprocess.run([SAMTERM, "--keys"], capture_output=True, check=True).stdout.decode()
-    page = PAGE.read_text()
-    expect(keys in page, "the keys of docs/howto/EDITOR.md are not those of `samterm --keys`")
-    expect(picture(folder) in page, "the picture of docs/howto/EDITOR.md is not what `tests/terminal/terminal --draw` prints")
+    expect(keys in KEYS_PAGE.read_text(), "the keys of docs/reference/KEYS.md are not those of `samterm --keys`")
+    expect(picture(folder) in PAGE.read_text(), "the picture of docs/howto/EDITOR.md is not what `tests/terminal/terminal --draw` prints")
 
 
 def check_times_of_the_pages(folder):

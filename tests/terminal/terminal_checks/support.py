@@ -14,7 +14,7 @@ from checks import LIBRARY, ROOT, SAMHOST, SECONDS, Failed, expect, wait_until
 SAMTERM = ROOT / "editor/terminal/samterm"
 SLOW = ROOT / "tools/delay"
 SAMTERM_WORD, SAMHOST_WORD, SLOW_WORD = (shlex.quote(str(path)) for path in (SAMTERM, SAMHOST, SLOW))  # for a shell
-PAGE = ROOT / "docs/howto/EDITOR.md"
+PAGE, KEYS_PAGE = ROOT / "docs/howto/EDITOR.md", ROOT / "docs/reference/KEYS.md"
 sys.path[:0] = [str(SAMTERM.parents[1]), str(ROOT / "bindings" / "python")]
 
 LINK = 300  # milliseconds each way
