@@ -1103,10 +1103,11 @@ SAM_MUST_USE sam_status sam_note_write(const sam_note *note, const uint8_t *path
  *     sam_journal_read(bytes, len, ..)                after a crash: how many whole records, and where they end
  *     sam_journal_next(bytes, len, 24, random, 0, ..) the first of them, and so on
  *
- * Each record says how many bytes of the file were durable when it was made: written, and then made safe by fdatasync or its like. A crash may
- * lose or turn what was not durable, in any order of its blocks. So the file is damaged if its whole records end before a place up to which
- * a whole record, anywhere in it, says that it was durable; else all behind them is torn, and is cut before the next record is written.
- * The random number of a file, which its sums are of too, is chosen anew for each: what is left on the disk of an older one is no record. */
+ * Each record says how many bytes of the file were durable when it was made: written, and then made safe by fdatasync or its like. A crash
+ * may lose or turn what was not durable, in any order of its blocks. So the file is damaged if its whole records end before a place up to
+ * which a whole record, anywhere in it, says that it was durable; else all behind them is torn, and is cut before the next record is
+ * written. The random number of a file, which its sums are of too, is chosen anew for each: what is left on the disk of an older one is no
+ * record. */
 
 #define SAM_JOURNAL_HEAD_BYTES 24 /* bytes of the head: the first record stands there */
 #define SAM_RECORD_FRONT_BYTES 24 /* bytes of a record before its body */
@@ -1142,8 +1143,8 @@ SAM_MUST_USE sam_status sam_journal_frame(uint64_t random, uint64_t number, uint
  * SAM_JOURNAL_NOT_A_JOURNAL, SAM_JOURNAL_OTHER_VERSION, SAM_JOURNAL_DAMAGED_HEAD. */
 SAM_MUST_USE sam_status sam_journal_read(const uint8_t *bytes, size_t len, uint64_t *random, uint64_t *count, size_t *end);
 
-/* Hands out the record of this number that stands at this place of a file. Its random number is what sam_journal_read hands out. SAM_NONE if
- * the file ends there. Refused: SAM_JOURNAL_TORN. */
+/* Hands out the record of this number that stands at this place of a file. Its random number is what sam_journal_read hands out. SAM_NONE
+ * if the file ends there. Refused: SAM_JOURNAL_TORN. */
 SAM_MUST_USE sam_status sam_journal_next(const uint8_t *bytes, size_t len, size_t place, uint64_t random, uint64_t number,
                                          sam_record *found);
 

@@ -201,7 +201,7 @@ class Editor(WindowLayout, KeyQueue, Actions):
             self.message = line
 
     def _asks_of(self, told: Note) -> bool:
-        """Whether a write would replace another program's text, and this asks now, since the user waits for it; else the next such key does."""
+        """Whether a write would replace another program's text, and this asks at once, as its user waits; else the next such key does."""
         if told.kind != NoteKind.NOT_SAVED or told.code not in REPLACING:
             return False
         self.reloading.forget(told.tag)

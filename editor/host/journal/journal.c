@@ -1,13 +1,13 @@
 /* journal.c: what a session that stays has done, in a file that only grows, so that another samhost can be the very same one.
  *
- * Its bytes are those of the library's journals (sulgrevad.h), whose clauses say what is read of them after a crash. The body of a record begins
- * with its step. Numbers have the highest byte first. A record is written once its step is done, and before anything that rests on it goes
- * out. The library's host and link are what these steps make of them, so nothing else has to be kept.
+ * Its bytes are those of the library's journals (sulgrevad.h), whose clauses say what is read of them after a crash. The body of a record
+ * begins with its step. Numbers have the highest byte first. A record is written once its step is done, and before anything that rests on
+ * it goes out. The library's host and link are what these steps make of them, so nothing else has to be kept.
  *
  * What is written survives the process. It is on the disk before anything is sent that rests on it, before a file is written, and after a
  * pause; so what a power cut takes nobody has heard of. Each record says how much was on the disk when it was made, and one is added after
- * each sync to say so: what is wrong before that is damage, and what is wrong behind it is torn. Where the file can't be written any more it
- * goes, and the session stays without it.
+ * each sync to say so: what is wrong before that is damage, and what is wrong behind it is torn. Where the file can't be written any more
+ * it goes, and the session stays without it.
  */
 #define _GNU_SOURCE
 #include <errno.h>

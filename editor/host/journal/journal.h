@@ -69,8 +69,8 @@ struct record_place {
 int make_journal(struct stay *stay, const char *name);
 bool has_journal(const struct home *home);
 
-/* Opens the journal that is there, and hands out all that it has, which stays readable until close_records; and what the library says of its
- * head. */
+/* Opens the journal that is there, and hands out all that it has, which stays readable until close_records; and what the library says of
+ * its head. */
 int open_journal(struct stay *stay, struct text *all, sam_status *head);
 void close_records(struct text *all);
 

@@ -72,8 +72,8 @@ class Recovery:
             self._look_here()
 
     def _look_here(self) -> None:
-        """Looks whether texts of files are here, of a few files at once, so that no key waits for that. What is no file's is looked for last,
-        and told first."""
+        """Looks whether texts of files are here, of a few files at once, so that no key waits for that. What is no file's is looked for
+        last, and told first."""
         found: Deque[Tuple[int, str, str]] = deque()
         for _ in range(min(MOST_LOOKED_AT, len(self._unlooked))):
             tag = self._unlooked.popleft()

@@ -101,8 +101,8 @@ export class Line {
     this.#call(first.connection);
   }
 
-  /** From now on has `heard.bytes` called, `heard.told` for each line for people, `heard.named` once the session has a name, `heard.note` for
-   * another message of the host, and `heard.changed` where the line stands otherwise; also with what has come before. */
+  /** From now on has `heard.bytes` called, `heard.told` for each line for people, `heard.named` once the session has a name, `heard.note`
+   * for another message of the host, and `heard.changed` where the line stands otherwise; also with what has come before. */
   hear(heard) {
     this.#heard = heard;
     for (const [event, ...words] of this.#untold.splice(0)) heard[event](...words);

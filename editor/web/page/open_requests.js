@@ -206,7 +206,8 @@ export class Opening {
     if (kind === NoteKind.NAMES && request === this.#namesOf) this.#meetNames(DECODER.decode(path), code === NoteCode.HAS_MORE);
     else if (kind === NoteKind.SHOWN) this.#wishes.push(tag);
     else if (kind === NoteKind.OPENED && isOfOpening) this.#opening.tag = tag;
-    else if (kind === NoteKind.REFUSED && isOfOpening) Object.assign(this.#opening, code === NoteCode.IS_FOLDER ? { isFolder: true } : { why: text });
+    else if (kind === NoteKind.REFUSED && isOfOpening && code === NoteCode.IS_FOLDER) this.#opening.isFolder = true;
+    else if (kind === NoteKind.REFUSED && isOfOpening) this.#opening.why = text;
     else return;
     this.editor.update();
   }
