@@ -101,7 +101,12 @@ def check_cut_text(folder):
         pair, editor, key, _ = opened("abc\n")
         pair.press(key("Shift-Right"), key("^X"))
         editor.is_over = leaves
-        ended(pair, None, (), 0).expect([] if leaves else [("cut", "a")], f"the user leaves: {leaves}")
+        ended(pair, None, (aside(1),), None).expect([] if leaves else [("cut", "a")], f"the user leaves: {leaves}")
+    for is_clean in (True, False):  # a host that ends with its line has saved what was cut, if it ends well
+        pair, editor, key, _ = opened("abc\n")
+        pair.press(key("Shift-Right"), key("^X"))
+        told = (aside(1),)
+        ended(pair, None, told, 0 if is_clean else 255).expect([] if is_clean else [("cut", "a")], f"the host ends well: {is_clean}")
 
 
 def check_undo_while_the_host_is_lost(folder):
