@@ -72,8 +72,7 @@ FURTHEST = BOX_WIDTH / 2 - 12
 PLACES = {
     "sam_play": (670, 0, "the program"),
     "sam_session": (722, 1, "scripts on threads, modes"),
-    "sam_spawn": (182, 2, "starts and joins five"),
-    "sam_tasks": (346, 2, "what five begin with"),
+    "sam_spawn": (264, 2, "begins and joins five"),
     "sam_settle": (524, 2, "five ends, one run"),
     "sam_modes": (684, 2, "words, inputs, faults"),
     "sam_c": (914, 2, "the library for C"),

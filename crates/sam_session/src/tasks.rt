@@ -6,7 +6,7 @@ ghost use Rattle.sam_script.specs.Script.{keys_of, mouse_of, without_lines};
 use crate::users::{Users, copied_users, room_for, users_of};
 use sam_ends::{Lines, Starts, Tasks, UserTask};
 use sam_script::Script;
-use sam_tasks::idle_tasks;
+use sam_spawn::idle_tasks;
 use sam_term::event::UserEvent;
 use std::alloc::{AllocError, Global};
 

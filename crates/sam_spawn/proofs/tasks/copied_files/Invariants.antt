@@ -1,5 +1,5 @@
 use Rattle.std.proofs.Common.{◌≡◌, take}
-use Rattle.sam_tasks.proofs.tasks.copied_files.Given as goal
+use Rattle.sam_spawn.proofs.tasks.copied_files.Given as goal
 
 abbrev pub invariant-loop-file : goal.invariant-loop-file
 invariant-loop-file l = l.copies.items ≡ take l.file-index l.files

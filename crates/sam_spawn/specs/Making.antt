@@ -5,8 +5,8 @@ use Rattle.sam_host.specs.Host.{new_host}
 use Rattle.sam_world.specs.Given.{IsFile}
 use Rattle.sam_queue.specs.Views.{new_post, new_take}
 use Rattle.sam_ends.specs.Lines.{LinesView}
-use Rattle.sam_tasks.specs.declared.tasks.LineSides.{LineSides}
-use Rattle.sam_tasks.specs.declared.tasks.HostRole.{HostRole}
+use Rattle.sam_spawn.specs.declared.tasks.LineSides.{LineSides}
+use Rattle.sam_spawn.specs.declared.tasks.HostRole.{HostRole}
 
 -- the sides of these lines, nothing put and nothing taken
 pub record AreNewSides (lines : LinesView) (s : LineSides) : Type 0 where

@@ -3,7 +3,7 @@ ghost use Rattle.std.specs.Prelude.{◌≡◌, ◌≤◌, All, IfOk, Ok, [], len
 ghost use Rattle.sam_runes.specs.Texts.{most_files};
 ghost use Rattle.sam_ends.specs.Tasks.{AreReady};
 ghost use Rattle.sam_queue.specs.Views.{new_post, new_take};
-ghost use Rattle.sam_tasks.specs.Making.{AreNewSides, IsHostRole};
+ghost use Rattle.sam_spawn.specs.Making.{AreNewSides, IsHostRole};
 ghost use Rattle.sam_world.specs.Given.{IsFile};
 
 use sam_ends::{
