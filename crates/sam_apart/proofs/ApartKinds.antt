@@ -1,6 +1,10 @@
 -- What a host answers and what a terminal composes fits at its place of the stream: a case for each message and for each event.
-use Rattle.sam_apart.proofs.Common.{◌≡◌, ◌≤◌, sym, subst, with_given, may_join, HostRunsWith, Joins, version_after-append, ℕ, false, List, [], ◌∷◌, ◌++◌, Option, Some, None, Ok, refl, arith, drop, after_h, HFrame, after_t, Tmesg, host, terminal, version_after, PlainHost, Reply, answer, host_checks, told_names, stamped, reply_version, reply_to, IsSound, FitInPlace, frames_fit, reply_stands, stays_sound, PlainTerminal, Made, flushed, sends, sends_all, sends_if, unchanged, requested, request_for, requests_for, gaps_shown, all_wanted, event_outcome, made_by_type, made_by_cut, made_by_paste, made_by_snarf, made_by_view, made_by_load, made_by_edit, event_checks, has_long_text, act_of, act_on, decided, flush_of, take_of, Acted, UserEvent, Each, HostRuns, composed_by, sides}
-use Rattle.std.specs.Prelude.{Bool, true, ◌==◌, ◌&&◌, if◌then◌else◌, length}
+use Rattle.sam_apart.proofs.Common.{◌≡◌, ◌≤◌, sym, subst, with_given, may_join, HostRunsWith, Asides, Aside, Joins, Marks, after_aside, aside_frames, may_do, version_after-append, ℕ, false, List, [], ◌∷◌, ◌++◌, Option, Some, None, Ok, refl, arith, drop, after_h, HFrame, after_t, Tmesg, host, terminal, version_after, PlainHost, Reply, answer, host_checks, told_names, stamped, reply_version, reply_to, IsSound, FitInPlace, frames_fit, reply_stands, stays_sound, PlainTerminal, Made, flushed, sends, sends_all, sends_if, unchanged, requested, request_for, requests_for, gaps_shown, all_wanted, event_outcome, made_by_type, made_by_cut, made_by_paste, made_by_snarf, made_by_view, made_by_load, made_by_edit, event_checks, has_long_text, act_of, act_on, decided, flush_of, take_of, Acted, UserEvent, Each, HostRuns, composed_by, sides}
+use Rattle.std.specs.Prelude.{Bool, true, not, ◌==◌, ◌&&◌, if◌then◌else◌, length}
+use Rattle.sam_text.specs.Files.{file_at}
+use Rattle.sam_host.proofs.SoundLaws.{marks_keep_sound}
+unfoldable use Rattle.sam_host.specs.Host.{when}
+use Rattle.sam_mesg.specs.declared.hmesg.Hmesg.TheVariants.{Hdirty}
 use Rattle.sam_runes.specs.Checks.{first_of_checks}
 use Rattle.sam_runes.specs.Texts.{common_version, is_empty}
 use Rattle.sam_runes.proofs.CheckLaws.{none_holds}
@@ -106,15 +110,40 @@ sound_joined h file may s =
       version = s.version;
     }
 
--- what a sound host answers while files join it
-pub joining_turn : (joins : Joins) (ms : List Tmesg) (h k : PlainHost) (fs : List HFrame) → IsSound h → HostRunsWith h joins ms fs k → InTurn host h.version fs
+-- and where one is marked
+sound_aside : (h : PlainHost) (a : Aside) → may_do h a ≡ true → IsSound h → IsSound (after_aside h a)
+sound_aside h (Joins file) may s = sound_joined h file may s
+sound_aside h (Marks f) may s = marks_keep_sound h f s
+
+-- a mark tells nothing of the version, and its frame fits in each
+record IsLight (h : PlainHost) (a : Aside) : Type 0 where
+  turn : InTurn host h.version (aside_frames h a)
+  same : version_after host h.version (aside_frames h a) ≡ (after_aside h a).version
+
+light : (h : PlainHost) (a : Aside) → IsLight h a
+unfolding when
+light h (Joins file) = record { turn = tt; same = refl }
+light h (Marks f) = record { turn = turn (not (file_at h.files f).dirty && not (f == 0)); same = same (not (file_at h.files f).dirty && not (f == 0)) }
+  where
+    turn : (b : Bool) → InTurn host h.version (stamped h.taken (when b (Hdirty f ∷ [])))
+    turn true = ((λ g. record { is_message = g.is_message; fits = refl }), tt)
+    turn false = tt
+
+    same : (b : Bool) → version_after host h.version (stamped h.taken (when b (Hdirty f ∷ []))) ≡ h.version
+    same true = refl
+    same false = refl
+
+-- what a sound host answers while files join it or are marked
+pub joining_turn : (asides : Asides) (ms : List Tmesg) (h k : PlainHost) (fs : List HFrame) → IsSound h → HostRunsWith h asides ms fs k → InTurn host h.version fs
 joining_turn [] ms h k fs s r = answers_turn ms h k fs s r
-joining_turn (j ∷ joins) ms h k fs s (before, after, first, rest, g, whole, frames, runs, count, may, more) =
-    let sound = sound_joined g j.1 may (sound_then before h g first s runs) in
-    let later = joining_turn joins after (with_given g j.1) k rest sound more in
+joining_turn (j ∷ asides) ms h k fs s (before, after, first, rest, g, whole, frames, runs, count, may, more) =
+    let sound = sound_aside g j.1 may (sound_then before h g first s runs) in
+    let l = light g j.1 in
+    let later =
+    InTurn-append host g.version (aside_frames g j.1) rest l.turn (subst (λ (v : ℕ). InTurn host v rest) (sym l.same) (joining_turn asides after (after_aside g j.1) k rest sound more)) in
     subst (InTurn host h.version) (sym frames)
-    (InTurn-append host h.version first rest (answers_turn before h g first s runs)
-    (subst (λ (v : ℕ). InTurn host v rest) (sym (version_then before h g first runs)) later))
+    (InTurn-append host h.version first (aside_frames g j.1 ++ rest) (answers_turn before h g first s runs)
+    (subst (λ (v : ℕ). InTurn host v (aside_frames g j.1 ++ rest)) (sym (version_then before h g first runs)) later))
 
 -- ## What the terminal composes: only a snarf text has a limit that the version changes, and it is composed where the terminal may act
 

@@ -1,5 +1,5 @@
 -- Two sides that worked apart are one run of the world; each read the other's stream, and neither refused the other.
-use Rattle.sam_apart.proofs.Common.{◌≡◌, ◌∙◌, ap, subst, user_events, HostRunsWith, Joins, ℕ, false, List, [], ◌∷◌, ◌++◌, Some, None, Err, refl, sym, append_assoc, arith, le-ltb, append-nil, or_from, append_cancel_left, MesgFault, FitsT, Tmesg, FitsH, HFrame, Direction, terminal, host, frame_of, FitInTurn, version_after, stream_of, IsOpen, Shows, stream_of-append, stream_of-one, PlainHost, answer, new_host, HostFault, starts_sound, PlainTerminal, new_terminal, take_of, TermFault, TermLog, PlainWorld, merged, is_bad_log, IsInOrder, Begins, each_append, users_merged_from, FitsUnder, starts_in_order, reached_in_order, host_never_refuses, terminal_never_refuses, Apart, Joined, Understood}
+use Rattle.sam_apart.proofs.Common.{◌≡◌, ◌∙◌, ap, subst, user_events, HostRunsWith, Asides, ℕ, false, List, [], ◌∷◌, ◌++◌, Some, None, Err, refl, sym, append_assoc, arith, le-ltb, append-nil, or_from, append_cancel_left, MesgFault, FitsT, Tmesg, FitsH, HFrame, Direction, terminal, host, frame_of, FitInTurn, version_after, stream_of, IsOpen, Shows, stream_of-append, stream_of-one, PlainHost, answer, new_host, HostFault, starts_sound, PlainTerminal, new_terminal, take_of, TermFault, TermLog, PlainWorld, merged, is_bad_log, IsInOrder, Begins, each_append, users_merged_from, FitsUnder, starts_in_order, reached_in_order, host_never_refuses, terminal_never_refuses, Apart, Joined, Understood}
 use Rattle.sam_frame.specs.Reading.{IsStream, IsSound}
 use Rattle.sam_frame.proofs.Unique.{one_reading}
 use Rattle.sam_frame.proofs.Cuttings.{Shows-longer}
@@ -9,7 +9,7 @@ use Rattle.sam_world.proofs.Carries.{begins_from_bytes}
 use Rattle.sam_apart.proofs.RealLaws.{up_sound, down_sound, up_free, down_free}
 use Rattle.sam_apart.proofs.ApartJoins.{none-without, users-without}
 use Rattle.sam_apart.proofs.ApartKinds.{joining_turn}
-use Rattle.sam_apart.proofs.ApartWalk.{Merged, merges}
+use Rattle.sam_apart.proofs.ApartWalk.{Merged, merges, none_announced}
 use Rattle.sam_apart.proofs.ApartTurns.{in_turn, each_t, each_h}
 
 -- ## Small facts
@@ -38,7 +38,7 @@ all_read d sound whole front rest p q e s = grind (arith, (written d whole p), (
 
 -- ## What was handled and taken are first parts
 
-module _ (given : List (List ℕ × List ℕ)) (joining : Joins) (entries : List TermLog) (h : PlainHost) (t : PlainTerminal)
+module _ (given : List (List ℕ × List ℕ)) (joining : Asides) (entries : List TermLog) (h : PlainHost) (t : PlainTerminal)
     (composed handled : List Tmesg) (answered passed taken : List HFrame) (a : Apart given joining entries h t composed handled answered passed taken) where
   handled_begins : Begins handled composed
   handled_begins = begins_from_bytes (FitsT 2) (frame_of terminal) up_free handled composed a.up.0 (each_t 1 handled a.handled_fit) a.composed_fit (sym a.up.1)
@@ -56,7 +56,7 @@ module _ (given : List (List ℕ × List ℕ)) (joining : Joins) (entries : List
   last = record { host = h; term = t; up = handled_begins.rest; down = taken_begins.rest }
 
   one : Merged joining entries (new_host given) h new_terminal t composed handled_begins.rest taken_begins.rest
-  one = merges joining entries (new_host given) h new_terminal t composed handled handled_begins.rest taken taken_begins.rest refl refl refl
+  one = merges joining entries (new_host given) h new_terminal t composed handled handled_begins.rest taken taken_begins.rest refl refl refl (none_announced given)
       (starts_in_order given a.given_fit) host_runs a.term_runs handled_begins.is
 
   in_order : IsInOrder last
@@ -78,7 +78,7 @@ module _ (given : List (List ℕ × List ℕ)) (joining : Joins) (entries : List
     world = last;
     run = one.run;
     merges = one.merges;
-    joins_are = sym one.are;
+    asides_are = sym one.are;
     users_are = sym (users-without one.events) ∙ ap user_events one.merges ∙ users_merged_from 0 entries h.taken;
     good = good_log entries h.taken one.fitting;
     host_is = refl;
@@ -117,7 +117,7 @@ module _ (given : List (List ℕ × List ℕ)) (joining : Joins) (entries : List
     all_downwards = λ rest. all_read host down_sound answered passed rest answered_in_turn a.passed_fit;
   }
 
--- where no file joins, the schedule is the merged one
+-- where no file joins or is marked, the schedule is the merged one
 pub merges_alone : (given : List (List ℕ × List ℕ)) (entries : List TermLog) (h : PlainHost) (t : PlainTerminal)
     (composed handled : List Tmesg) (answered taken : List HFrame) (j : Joined given [] entries h t composed handled answered taken) → j.events ≡ merged entries h.taken
-merges_alone given entries h t composed handled answered taken j = sym (none-without 0 j.events j.joins_are) ∙ j.merges
+merges_alone given entries h t composed handled answered taken j = sym (none-without 0 j.events j.asides_are) ∙ j.merges

@@ -23,7 +23,8 @@ pub use Rattle.sam_term.specs.declared.event.Acted.{Acted}
 pub use Rattle.sam_term.specs.declared.event.UserEvent.{UserEvent}
 pub use Rattle.sam_term.specs.declared.fault.TermFault.{TermFault}
 pub use Rattle.sam_sides.specs.RealSides.{acted, sides, unless_refused}
-pub use Rattle.sam_apart.specs.Apart.{Apart, HostRunsWith, Joined, Joins, Understood, joins_in, without_joins}
+pub use Rattle.sam_apart.specs.Apart.{Apart, Asides, HostRunsWith, Joined, Understood, after_aside, aside_frames, asides_in, joined_in, marked_in, may_do, without_asides}
+pub use Rattle.sam_host.specs.Asides.{Aside, Joins, Marks}
 pub use Rattle.sam_crossing.proofs.OrderLaws.{host_never_refuses, reached_in_order, starts_in_order, steps_in_order, terminal_never_refuses, version_at_its_place}
 pub use Rattle.sam_world.proofs.ComesToSync.{FitsUnder, each_append, fits, settles, users_merged_from}
 pub use Rattle.sam_crossing.specs.RunOrder.{IsInOrder}

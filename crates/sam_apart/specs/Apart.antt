@@ -1,5 +1,5 @@
 -- What two sides did that worked apart from each other, joined by streams of bytes, and the one run that it is.
-use Rattle.std.specs.Prelude.{◌≡◌, ℕ, ◌+◌, true, false, List, [], ◌∷◌, ◌++◌, Some, Err}
+use Rattle.std.specs.Prelude.{◌≡◌, ℕ, ◌+◌, Bool, true, false, List, [], ◌∷◌, ◌++◌, Some, Err}
 use Rattle.sam_mesg.specs.declared.fault.MesgFault.{MesgFault}
 use Rattle.sam_mesg.specs.TerminalKinds.{FitsT}
 use Rattle.sam_mesg.specs.declared.tmesg.Tmesg.{Tmesg}
@@ -8,7 +8,9 @@ use Rattle.sam_mesg.specs.declared.hmesg.HFrame.{HFrame}
 use Rattle.sam_frame.specs.Direction.{terminal, host, frame_of}
 use Rattle.sam_frame.specs.Stream.{FitInTurn, stream_of, version_after, IsOpen, Shows}
 use Rattle.sam_host.specs.Host.{PlainHost, answer, new_host, with_given}
+use Rattle.sam_host.specs.Asides.{Aside, Joins, Marks}
 use Rattle.sam_host.specs.Laws.{AreGiven}
+use Rattle.sam_host.specs.Marking.{mark_frames, marked}
 use Rattle.sam_host.specs.declared.fault.HostFault.{HostFault}
 use Rattle.sam_host.specs.declared.fault.HostFault.TheVariants as refusal
 use Rattle.sam_term.specs.Term.{PlainTerminal, new_terminal, take_of}
@@ -17,58 +19,87 @@ use Rattle.sam_term.specs.declared.fault.TermFault.TheVariants as fault
 use Rattle.sam_sides.specs.declared.log.TermLog.{TermLog}
 use Rattle.sam_world.specs.Logs.{logged_users}
 use Rattle.sam_crossing.specs.Joining.{may_join}
-use Rattle.sam_crossing.specs.World.{user_events, PlainWorld, new_world, run_of}
+use Rattle.sam_crossing.specs.World.{may_mark, user_events, PlainWorld, new_world, run_of}
 use Rattle.sam_crossing.specs.declared.event.Event.{Event}
-use Rattle.sam_crossing.specs.declared.event.Event.TheVariants.{User, Add, Act, Flush, HostTake, TermTake}
+use Rattle.sam_crossing.specs.declared.event.Event.TheVariants.{User, Add, Mark, Act, Flush, HostTake, TermTake}
 use Rattle.sam_sides.specs.RealSides.{sides}
 use Rattle.sam_world.specs.Sides.{Each, HostRuns, TermRuns}
 use Rattle.sam_world.specs.Prefixes.{Begins}
 use Rattle.sam_world.specs.Merging.{merged, is_bad_log}
 
--- ## Files that join
+-- ## Files that join, and files that are marked
 
--- names and texts of files, each with how many messages the host had handled when it joined
-abbrev pub Joins : Type 0
-Joins = List (ℕ × (List ℕ × List ℕ))
+-- what is done at the host beside its messages, each with how many of these it had handled by then
+abbrev pub Asides : Type 0
+Asides = List (ℕ × Aside)
 
--- the host handles the messages in order and answers the frames, and each file joins it, as it may, between two messages: once it has
--- handled so many in all
-abbrev pub HostRunsWith : PlainHost → Joins → List Tmesg → List HFrame → PlainHost → Type 0
+-- it may be done
+abbrev pub may_do : PlainHost → Aside → Bool
+may_do h (Joins file) = may_join h file.0 file.1
+may_do h (Marks f) = may_mark h f
+
+-- the host after it
+abbrev pub after_aside : PlainHost → Aside → PlainHost
+after_aside h (Joins file) = with_given h file
+after_aside h (Marks f) = marked h f
+
+-- the frames that come of it
+abbrev pub aside_frames : PlainHost → Aside → List HFrame
+aside_frames h (Joins file) = []
+aside_frames h (Marks f) = mark_frames h f
+
+-- the host handles the messages in order and answers the frames, and each aside is done, as it may be, between two messages: once it has
+-- handled so many in all. Its frames stand between their answers
+abbrev pub HostRunsWith : PlainHost → Asides → List Tmesg → List HFrame → PlainHost → Type 0
 HostRunsWith h [] messages frames k = HostRuns sides h messages frames k
-HostRunsWith h ((count, file) ∷ joins) messages frames k =
+HostRunsWith h ((count, aside) ∷ asides) messages frames k =
     (before : List Tmesg) × (after : List Tmesg) × (first : List HFrame) × (rest : List HFrame) × (g : PlainHost)
-    × (messages ≡ before ++ after) × (frames ≡ first ++ rest) × HostRuns sides h before first g
-    × (g.taken ≡ count) × (may_join g file.0 file.1 ≡ true) × HostRunsWith (with_given g file) joins after rest k
+    × (messages ≡ before ++ after) × (frames ≡ first ++ (aside_frames g aside ++ rest)) × HostRuns sides h before first g
+    × (g.taken ≡ count) × (may_do g aside ≡ true) × HostRunsWith (after_aside g aside) asides after rest k
 
--- the files that join in events before which the host had taken so many messages
-abbrev pub joins_in : ℕ → List Event → Joins
-joins_in count [] = []
-joins_in count (User e ∷ es) = joins_in count es
-joins_in count (Add name text ∷ es) = (count, (name, text)) ∷ joins_in count es
-joins_in count (Act ∷ es) = joins_in count es
-joins_in count (Flush ∷ es) = joins_in count es
-joins_in count (HostTake ∷ es) = joins_in (count + 1) es
-joins_in count (TermTake ∷ es) = joins_in count es
+-- the asides in events before which the host had taken so many messages
+abbrev pub asides_in : ℕ → List Event → Asides
+asides_in count [] = []
+asides_in count (User e ∷ es) = asides_in count es
+asides_in count (Add name text ∷ es) = (count, Joins (name, text)) ∷ asides_in count es
+asides_in count (Mark f ∷ es) = (count, Marks f) ∷ asides_in count es
+asides_in count (Act ∷ es) = asides_in count es
+asides_in count (Flush ∷ es) = asides_in count es
+asides_in count (HostTake ∷ es) = asides_in (count + 1) es
+asides_in count (TermTake ∷ es) = asides_in count es
+
+-- the files that join among asides, in order
+abbrev pub joined_in : Asides → List (List ℕ × List ℕ)
+joined_in [] = []
+joined_in ((count, Joins file) ∷ asides) = file ∷ joined_in asides
+joined_in ((count, Marks f) ∷ asides) = joined_in asides
+
+-- and those that are marked
+abbrev pub marked_in : Asides → List ℕ
+marked_in [] = []
+marked_in ((count, Joins file) ∷ asides) = marked_in asides
+marked_in ((count, Marks f) ∷ asides) = f ∷ marked_in asides
 
 -- all other events
-abbrev pub without_joins : List Event → List Event
-without_joins [] = []
-without_joins (User e ∷ es) = User e ∷ without_joins es
-without_joins (Add name text ∷ es) = without_joins es
-without_joins (Act ∷ es) = Act ∷ without_joins es
-without_joins (Flush ∷ es) = Flush ∷ without_joins es
-without_joins (HostTake ∷ es) = HostTake ∷ without_joins es
-without_joins (TermTake ∷ es) = TermTake ∷ without_joins es
+abbrev pub without_asides : List Event → List Event
+without_asides [] = []
+without_asides (User e ∷ es) = User e ∷ without_asides es
+without_asides (Add name text ∷ es) = without_asides es
+without_asides (Mark f ∷ es) = without_asides es
+without_asides (Act ∷ es) = Act ∷ without_asides es
+without_asides (Flush ∷ es) = Flush ∷ without_asides es
+without_asides (HostTake ∷ es) = HostTake ∷ without_asides es
+without_asides (TermTake ∷ es) = TermTake ∷ without_asides es
 
 -- ## Two sides
 
--- A host of these files handled messages and answered frames, and files joined it; a terminal went through its log, took some frames and
--- composed messages. The bytes of what the host handled begin those of what the terminal composed; the bytes of the frames that came
--- through begin those of what the host answered; and the terminal took the first of the frames that came through
-pub record Apart (given : List (List ℕ × List ℕ)) (joins : Joins) (entries : List TermLog) (h : PlainHost) (t : PlainTerminal)
+-- A host of these files handled messages and answered frames, and beside that files joined it or were marked; a terminal went through its
+-- log, took some frames and composed messages. The bytes of what the host handled begin those of what the terminal composed; the bytes of
+-- the frames that came through begin those of what the host answered; and the terminal took the first of the frames that came through
+pub record Apart (given : List (List ℕ × List ℕ)) (asides : Asides) (entries : List TermLog) (h : PlainHost) (t : PlainTerminal)
     (composed handled : List Tmesg) (answered passed taken : List HFrame) : Type 0 where
   pub given_fit : AreGiven given
-  pub host_runs : HostRunsWith (new_host given) joins handled answered h
+  pub host_runs : HostRunsWith (new_host given) asides handled answered h
   pub term_runs : TermRuns sides new_terminal entries taken composed t
   pub composed_fit : Each (FitsT 2) composed
   pub answers_fit : Each (FitsH 2) answered
@@ -78,15 +109,15 @@ pub record Apart (given : List (List ℕ × List ℕ)) (joins : Joins) (entries 
   pub down : (more : List ℕ) × (stream_of host answered ≡ stream_of host passed ++ more)
   pub passing : Begins taken passed
 
--- The merged schedule, in which each file joins after as many takes of the host, is a run of one world of these files. It ends in the very
--- states of the two sides, with what was composed and not handled, and answered and not taken, under way
-pub record Joined (given : List (List ℕ × List ℕ)) (joins : Joins) (entries : List TermLog) (h : PlainHost) (t : PlainTerminal)
+-- The merged schedule, in which each file joins or is marked after as many takes of the host, is a run of one world of these files. It
+-- ends in the very states of the two sides, with what was composed and not handled, and answered and not taken, under way
+pub record Joined (given : List (List ℕ × List ℕ)) (asides : Asides) (entries : List TermLog) (h : PlainHost) (t : PlainTerminal)
     (composed handled : List Tmesg) (answered taken : List HFrame) : Type 0 where
   pub events : List Event
   pub world : PlainWorld
   pub run : run_of (new_world given) events ≡ Some world
-  pub merges : without_joins events ≡ merged entries h.taken
-  pub joins_are : joins_in 0 events ≡ joins
+  pub merges : without_asides events ≡ merged entries h.taken
+  pub asides_are : asides_in 0 events ≡ asides
   pub users_are : user_events events ≡ logged_users entries
   pub good : is_bad_log entries h.taken ≡ false
   pub host_is : world.host ≡ h
@@ -123,12 +154,13 @@ pub record Understood (h : PlainHost) (t : PlainTerminal)
 
 abbrev pub ApartSidesJoin : Type 0
 ApartSidesJoin =
-    (given : List (List ℕ × List ℕ)) (joins : Joins) (entries : List TermLog) (h : PlainHost) (t : PlainTerminal)
+    (given : List (List ℕ × List ℕ)) (asides : Asides) (entries : List TermLog) (h : PlainHost) (t : PlainTerminal)
     (composed handled : List Tmesg) (answered passed taken : List HFrame)
-    → Apart given joins entries h t composed handled answered passed taken → Joined given joins entries h t composed handled answered taken
+    → Apart given asides entries h t composed handled answered passed taken
+    → Joined given asides entries h t composed handled answered taken
 
 abbrev pub ApartSidesUnderstand : Type 0
 ApartSidesUnderstand =
-    (given : List (List ℕ × List ℕ)) (joins : Joins) (entries : List TermLog) (h : PlainHost) (t : PlainTerminal)
+    (given : List (List ℕ × List ℕ)) (asides : Asides) (entries : List TermLog) (h : PlainHost) (t : PlainTerminal)
     (composed handled : List Tmesg) (answered passed taken : List HFrame)
-    → Apart given joins entries h t composed handled answered passed taken → Understood h t composed handled answered passed taken
+    → Apart given asides entries h t composed handled answered passed taken → Understood h t composed handled answered passed taken

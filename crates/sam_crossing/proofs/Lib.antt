@@ -32,5 +32,8 @@ pub mod Streaming
 pub mod Starting
 pub mod Joining
 pub mod MoreFiles
+pub mod Dirt
+pub mod Known
+pub mod Marking
 pub mod RunLaws
 pub mod OrderLaws

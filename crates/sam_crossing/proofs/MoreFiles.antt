@@ -140,7 +140,7 @@ record HasPlaces (fs : PlainFiles) : Type 0 where
   command : 0 < length fs.slots
   work : IfSome fs.work (λ f. f < length fs.slots)
 
-put-longer : (ss : Slots PlainFile) (f : ℕ) (x : PlainFile) → length ss ≤ length (put_slot ss f x)
+pub put-longer : (ss : Slots PlainFile) (f : ℕ) (x : PlainFile) → length ss ≤ length (put_slot ss f x)
 put-longer [] f x = omega arith
 put-longer (s ∷ ss) zero x = omega arith
 put-longer (s ∷ ss) (suc f) x = omega (arith, (put-longer ss f x))

@@ -1,5 +1,5 @@
 -- Every run keeps both sides in order; so neither refuses the other, and they agree wherever nothing is under way.
-use Rattle.sam_crossing.proofs.Common.{◌≡◌, ℕ, ◌+◌, ◌≤◌, Bool, true, false, ◌&&◌, ◌==◌, nat_le, if◌then◌else◌, refl, sym, ap, ◌∙◌, subst, same_Some, Result, List, [], ◌∷◌, ◌++◌, length, Option, Some, None, Ok, eqb-true, arith, length-append, unwrap_or, map-append, most_count, max_runes, first_of_checks, PlainHost, given_slots, starts_sound, new_terminal, Reply, answer, stamped, HostFault, window_at, PlainTerminal, Made, flushed, frame_outcome, frame_checks, known_at, put_window, blank_window, TermFault, UserEvent, Tmesg, Hmesg}
+use Rattle.sam_crossing.proofs.Common.{◌≡◌, ℕ, ◌+◌, ◌≤◌, Bool, true, false, not, is_some, ◌&&◌, ◌==◌, nat_le, if◌then◌else◌, refl, sym, ap, ◌∙◌, subst, same_Some, Result, List, [], ◌∷◌, ◌++◌, length, Option, Some, None, Ok, eqb-true, arith, length-append, unwrap_or, map-append, most_count, max_runes, first_of_checks, PlainHost, given_slots, starts_sound, new_terminal, Reply, answer, stamped, HostFault, window_at, PlainTerminal, Made, flushed, frame_outcome, frame_checks, known_at, put_window, blank_window, TermFault, UserEvent, Tmesg, Hmesg}
 use Rattle.std.proofs.Common.{Err}
 use Rattle.sam_term.specs.Term.{act_of, flush_of, take_of}
 use Rattle.sam_term.specs.declared.event.Acted.{Acted}
@@ -7,10 +7,10 @@ use Rattle.sam_mesg.specs.declared.hmesg.HFrame.{HFrame}
 use Rattle.sam_runes.specs.Texts.{most_in_name}
 use Rattle.sam_host.specs.Laws.{AreGiven}
 use Rattle.sam_crossing.specs.Joining.{HasGiven, with_more}
-use Rattle.sam_crossing.specs.World.{new_world, PlainWorld, composed_by, step_of, after_answer, host_takes, joined_by, host_after_all, mesgs}
+use Rattle.sam_crossing.specs.World.{new_world, PlainWorld, composed_by, step_of, after_answer, host_takes, joined_by, marked_by, host_after_all, mesgs}
 use Rattle.sam_crossing.specs.RunOrder.{IsInOrder, StartsInOrder, StepsInOrder, RunsInOrder, HostNeverRefuses, TerminalNeverRefuses, OnlyCountsStop, QuietMeansAgreement, FreeMeansAhead, FreeMeansOneVersion, ReachedInOrder, FreeMeansVersionAtPlace, OthersStayFree}
 use Rattle.sam_crossing.specs.declared.event.Event.{Event}
-use Rattle.sam_crossing.specs.declared.event.Event.TheVariants.{User, Add, Act, Flush, HostTake, TermTake}
+use Rattle.sam_crossing.specs.declared.event.Event.TheVariants.{User, Add, Mark, Act, Flush, HostTake, TermTake}
 use Rattle.sam_host.specs.declared.fault.HostFault.TheVariants as hostfault
 use Rattle.sam_term.specs.declared.records.Window.{Window}
 use Rattle.sam_term.specs.declared.records.KnownFile.{KnownFile}
@@ -25,7 +25,11 @@ use Rattle.sam_crossing.proofs.Receiving.{received}
 use Rattle.sam_crossing.proofs.Ordered.{HostGoes, host_goes, mesgs_stamped, answer_is, free_shows, quiet_settles}
 use Rattle.sam_crossing.proofs.Starting.{starts}
 use Rattle.sam_crossing.proofs.MoreFiles.{new_more, given_both, nothing_more, one_more, given_kept, given_joined, host_goes_more}
+use Rattle.sam_crossing.proofs.Known.{IsShown}
+use Rattle.sam_crossing.proofs.Marking.{given_marked, marks_more}
 use Rattle.sam_crossing.proofs.Streaming.{one_version, version_at_place}
+use Rattle.sam_text.specs.Files.{file_at, has_file}
+use Rattle.sam_host.specs.declared.fault.MarkFault.TheVariants as refusal
 use Rattle.sam_term.proofs.TermLaws.{known-put}
 pub use Rattle.sam_sides.proofs.Refusing.{refused_act, refused_flush}
 use Rattle.sam_crossing.proofs.RunLaws.{run_keeps, act_is, counted-start, counted_step, answer-counts, counted-result}
@@ -79,6 +83,7 @@ flush_goes h t up down r o e = rw (← counted-result (flushed t).0.sent (flushe
 abbrev is_apart : Event → Bool
 is_apart (User e) = true
 is_apart (Add name text) = false
+is_apart (Mark f) = false
 is_apart Act = true
 is_apart Flush = true
 is_apart HostTake = false
@@ -134,9 +139,25 @@ joins_step w next name text s = by _ _ _ refl refl s
     by true true true e f s = record { short = (grind (arith, e), grind (arith, f)); is = sym (same_Some _ _ s) }
     by a b c e f s = absurd (grind (arith, s))
 
+-- the file that is marked
+pub record Marks (w next : PlainWorld) (f : ℕ) : Type 0 where
+  pub tag : (f == 0) ≡ false
+  pub shown : IsShown w.host.files f
+  pub is : next ≡ marked_by w f
+
+pub marks_step : (w next : PlainWorld) (f : ℕ) → step_of w (Mark f) ≡ Some next → Marks w next f
+marks_step w next f s = by _ _ _ refl refl refl s
+  where
+    by : (a b c : Bool) → has_file w.host.files f ≡ a → (f == 0) ≡ b → (file_at w.host.files f).announced ≡ c
+        → (if not (is_some (first_of_checks ((not a, refusal.NoFile) ∷ (b, refusal.CommandFile) ∷ (not c, refusal.NotAnnounced) ∷ []))) then Some (marked_by w f) else None) ≡ Some next → Marks w next f
+    by true false true p q r s = record { tag = q; shown = (p, r); is = sym (same_Some _ _ s) }
+    by a b c p q r s = absurd (grind (arith, s))
+
 given_step : (w next : PlainWorld) (e : Event) → IsInOrder w → step_of w e ≡ Some next → HasGiven next.host.files
 given_step w next (Add name text) i s =
     let j = joins_step w next name text s in subst (λ (v : PlainWorld). HasGiven v.host.files) (sym j.is) (given_joined w.host (name, text) j.short.1 i.given)
+given_step w next (Mark f) i s =
+    let m = marks_step w next f s in subst (λ (v : PlainWorld). HasGiven v.host.files) (sym m.is) (given_marked w.host f m.shown i.given)
 given_step w next HostTake i s =
     let a = answers_step w next i w.up refl s in
     subst (λ (v : PlainWorld). HasGiven v.host.files) (sym a.is) (given_kept w.host a.message a.goes.reply i.given a.goes.answers_it)
@@ -149,6 +170,10 @@ joined_step w next (Add name text) i s more few =
     let j = joins_step w next name text s in
     subst (λ (v : PlainWorld). InOrder (with_more v.host (given_slots more)) v.term v.up (mesgs v.down)) (sym j.is)
     (subst (λ (h : PlainHost). InOrder h w.term w.up (mesgs w.down)) (sym (one_more w.host (name, text) (given_slots more))) (i.joined ((name, text) ∷ more) (j.short.0, j.short.1, few)))
+joined_step w next (Mark f) i s more few =
+    let m = marks_step w next f s in
+    subst (λ (v : PlainWorld). InOrder (with_more v.host (given_slots more)) v.term v.up (mesgs v.down)) (sym m.is)
+    (rw (map-append, mesgs_stamped) (marks_more w.host w.term w.up (mesgs w.down) f (given_slots more) m.tag m.shown (i.joined more few)))
 joined_step w next HostTake i s more few =
     let a = answers_step w next i w.up refl s in
     let wide = host_goes_more w.host w.term a.message a.rest (mesgs w.down) a.goes more few i.given

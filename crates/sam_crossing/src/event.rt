@@ -16,6 +16,10 @@ pub enum Event {
     /// message, frame or count comes of it. The terminal learns of it by the answer to its next `Tversion`. Not a step if all tags were
     /// given, if the name has more than `MOST_IN_NAME` runes, or the text more than `MAX_RUNES`.
     Add(Runes, Runes),
+    /// The host marks the file of this tag as dirty. Where it was clean, the frame `Hdirty` goes under way behind all others. No message
+    /// comes of it, and no lock is freed by it. Not a step if there is no such file, for the command file, or if the terminal was not told
+    /// the file's name.
+    Mark(u16),
     /// The terminal tries its oldest held event. Where it holds none, or a lock holds the oldest back, this changes nothing.
     Act,
     /// The terminal composes its unsent runes as one message. Where nothing is unsent, this changes nothing.
@@ -34,6 +38,7 @@ impl Event {
         match self {
             Event::User(e) => Ok(Event::User(e.copy(alloc)?)),
             Event::Add(name, text) => Ok(Event::Add(name.copy(alloc)?, text.copy(alloc)?)),
+            Event::Mark(tag) => Ok(Event::Mark(*tag)),
             Event::Act => Ok(Event::Act),
             Event::Flush => Ok(Event::Flush),
             Event::HostTake => Ok(Event::HostTake),

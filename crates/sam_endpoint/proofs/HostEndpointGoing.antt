@@ -2,7 +2,8 @@
 use Rattle.sam_endpoint.proofs.Common.{◌≡◌, ◌⊎◌, ◌<◌, ◌≤◌, take, drop, length, length-append, refl, sym, ap, subst, ◌∙◌, ℕ, List, [], ◌∷◌, ◌++◌, Option, None, Ok, Err, inl, inr, append_assoc, append-nil, arith, All-append, All-cons, All-nil, FitsH, Tmesg, HFrame, host, terminal, stream_of, Held, stream_of-append, PlainHost, answer, with_given, map, StreamFault, HostStop, EndpointFault, FitFrames, Gives, PlainHostEndpoint, Answers, Feeds, GoesOn, Serves, TakesIn, writes_of, Answer, AnswersFirst, Ends, Writes}
 use Rattle.std.proofs.Common.{All, length-take-le, take-append-drop}
 use Rattle.std.proofs.lemmas.List.{map-append}
-use Rattle.sam_endpoint.specs.HostEndpoints.{Step, Answered, Joined}
+use Rattle.sam_host.specs.Marking.{mark_frames, marked}
+use Rattle.sam_endpoint.specs.HostEndpoints.{Step, Answered, Joined, Marked}
 use Rattle.sam_endpoint.specs.declared.fault.HostStop.TheVariants as stop
 use Rattle.sam_endpoint.specs.declared.fault.EndpointFault.TheVariants as fault
 use Rattle.std.proofs.lemmas.List.Elements.{All-head, All-tail}
@@ -17,6 +18,12 @@ serves_more h [] first writes k ys rest more g p q = grind arith
 serves_more h (Answered m ∷ xs) first writes k ys rest more g (middle, front, back, noted, answered, frames, notes, serves) q =
     grind (arith, append_assoc, (serves_more middle xs back noted k ys rest more g serves q))
 serves_more h (Joined file ∷ xs) first writes k ys rest more g (may, p) q = (may, serves_more (with_given h file) xs first writes k ys rest more g p q)
+serves_more h (Marked f ∷ xs) first writes k ys rest more g (back, may, frames, p) q = (
+  back ++ rest,
+  may,
+  ap (λ (l : List HFrame). l ++ rest) frames ∙ append_assoc (mark_frames h f) back rest,
+  serves_more (marked h f) xs back writes k ys rest more g p q,
+)
 
 bytes_more : (e k g : PlainHostEndpoint) (first rest : List HFrame) → k.pending_bytes ++ stream_of host k.unwritten ≡ e.pending_bytes ++ stream_of host (e.unwritten ++ first)
     → g.pending_bytes ++ stream_of host g.unwritten ≡ k.pending_bytes ++ stream_of host (k.unwritten ++ rest)

@@ -4,6 +4,7 @@ pub mod HostEndpointFits
 pub mod HostEndpointGoing
 pub mod HostEndpointStepping
 pub mod HostEndpointFiles
+pub mod HostEndpointMarks
 pub mod TermEndpointHeld
 pub mod TermEndpointStamps
 pub mod ChangeLaws

@@ -44,6 +44,10 @@ TakesPiece d e piece (Err fault.CountFull) g = (2 ^ 64 ≤ e.framer.offset + len
 TakesPiece d e piece (Err fault.Unfinished) g = ⊥
 TakesPiece d e piece (Err (fault.Stopped why)) g = ⊥
 
+-- what was left over, and then these messages, are in the pending bytes
+abbrev pub all_written : {M N S : Type 0} → Direction N → PlainDuplex M N S → List N → PlainDuplex M N S
+all_written d e messages = record e { unwritten = []; pending_bytes = e.pending_bytes ++ stream_of d (e.unwritten ++ messages) }
+
 -- what was left over is in the pending bytes, or all stays
 abbrev pub WritesAll : {M N S : Type 0} → Direction N → PlainDuplex M N S
     → Result (Unit {0}) (EndpointFault S) → PlainDuplex M N S → Type 0

@@ -10,6 +10,9 @@ use Rattle.sam_frame.specs.Direction.{host, terminal}
 use Rattle.sam_frame.specs.Stream.{stream_of}
 use Rattle.sam_frame.specs.Framing.{Held, HasRoom, fresh}
 use Rattle.sam_host.specs.Host.{PlainHost, answer, new_host, with_given}
+use Rattle.sam_host.specs.Marking.{mark_checks, mark_frames, marked}
+use Rattle.sam_host.specs.declared.fault.MarkFault.{MarkFault}
+use Rattle.sam_host.specs.declared.fault.MarkFault.TheVariants as marking
 use Rattle.sam_endpoint.specs.declared.fault.AddFault.{AddFault}
 use Rattle.sam_endpoint.specs.declared.fault.AddFault.TheVariants as refusal
 use Rattle.sam_endpoint.specs.declared.fault.StreamFault.{StreamFault}
@@ -73,18 +76,26 @@ writes_of h Texit = []
 pub data Step : Type 0 where
   Answered : Tmesg → Step  -- it answered this message
   Joined : List ℕ × List ℕ → Step  -- a file of this name and text joined its files
+  Marked : ℕ → Step  -- this file was marked as dirty
 
 -- a tag is left, and name and text of the file are within their limits
 abbrev pub MayJoin : PlainHost → List ℕ × List ℕ → Type 0
 MayJoin h file = (length h.files.slots < all_tags) × (length file.0 ≤ most_in_name) × (length file.1 ≤ max_runes)
 
--- the host does these steps in order; its answers are these frames, and it is told to write these tags. A file joins only where it may
+-- nothing stands against marking this file as dirty
+abbrev pub MayMark : PlainHost → ℕ → Type 0
+MayMark h f = first_of_checks (mark_checks h f) ≡ None
+
+-- The host does these steps in order; its answers and the frames of its marks are these, and it is told to write these tags. A file joins,
+-- or is marked, only where it may
 abbrev pub Serves : PlainHost → List Step → List HFrame → List ℕ → PlainHost → Type 0
 Serves h [] frames writes g = (frames ≡ []) × (writes ≡ []) × (g ≡ h)
 Serves h (Answered m ∷ steps) frames writes g =
     (k : PlainHost) × (first : List HFrame) × (rest : List HFrame) × (more : List ℕ)
     × (answer h m ≡ Ok (k, first)) × (frames ≡ first ++ rest) × (writes ≡ writes_of h m ++ more) × Serves k steps rest more g
 Serves h (Joined file ∷ steps) frames writes g = MayJoin h file × Serves (with_given h file) steps frames writes g
+Serves h (Marked f ∷ steps) frames writes g =
+    (rest : List HFrame) × MayMark h f × (frames ≡ mark_frames h f ++ rest) × Serves (marked h f) steps rest writes g
 
 -- of the messages that waited these were answered, and the frames of the answers are written or wait to be
 pub record Answers (e : PlainHostEndpoint) (messages : List Tmesg) (g : PlainHostEndpoint) : Type 0 where
@@ -194,3 +205,24 @@ abbrev pub Adds : PlainHostEndpoint → List ℕ → List ℕ → Result ℕ Add
 Adds e name text (Ok tag) g =
     (tag ≡ length e.host.files.slots) × (first_of_checks (add_checks e name text) ≡ None) × (g ≡ with_file e name text)
 Adds e name text (Err why) g = IsAddFault (first_of_checks (add_checks e name text)) why × (g ≡ e)
+
+-- ## Files that are marked as dirty
+
+-- the end with this file marked, and with the frame for that written behind all that was answered before
+abbrev pub with_mark : PlainHostEndpoint → ℕ → PlainHostEndpoint
+with_mark e f =
+    record e {
+      host = marked e.host f;
+      unwritten = [];
+      pending_bytes = e.pending_bytes ++ stream_of host (e.unwritten ++ mark_frames e.host f);
+    }
+
+-- the first test that holds, or out of memory where none does
+abbrev pub IsMarkFault : Option MarkFault → MarkFault → Type 0
+IsMarkFault None why = why ≡ marking.OutOfMemory
+IsMarkFault (Some fault) why = why ≡ fault
+
+-- what marking a file answers, and how it leaves the end, whatever waits there and whether it goes on or has stopped
+abbrev pub Marks : PlainHostEndpoint → ℕ → Result (Unit {0}) MarkFault → PlainHostEndpoint → Type 0
+Marks e f (Ok done) g = MayMark e.host f × FitFrames (mark_frames e.host f) × (g ≡ with_mark e f)
+Marks e f (Err why) g = IsMarkFault (first_of_checks (mark_checks e.host f)) why × (g ≡ e)

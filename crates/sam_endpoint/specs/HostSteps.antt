@@ -27,6 +27,10 @@ Answer = Result (Unit {0}) (EndpointFault HostStop)
 abbrev pub written : PlainHostEndpoint → PlainHostEndpoint
 written e = record e { unwritten = []; pending_bytes = e.pending_bytes ++ stream_of host e.unwritten }
 
+-- the frames of the last answer, and then these, are in the pending bytes
+abbrev pub written_behind : PlainHostEndpoint → List HFrame → PlainHostEndpoint
+written_behind e frames = record e { unwritten = []; pending_bytes = e.pending_bytes ++ stream_of host (e.unwritten ++ frames) }
+
 -- it has stopped for this reason
 abbrev pub stopped : PlainHostEndpoint → HostStop → PlainHostEndpoint
 stopped e why = record e { stop = Some why }

@@ -2,7 +2,7 @@
 
 ghost use Rattle.std.specs.Prelude.{◌≡◌, ◌↔◌, ◌<◌, ◌++◌, ◌∷◌, [], IsTrue, None, OnOk, OnErr, false, drop, length, min, option_copied, slice_get, take};
 ghost use Rattle.sam_frame.specs.Stream.{CanEncode};
-ghost use Rattle.sam_endpoint.specs.Duplexes.{Finishes, IsDone, IsIdle, MayBring, TakesPiece, WritesAll, new_duplex, stopped_by};
+ghost use Rattle.sam_endpoint.specs.Duplexes.{Finishes, IsDone, IsIdle, MayBring, TakesPiece, WritesAll, all_written, new_duplex, stopped_by};
 
 use crate::fault::{EndpointFault, FinishFault, StreamFault};
 use crate::incoming::{drop_oldest, feed_framer};
@@ -145,6 +145,24 @@ impl<In: Wire, Out: Wire, Stop: Copy> Duplex<In, Out, Stop> {
             return Err(EndpointFault::Unfinished);
         }
         self.unwritten.clear();
+        Ok(())
+    }
+
+    /// Writes what is left over and then this message into the pending bytes, all or none. Its only error is out of memory, which leaves all
+    /// as it was.
+    #[tactic(auto, using(crate::proofs::Duplexes::one_put))]
+    pub(crate) fn write_behind(&mut self, message: Out) -> Result<(), AllocError>
+        requires { CanEncode Out.direction (self.old.unwritten ++ message ∷ []) }
+        ensures written { OnOk result (self.new ≡ all_written Out.direction self.old (message ∷ [])) }
+        ensures unchanged { OnErr result (self.new ≡ self.old) }
+    {
+        if self.unwritten.push(message).is_err() {
+            return Err(AllocError);
+        }
+        if self.write().is_err() {
+            self.unwritten.pop();
+            return Err(AllocError);
+        }
         Ok(())
     }
 

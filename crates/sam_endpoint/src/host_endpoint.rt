@@ -5,14 +5,15 @@ ghost use Rattle.std.specs.Str.{chars, is_utf8};
 ghost use Rattle.std.specs.VecDeque.{deque_len, deque_capacity};
 ghost use Rattle.sam_runes.specs.Checks.{first_of_checks};
 ghost use Rattle.sam_term.specs.Fitting.{FitsLast};
-ghost use Rattle.sam_endpoint.specs.HostEndpoints.{Adds, Feeds, Finishes, GoesOn, IsIdle, new_host_endpoint, add_checks, fault_place, writes_of};
+ghost use Rattle.sam_endpoint.specs.HostEndpoints.{Adds, Feeds, Finishes, GoesOn, IsIdle, Marks, new_host_endpoint, add_checks, fault_place, writes_of};
 ghost use Rattle.sam_endpoint.specs.HostRuns.{begun_with};
-ghost use Rattle.sam_endpoint.specs.HostSteps.{Brings, Ends, Handles, HandlesNext, TakesSo, Writes};
+ghost use Rattle.sam_endpoint.specs.HostSteps.{Brings, Ends, Handles, HandlesNext, TakesSo, Writes, written_behind};
+ghost use Rattle.sam_endpoint.specs.Streams.{FitFrames};
 
 use crate::duplex::Duplex;
 use crate::fault::{AddFault, EndpointFault, FinishFault, HostStop};
-use crate::known::know_frames;
-use sam_host::{Host, HostFault, Taken};
+use crate::known::{know_frame, know_frames};
+use sam_host::{Host, HostFault, MarkFault, Taken};
 use sam_mesg::{HFrame, Tmesg};
 use sam_runes::{ALL_TAGS, MAX_RUNES, MOST_IN_NAME, Text, read_utf8};
 use std::alloc::{AllocError, Global};
@@ -194,6 +195,49 @@ impl HostEndpoint {
         match self.host.add_file(name, text) {
             Ok(tag) => Ok(tag),
             Err(_) => Err(AddFault::OutOfMemory),
+        }
+    }
+
+    /// Writes what is left over, and then this frame if there is one, into the pending bytes, all or none. Its only error is out of memory,
+    /// which leaves all as it was.
+    #[tactic(auto, using(crate::proofs::HostEndpointMarks::writes_marks))]
+    fn write_mark(&mut self, frame: Option<HFrame>) -> Result<(), AllocError>
+        requires { FitFrames (option_to_list frame) }
+        ensures written { OnOk result (self.new ≡ written_behind self.old (option_to_list frame)) }
+        ensures unchanged { OnErr result (self.new ≡ self.old) }
+    {
+        match frame {
+            Some(frame) => self.duplex.write_behind(frame),
+            None => match self.write_answer() {
+                Ok(()) => Ok(()),
+                Err(_) => Err(AllocError),
+            },
+        }
+    }
+
+    /// Marks a file as dirty, open or not: for a program whose write of it failed, or that has another text on disk. The frame `Hdirty` for
+    /// the terminal becomes pending if the file was clean, behind all that the host answered before; what `Unfinished` left over to be
+    /// written becomes pending in any case. The frame frees no lock.
+    ///
+    /// It may be called at any time, as `add_file` may. A message that came before and still waits is answered after the mark.
+    ///
+    /// Errors, in this order: `NoFile` if the tag was never given or its file was closed; `CommandFile` for tag 0; `NotAnnounced` if the
+    /// terminal was not told the name yet; `OutOfMemory`. After an error the endpoint is as it was; else no text, dot or name has changed.
+    #[tactic(auto, using(crate::proofs::HostEndpointMarks::marks_files))]
+    pub fn mark_dirty(&mut self, tag: u16) -> Result<(), MarkFault>
+        ensures { Marks self.old tag result self.new }
+    {
+        if let Some(fault) = self.host.refusal_of_mark(tag) {
+            return Err(fault);
+        }
+        let frame = self.host.frame_of_mark(tag);
+        know_frame(&frame);
+        if self.write_mark(frame).is_err() {
+            return Err(MarkFault::OutOfMemory);
+        }
+        match self.host.mark_dirty(tag) {
+            Ok(_) => Ok(()),
+            Err(_) => unreachable!(),
         }
     }
 

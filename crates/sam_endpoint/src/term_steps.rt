@@ -1,6 +1,6 @@
 //! A terminal that goes on by single steps, each of which says what it did.
 
-ghost use Rattle.std.specs.Prelude.{◌≡◌, ◌↔◌, ◌<◌, [], IfErr, IsTrue, OnOk, length, option_map, slice_get};
+ghost use Rattle.std.specs.Prelude.{◌≡◌, ◌↔◌, ◌<◌, [], IfErr, IsTrue, OnOk, length, option_copied, option_map, slice_get};
 ghost use Rattle.sam_endpoint.specs.TermEndpoints.{IsDone};
 ghost use Rattle.sam_endpoint.specs.TermSteps.{Ends};
 ghost use Rattle.sam_endpoint.specs.TermStepping.{BringsEvent, BringsFrame, BringsIn, ComposesIn, DecidesStep, IsNotReady, IsReady, ReceivesStep, Steps, next_frame};
@@ -88,6 +88,13 @@ impl TermEndpoint {
         ensures not { IfErr result (IsNotReady self.now) }
     {
         self.duplex.check_ready()
+    }
+
+    /// Lends the oldest frame that waits, which the next step that receives one takes. `None` if none waits.
+    pub fn first_frame(&self) -> Option<&HFrame>
+        ensures { option_copied result ≡ slice_get self.now.waiting 0 }
+    {
+        self.duplex.first()
     }
 
     /// Returns what the next step that receives a frame begins with: the oldest frame that waits, and the part of its file's text that will

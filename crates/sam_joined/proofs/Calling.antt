@@ -6,7 +6,7 @@ use Rattle.sam_host.specs.Laws.{AreGiven}
 use Rattle.sam_endpoint.specs.HostEndpoints.{PlainHostEndpoint}
 use Rattle.sam_host.specs.declared.fault.HostFault.TheVariants as host_fault
 use Rattle.sam_term.specs.declared.fault.TermFault.TheVariants as term_fault
-use Rattle.sam_endpoint.specs.HostRuns.{Feed as FeedHost, Bring as BringHost, MakeStep as MakeHostStep, AddFile, TakeOut as TakeOutHost, NextWritten, Stops as HostStops, HasServed, HasStopped as HostHasStopped, Call as HostCall, came_in as came_up, handed_out as handed_tags, joined_by, went_out as went_down}
+use Rattle.sam_endpoint.specs.HostRuns.{Feed as FeedHost, Bring as BringHost, MakeStep as MakeHostStep, AddFile, MarkDirty, TakeOut as TakeOutHost, NextWritten, Stops as HostStops, HasServed, HasStopped as HostHasStopped, Call as HostCall, came_in as came_up, handed_out as handed_tags, asides_by, went_out as went_down}
 use Rattle.sam_endpoint.specs.TermEndpoints.{PlainTermEndpoint}
 use Rattle.sam_endpoint.specs.TermRuns.{HasDone, HasStopped as TermHasStopped, Feed as FeedTerm, Bring, MakeStep, Put, Flush, TakeOut, NextRefusal, Changed, Stops as TermStops, put_in, Call as TermCall, came_in as came_down, handed_out as handed_refusals, went_out as went_up}
 use Rattle.sam_endpoint.specs.declared.fault.HostStop.{HostStop}
@@ -23,9 +23,9 @@ with_last : {A B : Type 0} (f : A → List B) (xs : List A) (x : A) → flat_map
 with_last f xs x = flat_map-append f xs (x ∷ []) ∙ ap (λ (l : List _). flat_map f xs ++ l) (append-nil (f x))
 
 carried_of : (given : List (List ℕ × List ℕ)) (host_calls : List HostCall) (term_calls : List TermCall) (up down : List ℕ) (e : PlainHostEndpoint) (g : PlainTermEndpoint)
-    → AreGiven given → HasServed (new_host given) (flat_map came_up host_calls) (flat_map went_down host_calls) (flat_map handed_tags host_calls) (flat_map joined_by host_calls) e
+    → AreGiven given → HasServed (new_host given) (flat_map came_up host_calls) (flat_map went_down host_calls) (flat_map handed_tags host_calls) (flat_map asides_by host_calls) e
     → HasDone (flat_map came_down term_calls) (flat_map put_in term_calls) (flat_map went_up term_calls) (flat_map handed_refusals term_calls) g
-    → Carry host_calls term_calls up down e g → AreCarried given (flat_map joined_by host_calls) (flat_map put_in term_calls) up down e g
+    → Carry host_calls term_calls up down e g → AreCarried given (flat_map asides_by host_calls) (flat_map put_in term_calls) up down e g
 carried_of given host_calls term_calls up down e g fit served did carry = record {
   came_up = flat_map came_up host_calls;
   went_down = flat_map went_down host_calls;
@@ -52,6 +52,7 @@ none_out_down k e (FeedHost piece answer) why s = refl
 none_out_down k e (MakeHostStep result) why s = refl
 none_out_down k e (BringHost piece result) why s = absurd s
 none_out_down k e (AddFile count name text result) why s = absurd s
+none_out_down k e (MarkDirty count f result) why s = absurd s
 none_out_down k e (TakeOutHost bytes) why s = absurd s
 none_out_down k e (NextWritten tag) why s = absurd s
 
@@ -60,8 +61,8 @@ module _ (given : List (List ℕ × List ℕ)) (host_calls : List HostCall) (las
     (did : HasDone (flat_map came_down term_calls) (flat_map put_in term_calls) (flat_map went_up term_calls) (flat_map handed_refusals term_calls) g)
     (none : went_down last ≡ []) (carry : Carry (host_calls ++ last ∷ []) term_calls up down e g) where
   -- nothing of the last call was taken
-  host_carried : HasServed (new_host given) (flat_map came_up host_calls) (flat_map went_down host_calls) (flat_map handed_tags host_calls) (flat_map joined_by host_calls) e
-      → AreCarried given (flat_map joined_by host_calls) (flat_map put_in term_calls) (came_up last ++ up) down e g
+  host_carried : HasServed (new_host given) (flat_map came_up host_calls) (flat_map went_down host_calls) (flat_map handed_tags host_calls) (flat_map asides_by host_calls) e
+      → AreCarried given (flat_map asides_by host_calls) (flat_map put_in term_calls) (came_up last ++ up) down e g
   host_carried served = carried_of given host_calls term_calls (came_up last ++ up) down e g fit served did (record {
     upwards = carry.upwards ∙ (ap (λ (l : List ℕ). l ++ up) (with_last came_up host_calls last) ∙ append_assoc (flat_map came_up host_calls) (came_up last) up);
     downwards = ap (λ (l : List ℕ). l ++ e.pending_bytes)
@@ -69,21 +70,21 @@ module _ (given : List (List ℕ × List ℕ)) (host_calls : List HostCall) (las
   })
 
   host_stop_is : (taken : List HostCall) → (taken ≡ host_calls ++ last ∷ []) ⊎ (taken ≡ host_calls)
-      → HasServed (new_host given) (flat_map came_up taken) (flat_map went_down taken) (flat_map handed_tags taken) (flat_map joined_by taken) e → HostHasStopped e why
+      → HasServed (new_host given) (flat_map came_up taken) (flat_map went_down taken) (flat_map handed_tags taken) (flat_map asides_by taken) e → HostHasStopped e why
       → (taken : List HostCall) × ((taken ≡ host_calls ++ last ∷ []) ⊎ (taken ≡ host_calls)) × (way : List ℕ)
-      × AreCarried given (flat_map joined_by taken) (flat_map put_in term_calls) way down e g × (why ≡ host_stop.Refused host_fault.CountFull)
+      × AreCarried given (flat_map asides_by taken) (flat_map put_in term_calls) way down e g × (why ≡ host_stop.Refused host_fault.CountFull)
   host_stop_is taken (inl all) served stopped =
       let done =
-      subst (λ (calls : List HostCall). HasServed (new_host given) (flat_map came_up calls) (flat_map went_down calls) (flat_map handed_tags calls) (flat_map joined_by calls) e) all served in
+      subst (λ (calls : List HostCall). HasServed (new_host given) (flat_map came_up calls) (flat_map went_down calls) (flat_map handed_tags calls) (flat_map asides_by calls) e) all served in
       let calls = host_calls ++ last ∷ [] in
       let c = carried_of given calls term_calls up down e g fit done did carry in
-      (calls, inl refl, up, c, host_stops given (flat_map joined_by calls) (flat_map put_in term_calls) up down e g c why stopped)
+      (calls, inl refl, up, c, host_stops given (flat_map asides_by calls) (flat_map put_in term_calls) up down e g c why stopped)
   host_stop_is taken (inr before) served stopped =
       let done =
-      subst (λ (calls : List HostCall). HasServed (new_host given) (flat_map came_up calls) (flat_map went_down calls) (flat_map handed_tags calls) (flat_map joined_by calls) e) before served in
+      subst (λ (calls : List HostCall). HasServed (new_host given) (flat_map came_up calls) (flat_map went_down calls) (flat_map handed_tags calls) (flat_map asides_by calls) e) before served in
       let way = came_up last ++ up in
       let c = host_carried done in
-      (host_calls, inr refl, way, c, host_stops given (flat_map joined_by host_calls) (flat_map put_in term_calls) way down e g c why stopped)
+      (host_calls, inr refl, way, c, host_stops given (flat_map asides_by host_calls) (flat_map put_in term_calls) way down e g c why stopped)
 
 pub no_call_stops_host : NoCallStopsTheHost
 no_call_stops_host given host_calls last term_calls up down why k e g fit host_runs stops term_runs carry =
@@ -105,11 +106,11 @@ none_out_up k g (Changed kept) why s = absurd s
 
 module _ (given : List (List ℕ × List ℕ)) (host_calls : List HostCall) (term_calls : List TermCall) (last : TermCall) (up down : List ℕ) (why : TermStop)
     (e : PlainHostEndpoint) (g : PlainTermEndpoint) (fit : AreGiven given)
-    (served : HasServed (new_host given) (flat_map came_up host_calls) (flat_map went_down host_calls) (flat_map handed_tags host_calls) (flat_map joined_by host_calls) e)
+    (served : HasServed (new_host given) (flat_map came_up host_calls) (flat_map went_down host_calls) (flat_map handed_tags host_calls) (flat_map asides_by host_calls) e)
     (none : went_up last ≡ []) (carry : Carry host_calls (term_calls ++ last ∷ []) up down e g) where
   -- nothing of the last call was taken
   term_carried : HasDone (flat_map came_down term_calls) (flat_map put_in term_calls) (flat_map went_up term_calls) (flat_map handed_refusals term_calls) g
-      → AreCarried given (flat_map joined_by host_calls) (flat_map put_in term_calls) up (came_down last ++ down) e g
+      → AreCarried given (flat_map asides_by host_calls) (flat_map put_in term_calls) up (came_down last ++ down) e g
   term_carried did = carried_of given host_calls term_calls up (came_down last ++ down) e g fit served did (record {
     upwards = ap (λ (l : List ℕ). l ++ g.pending_bytes)
         (sym (with_last went_up term_calls last ∙ (ap (λ (l : List ℕ). flat_map went_up term_calls ++ l) none ∙ append-nil (flat_map went_up term_calls)))) ∙ carry.upwards;
@@ -119,17 +120,17 @@ module _ (given : List (List ℕ × List ℕ)) (host_calls : List HostCall) (ter
   term_stop_is : (taken : List TermCall) → (taken ≡ term_calls ++ last ∷ []) ⊎ (taken ≡ term_calls)
       → HasDone (flat_map came_down taken) (flat_map put_in taken) (flat_map went_up taken) (flat_map handed_refusals taken) g → TermHasStopped g why
       → (taken : List TermCall) × ((taken ≡ term_calls ++ last ∷ []) ⊎ (taken ≡ term_calls)) × (way : List ℕ)
-      × AreCarried given (flat_map joined_by host_calls) (flat_map put_in taken) up way e g × (why ≡ term_stop.Refused term_fault.CountFull)
+      × AreCarried given (flat_map asides_by host_calls) (flat_map put_in taken) up way e g × (why ≡ term_stop.Refused term_fault.CountFull)
   term_stop_is taken (inl all) did stopped =
       let done = subst (λ (calls : List TermCall). HasDone (flat_map came_down calls) (flat_map put_in calls) (flat_map went_up calls) (flat_map handed_refusals calls) g) all did in
       let calls = term_calls ++ last ∷ [] in
       let c = carried_of given host_calls calls up down e g fit served done carry in
-      (calls, inl refl, down, c, term_stops given (flat_map joined_by host_calls) (flat_map put_in calls) up down e g c why stopped)
+      (calls, inl refl, down, c, term_stops given (flat_map asides_by host_calls) (flat_map put_in calls) up down e g c why stopped)
   term_stop_is taken (inr before) did stopped =
       let done = subst (λ (calls : List TermCall). HasDone (flat_map came_down calls) (flat_map put_in calls) (flat_map went_up calls) (flat_map handed_refusals calls) g) before did in
       let way = came_down last ++ down in
       let c = term_carried done in
-      (term_calls, inr refl, way, c, term_stops given (flat_map joined_by host_calls) (flat_map put_in term_calls) up way e g c why stopped)
+      (term_calls, inr refl, way, c, term_stops given (flat_map asides_by host_calls) (flat_map put_in term_calls) up way e g c why stopped)
 
 pub no_call_stops_term : NoCallStopsTheTerminal
 no_call_stops_term given host_calls term_calls last up down why e k g fit host_runs term_runs stops carry =

@@ -21,18 +21,18 @@ use Rattle.sam_endpoint.specs.declared.fault.StreamFault.{StreamFault}
 use Rattle.std.proofs.Common.{option_map}
 use Rattle.sam_crossing.proofs.OrderLaws.{reached_in_order, quiet_means_agreement}
 use Rattle.sam_crossing.specs.RunOrder.{IsInOrder}
-use Rattle.sam_crossing.specs.World.{PlainWorld, SidesAgree, WasReached, is_locked, is_quiet, step_of}
-use Rattle.sam_crossing.specs.declared.event.Event.TheVariants.{User, Add, Act, Flush, HostTake, TermTake}
+use Rattle.sam_crossing.specs.World.{PlainWorld, SidesAgree, WasReached, is_locked, is_quiet, marked_files, step_of}
+use Rattle.sam_crossing.specs.declared.event.Event.TheVariants.{User, Add, Mark, Act, Flush, HostTake, TermTake}
 use Rattle.sam_local.proofs.Runs.{runs_come_in_order}
 use Rattle.sam_local.specs.Local.{PlainEditor, at_rest, carried_through, events_in}
-use Rattle.sam_local.specs.Worlds.{ComesInOrder, ShowsFile, doings_of}
+use Rattle.sam_local.specs.Worlds.{ComesInOrder, IsWhereDone, ShowsFile, doings_of}
 use Rattle.sam_rest.proofs.Done.{stuck_is_done}
 use Rattle.sam_rest.proofs.Ends.{nothing-flushed}
 use Rattle.sam_rest.specs.Rest.{HasRoom, IsDone, IsStuck}
 use Rattle.sam_apart.proofs.ApartLaws.{all_read}
-use Rattle.sam_apart.proofs.ApartJoins.{files-joined}
+use Rattle.sam_apart.proofs.ApartJoins.{files-joined, files-marked}
 use Rattle.sam_apart.proofs.RealLaws.{up_sound, down_sound}
-use Rattle.sam_apart.specs.Apart.{Joined, Joins}
+use Rattle.sam_apart.specs.Apart.{Asides, Joined, joined_in, marked_in}
 use Rattle.sam_joined.specs.Joined.{AreAgreed, AreAsIfLocal, AreCarried, AreOneRun, IsAllCarried, both}
 use Rattle.sam_sides.specs.declared.log.TermLog.{TermLog}
 use Rattle.sam_joined.proofs.Words.{entry_of, none_written}
@@ -54,15 +54,15 @@ same_world w v h t u d = λ i. record { host = h i; term = t i; up = u i; down =
 quiet_both : (e : PlainHostEndpoint) (g : PlainTermEndpoint) → g.term.unsent ≡ None → is_quiet (both e g) ≡ true
 quiet_both e g none = grind arith
 
-same_shown : (w v : PlainWorld) (editor : PlainEditor) (f : ℕ) → w.term ≡ v.term → ShowsFile w editor f → ShowsFile v editor f
-same_shown w v editor f same s = record {
+same_shown : (marked : List ℕ) (w v : PlainWorld) (editor : PlainEditor) (f : ℕ) → w.term ≡ v.term → ShowsFile marked w editor f → ShowsFile marked v editor f
+same_shown marked w v editor f same s = record {
   opened = s.opened;
   runes = subst (λ (t : PlainTerminal). Agrees (window_at t f).rasp (file_at editor.host.files f).text) same s.runes;
   dot = ap (λ (t : PlainTerminal). (window_at t f).dot) (sym same) ∙ s.dot;
   view_start = ap (λ (t : PlainTerminal). (window_at t f).view_start) (sym same) ∙ s.view_start;
   view_length = ap (λ (t : PlainTerminal). (window_at t f).view_length) (sym same) ∙ s.view_length;
   name = ap (λ (t : PlainTerminal). (known_at t f).name) (sym same) ∙ s.name;
-  dirty = ap (λ (t : PlainTerminal). (known_at t f).dirty) (sym same) ∙ s.dirty;
+  dirty = λ off. ap (λ (t : PlainTerminal). (known_at t f).dirty) (sym same) ∙ s.dirty off;
   changed = ap (λ (t : PlainTerminal). (known_at t f).changed) (sym same) ∙ s.changed;
 }
 
@@ -79,12 +79,13 @@ flush_keeps w next none s = grind (arith, same_Some, (nothing-flushed w none))
 stuck_both : (e : PlainHostEndpoint) (g : PlainTermEndpoint) → g.term.unsent ≡ None → IsQuiet g.term → IsStuck (both e g)
 stuck_both e g none quiet (User event) next a = absurd (true≢false a.own)
 stuck_both e g none quiet (Add name text) next a = absurd (true≢false a.own)
+stuck_both e g none quiet (Mark f) next a = absurd (true≢false a.own)
 stuck_both e g none quiet Act next a = a.changes (act_keeps (both e g) next quiet a.stepped)
 stuck_both e g none quiet Flush next a = a.changes (flush_keeps (both e g) next none a.stepped)
 stuck_both e g none quiet HostTake next a = absurd (grind (arith, a.stepped))
 stuck_both e g none quiet TermTake next a = absurd (grind (arith, a.stepped))
 
-module _ (given : List (List ℕ × List ℕ)) (late : Joins) (said : List UserEvent) (up down : List ℕ) (e : PlainHostEndpoint) (g : PlainTermEndpoint)
+module _ (given : List (List ℕ × List ℕ)) (late : Asides) (said : List UserEvent) (up down : List ℕ) (e : PlainHostEndpoint) (g : PlainTermEndpoint)
     (c : AreCarried given late said up down e g) where
   abbrev entries : List TermLog
   entries = map entry_of c.did.steps
@@ -128,7 +129,10 @@ module _ (given : List (List ℕ × List ℕ)) (late : Joins) (said : List UserE
     in_order = reached_in_order given run.world c.given_fit (run.events, run.run)
 
     local : ComesInOrder given run.events run.world
-    local = runs_come_in_order given run.events run.world c.given_fit run.run
+    local = runs_come_in_order given run.events run.world (record { limits = c.given_fit; run = run.run })
+
+    marked_there : marked_files run.events ≡ marked_in late
+    marked_there = files-marked 0 run.events ∙ ap marked_in run.asides_are
 
     module _ (all : IsAllCarried up down e g) where
       world_is : run.world ≡ both e g
@@ -144,21 +148,24 @@ module _ (given : List (List ℕ × List ℕ)) (late : Joins) (said : List UserE
       agree : SidesAgree (both e g)
       agree = quiet_means_agreement (both e g) (subst IsInOrder world_is in_order) (quiet_both e g all.none_unsent)
 
-      rests : at_rest e.host g.term ≡ carried_through given (doings_of given run.events)
-      rests = subst (λ (w : PlainWorld). is_quiet w ≡ true → at_rest w.host w.term ≡ carried_through given (doings_of given run.events)) world_is local.quiet (quiet_both e g all.none_unsent)
+      rests : IsWhereDone given run.events (at_rest e.host g.term)
+      rests = subst (λ (w : PlainWorld). is_quiet w ≡ true → IsWhereDone given run.events (at_rest w.host w.term)) world_is local.quiet (quiet_both e g all.none_unsent)
 
       was_reached : WasReached (both e g)
       was_reached = record { given = given; limits = c.given_fit; reached = (run.events, run.run ∙ ap (λ (w : PlainWorld). Some w) world_is) }
 
     pub as_if_local : AreAsIfLocal run
-    as_if_local = record {
-      events = sym run.users ∙ local.events ∙ ap (λ (t : PlainTerminal). events_in (doings_of given run.events) ++ t.held) run.term_is;
-      files = ap (map (λ (file : ℕ × (List ℕ × List ℕ)). file.1)) (sym run.joins) ∙ sym (files-joined 0 run.events) ∙ local.files;
-      shows = λ f free opened.
-          same_shown run.world (both e g) (carried_through given (doings_of given run.events)) f run.term_is
-          (local.shows f (ap (λ (t : PlainTerminal). is_locked t f) run.term_is ∙ free) (ap (λ (t : PlainTerminal). is_open t f) run.term_is ∙ opened));
-      carried = rests;
-    }
+    as_if_local =
+        let here = local in record {
+          events = sym run.users ∙ here.events ∙ ap (λ (t : PlainTerminal). events_in (doings_of given run.events) ++ t.held) run.term_is;
+          files = ap joined_in (sym run.asides_are) ∙ sym (files-joined 0 run.events) ∙ here.files;
+          marked = sym marked_there;
+          shows = λ f free opened.
+              same_shown (marked_in late) run.world (both e g) (carried_through given (doings_of given run.events)) f run.term_is
+              (subst (λ (marked : List ℕ). ShowsFile marked run.world (carried_through given (doings_of given run.events)) f) marked_there
+              (here.shows f (ap (λ (t : PlainTerminal). is_locked t f) run.term_is ∙ free) (ap (λ (t : PlainTerminal). is_open t f) run.term_is ∙ opened)));
+          carried = rests;
+        }
 
   -- ## Where all is carried
 

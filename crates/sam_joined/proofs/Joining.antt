@@ -32,7 +32,7 @@ use Rattle.sam_world.specs.Prefixes.{Begins}
 use Rattle.sam_apart.proofs.ApartLaws.{joins, understood, no_fault}
 use Rattle.sam_apart.proofs.ApartTurns.{each_t, front_fits}
 use Rattle.sam_apart.proofs.RealLaws.{each_of_all, up_sound, down_sound}
-use Rattle.sam_apart.specs.Apart.{Apart, HostRunsWith, Joined, Joins, Understood}
+use Rattle.sam_apart.specs.Apart.{Apart, HostRunsWith, Joined, Asides, Understood}
 use Rattle.sam_joined.specs.Joined.{AreCarried, AreOneRun, GoOn}
 use Rattle.sam_joined.proofs.Words.{entry_of, serves_runs, leads_runs, users_logged, parts_of, read_of, rest_of, behind}
 
@@ -46,7 +46,7 @@ next_first : (all front waiting : List Tmesg) (m : Tmesg) (rest : List Tmesg) (h
     → stream_of terminal all ≡ (stream_of terminal front ++ frame_of terminal m) ++ (((stream_of terminal rest ++ half) ++ way) ++ last)
 next_first all front waiting m rest half way last first bytes = grind (arith, append_assoc)
 
-module _ (given : List (List ℕ × List ℕ)) (late : Joins) (said : List UserEvent) (up down : List ℕ) (e : PlainHostEndpoint) (g : PlainTermEndpoint)
+module _ (given : List (List ℕ × List ℕ)) (late : Asides) (said : List UserEvent) (up down : List ℕ) (e : PlainHostEndpoint) (g : PlainTermEndpoint)
     (c : AreCarried given late said up down e g) where
   abbrev entries : List TermLog
   entries = map entry_of c.did.steps
@@ -87,7 +87,7 @@ module _ (given : List (List ℕ × List ℕ)) (late : Joins) (said : List UserE
   apart : Apart given late entries e.host g.term c.did.composed handled c.served.frames passed taken
   apart = record {
     given_fit = c.given_fit;
-    host_runs = subst (λ (joins : Joins). HostRunsWith (new_host given) joins handled c.served.frames e.host) c.served.files
+    host_runs = subst (λ (asides : Asides). HostRunsWith (new_host given) asides handled c.served.frames e.host) c.served.asides_are
         (serves_runs c.served.steps (new_host given) e.host c.served.frames c.served.writes c.served.serves);
     term_runs = leads_runs c.did.steps new_terminal g.term c.did.composed c.did.leads;
     composed_fit = each_of_all (FitsT 2) c.did.composed c.did.composed_fit;
@@ -111,7 +111,7 @@ module _ (given : List (List ℕ × List ℕ)) (late : Joins) (said : List UserE
     world = joined.world;
     run = joined.run;
     users = joined.users_are ∙ (users_logged c.did.steps ∙ c.did.given);
-    joins = joined.joins_are;
+    asides_are = joined.asides_are;
     host_is = joined.host_is;
     term_is = joined.term_is;
     upwards = rest_of terminal c.did.composed handled joined.world.up rest_up joined.upwards up_is;

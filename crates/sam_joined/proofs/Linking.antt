@@ -10,13 +10,13 @@ use Rattle.sam_link.proofs.SessionLaws.{links_carry}
 use Rattle.sam_link.proofs.Turns.{turns_deliver}
 use Rattle.sam_term.specs.declared.event.UserEvent.{UserEvent}
 use Rattle.sam_endpoint.specs.HostEndpoints.{PlainHostEndpoint}
-use Rattle.sam_endpoint.specs.HostRuns.{Call as HostCall, joined_by}
+use Rattle.sam_endpoint.specs.HostRuns.{Call as HostCall, asides_by}
 use Rattle.sam_endpoint.specs.TermEndpoints.{PlainTermEndpoint}
 use Rattle.sam_endpoint.specs.TermRuns.{Call as TermCall, put_in}
 use Rattle.sam_crossing.specs.World.{PlainWorld, is_quiet}
-use Rattle.sam_local.specs.Local.{Did, Doing, Joined, PlainEditor, carried, carried_all, carried_on, carried_through, done_on, events_in, files_in, new_editor}
+use Rattle.sam_local.specs.Local.{Did, Doing, Joined, PlainEditor, carried, carried_all, carried_on, carried_through, done_on, events_in, files_in, new_editor, clean_files}
 use Rattle.sam_local.specs.Worlds.{doings_of, is_at_rest}
-use Rattle.sam_apart.specs.Apart.{Joins}
+use Rattle.sam_apart.specs.Apart.{Asides, joined_in, marked_in}
 use Rattle.sam_rest.specs.Rest.{HasRoom, IsDone}
 use Rattle.sam_joined.specs.Calls.{Carry}
 use Rattle.sam_joined.specs.Joined.{AreAsIfLocal, AreCarried, AreOneRun, IsAllCarried, both}
@@ -66,7 +66,7 @@ pub linked_are_one_run : LinkedAreOneRun
 linked_are_one_run given id steps s host_calls term_calls e g fit host_runs term_runs fine leads l =
     let line = links_are_one_line id steps s host_calls term_calls e g fine leads l in
     let c = calls_are_carried given host_calls term_calls line.0 line.1 e g fit host_runs term_runs line.2 in
-    let files = flat_map joined_by host_calls in
+    let files = flat_map asides_by host_calls in
     let said = flat_map put_in term_calls in
     let run = one_run given files said line.0 line.1 e g c in
     (line.0, line.1, c, run, go_on given files said line.0 line.1 e g c, as_if_local given files said line.0 line.1 e g c run)
@@ -98,42 +98,49 @@ no_events (e ∷ held) false rests = cc
 none_held : (w : PlainWorld) → is_at_rest w ≡ true → w.term.held ≡ []
 none_held w rests = no_events w.term.held (is_quiet w) rests
 
-module _ (given : List (List ℕ × List ℕ)) (joined : Joins) (said : List UserEvent) (e : PlainHostEndpoint) (g : PlainTermEndpoint)
-    (c : AreCarried given joined said [] [] e g) (d : HaveDone e g) (room : HasRoom (both e g)) where
+module _ (given : List (List ℕ × List ℕ)) (asides : Asides) (said : List UserEvent) (e : PlainHostEndpoint) (g : PlainTermEndpoint)
+    (c : AreCarried given asides said [] [] e g) (d : HaveDone e g) (room : HasRoom (both e g)) where
   all_carried : IsAllCarried [] [] e g
   all_carried = record { none_up = refl; none_down = refl; host_idle = d.host_idle; term_idle = d.term_idle; none_unsent = d.none_unsent }
 
-  is_done : IsDone (both e g)
-  is_done = never_stuck given joined said [] [] e g c all_carried d.quiet room
+  pub is_done : IsDone (both e g)
+  is_done = never_stuck given asides said [] [] e g c all_carried d.quiet room
 
-  module _ (run : AreOneRun given joined said [] [] e g) where
+  module _ (run : AreOneRun given asides said [] [] e g) where
     abbrev doings : List Doing
     doings = doings_of given run.events
 
     local : AreAsIfLocal run
-    local = as_if_local given joined said [] [] e g c run
+    local = as_if_local given asides said [] [] e g c run
 
     acted : said ≡ events_in doings
     acted = local.events ∙ ap (λ (held : List UserEvent). events_in doings ++ held) (none_held (both e g) is_done.rests) ∙ append-nil (events_in doings)
 
-    made : e.host.files ≡ (carried_through given doings).host.files
-    made = ap (λ (editor : PlainEditor). editor.host.files) (local.carried all_carried)
+    made : clean_files e.host.files ≡ clean_files (carried_through given doings).host.files
+    made = ap (λ (editor : PlainEditor). editor.host.files) (local.carried all_carried).differs.same
+
+    just : marked_in asides ≡ [] → e.host.files ≡ (carried_through given doings).host.files
+    just none = ap (λ (editor : PlainEditor). editor.host.files) ((local.carried all_carried).same (sym local.marked ∙ none))
+
+    -- where no file joined, these doings are what the user did
+    users : joined_in asides ≡ [] → carried_through given doings ≡ carried_all given said
+    users none = no_files doings (new_editor given) (sym local.files ∙ none) ∙ ap (carried_all given) (sym acted)
 
     pub in_the_text : IsInTheText run
     in_the_text = record {
       events = acted;
       files = made;
-      alone = λ none. made
-          ∙ ap (λ (editor : PlainEditor). editor.host.files)
-          (no_files doings (new_editor given) (sym local.files ∙ ap (map (λ (file : ℕ × (List ℕ × List ℕ)). file.1)) none))
-          ∙ ap (λ (events : List UserEvent). (carried_all given events).host.files) (sym acted);
-      done = is_done;
+      marks = just;
+      alone = λ none. (
+        made ∙ ap (λ (editor : PlainEditor). clean_files editor.host.files) (users none),
+        λ unmarked. just unmarked ∙ ap (λ (editor : PlainEditor). editor.host.files) (users none),
+      );
     }
 
 pub typed_is_in_the_text : TypedIsInTheText
 typed_is_in_the_text given id steps s z host_calls term_calls e g fit host_runs term_runs fine leads turns moved done room =
     let line = good_line_carries id steps s z host_calls term_calls e g fine leads turns moved in
     let c = calls_are_carried given host_calls term_calls [] [] e g fit host_runs term_runs line in
-    let files = flat_map joined_by host_calls in
+    let files = flat_map asides_by host_calls in
     let said = flat_map put_in term_calls in
-    (one_run given files said [] [] e g c, λ run. in_the_text given files said e g c done room run)
+    (one_run given files said [] [] e g c, is_done given files said e g c done room, λ run. in_the_text given files said e g c done room run)

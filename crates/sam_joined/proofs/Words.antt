@@ -14,32 +14,35 @@ use Rattle.sam_term.specs.declared.event.Acted.{Acted}
 use Rattle.sam_term.specs.declared.event.Acted.TheVariants.{Idle, Locked, Done, Refused}
 use Rattle.sam_term.specs.declared.event.UserEvent.{UserEvent}
 use Rattle.sam_term.specs.declared.fault.TermFault.{TermFault}
-use Rattle.sam_endpoint.specs.HostEndpoints.{Step as HostStep, Answered, Joined, MayJoin, Serves}
-use Rattle.sam_endpoint.specs.HostRuns.{joined_after, messages_in}
+use Rattle.sam_endpoint.specs.HostEndpoints.{Step as HostStep, Answered, Joined, Marked, MayJoin, MayMark, Serves}
+use Rattle.sam_endpoint.specs.HostRuns.{asides_after, messages_in}
 use Rattle.sam_endpoint.specs.TermRuns.{Step, Received, Held, Decided, Sent, Leads, events_in, frames_in}
 use Rattle.sam_sides.specs.Logs.{logged_users}
 use Rattle.sam_sides.specs.RealSides.{acted, composed_by, sides, unless_refused}
 use Rattle.sam_sides.specs.Sides.{Each, TermRuns}
+use Rattle.std.proofs.Common.{Option, not, is_some}
+use Rattle.sam_host.specs.Marking.{marked}
 use Rattle.sam_crossing.specs.Joining.{may_join}
+use Rattle.sam_crossing.specs.World.{may_mark}
 use Rattle.sam_apart.proofs.RealLaws.{counts}
-use Rattle.sam_apart.specs.Apart.{HostRunsWith, Joins}
+use Rattle.sam_apart.specs.Apart.{Asides, HostRunsWith, aside_frames}
 use Rattle.sam_sides.specs.declared.log.TermLog.{TermLog}
 use Rattle.sam_sides.specs.declared.log.TermLog.TheVariants as log
 
 -- ## What each side did
 
 -- a message more, before all others
-handled_first : (joins : Joins) (h j k : PlainHost) (m : Tmesg) (first : List HFrame) (ms : List Tmesg) (frames : List HFrame) → sides.handle h m ≡ Some (j, first)
-    → HostRunsWith j joins ms frames k → HostRunsWith h joins (m ∷ ms) (first ++ frames) k
+handled_first : (asides : Asides) (h j k : PlainHost) (m : Tmesg) (first : List HFrame) (ms : List Tmesg) (frames : List HFrame) → sides.handle h m ≡ Some (j, first)
+    → HostRunsWith j asides ms frames k → HostRunsWith h asides (m ∷ ms) (first ++ frames) k
 handled_first [] h j k m first ms frames handled r = (j, first, frames, handled, refl, r)
-handled_first (x ∷ joins) h j k m first ms frames handled (before, after, front, rest, g, whole, parts, runs, count, may, more) = (
+handled_first (x ∷ asides) h j k m first ms frames handled (before, after, front, rest, g, whole, parts, runs, count, may, more) = (
   m ∷ before,
   after,
   first ++ front,
   rest,
   g,
   ap (λ (l : List Tmesg). m ∷ l) whole,
-  ap (λ (l : List HFrame). first ++ l) parts ∙ sym (append_assoc first front rest),
+  ap (λ (l : List HFrame). first ++ l) parts ∙ sym (append_assoc first front (aside_frames g x.1 ++ rest)),
   (j, first, front, handled, refl, runs),
   count,
   may,
@@ -49,17 +52,22 @@ handled_first (x ∷ joins) h j k m first ms frames handled (before, after, fron
 may_there : (h : PlainHost) (file : List ℕ × List ℕ) → MayJoin h file → may_join h file.0 file.1 ≡ true
 may_there h file may = grind (arith, may)
 
--- a host that serves handles its messages, and its files join it
+mark_there : (h : PlainHost) (f : ℕ) → MayMark h f → may_mark h f ≡ true
+mark_there h f may = ap (λ (o : Option _). not (is_some o)) may
+
+-- a host that serves handles its messages, and files join it or are marked
 pub serves_runs : (steps : List HostStep) (h k : PlainHost) (frames : List HFrame) (writes : List ℕ) → Serves h steps frames writes k
-    → HostRunsWith h (joined_after h.taken steps) (messages_in steps) frames k
+    → HostRunsWith h (asides_after h.taken steps) (messages_in steps) frames k
 serves_runs [] h k frames writes s = (s.0, s.2)
 serves_runs (Answered m ∷ steps) h k frames writes (j, first, rest, more, answered, parts, noted, s) =
     let handled : sides.handle h m ≡ Some (j, first) = ap (λ (r : Result (PlainHost × List HFrame) HostFault). unless_refused r) answered in
-    let others = subst (λ (n : ℕ). HostRunsWith j (joined_after n steps) (messages_in steps) rest k) (counts.taken h m j first handled) (serves_runs steps j k rest more s) in
-    subst (λ (l : List HFrame). HostRunsWith h (joined_after (h.taken + 1) steps) (m ∷ messages_in steps) l k) (sym parts)
-    (handled_first (joined_after (h.taken + 1) steps) h j k m first (messages_in steps) rest handled others)
+    let others = subst (λ (n : ℕ). HostRunsWith j (asides_after n steps) (messages_in steps) rest k) (counts.taken h m j first handled) (serves_runs steps j k rest more s) in
+    subst (λ (l : List HFrame). HostRunsWith h (asides_after (h.taken + 1) steps) (m ∷ messages_in steps) l k) (sym parts)
+    (handled_first (asides_after (h.taken + 1) steps) h j k m first (messages_in steps) rest handled others)
 serves_runs (Joined file ∷ steps) h k frames writes (may, s) =
     ([], messages_in steps, [], frames, h, refl, refl, (refl, refl), refl, may_there h file may, serves_runs steps (with_given h file) k frames writes s)
+serves_runs (Marked f ∷ steps) h k frames writes (rest, may, parts, s) =
+    ([], messages_in steps, [], rest, h, refl, parts, (refl, refl), refl, mark_there h f may, serves_runs steps (marked h f) k rest writes s)
 
 -- the entry of a log for a step
 abbrev pub entry_of : Step → TermLog

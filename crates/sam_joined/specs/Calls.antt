@@ -5,7 +5,7 @@ use Rattle.sam_host.specs.Laws.{AreGiven}
 use Rattle.sam_host.specs.declared.fault.HostFault.TheVariants as host_fault
 use Rattle.sam_term.specs.declared.fault.TermFault.TheVariants as term_fault
 use Rattle.sam_endpoint.specs.HostEndpoints.{PlainHostEndpoint}
-use Rattle.sam_endpoint.specs.HostRuns.{begun_with, Call as HostCall, Runs as HostRuns, Stops as HostStops, came_in as came_up, joined_by, went_out as went_down}
+use Rattle.sam_endpoint.specs.HostRuns.{begun_with, Call as HostCall, Runs as HostRuns, Stops as HostStops, came_in as came_up, asides_by, went_out as went_down}
 use Rattle.sam_endpoint.specs.TermEndpoints.{PlainTermEndpoint, new_term_endpoint}
 use Rattle.sam_endpoint.specs.TermRuns.{put_in, Call as TermCall, Runs as TermRuns, Stops as TermStops, came_in as came_down, went_out as went_up}
 use Rattle.sam_endpoint.specs.declared.fault.HostStop.{HostStop}
@@ -30,7 +30,7 @@ CallsAreCarried =
     (e : PlainHostEndpoint) (g : PlainTermEndpoint)
     → AreGiven given → HostRuns (begun_with (new_host given)) host_calls e → TermRuns new_term_endpoint term_calls g
     → Carry host_calls term_calls up down e g
-    → AreCarried given (flat_map joined_by host_calls) (flat_map put_in term_calls) up down e g
+    → AreCarried given (flat_map asides_by host_calls) (flat_map put_in term_calls) up down e g
 
 -- and none does, but for a full count: where a call stops the host endpoint, all that it brought or nothing of it was taken, and of that
 -- all may still be on its way
@@ -42,7 +42,7 @@ NoCallStopsTheHost =
     → TermRuns new_term_endpoint term_calls g
     → Carry (host_calls ++ last ∷ []) term_calls up down e g
     → (taken : List HostCall) × ((taken ≡ host_calls ++ last ∷ []) ⊎ (taken ≡ host_calls))
-    × (way : List ℕ) × AreCarried given (flat_map joined_by taken) (flat_map put_in term_calls) way down e g
+    × (way : List ℕ) × AreCarried given (flat_map asides_by taken) (flat_map put_in term_calls) way down e g
     × (why ≡ host_stop.Refused host_fault.CountFull)
 
 -- and so where a call stops the terminal endpoint
@@ -54,5 +54,5 @@ NoCallStopsTheTerminal =
     → TermRuns new_term_endpoint term_calls k → TermStops k last why g
     → Carry host_calls (term_calls ++ last ∷ []) up down e g
     → (taken : List TermCall) × ((taken ≡ term_calls ++ last ∷ []) ⊎ (taken ≡ term_calls))
-    × (way : List ℕ) × AreCarried given (flat_map joined_by host_calls) (flat_map put_in taken) up way e g
+    × (way : List ℕ) × AreCarried given (flat_map asides_by host_calls) (flat_map put_in taken) up way e g
     × (why ≡ term_stop.Refused term_fault.CountFull)

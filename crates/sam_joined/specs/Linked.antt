@@ -9,7 +9,7 @@ use Rattle.sam_host.specs.Host.{new_host}
 use Rattle.sam_host.specs.Laws.{AreGiven}
 use Rattle.sam_term.specs.declared.event.UserEvent.{UserEvent}
 use Rattle.sam_endpoint.specs.HostEndpoints.{PlainHostEndpoint, IsIdle as IsHostIdle}
-use Rattle.sam_endpoint.specs.HostRuns.{begun_with, Call as HostCall, Runs as HostRuns, Stops as HostStops, came_in as came_up, joined_by, went_out as went_down}
+use Rattle.sam_endpoint.specs.HostRuns.{begun_with, Call as HostCall, Runs as HostRuns, Stops as HostStops, came_in as came_up, asides_by, went_out as went_down}
 use Rattle.sam_endpoint.specs.TermEndpoints.{PlainTermEndpoint, IsIdle as IsTermIdle, IsQuiet, new_term_endpoint}
 use Rattle.sam_endpoint.specs.TermRuns.{put_in, Call as TermCall, Runs as TermRuns, Stops as TermStops, came_in as came_down, went_out as went_up}
 use Rattle.sam_endpoint.specs.declared.fault.HostStop.{HostStop}
@@ -18,9 +18,9 @@ use Rattle.sam_endpoint.specs.declared.fault.TermStop.{TermStop}
 use Rattle.sam_endpoint.specs.declared.fault.TermStop.TheVariants as term_stop
 use Rattle.sam_host.specs.declared.fault.HostFault.TheVariants as host_fault
 use Rattle.sam_term.specs.declared.fault.TermFault.TheVariants as term_fault
-use Rattle.sam_local.specs.Local.{carried_all, carried_through, events_in}
+use Rattle.sam_local.specs.Local.{carried_all, carried_through, clean_files, events_in}
 use Rattle.sam_local.specs.Worlds.{doings_of}
-use Rattle.sam_apart.specs.Apart.{Joins}
+use Rattle.sam_apart.specs.Apart.{Asides, joined_in, marked_in}
 use Rattle.sam_rest.specs.Rest.{HasRoom, IsDone}
 use Rattle.sam_joined.specs.Calls.{Carry}
 use Rattle.sam_joined.specs.Joined.{AreAsIfLocal, AreCarried, AreOneRun, GoOn, both}
@@ -84,8 +84,9 @@ LinkedAreOneRun =
     (e : PlainHostEndpoint) (g : PlainTermEndpoint)
     → AreGiven given → HostRuns (begun_with (new_host given)) host_calls e → TermRuns new_term_endpoint term_calls g
     → IsId id → Leads (new_session id) steps s → AreLinked host_calls term_calls e g s
-    → (up : List ℕ) × (down : List ℕ) × AreCarried given (flat_map joined_by host_calls) (flat_map put_in term_calls) up down e g
-    × (run : AreOneRun given (flat_map joined_by host_calls) (flat_map put_in term_calls) up down e g) × GoOn e g × AreAsIfLocal run
+    → (up : List ℕ) × (down : List ℕ) × AreCarried given (flat_map asides_by host_calls) (flat_map put_in term_calls) up down e g
+    × (run : AreOneRun given (flat_map asides_by host_calls) (flat_map put_in term_calls) up down e g) × GoOn e g
+    × AreAsIfLocal run
 
 -- a call that stops the host endpoint does so for a full count, and leaves both as over one line
 abbrev pub NoCallStopsTheLinkedHost : Type 0
@@ -97,7 +98,7 @@ NoCallStopsTheLinkedHost =
     → TermRuns new_term_endpoint term_calls g
     → IsId id → Leads (new_session id) steps s → AreLinked (host_calls ++ last ∷ []) term_calls e g s
     → (taken : List HostCall) × ((taken ≡ host_calls ++ last ∷ []) ⊎ (taken ≡ host_calls))
-    × (up : List ℕ) × (down : List ℕ) × AreCarried given (flat_map joined_by taken) (flat_map put_in term_calls) up down e g
+    × (up : List ℕ) × (down : List ℕ) × AreCarried given (flat_map asides_by taken) (flat_map put_in term_calls) up down e g
     × (why ≡ host_stop.Refused host_fault.CountFull)
 
 -- and so one that stops the terminal endpoint
@@ -110,7 +111,7 @@ NoCallStopsTheLinkedTerminal =
     → TermRuns new_term_endpoint term_calls k → TermStops k last why g
     → IsId id → Leads (new_session id) steps s → AreLinked host_calls (term_calls ++ last ∷ []) e g s
     → (taken : List TermCall) × ((taken ≡ term_calls ++ last ∷ []) ⊎ (taken ≡ term_calls))
-    × (up : List ℕ) × (down : List ℕ) × AreCarried given (flat_map joined_by host_calls) (flat_map put_in taken) up down e g
+    × (up : List ℕ) × (down : List ℕ) × AreCarried given (flat_map asides_by host_calls) (flat_map put_in taken) up down e g
     × (why ≡ term_stop.Refused term_fault.CountFull)
 
 -- ## What was typed is in the host's text
@@ -122,16 +123,20 @@ pub record HaveDone (e : PlainHostEndpoint) (g : PlainTermEndpoint) : Type 0 whe
   pub none_unsent : g.term.unsent ≡ None
   pub quiet : IsQuiet g.term
 
--- All that the user did was done, in one order with the files that joined. The host's files, with their names, texts and marks, are those of
--- the editor without a network after that; where no file joined, after just what the user did. And nothing is held, locked or awaited
-pub record IsInTheText {given : List (List ℕ × List ℕ)} {joined : Joins} {said : List UserEvent} {up down : List ℕ}
-    {e : PlainHostEndpoint} {g : PlainTermEndpoint} (run : AreOneRun given joined said up down e g) : Type 0 where
+-- All that the user did was done, in one order with the files that joined. The host's files, with their names and texts, are those of the
+-- editor without a network after that; where no file joined, after just what the user did. Where no file was marked, so it is with their
+-- marks
+pub record IsInTheText {given : List (List ℕ × List ℕ)} {asides : Asides} {said : List UserEvent} {up down : List ℕ}
+    {e : PlainHostEndpoint} {g : PlainTermEndpoint} (run : AreOneRun given asides said up down e g) : Type 0 where
   pub events : said ≡ events_in (doings_of given run.events)
-  pub files : e.host.files ≡ (carried_through given (doings_of given run.events)).host.files
-  pub alone : joined ≡ [] → e.host.files ≡ (carried_all given said).host.files
-  pub done : IsDone (both e g)
+  pub files : clean_files e.host.files ≡ clean_files (carried_through given (doings_of given run.events)).host.files
+  pub marks : marked_in asides ≡ [] → e.host.files ≡ (carried_through given (doings_of given run.events)).host.files
+  pub alone : joined_in asides ≡ []
+      → (clean_files e.host.files ≡ clean_files (carried_all given said).host.files)
+      × (marked_in asides ≡ [] → e.host.files ≡ (carried_all given said).host.files)
 
--- whatever was called before, whatever broke, and whichever run led here
+-- Whatever was called before and whatever broke, nothing is held, locked or awaited. And whichever run led here, what was typed is in the
+-- text
 abbrev pub TypedIsInTheText : Type 0
 TypedIsInTheText =
     (given : List (List ℕ × List ℕ)) (id : Id) (steps : List Step) (s z : Session)
@@ -139,5 +144,6 @@ TypedIsInTheText =
     → AreGiven given → HostRuns (begun_with (new_host given)) host_calls e → TermRuns new_term_endpoint term_calls g
     → IsId id → Leads (new_session id) steps s → TakeTurns s z → HaveMoved host_calls term_calls e g z
     → HaveDone e g → HasRoom (both e g)
-    → AreOneRun given (flat_map joined_by host_calls) (flat_map put_in term_calls) [] [] e g
-    × ((run : AreOneRun given (flat_map joined_by host_calls) (flat_map put_in term_calls) [] [] e g) → IsInTheText run)
+    → AreOneRun given (flat_map asides_by host_calls) (flat_map put_in term_calls) [] [] e g
+    × IsDone (both e g)
+    × ((run : AreOneRun given (flat_map asides_by host_calls) (flat_map put_in term_calls) [] [] e g) → IsInTheText run)

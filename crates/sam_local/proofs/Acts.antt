@@ -242,7 +242,7 @@ turned-open z f x y g o = by (cases f g)
     by (inl e) = sym (ap (λ (k : ℕ). is_open (turned z f (turn x y)) k) e) ∙ opened-turned z f x y ∙ sym o ∙ ap (is_open z) e
     by (inr n) = ap (λ (k : KnownFile). is_some k.window) (known-put_other z f g (turn x y (known_at z f)) n)
 
-module _ (h : PlainHost) (t : PlainTerminal) (up : List Tmesg) (down : List Hmesg) (o : InOrder h t up down) (marks : (f : ℕ) → MarksGuarded f down) where
+module _ (h : PlainHost) (t : PlainTerminal) (up : List Tmesg) (down : List Hmesg) (o : InOrder h t up down) (counts : ℕ → Bool) (marks : (f : ℕ) → MarksGuarded (counts f) f down) where
   -- both sides have the same files open where what is under way has been taken
   shown-opens : (f a n : ℕ) → IsFree (view f t) → is_open t f ≡ true → (g : ℕ)
       → is_open (all_taken (flushed (altered t (View f a n))).0 (down ++ o.kept.frames)) g ≡ (file_at o.kept.ahead.files g).opened
@@ -251,8 +251,8 @@ module _ (h : PlainHost) (t : PlainTerminal) (up : List Tmesg) (down : List Hmes
       let y : Window → Window = λ w. record w { view_start = a; view_length = n } in
       opens-alike (all_taken (flushed v).0 (down ++ o.kept.frames)) (all_taken v (down ++ o.kept.frames)) g (sight-taken (down ++ o.kept.frames) (flushed v).0 v (sight-flushed v))
       ∙ opens-alike (all_taken v (down ++ o.kept.frames)) (turned (term_ahead h t up down o) f (turn (λ w. false) y)) g
-      (past-frames f (λ w. false) y (down ++ o.kept.frames) t (gentle-ahead h t up down o marks f free))
-      ∙ turned-open (term_ahead h t up down o) f (λ w. false) y g (open-ahead h t up down o marks f free ∙ open_here)
+      (past-frames f (λ w. false) y (down ++ o.kept.frames) t (gentle-ahead h t up down o counts marks f free))
+      ∙ turned-open (term_ahead h t up down o) f (λ w. false) y g (open-ahead h t up down o counts marks f free ∙ open_here)
       ∙ synced-open (term_ahead h t up down o) o.kept.ahead.files g _ _ (synced-ahead h t up down o g)
 
   came-viewed : (f a n : ℕ) → Passed t (View f a n) → (x : Tmesg) → wanted (put_window t f (record (window_at t f) { view_start = a; view_length = n })) f ≡ Some x
@@ -345,18 +345,18 @@ module _ (h : PlainHost) (t : PlainTerminal) (up : List Tmesg) (down : List Hmes
   IsGentleTurn (Some u) = AreGentle u.file (down ++ o.kept.frames)
 
   gentle-turn : (e : UserEvent) → Passed t e → IsGentleTurn (turn_of e)
-  gentle-turn (Typed f []) p = gentle-ahead h t up down o marks f (free_at t f p.free p.unlocked)
-  gentle-turn (Typed f (c ∷ s)) p = gentle-ahead h t up down o marks f (free_at t f p.free p.unlocked)
-  gentle-turn (Select f a b) p = gentle-ahead h t up down o marks f (free_at t f p.free p.unlocked)
-  gentle-turn (Cut f) p = gentle-ahead h t up down o marks f (free_at t f p.free p.unlocked)
-  gentle-turn (Paste f) p = gentle-ahead h t up down o marks f (free_at t f p.free p.unlocked)
-  gentle-turn (View f a n) p = gentle-ahead h t up down o marks f (free_at t f p.free p.unlocked)
-  gentle-turn (Load f a n) p = gentle-ahead h t up down o marks f (free_at t f p.free p.unlocked)
+  gentle-turn (Typed f []) p = gentle-ahead h t up down o counts marks f (free_at t f p.free p.unlocked)
+  gentle-turn (Typed f (c ∷ s)) p = gentle-ahead h t up down o counts marks f (free_at t f p.free p.unlocked)
+  gentle-turn (Select f a b) p = gentle-ahead h t up down o counts marks f (free_at t f p.free p.unlocked)
+  gentle-turn (Cut f) p = gentle-ahead h t up down o counts marks f (free_at t f p.free p.unlocked)
+  gentle-turn (Paste f) p = gentle-ahead h t up down o counts marks f (free_at t f p.free p.unlocked)
+  gentle-turn (View f a n) p = gentle-ahead h t up down o counts marks f (free_at t f p.free p.unlocked)
+  gentle-turn (Load f a n) p = gentle-ahead h t up down o counts marks f (free_at t f p.free p.unlocked)
   gentle-turn (Edit f a b s) p = by (a == b && is_empty s)
     where
       by : (none : Bool) → IsGentleTurn (edit_turn none f a b s)
       by true = tt
-      by false = gentle-ahead h t up down o marks f (free_at t f p.free p.unlocked)
+      by false = gentle-ahead h t up down o counts marks f (free_at t f p.free p.unlocked)
   gentle-turn e p = tt
 
   past-all : (u : Option Turning) → IsGentleTurn u → sight (all_taken (altered_by t u) (down ++ o.kept.frames)) ≡ sight (altered_by (term_ahead h t up down o) u)
@@ -365,11 +365,11 @@ module _ (h : PlainHost) (t : PlainTerminal) (up : List Tmesg) (down : List Hmes
 
   window-same : {A : Type 0} (part_of : Window → A) → ((text : List ℕ) (w : Window) → part_of (whole_window text w) ≡ part_of w) → (f : ℕ) (e : UserEvent)
       → t.command_lock ≡ false → nat_lt 0 (window_at t f).locks ≡ false → not (is_open t f) ≡ false
-      → part_of (window_at (term_rest h t up down o marks) f) ≡ part_of (window_at t f)
+      → part_of (window_at (term_rest h t up down o counts marks) f) ≡ part_of (window_at t f)
   window-same part_of same f e c k n =
-      ap part_of (window-rest h t up down o marks f (free_at t f c k) (not-false (is_open t f) n)) ∙ same (file_at o.kept.ahead.files f).text (window_at t f)
+      ap part_of (window-rest h t up down o counts marks f (free_at t f c k) (not-false (is_open t f) n)) ∙ same (file_at o.kept.ahead.files f).text (window_at t f)
 
-  told-rest : (e : UserEvent) → Passed t e → told (term_rest h t up down o marks) e ≡ told t e
+  told-rest : (e : UserEvent) → Passed t e → told (term_rest h t up down o counts marks) e ≡ told t e
   told-rest (Typed f []) p = window-same (λ w. cut_message f w.dot) (λ text w. refl) f Flush p.free p.unlocked p.opened
   told-rest (Typed f (c ∷ s)) p = window-same (λ w. cut_message f w.dot ++ Ttype f w.dot.0 (c ∷ s) ∷ []) (λ text w. refl) f Flush p.free p.unlocked p.opened
   told-rest (Cut f) p =
@@ -384,27 +384,27 @@ module _ (h : PlainHost) (t : PlainTerminal) (up : List Tmesg) (down : List Hmes
   told-rest e p = refl
 
   -- at rest no runes join, and nothing is asked for
-  apart-rest : (e : UserEvent) → Passed t e → IsApart (term_rest h t up down o marks) e
+  apart-rest : (e : UserEvent) → Passed t e → IsApart (term_rest h t up down o counts marks) e
   apart-rest (Typed f []) p = tt
   apart-rest (Typed f (c ∷ s)) p = λ x. refl
   apart-rest (View f a n) p =
-      let u = term_rest h t up down o marks in
+      let u = term_rest h t up down o counts marks in
       let w : Window = record (window_at u f) { view_start = a; view_length = n } in
       wanted-none (put_window u f w) f (file_at o.kept.ahead.files f).text
       (ap (λ (x : Window). x.rasp) (window-put u f w)
-      ∙ ap (λ (x : Window). x.rasp) (window-rest h t up down o marks f (free_at t f p.free p.unlocked) (not-false (is_open t f) p.opened)))
+      ∙ ap (λ (x : Window). x.rasp) (window-rest h t up down o counts marks f (free_at t f p.free p.unlocked) (not-false (is_open t f) p.opened)))
   apart-rest (Load f a n) p =
-      let u = term_rest h t up down o marks in
+      let u = term_rest h t up down o counts marks in
       let w : Window = record (window_at u f) { view_start = a; view_length = n } in
       no-gaps-shown (put_window u f w) f (file_at o.kept.ahead.files f).text
       (ap (λ (x : Window). x.rasp) (window-put u f w)
-      ∙ ap (λ (x : Window). x.rasp) (window-rest h t up down o marks f (free_at t f p.free p.unlocked) (not-false (is_open t f) p.opened)))
+      ∙ ap (λ (x : Window). x.rasp) (window-rest h t up down o counts marks f (free_at t f p.free p.unlocked) (not-false (is_open t f) p.opened)))
   apart-rest e p = tt
 
   -- the change and the messages, after all that is under way, and at rest
   meets : (e : UserEvent) → Passed t e → (x : Reply) → answers h ((up ++ unsent_message t.unsent) ++ told t e) ≡ Some x
       → answered_with h (altered t e) down (answers h ((up ++ unsent_message t.unsent) ++ told t e))
-      ≡ answered_with (rest o.kept.ahead) (altered (term_rest h t up down o marks) e) [] (answers (rest o.kept.ahead) (told (term_rest h t up down o marks) e))
+      ≡ answered_with (rest o.kept.ahead) (altered (term_rest h t up down o counts marks) e) [] (answers (rest o.kept.ahead) (told (term_rest h t up down o counts marks) e))
   meets e p x folds = ap (answered_with h (altered t e) down) folds ∙ ap (λ (r : Reply). at_rest r.0 (all_taken (altered t e) (down ++ r.1))) whole
       ∙ rests last.0 (all_taken (altered t e) (down ++ (o.kept.frames ++ last.1))) (all_taken (altered u e) last.1) same
       ∙ sym (answered-rested a0 (altered u e) [] (answers a0 (told u e)) (Some last) (ap (λ (ms : List Tmesg). rested (answers a0 ms)) (told-rest e p) ∙ answers-rested (told t e) a0 o.kept.ahead refl ∙ ap rested later))
@@ -413,7 +413,7 @@ module _ (h : PlainHost) (t : PlainTerminal) (up : List Tmesg) (down : List Hmes
       a0 = rest o.kept.ahead
 
       u : PlainTerminal
-      u = term_rest h t up down o marks
+      u = term_rest h t up down o counts marks
 
       parts : Parted h (up ++ unsent_message t.unsent) (told t e) x
       parts = parted h (up ++ unsent_message t.unsent) (told t e) x folds
@@ -444,8 +444,8 @@ module _ (h : PlainHost) (t : PlainTerminal) (up : List Tmesg) (down : List Hmes
   acts e q n =
       let p = passed t e q in
       let here = came e p n in
-      let u = term_rest h t up down o marks in
-      let passes = passes-rest h t up down o marks e q in
+      let u = term_rest h t up down o counts marks in
+      let passes = passes-rest h t up down o counts marks e q in
       here.comes ∙ meets e p here.reply here.folds ∙ sym (comes-apart (rest o.kept.ahead) u [] [] e (passed u e passes) (apart-rest e p))
       ∙ sym (ap (λ (v : Option Verdict). carried_unless v (at_rest o.kept.ahead (term_ahead h t up down o)) (event_outcome u e)) passes)
       ∙ sym (ap (λ (x : PlainEditor). carried x e) (come-to-is h t up down o))
@@ -453,7 +453,7 @@ module _ (h : PlainHost) (t : PlainTerminal) (up : List Tmesg) (down : List Hmes
   -- an event that is refused
   pub refuses : (e : UserEvent) (r : Refusal) → first_of_checks (event_checks t e) ≡ Some (Refuses r) → come_to h t up down ≡ carried (come_to h t up down) e
   refuses e r q =
-      let u = term_rest h t up down o marks in
+      let u = term_rest h t up down o counts marks in
       come-to-is h t up down o
-      ∙ sym (ap (λ (v : Option Verdict). carried_unless v (at_rest o.kept.ahead (term_ahead h t up down o)) (event_outcome u e)) (refused-rest h t up down o marks e r q))
+      ∙ sym (ap (λ (v : Option Verdict). carried_unless v (at_rest o.kept.ahead (term_ahead h t up down o)) (event_outcome u e)) (refused-rest h t up down o counts marks e r q))
       ∙ sym (ap (λ (x : PlainEditor). carried x e) (come-to-is h t up down o))

@@ -14,7 +14,7 @@ use Rattle.sam_crossing.proofs.Versions.{no_changes, unlock_frames}
 use Rattle.sam_crossing.proofs.Passing.{free_at, opened_at}
 use Rattle.sam_local.specs.Local.{whole_window, whole_file, whole_slots, at_rest}
 use Rattle.sam_local.proofs.Sights.{bare, sight, sight-rest}
-use Rattle.sam_local.proofs.Gentle.{MarksGuarded, AreCalm, AreGentle, calm_free, calm_gentle, known-stays, window-stays}
+use Rattle.sam_local.proofs.Gentle.{MarksGuarded, AreCalm, AreGentle, calm_free, calm_gentle, counted_in, known-stays, marks-less, window-stays}
 use Rattle.sam_local.proofs.Marks.{marks-both, marks-answers}
 use Rattle.sam_local.proofs.Ahead.{term_ahead, run-ahead, synced-ahead, opened-is, window-is, open-view}
 use Rattle.sam_local.proofs.Events.{opens-alike}
@@ -153,19 +153,24 @@ none-waits e = grind arith
 waits-is : (r : Refusal) → Waits ≡ Refuses r → ⊥
 waits-is r e = grind arith
 
+-- a whole file, and what counts of it
+whole-counted : (b : Bool) (text : List ℕ) (known : KnownFile) → counted_in b (whole_file text known) ≡ whole_file text (counted_in b known)
+whole-counted true text known = refl
+whole-counted false text known = refl
+
 -- ## Ahead
 
-module _ (h : PlainHost) (t : PlainTerminal) (up : List Tmesg) (down : List Hmesg) (o : InOrder h t up down) (marks : (f : ℕ) → MarksGuarded f down) where
+module _ (h : PlainHost) (t : PlainTerminal) (up : List Tmesg) (down : List Hmesg) (o : InOrder h t up down) (counts : ℕ → Bool) (marks : (f : ℕ) → MarksGuarded (counts f) f down) where
   abbrev ahead : PlainTerminal
   ahead = term_ahead h t up down o
 
-  pub calm-ahead : (f : ℕ) → IsFree (view f t) → AreCalm f (down ++ o.kept.frames)
+  pub calm-ahead : (f : ℕ) → IsFree (view f t) → AreCalm (counts f) f (down ++ o.kept.frames)
   calm-ahead f free =
-      calm_free f (down ++ o.kept.frames) (view f t) (o.kept.each f).final free (o.kept.each f).runs (o.kept.each f).guarded
-      (marks-both f down o.kept.frames (marks f) (marks-answers f _ h (o.kept.ahead, o.kept.frames) o.kept.folds))
+      calm_free (counts f) f (down ++ o.kept.frames) (view f t) (o.kept.each f).final free (o.kept.each f).runs (o.kept.each f).guarded
+      (marks-both (counts f) f down o.kept.frames (marks f) (marks-less (counts f) f o.kept.frames (marks-answers f _ h (o.kept.ahead, o.kept.frames) o.kept.folds)))
 
   pub gentle-ahead : (f : ℕ) → IsFree (view f t) → AreGentle f (down ++ o.kept.frames)
-  gentle-ahead f free = calm_gentle f (down ++ o.kept.frames) (calm-ahead f free)
+  gentle-ahead f free = calm_gentle (counts f) f (down ++ o.kept.frames) (calm-ahead f free)
 
   pub still-ahead : (f : ℕ) → IsFree (view f t) → view f (term_ahead h t up down o) ≡ view f t
   still-ahead f free =
@@ -199,12 +204,16 @@ module _ (h : PlainHost) (t : PlainTerminal) (up : List Tmesg) (down : List Hmes
   pub open-ahead : (f : ℕ) → IsFree (view f t) → is_open (term_ahead h t up down o) f ≡ is_open t f
   open-ahead f free = ap is_some (window-stays f (down ++ o.kept.frames) t (gentle-ahead f free))
 
-  -- what is kept of a free open file, but for its runes and locks
-  pub kept-rest : (f : ℕ) → IsFree (view f t) → is_open t f ≡ true → known_at term_rest f ≡ whole_file (file_at o.kept.ahead.files f).text (known_at t f)
+  -- what is kept of a free open file, but for its runes and locks, and for its dirty mark where that doesn't count
+  pub kept-rest : (f : ℕ) → IsFree (view f t) → is_open t f ≡ true
+      → counted_in (counts f) (known_at term_rest f) ≡ counted_in (counts f) (whole_file (file_at o.kept.ahead.files f).text (known_at t f))
   kept-rest f free open_here =
-      rest-known o.kept.ahead (term_ahead h t up down o) f
-      ∙ ap (λ (s : Option KnownFile). unwrap_or (option_map (whole_file (file_at o.kept.ahead.files f).text) s) blank_known) (opened-is (term_ahead h t up down o) f (open-ahead f free ∙ open_here))
-      ∙ ap (whole_file (file_at o.kept.ahead.files f).text) (known-stays f (down ++ o.kept.frames) t (calm-ahead f free))
+      let text = (file_at o.kept.ahead.files f).text in
+      let there = known_at (term_ahead h t up down o) f in
+      ap (counted_in (counts f))
+      (rest-known o.kept.ahead (term_ahead h t up down o) f
+      ∙ ap (λ (s : Option KnownFile). unwrap_or (option_map (whole_file text) s) blank_known) (opened-is (term_ahead h t up down o) f (open-ahead f free ∙ open_here)))
+      ∙ whole-counted (counts f) text there ∙ ap (whole_file text) (known-stays (counts f) f (down ++ o.kept.frames) t (calm-ahead f free)) ∙ sym (whole-counted (counts f) text (known_at t f))
 
   pub window-rest : (f : ℕ) → IsFree (view f t) → is_open t f ≡ true → window_at term_rest f ≡ whole_window (file_at o.kept.ahead.files f).text (window_at t f)
   window-rest f free open_here =

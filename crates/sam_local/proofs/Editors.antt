@@ -13,7 +13,7 @@ use Rattle.sam_crossing.proofs.Passing.{Passed, passed}
 use Rattle.sam_crossing.proofs.Runs.{stepped}
 use Rattle.sam_crossing.proofs.Starting.{starts}
 use Rattle.sam_crossing.proofs.Views.{tidy-put, tidy-window}
-use Rattle.sam_local.specs.Local.{PlainEditor, whole_window, whole_file, at_rest, all_taken, answered_with, carried_unless, carried, Doing, Did, Joined, joined, done_on, files_in, new_editor}
+use Rattle.sam_local.specs.Local.{PlainEditor, whole_window, whole_file, at_rest, all_taken, answered_with, come_to, carried_unless, carried, Doing, Did, Joined, joined, done_on, files_in, new_editor}
 use Rattle.sam_local.specs.Editing.{IsReached}
 use Rattle.sam_runes.specs.Texts.{most_in_name}
 use Rattle.sam_host.specs.Host.{with_given}
@@ -131,6 +131,13 @@ pub record Stands (editor : PlainEditor) : Type 0 where
   pub order : InOrder editor.host editor.term [] []
   pub whole : at_rest editor.host editor.term ≡ editor
 
+-- what both sides come to stands so
+pub stands-come : (h : PlainHost) (t : PlainTerminal) (up : List Tmesg) (down : List Hmesg) → InOrder h t up down → Stands (come_to h t up down)
+stands-come h t up down o =
+    let z = term_ahead h t up down o in
+    subst Stands (sym (come-to-is h t up down o))
+    (record { order = order-rest h t up down o; whole = rests o.kept.ahead (at_rest o.kept.ahead z).term z (sight-rest o.kept.ahead z) })
+
 stands-carried : (editor : PlainEditor) (e : UserEvent) → Stands editor → Stands (carried editor e)
 stands-carried editor e s = by (first_of_checks (event_checks editor.term e)) refl
   where
@@ -138,10 +145,7 @@ stands-carried editor e s = by (first_of_checks (event_checks editor.term e)) re
     by (Some why) q = s
     by None q =
         let made = event_outcome editor.term e in
-        let n : InOrder editor.host made.0 made.1 [] = event_goes editor.host editor.term [] [] e s.order (passed editor.term e q) in
-        let z = term_ahead editor.host made.0 made.1 [] n in
-        subst Stands (sym (come-to-is editor.host made.0 made.1 [] n))
-        (record { order = order-rest editor.host made.0 made.1 [] n; whole = rests n.kept.ahead (at_rest n.kept.ahead z).term z (sight-rest n.kept.ahead z) })
+        stands-come editor.host made.0 made.1 [] (event_goes editor.host editor.term [] [] e s.order (passed editor.term e q))
 
 -- so they are with a file that joins
 stands-joined : (editor : PlainEditor) (file : List ℕ × List ℕ) → length file.0 ≤ most_in_name → length file.1 ≤ max_runes → Stands editor → Stands (joined editor file)

@@ -13,8 +13,12 @@ pub mod Checks
 pub mod Acts
 pub mod Held
 pub mod Doings
+pub mod Kept
 pub mod Runs
 pub mod Editors
+pub mod Blind
+pub mod Dirtied
+pub mod Marked
 pub mod Whole
 pub mod Seen
 pub mod Editing

@@ -16,19 +16,19 @@ frees-last : (f : ℕ) (xs ys : List Hmesg) → frees (at_file f ys) ≡ true �
 frees-last f [] ys e = e
 frees-last f (m ∷ xs) ys e = grind (arith, (frees-last f xs ys))
 
-pub marks-both : (f : ℕ) (xs ys : List Hmesg) → MarksGuarded f xs → MarksGuarded f ys → MarksGuarded f (xs ++ ys)
-marks-both f [] ys c d = d
-marks-both f (m ∷ xs) ys c d = ((λ e. frees-first f xs ys (c.0 e)), marks-both f xs ys c.1 d)
+pub marks-both : (b : Bool) (f : ℕ) (xs ys : List Hmesg) → MarksGuarded b f xs → MarksGuarded b f ys → MarksGuarded b f (xs ++ ys)
+marks-both b f [] ys c d = d
+marks-both b f (m ∷ xs) ys c d = ((λ e. frees-first f xs ys (c.0 e)), marks-both b f xs ys c.1 d)
 
 -- all that stands before a frame that frees
-marks-before : (f : ℕ) (xs ys : List Hmesg) → frees (at_file f ys) ≡ true → MarksGuarded f ys → MarksGuarded f (xs ++ ys)
+marks-before : (f : ℕ) (xs ys : List Hmesg) → frees (at_file f ys) ≡ true → MarksGuarded true f ys → MarksGuarded true f (xs ++ ys)
 marks-before f [] ys e d = d
 marks-before f (m ∷ xs) ys e d = ((λ c. frees-last f xs ys e), marks-before f xs ys e d)
 
-command-ends : {Q : List ℕ → Type 0} (f : ℕ) (frames : List Hmesg) → Ends Q Command frames → MarksGuarded f frames
-command-ends f frames e = subst (MarksGuarded f) (sym e.is) (by e.quits)
+command-ends : {Q : List ℕ → Type 0} (f : ℕ) (frames : List Hmesg) → Ends Q Command frames → MarksGuarded true f frames
+command-ends f frames e = subst (MarksGuarded true f) (sym e.is) (by e.quits)
   where
-    by : (b : Bool) → MarksGuarded f (e.front ++ end_frames Command b)
+    by : (b : Bool) → MarksGuarded true f (e.front ++ end_frames Command b)
     by true = marks-before f e.front _ refl ((λ c. absurd (true≢false (sym c))), tt)
     by false = marks-before f e.front _ refl ((λ c. absurd (true≢false (sym c))), tt)
 
@@ -37,41 +37,46 @@ command-ends f frames e = subst (MarksGuarded f) (sym e.is) (by e.quits)
 abbrev Anyone : List ℕ → Type 0
 Anyone s = Unit {0}
 
-marks-grown : (f : ℕ) (fs : PlainFiles) (g p : ℕ) (s : List ℕ) → MarksGuarded f (grown fs g p s)
+marks-grown : (f : ℕ) (fs : PlainFiles) (g p : ℕ) (s : List ℕ) → MarksGuarded true f (grown fs g p s)
 unfolding grown when
 marks-grown f fs g p s = grind arith
 
 -- a frame that makes another file dirty
-marks-dirty : (f : ℕ) (fs : PlainFiles) (g : ℕ) → (f == g) ≡ false → MarksGuarded f (told_dirty fs g)
+pub marks-dirty : (f : ℕ) (fs : PlainFiles) (g : ℕ) → (f == g) ≡ false → MarksGuarded true f (told_dirty fs g)
 unfolding when
 marks-dirty f fs g e = grind (arith, e)
 
-marks-found : (f : ℕ) (h : PlainHost) (g : ℕ) (d : Option Range) (frames : List Hmesg) → MarksGuarded f frames → MarksGuarded f (reply_found h g d frames).1
-marks-found f h g d frames c = grind (arith, marks-both)
+-- where such frames don't count
+pub marks-idle : (f : ℕ) (fs : PlainFiles) (g : ℕ) → MarksGuarded false f (told_dirty fs g)
+unfolding when
+marks-idle f fs g = grind arith
 
-marks-if : (f : ℕ) (b : Bool) (x y : Reply) → MarksGuarded f x.1 → MarksGuarded f y.1 → MarksGuarded f (if b then x else y).1
+marks-found : (f : ℕ) (h : PlainHost) (g : ℕ) (d : Option Range) (frames : List Hmesg) → MarksGuarded true f frames → MarksGuarded true f (reply_found h g d frames).1
+marks-found f h g d frames c = grind (arith, (marks-both true))
+
+marks-if : (f : ℕ) (b : Bool) (x y : Reply) → MarksGuarded true f x.1 → MarksGuarded true f y.1 → MarksGuarded true f (if b then x else y).1
 marks-if f true x y c d = c
 marks-if f false x y c d = d
 
-marks-pasted : (f : ℕ) (fs : PlainFiles) (g p : ℕ) (s : List ℕ) → MarksGuarded f (told_paste fs g p s)
+marks-pasted : (f : ℕ) (fs : PlainFiles) (g p : ℕ) (s : List ℕ) → MarksGuarded true f (told_paste fs g p s)
 marks-pasted f fs g p s = by (f == g) refl
   where
     last : List Hmesg
     last = Hsetdot g p (p + length s) ∷ Hcheck g ∷ Hunlockfile g ∷ []
 
-    none : MarksGuarded f last
+    none : MarksGuarded true f last
     none = let no : (b : Bool) → false ≡ true → b ≡ true = λ b c. absurd (true≢false (sym c)) in (no _, (no _, (no _, tt)))
 
-    by : (b : Bool) → (f == g) ≡ b → MarksGuarded f ((grown fs g p s ++ told_dirty fs g) ++ last)
+    by : (b : Bool) → (f == g) ≡ b → MarksGuarded true f ((grown fs g p s ++ told_dirty fs g) ++ last)
     by true e = marks-before f (grown fs g p s ++ told_dirty fs g) last (rw e refl) none
-    by false e = marks-both f (grown fs g p s ++ told_dirty fs g) last (marks-both f (grown fs g p s) (told_dirty fs g) (marks-grown f fs g p s) (marks-dirty f fs g e)) none
+    by false e = marks-both true f (grown fs g p s ++ told_dirty fs g) last (marks-both true f (grown fs g p s) (told_dirty fs g) (marks-grown f fs g p s) (marks-dirty f fs g e)) none
 
 marks-typed : (f : ℕ) (b : Bool) (x : Reply) (k : PlainHost) → Ends Anyone (if b then Command else Nothing) (if b then x else (k, [])).1
-    → MarksGuarded f (if b then x else (k, [])).1
+    → MarksGuarded true f (if b then x else (k, [])).1
 marks-typed f true x k e = command-ends f x.1 e
 marks-typed f false x k e = tt
 
-pub marks-reply : (f : ℕ) (h : PlainHost) (m : Tmesg) → MarksGuarded f (reply_to h m).1
+pub marks-reply : (f : ℕ) (h : PlainHost) (m : Tmesg) → MarksGuarded true f (reply_to h m).1
 unfolding replies_opened when
 marks-reply f h (Tversion v) =
     ((λ c. absurd (true≢false (sym c))), command-ends f _ (reply_ends Anyone (λ s l. tt) h (Tversion v) (λ g. tt)))
@@ -91,26 +96,26 @@ marks-reply f h m = grind arith
 
 -- ## Answers
 
-pub marks-reply_of : (f : ℕ) (h : PlainHost) (m : Tmesg) (r : Reply) → reply_of h m ≡ Some r → MarksGuarded f r.1
+pub marks-reply_of : (f : ℕ) (h : PlainHost) (m : Tmesg) (r : Reply) → reply_of h m ≡ Some r → MarksGuarded true f r.1
 marks-reply_of f h m r e = by h.is_done e
   where
-    checked : (o : Option HostFault) → replied o (reply_to h m) ≡ Some r → MarksGuarded f r.1
-    checked None e = subst (MarksGuarded f) (ap (λ (x : Reply). x.1) (same_Some _ _ e)) (marks-reply f h m)
+    checked : (o : Option HostFault) → replied o (reply_to h m) ≡ Some r → MarksGuarded true f r.1
+    checked None e = subst (MarksGuarded true f) (ap (λ (x : Reply). x.1) (same_Some _ _ e)) (marks-reply f h m)
     checked (Some why) e = grind arith
 
-    by : (b : Bool) → (if b then Some (counted h, []) else replied (first_of_checks (host_checks h m)) (reply_to h m)) ≡ Some r → MarksGuarded f r.1
-    by true e = subst (MarksGuarded f) (ap (λ (x : Reply). x.1) (same_Some _ _ e)) tt
+    by : (b : Bool) → (if b then Some (counted h, []) else replied (first_of_checks (host_checks h m)) (reply_to h m)) ≡ Some r → MarksGuarded true f r.1
+    by true e = subst (MarksGuarded true f) (ap (λ (x : Reply). x.1) (same_Some _ _ e)) tt
     by false e = checked (first_of_checks (host_checks h m)) e
 
-pub marks-answers : (f : ℕ) (ms : List Tmesg) (h : PlainHost) (r : Reply) → answers h ms ≡ Some r → MarksGuarded f r.1
-marks-answers f [] h r e = subst (MarksGuarded f) (ap (λ (x : Reply). x.1) (same_Some _ _ e)) tt
+pub marks-answers : (f : ℕ) (ms : List Tmesg) (h : PlainHost) (r : Reply) → answers h ms ≡ Some r → MarksGuarded true f r.1
+marks-answers f [] h r e = subst (MarksGuarded true f) (ap (λ (x : Reply). x.1) (same_Some _ _ e)) tt
 marks-answers f (m ∷ ms) h r e = by (reply_of h m) refl e (marks-answers f ms)
   where
-    by : (o : Option Reply) → reply_of h m ≡ o → replied_then o (λ k. answers k ms) ≡ Some r → ((k : PlainHost) (x : Reply) → answers k ms ≡ Some x → MarksGuarded f x.1)
-        → MarksGuarded f r.1
+    by : (o : Option Reply) → reply_of h m ≡ o → replied_then o (λ k. answers k ms) ≡ Some r → ((k : PlainHost) (x : Reply) → answers k ms ≡ Some x → MarksGuarded true f x.1)
+        → MarksGuarded true f r.1
     by None q e more = grind arith
     by (Some s) q e more = go (answers s.0 ms) refl e
       where
-        go : (o : Option Reply) → answers s.0 ms ≡ o → after_frames s.1 o ≡ Some r → MarksGuarded f r.1
+        go : (o : Option Reply) → answers s.0 ms ≡ o → after_frames s.1 o ≡ Some r → MarksGuarded true f r.1
         go None v w = grind arith
-        go (Some y) v w = subst (MarksGuarded f) (ap (λ (x : Reply). x.1) (same_Some _ _ w)) (marks-both f s.1 y.1 (marks-reply_of f h m s q) (more s.0 y v))
+        go (Some y) v w = subst (MarksGuarded true f) (ap (λ (x : Reply). x.1) (same_Some _ _ w)) (marks-both true f s.1 y.1 (marks-reply_of f h m s q) (more s.0 y v))

@@ -1,8 +1,8 @@
 -- The editor without a network: each event of the user is carried through to its end before the next one begins.
-use Rattle.std.specs.Prelude.{◌≡◌, ℕ, suc, true, false, ◌==◌, List, [], ◌∷◌, ◌++◌, map, Option, Some, None, option_map}
-use Rattle.sam_runes.specs.Slots.{Slots}
+use Rattle.std.specs.Prelude.{◌≡◌, ℕ, suc, Bool, true, false, ◌==◌, ◌||◌, List, [], ◌∷◌, ◌++◌, map, Option, Some, None, option_map}
+use Rattle.sam_runes.specs.Slots.{Slots, map_slots}
 use Rattle.sam_runes.specs.Checks.{first_of_checks}
-use Rattle.sam_text.specs.Files.{PlainFiles, file_at}
+use Rattle.sam_text.specs.Files.{PlainFile, PlainFiles, file_at}
 use Rattle.sam_host.specs.Host.{PlainHost, Reply, new_host, with_given}
 use Rattle.sam_mesg.specs.declared.tmesg.Tmesg.{Tmesg}
 use Rattle.sam_mesg.specs.declared.hmesg.Hmesg.{Hmesg}
@@ -92,6 +92,32 @@ carried_all given es = carried_on (new_editor given) es
 pub record AreMarkedAlike (h : PlainHost) (t : PlainTerminal) : Type 0 where
   pub names : (f : ℕ) → is_known t f ≡ true → (known_at t f).name ≡ (file_at h.files f).name
   pub marks : (f : ℕ) → (f == 0) ≡ false → is_changed t f ≡ (file_at h.files f).dirty
+
+-- the same file, clean
+abbrev pub clean_file : PlainFile → PlainFile
+clean_file file = record file { dirty = false }
+
+-- and as the terminal keeps it
+abbrev pub clean_known : KnownFile → KnownFile
+clean_known known = record known { dirty = false }
+
+abbrev pub clean_files : PlainFiles → PlainFiles
+clean_files fs = record fs { slots = map_slots clean_file fs.slots }
+
+-- the editor but for which of its files are dirty
+abbrev pub without_marks : PlainEditor → PlainEditor
+without_marks editor =
+    record {
+      host = record editor.host { files = clean_files editor.host.files };
+      term = record editor.term { files = map_slots clean_known editor.term.files };
+    }
+
+-- The first editor is the second, but that the files of `dirt` are dirty: the host has them so, and the terminal says so
+pub record IsButDirty (dirt : ℕ → Bool) (x y : PlainEditor) : Type 0 where
+  pub same : without_marks x ≡ without_marks y
+  pub host : (f : ℕ) → (file_at x.host.files f).dirty ≡ ((file_at y.host.files f).dirty || dirt f)
+  pub term : (f : ℕ) → is_changed x.term f ≡ (is_changed y.term f || dirt f)
+  pub others : (f : ℕ) → dirt f ≡ false → (known_at x.term f).dirty ≡ (known_at y.term f).dirty
 
 -- ## Files that join
 

@@ -8,18 +8,22 @@ ghost use Rattle.sam_local.specs.Worlds.{RunsComeInOrder, RunsAreAsIfLocal, Rest
 ghost use Rattle.sam_local.specs.Editing.{RefusedDoesNothing, TypingReplaces, SelectSets, CutMoves, PasteReplaces, EditReplaces, EditOfNothingKeeps, SnarfCopies, SetSnarfSets, GetSnarfFetches, EmptyDotKeeps, LookSelects, LookKeeps, SearchSelects, SendRuns, DclickSelects, ScrollShows, ViewShows, LoadShows, CheckAndFlushKeep, OpenOpens, CloseDrops, WriteSaves, WorkSets, CommandFileOpens, NewMakes, ExitEnds, VersionAgrees, FileJoins, NamesAndMarksAgree};
 
 /// Says that wherever a run stands, what the world comes to with nothing new done is what its doings, in their order, lead the editor
-/// without a network to. The doings are all files that joined, and all events of the user but those that are still held; an event that
-/// is refused does nothing there, too. A file stands among them just before the first event whose message had not reached the host when
-/// it joined, as far as any answer can tell: it is there for that event and all later ones, and for none that was answered. An open file
-/// that is not locked is shown as that editor has it: its name, its marks, its dot and its view, and its runes as far as they are loaded.
+/// without a network to. The doings are all files that joined, and all events of the user but those that are still held; an event that is
+/// refused does nothing there, too. A file stands among them just before the first event whose message had not reached the host when it
+/// joined, as far as any answer can tell: it is there for that event and all later ones, and for none that was answered. An open file that
+/// is not locked is shown as that editor has it: its name, its marks, its dot and its view, and its runes as far as they are loaded.
 /// Whatever the user does next waits, or it is refused where that editor refuses it, and for the same reason.
+///
+/// That editor knows no marks of a program. So a file that was marked in the run may be dirty though it is clean there: then the host has it
+/// so, and the terminal says so. That ends once a write or a close of the file acts. It is not said whether a mark stands that came while
+/// a write was on its way. All else is as there.
 ///
 /// At rest, where nothing is unsent, under way or held, both sides are where all doings of the run lead that editor, but for runes that
 /// are not loaded and for counts of messages: the texts, names, marks, saved copies, dots, snarf buffer, pattern, work file, version and
 /// end of the host, and the names, marks, dots, views, current file, pattern and snarfed text of the terminal. Its names are the host's
 /// then, and so is what it says of each file but the command file: whether that is dirty. So two runs from the same files in which the
-/// same was done, in the same order, differ in nothing else where they are at rest. Where no file joins, that order is the one in which
-/// the user did it.
+/// same was done, in the same order, differ in nothing else where they are at rest, but for which of the marked files are dirty. Where no
+/// file joins, that order is the one in which the user did it.
 pub fn runs_are_as_if_local()
     ensures order { RunsComeInOrder }
     ensures run { RunsAreAsIfLocal }

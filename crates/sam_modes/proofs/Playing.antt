@@ -74,7 +74,7 @@ bytes_out h stream out e s none = sym (append-nil (out ++ e.pending_bytes)) ∙ 
 -- the messages that were answered and those that wait
 served_all : (h : PlainHost) (stream out : List ℕ) (e : PlainHostEndpoint) (s : HasServed h stream out [] [] e) → serve h (messages_in s.steps ++ e.waiting) ≡ after_output (stream_of host s.frames) (serve e.host e.waiting)
 served_all h stream out e s = served_then h e.host (messages_in s.steps) e.waiting s.frames s.writes
-    (subst (λ (steps : List Step). Serves h steps s.frames s.writes e.host) (all_answered h.taken s.steps s.files) s.serves)
+    (subst (λ (steps : List Step). Serves h steps s.frames s.writes e.host) (all_answered h.taken s.steps s.asides_are) s.serves)
 
 -- all were answered
 all_served : (h : PlainHost) (stream out : List ℕ) (e : PlainHostEndpoint) (s : HasServed h stream out [] [] e) → e.waiting ≡ [] → e.unwritten ≡ []

@@ -6,8 +6,10 @@ use Rattle.sam_runes.specs.Texts.{Range, all_tags, as_lines, ends_line, is_empty
 use Rattle.sam_runes.specs.Checks.{Checks, first_of_checks}
 use Rattle.sam_runes.proofs.SlotLaws.{slot-put_same, slot-put_other, slot-free_same, slot-free_other}
 use Rattle.sam_text.specs.Files.{PlainFile, PlainFiles, blank_file, file_at, has_file, put_file, put_outcome, file_after, committed, after_print, printed_file, is_printed, typed_file, cut_file, pasted_file, opened_file, written_file, announced_file, announce_all, without_file, new_file, has_room, may_look, searched_for, command_name}
-use Rattle.sam_text.specs.Meaning.{WorkFile, meaning, work_on}
-unfoldable use Rattle.sam_text.specs.Meaning.{line_outcome}
+use Rattle.sam_text.specs.Files.{dirty_file}
+use Rattle.sam_text.specs.Meaning.{meaning}
+use Rattle.sam_host.specs.Marking.{marked}
+use Rattle.sam_crossing.proofs.Dirt.{work_there}
 use Rattle.sam_mesg.specs.declared.tmesg.Tmesg.{Tmesg}
 use Rattle.sam_mesg.specs.declared.tmesg.Tmesg.TheVariants.{Tversion, Tstartcmdfile, Tstartfile, Tworkfile, Ttype, Tcut, Tpaste, Tstartnewfile, Twrite, Tclose, Tlook, Tsearch, Tsend, Tdclick}
 use Rattle.sam_host.specs.declared.fault.HostFault.{HostFault}
@@ -70,26 +72,11 @@ stays_print g fs s = by (is_printed fs s)
     by true = put_other (suc g) fs 0 (printed_file (file_at fs 0) s) (first_apart g)
     by false = as_is (suc g) fs
 
+-- a mark announces nothing
+pub mark_stays : (g : ℕ) (h : PlainHost) (f : ℕ) → has_file h.files f ≡ true → Stays (suc g) h.files (marked h f).files
+mark_stays g h f there = stays_put (suc g) h.files f (dirty_file (file_at h.files f)) there refl
+
 -- ## The line that is run
-
-nameless : (line : List ℕ) (f : ℕ) → (line_outcome None line).file ≡ Some f → ⊥
-unfolding line_outcome
-nameless line f e = grind arith
-
-tagged : (w : WorkFile) (line : List ℕ) (f : ℕ) → (line_outcome (Some w) line).file ≡ Some f → w.tag ≡ f
-unfolding line_outcome
-tagged w line f e = grind arith
-
-work_there : (fs : PlainFiles) (line : List ℕ) (f : ℕ) → (meaning fs line).file ≡ Some f → has_file fs f ≡ true
-work_there fs line f e = by fs.work e
-  where
-    at : (k : ℕ) (o : Option PlainFile) → slot fs.slots k ≡ o → (line_outcome (option_map (work_on k) o) line).file ≡ Some f → has_file fs f ≡ true
-    at k None q e = absurd (nameless line f e)
-    at k (Some x) q e = subst (λ (n : ℕ). has_file fs n ≡ true) (tagged (work_on k x) line f e) (ap is_some q)
-
-    by : (work : Option ℕ) → (line_outcome (option_and_then (λ k. option_map (work_on k) (slot fs.slots k)) work) line).file ≡ Some f → has_file fs f ≡ true
-    by None e = absurd (nameless line f e)
-    by (Some k) e = at k (slot fs.slots k) refl e
 
 stays_line : (g : ℕ) (h : PlainHost) (line : List ℕ) → Stays (suc g) h.files (after_print (committed h.files (meaning h.files line)) (meaning h.files line).printed)
 stays_line g h line =

@@ -14,7 +14,7 @@ use Rattle.sam_crossing.specs.World.{is_quiet, SidesAgree}
 use Rattle.sam_world.specs.Drain.{acts, next_event}
 use Rattle.sam_world.specs.Counts.{is_term_full, is_host_full, passes_at, composes_past, passes_count}
 use Rattle.sam_crossing.specs.declared.event.Event.{Event}
-use Rattle.sam_crossing.specs.declared.event.Event.TheVariants.{User, Add, Act, Flush, HostTake, TermTake}
+use Rattle.sam_crossing.specs.declared.event.Event.TheVariants.{User, Add, Mark, Act, Flush, HostTake, TermTake}
 use Rattle.sam_crossing.proofs.OrderLaws.{host_never_refuses, terminal_never_refuses, refused_act, refused_flush, quiet_means_agreement}
 use Rattle.sam_crossing.proofs.RunLaws.{counted-result}
 use Rattle.sam_crossing.proofs.Passing.{none_locked}
@@ -247,6 +247,7 @@ done_is_stuck w d e next a = by e refl
     by : (x : Event) → e ≡ x → ⊥
     by (User x) q = true≢false (ap is_from_outside (sym q) ∙ a.own)
     by (Add name text) q = true≢false (ap is_from_outside (sym q) ∙ a.own)
+    by (Mark f) q = true≢false (ap is_from_outside (sym q) ∙ a.own)
     by Act q = act (act-takes w next (ap (step_of w) (sym q) ∙ a.stepped))
     by Flush q = a.changes ((flush-takes w next (ap (step_of w) (sym q) ∙ a.stepped)).is ∙ nothing-flushed w p.unsent)
     by HostTake q = none-some (ap (host_takes w) (sym p.up) ∙ ap (step_of w) (sym q) ∙ a.stepped)

@@ -5,7 +5,7 @@ use Rattle.sam_term.specs.Term.{unsent_message, all_composed}
 use Rattle.sam_term.specs.declared.records.Unsent.{Unsent}
 use Rattle.sam_term.proofs.Edits.{flushed-held}
 use Rattle.sam_crossing.specs.declared.event.Event.{Event}
-use Rattle.sam_crossing.specs.declared.event.Event.TheVariants.{User, Add, Act, Flush, HostTake, TermTake}
+use Rattle.sam_crossing.specs.declared.event.Event.TheVariants.{User, Add, Mark, Act, Flush, HostTake, TermTake}
 use Rattle.sam_crossing.proofs.RunLaws.{run_keeps}
 use Rattle.std.proofs.Common.{Bool, true}
 use Rattle.sam_runes.specs.Slots.{Slots}
@@ -22,7 +22,12 @@ use Rattle.sam_local.proofs.Folds.{Parted}
 use Rattle.sam_rest.proofs.Actions.{AwaitsAll}
 use Rattle.sam_rest.proofs.Kept.{frames_of, coming_to, answers-up}
 use Rattle.sam_rest.proofs.Joined.{with_joined, both-more, order-joined, joined-step}
-use Rattle.sam_crossing.proofs.OrderLaws.{joins_step, starts_in_order, steps_in_order}
+use Rattle.sam_runes.proofs.SlotLaws.{slot_given}
+use Rattle.sam_host.specs.Host.{told_dirty}
+use Rattle.sam_host.specs.Marking.{marked}
+use Rattle.sam_crossing.proofs.Marking.{marked-more, told-more, shown-more}
+use Rattle.sam_rest.proofs.Marked.{awaited-mark, mark-frames}
+use Rattle.sam_crossing.proofs.OrderLaws.{joins_step, marks_step, starts_in_order, steps_in_order}
 use Rattle.sam_crossing.specs.Order.{InOrder}
 use Rattle.sam_crossing.proofs.Passing.{passed, held_passed}
 use Rattle.sam_local.proofs.Held.{event-held, frame-held}
@@ -118,10 +123,11 @@ after-act w next k n s = by s.did
 
 -- ## Every step, and every run
 
--- no file joins in the step
+-- a file joins in the step, or is marked
 abbrev is_add : Event → Bool
 is_add (User e) = false
 is_add (Add name text) = true
+is_add (Mark f) = true
 is_add Act = false
 is_add Flush = false
 is_add HostTake = false
@@ -145,6 +151,7 @@ awaits-step w e next k none s = by e refl
         let is : record w { term = record w.term { held = w.term.held ++ x ∷ [] } } ≡ next = same_Some _ _ (ap (step_of w) (sym q) ∙ s) in
         subst (λ (v : PlainWorld). AreAwaited v.host v.term v.up (mesgs v.down)) is k.awaited
     by (Add name text) q = absurd (true≢false (ap is_add (sym q) ∙ none))
+    by (Mark f) q = absurd (true≢false (ap is_add (sym q) ∙ none))
     by Act q = acted (act-takes w next (ap (step_of w) (sym q) ∙ s))
     by Flush q = flushed-kept (flush-takes w next (ap (step_of w) (sym q) ∙ s))
     by HostTake q = (after-host w next k n (host-takes w next k.order (ap (step_of w) (sym q) ∙ s))).awaited
@@ -226,6 +233,20 @@ keeps-step w (Add name text) next k s =
       awaited = subst (λ (h : PlainHost). AreAwaited h w.term w.up (mesgs w.down)) (sym (one_more w.host one []) ∙ nothing_more (with_given w.host one)) (k.joined (one ∷ []) (j.short.0, j.short.1, tt));
       joined = λ more few. subst (λ (h : PlainHost). AreAwaited h w.term w.up (mesgs w.down)) (sym (one_more w.host one (given_slots more))) (k.joined (one ∷ more) (j.short.0, j.short.1, few));
     })
+keeps-step w (Mark f) next k s =
+    let m = marks_step w next f s in
+    subst IsKept (sym m.is)
+    (record {
+      order = subst IsInOrder m.is (steps_in_order w next (Mark f) k.order s);
+      awaited = subst (AreAwaited (marked w.host f) w.term w.up) (sym (mark-frames w f)) (awaited-mark w.host w.term w.up (mesgs w.down) f m.tag m.shown k.order.ordered k.awaited);
+      joined = λ more few.
+          let us = given_slots more in
+          let l = slot_given w.host.files.slots f m.shown.0 in
+          subst (AreAwaited (with_more (marked w.host f) us) w.term w.up) (sym (mark-frames w f))
+          (subst (λ (h : PlainHost). AreAwaited h w.term w.up (mesgs w.down ++ told_dirty w.host.files f)) (marked-more w.host f us l)
+          (subst (λ (ms : List Hmesg). AreAwaited (marked (with_more w.host us) f) w.term w.up (mesgs w.down ++ ms)) (told-more w.host f us l)
+          (awaited-mark (with_more w.host us) w.term w.up (mesgs w.down) f m.tag (shown-more w.host f us m.shown) (k.order.joined more few) (k.joined more few))));
+    })
 keeps-step w HostTake next k s = record {
   order = steps_in_order w next HostTake k.order s;
   awaited = awaits-step w HostTake next k refl s;
@@ -276,6 +297,7 @@ falls w e next k own s = by e refl
     by : (x : Event) → e ≡ x → (next ≡ w) ⊎ Lowers w next
     by (User x) q = absurd (true≢false (ap is_from_outside (sym q) ∙ own))
     by (Add name text) q = absurd (true≢false (ap is_from_outside (sym q) ∙ own))
+    by (Mark f) q = absurd (true≢false (ap is_from_outside (sym q) ∙ own))
     by Act q = act (act-takes w next (ap (step_of w) (sym q) ∙ s))
     by Flush q = flush w.term.unsent refl (flush-takes w next (ap (step_of w) (sym q) ∙ s))
     by HostTake q = less (after-host w next k n (host-takes w next k.order (ap (step_of w) (sym q) ∙ s)))
@@ -333,6 +355,7 @@ bounded-all w k after = record { most = 1 + (act.most + flush.most + host.most +
     bound [] v l = omega arith
     bound (User x ∷ es) v l = absurd (true≢false l.1.own)
     bound (Add name text ∷ es) v l = absurd (true≢false l.1.own)
+    bound (Mark f ∷ es) v l = absurd (true≢false l.1.own)
     bound (Act ∷ es) v l = omega (arith, act.bound l.0 l.1 es v l.2)
     bound (Flush ∷ es) v l = omega (arith, flush.bound l.0 l.1 es v l.2)
     bound (HostTake ∷ es) v l = omega (arith, host.bound l.0 l.1 es v l.2)

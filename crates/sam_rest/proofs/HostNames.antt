@@ -6,7 +6,9 @@ use Rattle.sam_runes.specs.Texts.{Range, all_tags, as_lines, ends_line, is_empty
 use Rattle.sam_runes.proofs.SlotLaws.{slot-put_same, slot-put_other, slot-free_same, slot-free_other, slot-map}
 use Rattle.sam_runes.specs.declared.edit.Edit.{Edit}
 use Rattle.sam_text.specs.Files.{PlainFile, PlainFiles, PlainOutcome, blank_file, file_at, put_file, put_outcome, file_after, committed, after_print, printed_file, is_printed, typed_file, cut_file, pasted_file, opened_file, written_file, announced_file, announce_all, without_file, new_file, has_room, command_name, may_look, searched_for}
+use Rattle.sam_text.specs.Files.{dirty_file}
 use Rattle.sam_text.specs.Meaning.{meaning}
+use Rattle.sam_host.specs.Marking.{marked}
 use Rattle.sam_mesg.specs.declared.tmesg.Tmesg.{Tmesg}
 use Rattle.sam_mesg.specs.declared.tmesg.Tmesg.TheVariants.{Tversion, Tstartcmdfile, Tcheck, Trequest, Torigin, Tstartfile, Tworkfile, Ttype, Tcut, Tpaste, Tsnarf, Tstartnewfile, Twrite, Tclose, Tlook, Tsearch, Tsend, Tdclick, Tstartsnarf, Tsetsnarf, Tack, Texit}
 use Rattle.sam_mesg.specs.declared.hmesg.Hmesg.{Hmesg}
@@ -111,6 +113,11 @@ silent_given : {A : Type 0} (g : ℕ) (o : Option A) (frame : A → Hmesg) → (
 unfolding when_given
 silent_given g None frame s = silent_none g
 silent_given g (Some x) frame s = s x
+
+-- a mark tells none
+pub mark_tells : (g : ℕ) (h : PlainHost) (f : ℕ) → Tells g h.files (marked h f).files (told_dirty h.files f)
+mark_tells g h f =
+    tells_nothing g h.files (marked h f).files (told_dirty h.files f) (same_put g h.files f (dirty_file (file_at h.files f)) refl refl) (silent_dirty g h.files f)
 
 -- ## Answers in which no name is told
 

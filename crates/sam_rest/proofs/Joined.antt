@@ -7,7 +7,7 @@ use Rattle.sam_text.specs.Files.{PlainFile}
 use Rattle.sam_host.specs.Host.{given_slots, with_given}
 use Rattle.sam_host.specs.Laws.{AreGiven}
 use Rattle.sam_crossing.specs.declared.event.Event.{Event}
-use Rattle.sam_crossing.specs.declared.event.Event.TheVariants.{User, Add, Act, Flush, HostTake, TermTake}
+use Rattle.sam_crossing.specs.declared.event.Event.TheVariants.{User, Add, Mark, Act, Flush, HostTake, TermTake}
 use Rattle.sam_crossing.specs.Order.{InOrder}
 use Rattle.sam_crossing.specs.Joining.{HasGiven, with_more}
 use Rattle.sam_crossing.proofs.MoreFiles.{given-append, given_both, given_joined, nothing_more, one_more}
@@ -38,6 +38,7 @@ order-joined w more few i = record {
 abbrev pub is_apart : Event → Bool
 is_apart (User e) = true
 is_apart (Add name text) = false
+is_apart (Mark f) = false
 is_apart Act = true
 is_apart Flush = true
 is_apart HostTake = false
@@ -62,6 +63,7 @@ joined-step w next e more apart s = by e refl apart ∙ ap (λ (o : Option Plain
     by : (x : Event) → e ≡ x → is_apart x ≡ true → step_of (with_joined w more) e ≡ option_map (λ v. with_joined v more) (step_of w e)
     by (User x) q k = ap (step_of (with_joined w more)) q ∙ sym (ap (λ (y : Event). option_map (λ v. with_joined v more) (step_of w y)) q)
     by (Add name text) q k = absurd (true≢false (sym k))
+    by (Mark f) q k = absurd (true≢false (sym k))
     by Act q k = ap (step_of (with_joined w more)) q ∙ act-wider w more (act_of w.term) ∙ sym (ap (λ (y : Event). option_map (λ v. with_joined v more) (step_of w y)) q)
     by Flush q k = ap (step_of (with_joined w more)) q ∙ compose-wider w more (flush_of w.term) ∙ sym (ap (λ (y : Event). option_map (λ v. with_joined v more) (step_of w y)) q)
     by HostTake q k = absurd (true≢false (sym k))

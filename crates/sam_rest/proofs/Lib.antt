@@ -4,6 +4,7 @@ pub mod Gaps
 pub mod Taking
 pub mod Frames
 pub mod Kept
+pub mod Marked
 pub mod Quiet
 pub mod Steps
 pub mod Work

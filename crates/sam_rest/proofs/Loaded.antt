@@ -15,7 +15,7 @@ use Rattle.sam_rest.proofs.Common.{Result, Ok, Err, same_Some, Done, first_of_ch
 use Rattle.sam_term.specs.declared.event.UserEvent.TheVariants.{View, Load, Select}
 use Rattle.sam_term.specs.Term.{put_window}
 use Rattle.sam_crossing.specs.declared.event.Event.{Event}
-use Rattle.sam_crossing.specs.declared.event.Event.TheVariants.{User, Add, Act, Flush, HostTake, TermTake}
+use Rattle.sam_crossing.specs.declared.event.Event.TheVariants.{User, Add, Mark, Act, Flush, HostTake, TermTake}
 use Rattle.sam_crossing.proofs.OrderLaws.{steps_in_order}
 use Rattle.sam_crossing.proofs.RunLaws.{counted-result}
 use Rattle.sam_crossing.proofs.Passing.{Passed, passed, held_passed, free_at}
@@ -667,6 +667,7 @@ shown-step f w next e k looks a s = by e refl
     by : (x : Event) → e ≡ x → At f next × OnlyLook next.term.held
     by (User x) q = absurd (true≢false (ap is_from_outside (sym q) ∙ a.own))
     by (Add name text) q = absurd (true≢false (ap is_from_outside (sym q) ∙ a.own))
+    by (Mark f) q = absurd (true≢false (ap is_from_outside (sym q) ∙ a.own))
     by Act q = act (act-takes w next (ap (step_of w) (sym q) ∙ a.stepped))
     by Flush q = let t = flush-takes w next (ap (step_of w) (sym q) ∙ a.stepped) in (flush t, same-held (ap (λ (v : PlainWorld). v.term.held) t.is ∙ flushed-held w.term))
     by HostTake q = let t = host-takes w next k.order (ap (step_of w) (sym q) ∙ a.stepped) in (host t, same-held (after-host w next k n t).held)

@@ -24,14 +24,17 @@ use Rattle.sam_term.specs.declared.event.UserEvent.{UserEvent}
 use Rattle.sam_term.specs.declared.event.Verdict.{Verdict}
 use Rattle.sam_term.specs.declared.fault.TermFault.{TermFault}
 use Rattle.sam_crossing.proofs.Ordered.{mesgs_stamped}
-use Rattle.sam_crossing.proofs.OrderLaws.{joins_step}
+use Rattle.sam_host.specs.Host.{told_dirty}
+use Rattle.sam_host.specs.Marking.{marked}
+use Rattle.sam_rest.proofs.Marked.{mark-frames}
+use Rattle.sam_crossing.proofs.OrderLaws.{joins_step, marks_step}
 use Rattle.sam_crossing.proofs.RunLaws.{counted-result, run_keeps}
 use Rattle.sam_crossing.specs.World.{PlainWorld, after_answer, after_act, after_compose, host_takes, joined_files, mesgs, new_world, run_of, step_of, term_takes}
 use Rattle.sam_crossing.specs.declared.event.Event.{Event}
-use Rattle.sam_crossing.specs.declared.event.Event.TheVariants.{User, Add, Act, Flush, HostTake, TermTake}
+use Rattle.sam_crossing.specs.declared.event.Event.TheVariants.{User, Add, Mark, Act, Flush, HostTake, TermTake}
 use Rattle.sam_rest.specs.Names.{VersionTellsNames}
-use Rattle.sam_rest.proofs.Announced.{Stays, announced_all, reply_stays}
-use Rattle.sam_rest.proofs.HostNames.{IsNameOf, Tells, file-other, file-put, reply_tells}
+use Rattle.sam_rest.proofs.Announced.{mark_stays, Stays, announced_all, reply_stays}
+use Rattle.sam_rest.proofs.HostNames.{mark_tells, IsNameOf, Tells, file-other, file-put, reply_tells}
 use Rattle.sam_rest.proofs.TermNames.{Keeps, all_named, as_is, frame_names, keeps_event, keeps_flushed, name_of, named-append}
 
 -- ## What every run keeps
@@ -144,6 +147,14 @@ named_step w (User x) next a s = subst AreNamed (same_Some _ _ s) (record { name
 named_step w (Add name text) next a s =
     let j = joins_step w next name text s in
     subst AreNamed (sym j.is) (record { named = λ g. joined-name w.host.files (name, text) (suc g) (all_named (suc g) (mesgs w.down) (name_of w.term (suc g))) (a.named g) })
+named_step w (Mark f) next a s =
+    let m = marks_step w next f s in
+    subst AreNamed (sym m.is) (record {
+      named = λ g.
+          let n = name_of w.term (suc g) in
+          subst (IsNameOf (marked w.host f).files (suc g)) (sym (ap (λ (l : List Hmesg). all_named (suc g) l n) (mark-frames w f) ∙ named-append (suc g) (mesgs w.down) (told_dirty w.host.files f) n))
+          ((mark_tells (suc g) w.host f).told (all_named (suc g) (mesgs w.down) n) (a.named g));
+    })
 named_step w Act next a s = act_step w next a s
 named_step w Flush next a s = flush_step w next a s
 named_step w HostTake next a s = host_step w next w.up a s
@@ -195,6 +206,7 @@ rest_none e es none = none
 abbrev IsTerminals : Event → Type 0
 IsTerminals (User x) = Unit {0}
 IsTerminals (Add name text) = ⊥
+IsTerminals (Mark f) = ⊥
 IsTerminals Act = Unit {0}
 IsTerminals Flush = Unit {0}
 IsTerminals HostTake = ⊥
@@ -206,6 +218,9 @@ host_kept w e next s t = grind arith
 -- a step at which no file joins
 told_step : (w : PlainWorld) (e : Event) (next : PlainWorld) → joined_files (e ∷ []) ≡ [] → AreTold w → step_of w e ≡ Some next → AreTold next
 told_step w (Add name text) next none a s = absurd (cc)
+told_step w (Mark f) next none a s =
+    let m = marks_step w next f s in
+    subst AreTold (sym m.is) (record { told = told_stays w (marked w.host f) a (λ g. mark_stays g w.host f m.shown.0) })
 told_step w HostTake next none a s = by_up w.up s
   where
     by_up : (up : List Tmesg) → host_takes w up ≡ Some next → AreTold next

@@ -6,7 +6,7 @@ unfoldable use Rattle.sam_rest.proofs.Common.{act_of}
 use Rattle.sam_term.specs.declared.records.Unsent.{Unsent}
 use Rattle.sam_world.specs.Drain.{acts}
 use Rattle.sam_crossing.specs.declared.event.Event.{Event}
-use Rattle.sam_crossing.specs.declared.event.Event.TheVariants.{User, Add, Act, Flush, HostTake, TermTake}
+use Rattle.sam_crossing.specs.declared.event.Event.TheVariants.{User, Add, Mark, Act, Flush, HostTake, TermTake}
 use Rattle.sam_crossing.proofs.OrderLaws.{steps_in_order}
 use Rattle.sam_rest.specs.Rest.{is_from_outside, Applies, LeadsOn}
 use Rattle.sam_rest.proofs.Taking.{Idles, Acts, host-takes, term-takes, flush-takes, act-takes}
@@ -57,6 +57,7 @@ does w v e k n s = by e refl
     by : (x : Event) → e ≡ x → Does w e v
     by (User x) q = absurd (true≢false (ap is_from_outside (sym q) ∙ rule.own))
     by (Add name text) q = absurd (true≢false (ap is_from_outside (sym q) ∙ rule.own))
+    by (Mark f) q = absurd (true≢false (ap is_from_outside (sym q) ∙ rule.own))
     by Act q = subst (λ (y : Event). Does w y v) (sym q) (after-act w v k i (acts-change w v (rule.act q) (act-takes w v (ap (step_of w) (sym q) ∙ s))))
     by Flush q =
         subst (λ (y : Event). Does w y v) (sym q)
@@ -75,6 +76,7 @@ rule-applies w v e k n s = record { own = (rule-of w e n).own; stepped = s; chan
     by Act d same = let e = ap (λ (u : PlainWorld). length u.term.held) same in absurd (omega (arith, d.one, e))
     by (User x) d same = less d same
     by (Add name text) d same = less d same
+    by (Mark f) d same = less d same
     by Flush d same = less d same
     by HostTake d same = less d same
     by TermTake d same = less d same
@@ -91,6 +93,7 @@ count_one fewer less w None = 0
 count_one fewer less w (Some Act) = 1 + led fewer (step_of w Act)
 count_one fewer less w (Some (User x)) = 1 + led less (step_of w (User x))
 count_one fewer less w (Some (Add name text)) = 1 + led less (step_of w (Add name text))
+count_one fewer less w (Some (Mark f)) = 1 + led less (step_of w (Mark f))
 count_one fewer less w (Some Flush) = 1 + led less (step_of w Flush)
 count_one fewer less w (Some HostTake) = 1 + led less (step_of w HostTake)
 count_one fewer less w (Some TermTake) = 1 + led less (step_of w TermTake)
@@ -119,6 +122,7 @@ stable-one fewer f g w k same None n = refl
 stable-one fewer f g w k same (Some Act) n = refl
 stable-one fewer f g w k same (Some (User x)) n = absurd (true≢false (rule-of w (User x) n).own)
 stable-one fewer f g w k same (Some (Add name text)) n = absurd (true≢false (rule-of w (Add name text) n).own)
+stable-one fewer f g w k same (Some (Mark file)) n = absurd (true≢false (rule-of w (Mark file) n).own)
 stable-one fewer f g w k same (Some Flush) n = behind (step_of w Flush) refl
   where
     behind : (o : Option PlainWorld) → step_of w Flush ≡ o → 1 + led f o ≡ 1 + led g o
@@ -196,6 +200,7 @@ falls-by-rule w v e k n s = by e refl (does w v e k n s)
     by : (x : Event) → e ≡ x → Does w e v → counts_held (length v.term.held) v < counts_held (length w.term.held) w
     by (User x) q d = absurd (true≢false (ap is_from_outside (sym q) ∙ (rule-of w e n).own))
     by (Add name text) q d = absurd (true≢false (ap is_from_outside (sym q) ∙ (rule-of w e n).own))
+    by (Mark f) q d = absurd (true≢false (ap is_from_outside (sym q) ∙ (rule-of w e n).own))
     by Act q d = act (n ∙ ap Some q) (ap (step_of w) (sym q) ∙ s) (subst (λ (y : Event). Does w y v) q d)
     by Flush q d = less Flush (n ∙ ap Some q) (ap (step_of w) (sym q) ∙ s) (λ fewer m. refl) (subst (λ (y : Event). Does w y v) q d)
     by HostTake q d = less HostTake (n ∙ ap Some q) (ap (step_of w) (sym q) ∙ s) (λ fewer m. refl) (subst (λ (y : Event). Does w y v) q d)

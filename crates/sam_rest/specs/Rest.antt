@@ -1,4 +1,4 @@
--- Coming to rest: steps without the user, and with no file that joins, come to an end, and where no step changes anything all is done.
+-- Coming to rest: steps that don't come from outside come to an end, and where no step changes anything all is done.
 use Rattle.std.specs.Prelude.{◌≡◌, ◌≢◌, ◌≤◌, ℕ, Bool, true, false, List, [], ◌∷◌, length, Some}
 use Rattle.sam_term.specs.Term.{window_at}
 use Rattle.sam_crossing.specs.World.{PlainWorld, step_of, is_unlocked}
@@ -6,19 +6,20 @@ use Rattle.sam_world.specs.Counts.{passes_count}
 use Rattle.sam_world.specs.Drain.{next_event}
 use Rattle.sam_crossing.specs.World.{WasReached}
 use Rattle.sam_crossing.specs.declared.event.Event.{Event}
-use Rattle.sam_crossing.specs.declared.event.Event.TheVariants.{User, Add, Act, Flush, HostTake, TermTake}
+use Rattle.sam_crossing.specs.declared.event.Event.TheVariants.{User, Add, Mark, Act, Flush, HostTake, TermTake}
 use Rattle.sam_local.specs.Worlds.{is_at_rest}
 
--- the event comes from outside: the user does something, or a file joins
+-- the event comes from outside: the user does something, or a file joins or is marked
 abbrev pub is_from_outside : Event → Bool
 is_from_outside (User e) = true
 is_from_outside (Add name text) = true
+is_from_outside (Mark f) = true
 is_from_outside Act = false
 is_from_outside Flush = false
 is_from_outside HostTake = false
 is_from_outside TermTake = false
 
--- the event comes from neither the user nor a file that joins, and leads from w to another world
+-- the event doesn't come from outside, and leads from w to another world
 pub record Applies (w : PlainWorld) (e : Event) (next : PlainWorld) : Type 0 where
   pub own : is_from_outside e ≡ false
   pub stepped : step_of w e ≡ Some next

@@ -15,7 +15,7 @@ pub trait Rest {
     /// under way, held or locked, and no request awaits its data. Where all is done already, it returns `Ok` and changes nothing.
     ///
     /// Errors: `CountFull` if and only if it comes to an event that would take a count of messages past 2^64-1. `OutOfMemory` may come at
-    /// any other event. `NothingThere` and `NotAdded` never come. After an error the events before it have happened, and the next one has
+    /// any other event. `NothingThere` and `Barred` never come. After an error the events before it have happened, and the next one has
     /// not.
     fn rest(&mut self) -> Result<(), StepFault>;
 }
@@ -29,7 +29,7 @@ impl Rest for World {
         ensures still { is_at_rest self.old ≡ true → self.new ≡ self.old }
         ensures stopped { IfErr result (λ why. IsNextFault self.new why) }
         ensures something { (result ≡ Err StepFault.NothingThere) → ⊥ }
-        ensures no_file { (result ≡ Err StepFault.NotAdded) → ⊥ }
+        ensures no_file { (result ≡ Err StepFault.Barred) → ⊥ }
     {
         'drains: while !is_resting(self) {
             self.drain()?;

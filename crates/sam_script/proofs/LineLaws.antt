@@ -1,12 +1,15 @@
 -- What is read of a line is what it says, and each line says one thing.
 use Rattle.sam_script.proofs.Common.{◌≡◌, ◌<◌, ◌≤◌, ◌∙◌, refl, sym, ap, subst, ℕ, List, [], ◌∷◌, ◌++◌, length, true, Some, Result, IfOk, IfErr, codes, flat_map, encode_utf8, arith, chars, encode_utf8_all, IsUtf8, le-leb, eqb-true, AllByRecursion, eqb_tells, same_Some, chars_from_encodes, encodes-chars, max_runes, most_in_name, Said, SpellsParts, IsWord, SpellsFile, SpellsLine, SaysNothing, SaysSo, Says, Rest, fitting_name, fitting_text, file_text_at, file_at, bare, line_readers, is_silent, line_at, IsUnsaid, ◌>>=◌, word_of, behind_word, word_at, Gives}
 use Rattle.sam_script.specs.declared.line.Line.{Line}
-use Rattle.sam_script.specs.declared.line.Line.TheVariants.{Key, Mouse, Add, Act, Flush, Host, Term, Drain, Show}
-use Rattle.sam_script.specs.Reading.{bare_readers, event_at}
+use Rattle.sam_script.specs.declared.line.Line.TheVariants.{Key, Mouse, Add, Dirty, Act, Flush, Host, Term, Drain, Show}
+use Rattle.std.specs.Prelude.{bytes_eq, false}
+use Rattle.std.proofs.lemmas.Slice.Eq.{bytes_eq-Decides}
+use Rattle.sam_script.specs.Reading.{bare_readers, event_at, read_by, step_readers}
+use Rattle.sam_script.specs.Words.{tag_alone}
 use Rattle.sam_script.specs.declared.fault.LineFault.{LineFault}
 use Rattle.sam_script.specs.declared.line.Said.TheVariants as said
 use Rattle.sam_world.specs.Given.{IsFile}
-use Rattle.sam_script.proofs.SpellingLaws.{bind_some, word_ends, word_split, word_says, word_read, word_utf8, utf8_tail, utf8_rear, utf8_front, text_says, text_read, ReadsAs, rows_say, event_says, event_read}
+use Rattle.sam_script.proofs.SpellingLaws.{bind_some, word_ends, word_split, word_says, word_read, word_utf8, utf8_tail, utf8_rear, utf8_front, text_says, text_read, ReadsAs, rows_say, event_says, event_read, tag_says, tag_read}
 
 -- ## A file
 
@@ -74,6 +77,11 @@ add_row bytes it u h =
     let s = file_says bytes a.0 u a.1 in
     subst (λ (x : Said). SaysSo x (codes "add" ++ bytes)) (same_Some (said.Line (Add a.0.0 a.0.1)) it a.2) (s.0, ap (λ xs. codes "add" ++ xs) s.1, s.2, s.3, s.4)
 
+dirty_row : ReadsAs IsSaidBy (codes "dirty", λ bytes. tag_alone bytes >>= λ f. Some (said.Line (Dirty f)))
+dirty_row bytes it u h =
+    let a = bind_some (tag_alone bytes) (λ f. Some (said.Line (Dirty f))) it h in
+    subst (λ (x : Said). SaysSo x (codes "dirty" ++ bytes)) (same_Some (said.Line (Dirty a.0)) it a.2) (bytes, refl, tag_says bytes a.0 a.1)
+
 bare_row : (line : Line) (word : List ℕ) → ((bytes : List ℕ) → bytes ≡ [] → SpellsLine line (word ++ bytes)) → ReadsAs IsSaidBy (word, bare line)
 bare_row line word spells bytes it u h = grind arith
 
@@ -105,7 +113,7 @@ bare_rows = (
 )
 
 line_readers_say : AllByRecursion (ReadsAs IsSaidBy) line_readers
-line_readers_say = (file_row, (add_row, (key_row, (mouse_row, bare_rows))))
+line_readers_say = (file_row, (add_row, (key_row, (mouse_row, (dirty_row, bare_rows)))))
 
 silent_says : (bytes : List ℕ) → is_silent bytes ≡ true → SaysNothing bytes
 silent_says bytes e = grind (arith, eqb_tells, eqb-true)
@@ -122,6 +130,26 @@ line_says bytes it u h =
       (word_ends bytes),
     )
 
+other_word : (word key : List ℕ) → (word ≡ key → ⊥) → bytes_eq word key ≡ false
+other_word word key other = grind (arith, (bytes_eq-Decides word key))
+
+-- a line of another word than those of files and of the user
+pub line_steps : (bytes word rest : List ℕ) → is_silent bytes ≡ false → word ≡ word_of bytes → rest ≡ behind_word bytes
+    → (word ≡ codes "file" → ⊥) → (word ≡ codes "add" → ⊥) → (word ≡ codes "k" → ⊥) → (word ≡ codes "m" → ⊥)
+    → line_at bytes ≡ read_by step_readers word rest
+unfolding line_at
+line_steps bytes word rest said first then file add k m =
+    rw (
+      said,
+      sym first,
+      sym then,
+      other_word word (codes "file") file,
+      other_word word (codes "add") add,
+      other_word word (codes "k") k,
+      other_word word (codes "m") m,
+    )
+    refl
+
 pub line_read : (bytes : List ℕ) (it : Said) → Says it bytes → line_at bytes ≡ Some it
 unfolding line_at
 line_read bytes (said.File name text) (u, (rest, is, plain, fits, parts)) = grind (
@@ -134,6 +162,9 @@ line_read bytes (said.Line (Add name text)) (u, (rest, is, plain, fits, parts)) 
   (file_read (codes " " ++ flat_map encode_utf8 name ++ rest) name text rest
       (utf8_rear (codes "add") (codes " " ++ flat_map encode_utf8 name ++ rest) (subst IsUtf8 is u) refl) refl plain fits parts),
 )
+line_read bytes (said.Line (Dirty f)) (u, (rest, is, (word, after, first, number, small, more))) =
+    let whole : bytes ≡ codes "dirty" ++ (codes " " ++ word ++ after) = is ∙ ap (λ xs. codes "dirty" ++ xs) first in
+    ap line_at whole ∙ ap (λ o. o >>= λ g. Some (said.Line (Dirty g))) (tag_read (codes " " ++ word ++ after) f (word, after, refl, number, small, more))
 line_read bytes (said.Line (Key e)) (u, (event, is, spells)) =
     ap line_at is ∙ ap (λ o. o >>= λ d. Some (said.Line (Key d)))
     (event_read (codes " " ++ event) event e (utf8_rear (codes "k") (codes " " ++ event) (subst IsUtf8 is u) refl) refl spells)

@@ -4,7 +4,8 @@ use Rattle.std.specs.Char.{IsScalar}
 use lib.Utf8.{scalar}
 use Rattle.std.proofs.lemmas.Fmt.{decimal_is_IsNumeral, digits_decimal}
 use Rattle.sam_runes.specs.Reading.{AreRunes}
-use Rattle.sam_crossing.specs.declared.event.Event.TheVariants.{User, Add, Act, Flush, HostTake, TermTake}
+use Rattle.sam_crossing.specs.declared.event.Event.TheVariants.{User, Add, Mark, Act, Flush, HostTake, TermTake}
+use Rattle.sam_script.specs.Events.{Tag}
 use Rattle.sam_script.specs.declared.line.Line.TheVariants as line
 use Rattle.sam_script.specs.declared.line.Said.TheVariants as said
 use Rattle.sam_script.proofs.ScriptLaws.{spells_one}
@@ -115,6 +116,7 @@ parts_good parts e u = grind (arith, good_nil)
 abbrev event_bytes : Event → List ℕ
 event_bytes (User e) = codes "k " ++ spelling (form e)
 event_bytes (Add name text) = codes "add " ++ flat_map encode_utf8 name ++ codes " " ++ text_shown text
+event_bytes (Mark f) = spelling (codes "dirty", Tag f ∷ [])
 event_bytes Act = codes "act"
 event_bytes Flush = codes "flush"
 event_bytes HostTake = codes "host"
@@ -140,10 +142,12 @@ event_good : (e : Event) → CanBeWritten e → Good (event_bytes e)
 event_good (Add name text) can = named_good (codes "add ") (name, text) (good_plain (codes "add ") refl) can
 event_good (User e) fit = good_append (codes "k ") (spelling (form e)) (good_plain (codes "k ") refl)
     (good_append (form e).0 (flat_map part_shown (form e).1) (good_plain (form e).0 (form_plain e)) (parts_good (form e).1 (form_sane e) fit))
+event_good (Mark f) fit = good_append (codes "dirty") (flat_map part_shown (Tag f ∷ [])) (good_plain (codes "dirty") refl) (parts_good (Tag f ∷ []) refl (fit, tt))
 event_good e fit = good_plain (event_bytes e) refl
 
 event_said : (e : Event) → CanBeWritten e → SaysSo (said_event e) (event_bytes e)
 event_said (Add name text) can = grind (arith, (append_assoc (codes "add " ++ flat_map encode_utf8 name) (codes " ") (text_shown text)), (name_word name can.3))
+event_said (Mark f) fit = (flat_map part_shown (Tag f ∷ []), refl, parts_spelled (Tag f ∷ []) refl (fit, tt))
 event_said e u = grind (arith, flat_map, parts_spelled, form_sane)
 
 file_good : (file : List ℕ × List ℕ) → CanBeNamed file → Good (file_bytes file)

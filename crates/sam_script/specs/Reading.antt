@@ -4,11 +4,11 @@ use Rattle.std.specs.Prelude.{◌||◌, if◌then◌else◌, bytes_eq, chars}
 use Rattle.sam_runes.specs.Texts.{max_runes, most_files, most_in_name}
 use Rattle.sam_term.specs.declared.event.UserEvent.{UserEvent}
 use Rattle.sam_script.specs.declared.line.Line.{Line}
-use Rattle.sam_script.specs.declared.line.Line.TheVariants.{Key, Mouse, Add, Act, Flush, Host, Term, Drain, Show}
+use Rattle.sam_script.specs.declared.line.Line.TheVariants.{Key, Mouse, Add, Dirty, Act, Flush, Host, Term, Drain, Show}
 use Rattle.sam_script.specs.declared.line.Said.{Said}
 use Rattle.sam_script.specs.declared.line.Said.TheVariants as said
 use Rattle.sam_script.specs.Script.{PlainScript}
-use Rattle.sam_script.specs.Words.{◌>>=◌, word_of, behind_word, word_at, text_at, ended}
+use Rattle.sam_script.specs.Words.{◌>>=◌, word_of, behind_word, word_at, text_at, ended, tag_alone}
 use Rattle.sam_script.specs.Events.{Reader, readers}
 use Rattle.sam_script.specs.Spelling.{Says, file_said, lines_said}
 use Rattle.sam_script.specs.declared.fault.LineFault.{LineFault}
@@ -43,12 +43,15 @@ bare_readers =
     (codes "act", bare Act) ∷ (codes "flush", bare Flush) ∷ (codes "host", bare Host) ∷ (codes "term", bare Term)
     ∷ (codes "drain", bare Drain) ∷ (codes "show", bare Show) ∷ []
 
+abbrev pub step_readers : List (List ℕ × Reader Said)
+step_readers = (codes "dirty", λ bytes. tag_alone bytes >>= λ f. Some (said.Line (Dirty f))) ∷ bare_readers
+
 abbrev pub line_readers : List (List ℕ × Reader Said)
 line_readers =
     (codes "file", λ bytes. file_at bytes >>= λ x. Some (said.File x.0 x.1))
     ∷ (codes "add", λ bytes. file_at bytes >>= λ x. Some (said.Line (Add x.0 x.1)))
     ∷ (codes "k", λ bytes. event_at bytes >>= λ e. Some (said.Line (Key e)))
-    ∷ (codes "m", λ bytes. event_at bytes >>= λ e. Some (said.Line (Mouse e))) ∷ bare_readers
+    ∷ (codes "m", λ bytes. event_at bytes >>= λ e. Some (said.Line (Mouse e))) ∷ step_readers
 
 abbrev pub is_silent : List ℕ → Bool
 is_silent [] = true

@@ -1,7 +1,7 @@
 -- What replaying a script prints, and the script that bytes spell.
 use Rattle.std.specs.Prelude.{◌≡◌, ◌⊎◌, ℕ, ◌||◌, if◌then◌else◌, List, [], ◌∷◌, ◌++◌, Option, Some, None, Result, Ok, Err}
 use Rattle.sam_term.specs.declared.event.UserEvent.{UserEvent}
-use Rattle.sam_crossing.specs.World.{PlainWorld, new_world, step_of, run_of, user_events, joined_files}
+use Rattle.sam_crossing.specs.World.{PlainWorld, new_world, step_of, run_of, user_events, joined_files, marked_files}
 use Rattle.sam_local.specs.Worlds.{ComesInOrder, IsAsIfLocal}
 use Rattle.sam_world.specs.Faults.{is_barred, is_empty_take}
 use Rattle.sam_world.specs.Drain.{drained, drain_limit}
@@ -11,12 +11,13 @@ use Rattle.sam_script.specs.Script.{PlainScript}
 use Rattle.sam_script.specs.Show.{show_lines}
 use Rattle.sam_script.specs.Spelling.{Spells, IsWrongLine}
 use Rattle.sam_script.specs.declared.line.Line.{Line}
-use Rattle.sam_script.specs.declared.line.Line.TheVariants.{Key, Mouse, Add, Act, Flush, Host, Term, Drain, Show}
+use Rattle.sam_script.specs.declared.line.Line.TheVariants.{Key, Mouse, Add, Dirty, Act, Flush, Host, Term, Drain, Show}
 use Rattle.sam_script.specs.declared.line.Numbered.{Numbered}
 use Rattle.sam_script.specs.declared.fault.ScriptFault.{ScriptFault}
 use Rattle.sam_script.specs.declared.fault.ScriptFault.TheVariants as fault
 
--- a step that is none, though it takes nothing from an empty list and adds no file that may not join, would pass a count
+-- a step that is none, though it takes nothing from an empty list, adds no file that may not join and marks none that may not be marked,
+-- would pass a count
 abbrev pub or_full : Option PlainWorld → Result PlainWorld ScriptFault
 or_full None = Err fault.CountFull
 or_full (Some v) = Ok v
@@ -30,6 +31,7 @@ abbrev pub after_line : ℕ → PlainWorld → Line → Result PlainWorld Script
 after_line number w (Key e) = stepped number w (event.User e)
 after_line number w (Mouse e) = stepped number w (event.User e)
 after_line number w (Add name text) = stepped number w (event.Add name text)
+after_line number w (Dirty f) = stepped number w (event.Mark f)
 after_line number w Act = stepped number w event.Act
 after_line number w Flush = stepped number w event.Flush
 after_line number w Host = stepped number w event.HostTake
@@ -42,6 +44,7 @@ abbrev pub printed_by : PlainWorld → Line → List ℕ
 printed_by w (Key event) = []
 printed_by w (Mouse event) = []
 printed_by w (Add name text) = []
+printed_by w (Dirty f) = []
 printed_by w Act = []
 printed_by w Flush = []
 printed_by w Host = []
@@ -80,6 +83,7 @@ abbrev pub user_of : Line → List UserEvent
 user_of (Key e) = e ∷ []
 user_of (Mouse e) = e ∷ []
 user_of (Add name text) = []
+user_of (Dirty f) = []
 user_of Act = []
 user_of Flush = []
 user_of Host = []
@@ -96,6 +100,7 @@ abbrev pub added_by : Line → List (List ℕ × List ℕ)
 added_by (Key e) = []
 added_by (Mouse e) = []
 added_by (Add name text) = (name, text) ∷ []
+added_by (Dirty f) = []
 added_by Act = []
 added_by Flush = []
 added_by Host = []
@@ -107,15 +112,33 @@ abbrev pub all_added : List Numbered → List (List ℕ × List ℕ)
 all_added [] = []
 all_added (numbered ∷ more) = added_by numbered.line ++ all_added more
 
--- The lines are a run in which the user did this and these files joined, and w is where what was done in it, in its order, leads the
--- editor without a network. Where no file joined, that is the order of the user's events
+-- the files that are marked as dirty by a line, and by lines
+abbrev pub marked_in : Line → List ℕ
+marked_in (Key e) = []
+marked_in (Mouse e) = []
+marked_in (Add name text) = []
+marked_in (Dirty f) = f ∷ []
+marked_in Act = []
+marked_in Flush = []
+marked_in Host = []
+marked_in Term = []
+marked_in Drain = []
+marked_in Show = []
+
+abbrev pub all_marked : List Numbered → List ℕ
+all_marked [] = []
+all_marked (numbered ∷ more) = marked_in numbered.line ++ all_marked more
+
+-- The lines are a run in which the user did this, these files joined and these were marked. So w is where what was done in it, in its
+-- order, leads the editor without a network, but for the marks; where no file joined or was marked, that is the order of the user's events
 pub record WasReplayed (script : PlainScript) (done : List Numbered) (w : PlainWorld) : Type 0 where
   pub events : List Event
   pub leads : run_of (new_world script.files) events ≡ Some w
   pub users : user_events events ≡ users_of done
   pub added : joined_files events ≡ all_added done
+  pub marked : marked_files events ≡ all_marked done
   pub order : ComesInOrder script.files events w
-  pub alone : all_added done ≡ [] → IsAsIfLocal script.files (users_of done) w
+  pub alone : all_marked done ≡ [] → all_added done ≡ [] → IsAsIfLocal script.files (users_of done) w
 
 -- Wherever the replay stands, what was done by the lines above has done what it does without a network. So it is in each world that a
 -- `show` prints

@@ -4,11 +4,11 @@ use Rattle.std.specs.List.{AllByRecursion}
 use Rattle.sam_runes.specs.Reading.{AreRunes}
 use Rattle.sam_world.specs.Given.{IsFile}
 use Rattle.sam_crossing.specs.declared.event.Event.{Event}
-use Rattle.sam_crossing.specs.declared.event.Event.TheVariants.{User, Add, Act, Flush, HostTake, TermTake}
+use Rattle.sam_crossing.specs.declared.event.Event.TheVariants.{User, Add, Mark, Act, Flush, HostTake, TermTake}
 use Rattle.sam_script.specs.Show.{text_shown}
 use Rattle.sam_script.specs.Script.{PlainScript}
 use Rattle.sam_script.specs.Spelling.{spelling}
-use Rattle.sam_script.specs.Events.{Part, form}
+use Rattle.sam_script.specs.Events.{Part, Tag, form}
 use Rattle.sam_script.specs.Events.Part.{Number, Rest}
 use Rattle.sam_script.specs.declared.line.Line.{Line}
 use Rattle.sam_script.specs.declared.line.Line.TheVariants as line
@@ -22,6 +22,7 @@ named_line word file = word ++ flat_map encode_utf8 file.0 ++ codes " " ++ text_
 abbrev pub event_line : Event → List ℕ
 event_line (User e) = codes "k " ++ spelling (form e) ++ codes "\n"
 event_line (Add name text) = named_line (codes "add ") (name, text)
+event_line (Mark f) = spelling (codes "dirty", Tag f ∷ []) ++ codes "\n"
 event_line Act = codes "act\n"
 event_line Flush = codes "flush\n"
 event_line HostTake = codes "host\n"
@@ -41,6 +42,7 @@ run_lines_of files events = flat_map file_line files ++ flat_map event_line even
 abbrev pub line_of : Event → Line
 line_of (User e) = line.Key e
 line_of (Add name text) = line.Add name text
+line_of (Mark f) = line.Dirty f
 line_of Act = line.Act
 line_of Flush = line.Flush
 line_of HostTake = line.Host
@@ -68,6 +70,7 @@ IsFitting (Rest s) = AreRunes s
 abbrev pub CanBeWritten : Event → Type 0
 CanBeWritten (User e) = AllByRecursion IsFitting (form e).1
 CanBeWritten (Add name text) = CanBeNamed (name, text)
+CanBeWritten (Mark f) = f < 2 ^ 16
 CanBeWritten Act = Unit {0}
 CanBeWritten Flush = Unit {0}
 CanBeWritten HostTake = Unit {0}

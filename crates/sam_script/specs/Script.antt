@@ -2,7 +2,7 @@
 use Rattle.std.specs.Prelude.{ℕ, List, [], ◌∷◌, flat_map, Option, Some, None}
 use Rattle.sam_term.specs.declared.event.UserEvent.{UserEvent}
 use Rattle.sam_script.specs.declared.line.Line.{Line}
-use Rattle.sam_script.specs.declared.line.Line.TheVariants.{Key, Mouse, Add, Act, Flush, Host, Term, Drain, Show}
+use Rattle.sam_script.specs.declared.line.Line.TheVariants.{Key, Mouse, Add, Dirty, Act, Flush, Host, Term, Drain, Show}
 use Rattle.sam_script.specs.declared.line.Numbered.{Numbered}
 
 -- the names and texts of the host's files, and the other lines
@@ -15,6 +15,7 @@ abbrev pub key_in : Line → Option UserEvent
 key_in (Key event) = Some event
 key_in (Mouse event) = None
 key_in (Add name text) = None
+key_in (Dirty f) = None
 key_in Act = None
 key_in Flush = None
 key_in Host = None
@@ -26,6 +27,7 @@ abbrev pub click_in : Line → Option UserEvent
 click_in (Key event) = None
 click_in (Mouse event) = Some event
 click_in (Add name text) = None
+click_in (Dirty f) = None
 click_in Act = None
 click_in Flush = None
 click_in Host = None

@@ -10,10 +10,10 @@ use Rattle.sam_term.specs.declared.event.UserEvent.{UserEvent}
 use Rattle.sam_world.specs.Given.{IsFile}
 use Rattle.sam_script.specs.Script.{PlainScript}
 use Rattle.sam_script.specs.Show.{text_shown}
-use Rattle.sam_script.specs.Events.{Part, form}
+use Rattle.sam_script.specs.Events.{Part, Tag, form}
 use Rattle.sam_script.specs.Events.Part.{Number, Rest}
 use Rattle.sam_script.specs.declared.line.Line.{Line}
-use Rattle.sam_script.specs.declared.line.Line.TheVariants.{Key, Mouse, Add, Act, Flush, Host, Term, Drain, Show}
+use Rattle.sam_script.specs.declared.line.Line.TheVariants.{Key, Mouse, Add, Dirty, Act, Flush, Host, Term, Drain, Show}
 use Rattle.sam_script.specs.declared.line.Said.{Said}
 use Rattle.sam_script.specs.declared.line.Said.TheVariants as said
 use Rattle.sam_script.specs.declared.line.Numbered.{Numbered}
@@ -62,6 +62,7 @@ abbrev pub SpellsLine : Line → List ℕ → Type 0
 SpellsLine (Key e) bytes = (event : List ℕ) × (bytes ≡ codes "k " ++ event) × SpellsEvent e event
 SpellsLine (Mouse e) bytes = (event : List ℕ) × (bytes ≡ codes "m " ++ event) × SpellsEvent e event
 SpellsLine (Add name text) bytes = SpellsFile (codes "add ") name text bytes
+SpellsLine (Dirty f) bytes = (rest : List ℕ) × (bytes ≡ codes "dirty" ++ rest) × SpellsParts (Tag f ∷ []) rest
 SpellsLine Act bytes = bytes ≡ codes "act"
 SpellsLine Flush bytes = bytes ≡ codes "flush"
 SpellsLine Host bytes = bytes ≡ codes "host"

@@ -165,7 +165,7 @@ fn push_with_text(out: &mut String, word: &str, text: &[char]) -> Result<(), All
 }
 
 /// Appends a word and a tag or a version.
-fn push_number(out: &mut String, word: &str, number: u16) -> Result<(), AllocError>
+pub(crate) fn push_number(out: &mut String, word: &str, number: u16) -> Result<(), AllocError>
     ensures { OnOk result (string_bytes out.new ≡ string_bytes out.old ++ spelling (word.now, Tag number ∷ [])) }
 {
     push(out, word)?;

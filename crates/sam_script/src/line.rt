@@ -1,20 +1,20 @@
 //! Reads one line of a script.
 
 ghost use Rattle.std.specs.Prelude.{◌≡◌, IfOk, IfErr, chars, option_copied};
-ghost use Rattle.sam_script.specs.Reading.{IsUnsaid, line_at, file_at, file_text_at, fitting_name, read_by, bare_readers};
+ghost use Rattle.sam_script.specs.Reading.{IsUnsaid, line_at, file_at, file_text_at, fitting_name, read_by, bare_readers, step_readers};
 ghost use Rattle.sam_script.specs.Script.{key_in, click_in};
 ghost use Rattle.sam_script.specs.Words.{Gives};
 ghost use Rattle.sam_script.specs.Spelling.{Says};
 
 use crate::event::event_at;
 use crate::fault::LineFault;
-use crate::words::{ended, split_word, text_at, word_at};
+use crate::words::{ended, split_word, tag_alone, text_at, word_at};
 use sam_runes::{MAX_RUNES, MOST_IN_NAME, Runes};
 use sam_term::event::UserEvent;
 use std::alloc::{AllocError, Global};
 use std::str;
 
-/// What a line of a script asks for: an event of the user, a file that joins, or another step. `file` lines and lines that say nothing are
+/// What a line of a script asks for: an event of the user, a file that joins or is marked, or another step. `file` lines and lines that say nothing are
 /// not among them. [`replay`](crate::replay) does one after another. A session of threads takes the events of the user alone.
 #[derive(Drop)]
 pub enum Line {
@@ -24,6 +24,8 @@ pub enum Line {
     Mouse(UserEvent),
     /// `add`: a file of this name and text joins the session, both within the limits of a `file` line.
     Add(Runes, Runes),
+    /// `dirty`: the host marks the file of this tag as dirty.
+    Dirty(u16),
     /// `act`: the terminal tries its oldest held event, if it holds one.
     Act,
     /// `flush`: the terminal composes its unsent runes, if there are any.
@@ -76,6 +78,7 @@ impl Line {
             Line::Key(event) => Line::Key(event.copy(alloc)?),
             Line::Mouse(event) => Line::Mouse(event.copy(alloc)?),
             Line::Add(name, text) => Line::Add(name.copy(alloc)?, text.copy(alloc)?),
+            Line::Dirty(tag) => Line::Dirty(*tag),
             Line::Act => Line::Act,
             Line::Flush => Line::Flush,
             Line::Host => Line::Host,
@@ -128,6 +131,16 @@ fn read_line(alloc: Global, text: &str) -> Result<Said, LineFault>
         }
         "k" => Ok(Said::Line(Line::Key(event_at(alloc, rest)?))),
         "m" => Ok(Said::Line(Line::Mouse(event_at(alloc, rest)?))),
+        _ => step_line(word, rest),
+    }
+}
+
+/// Reads a line that marks a file, or is one word.
+fn step_line(word: &str, rest: &str) -> Result<Said, LineFault>
+    ensures { Gives (λ it. it) result (read_by step_readers word.now rest.now) }
+{
+    match word {
+        "dirty" => Ok(Said::Line(Line::Dirty(tag_alone(rest)?))),
         _ => bare_line(word, rest),
     }
 }

@@ -3,7 +3,7 @@
 ghost use Rattle.std.specs.Prelude.{◌≡◌, ◌++◌, IfOk, OnOk, IfErr, string_bytes, flat_map, encode_utf8};
 ghost use Rattle.sam_script.specs.RunLines.{event_line, file_line, named_line, run_lines_of};
 
-use crate::event::push_user;
+use crate::event::{push_number, push_user};
 use crate::fault::ScriptFault;
 use crate::script::Script;
 use crate::showing::{push, push_text};
@@ -16,7 +16,7 @@ use std::alloc::{AllocError, Global};
 const EVENT_LINE: usize = 8;
 
 /// Returns the script that makes just these events happen, as bytes: a `file` line for each file of `script`, a line for each event, and a
-/// line `show`. Each event of the user is a `k` line, also where it was the mouse's, and a file that joins is an `add` line. If the events
+/// line `show`. Each event of the user is a `k` line, also where it was the mouse's, a file that joins is an `add` line, and one that is marked a `dirty` line. If the events
 /// are a run from these files, a replay of the bytes shows the world to which they lead. The only error is `OutOfMemory`.
 pub fn run_lines(alloc: Global, script: &Script, events: &[Event]) -> Result<Vec<u8>, ScriptFault>
     ensures lines { IfOk result (λ out. out.items ≡ run_lines_of script.now.files events.now) }
@@ -89,11 +89,20 @@ fn push_event(out: &mut String, event: &Event) -> Result<(), AllocError>
     match event {
         Event::User(event) => push_user_line(out, event),
         Event::Add(name, text) => push_file(out, "add ", name.as_slice(), text.as_slice()),
+        Event::Mark(tag) => push_mark(out, *tag),
         Event::Act => push(out, "act\n"),
         Event::Flush => push(out, "flush\n"),
         Event::HostTake => push(out, "host\n"),
         Event::TermTake => push(out, "term\n"),
     }
+}
+
+/// Appends the line that marks a file as dirty.
+fn push_mark(out: &mut String, tag: u16) -> Result<(), AllocError>
+    ensures { OnOk result (string_bytes out.new ≡ string_bytes out.old ++ event_line (Event.Mark tag)) }
+{
+    push_number(out, "dirty", tag)?;
+    push(out, "\n")
 }
 
 /// Appends the line of an event of the user.

@@ -30,12 +30,13 @@ pub fn replay_bytes(alloc: Global, bytes: &[u8]) -> Result<Vec<u8>, ScriptFault>
 /// script stays as it is, so it can be replayed again. Each event is copied before it happens; [`replay_owned`] copies none.
 ///
 /// The first line that can't be done stops it, and then nothing of what was printed is returned. The error is `Line(n)` if line n is `host`
-/// or `term` and nothing is under way to that side, or `add` and all tags were given, and `CountFull` if the line's step, or an event of
+/// or `term` and nothing is under way to that side, `add` and all tags were given, or `dirty` and the file may not be marked; and `CountFull` if the line's step, or an event of
 /// its drain, would take a count of messages past 2^64-1. `OutOfMemory` may come at any line, and before the first.
 ///
 /// Wherever the replay stands, what was done by the lines above, but for events that are still held, has done in its order what it does in
 /// an editor without a network, with the files that joined. So where a `show` stands with nothing unsent or under way, the host and the
-/// terminal that it prints are those of that editor, but for runes that are not loaded and for counts of messages.
+/// terminal that it prints are those of that editor, but for runes that are not loaded and for counts of messages; and files that `dirty`
+/// lines marked may be dirty that are clean there.
 #[tactic(auto, using(crate::proofs::Replays::replays_as_if_local), unfolding(crate::specs::Replay::replayed))]
 pub fn replay(alloc: Global, script: &Script) -> Result<Vec<u8>, ScriptFault>
     ensures ok { IfOk result (λ out. replayed script.now ≡ Ok out.items) }
@@ -122,6 +123,7 @@ fn do_line(
     match line {
         Line::Key(event) | Line::Mouse(event) => do_step(world, number, Event::User(event)),
         Line::Add(name, text) => do_step(world, number, Event::Add(name, text)),
+        Line::Dirty(tag) => do_step(world, number, Event::Mark(tag)),
         Line::Act => do_step(world, number, Event::Act),
         Line::Flush => do_step(world, number, Event::Flush),
         Line::Host => do_step(world, number, Event::HostTake),
@@ -142,7 +144,7 @@ fn do_step(world: &mut World, number: usize, event: Event) -> Result<(), ScriptF
 {
     match world.step(event) {
         Ok(()) => Ok(()),
-        Err(StepFault::NothingThere | StepFault::NotAdded) => Err(ScriptFault::Line(number)),
+        Err(StepFault::NothingThere | StepFault::Barred) => Err(ScriptFault::Line(number)),
         Err(StepFault::CountFull) => Err(ScriptFault::CountFull),
         Err(StepFault::OutOfMemory) => Err(ScriptFault::OutOfMemory),
     }
@@ -156,7 +158,7 @@ fn do_drain(world: &mut World) -> Result<(), ScriptFault>
     match world.drain() {
         Ok(()) => Ok(()),
         Err(StepFault::NothingThere) => unreachable!(),
-        Err(StepFault::NotAdded) => unreachable!(),
+        Err(StepFault::Barred) => unreachable!(),
         Err(StepFault::CountFull) => Err(ScriptFault::CountFull),
         Err(StepFault::OutOfMemory) => Err(ScriptFault::OutOfMemory),
     }

@@ -82,6 +82,7 @@ pub fn users_of(lines: Vec<Numbered>, room: Users) -> Users
             Line::Key(event) => keys.push_reserved(event),
             Line::Mouse(event) => clicks.push_reserved(event),
             Line::Add(_name, _text) => {}
+            Line::Dirty(_tag) => {}
             Line::Act | Line::Flush | Line::Host | Line::Term | Line::Drain | Line::Show => {}
         }
     }

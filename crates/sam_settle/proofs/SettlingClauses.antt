@@ -4,9 +4,9 @@ use Rattle.std.proofs.lemmas.Grind.{flat_map-append}
 use Rattle.std.proofs.lemmas.List.Elements.{All-nil}
 use Rattle.sam_host.specs.declared.fault.HostFault.TheVariants as refusal
 use Rattle.sam_world.specs.Given.{IsFile}
-use Rattle.sam_crossing.specs.World.{is_quiet, user_events, joined_files}
+use Rattle.sam_crossing.specs.World.{is_quiet, user_events, joined_files, marked_files}
 use Rattle.sam_crossing.specs.declared.event.Event.{Event}
-use Rattle.sam_world.proofs.Runs.{files_then}
+use Rattle.sam_world.proofs.Runs.{files_then, marks_then}
 use Rattle.sam_local.specs.Worlds.{IsAsIfLocal}
 use Rattle.sam_local.proofs.Runs.{runs_are_as_if_local, rests}
 use Rattle.sam_queue.proofs.Sorts.{items_of-append}
@@ -15,7 +15,8 @@ use Rattle.sam_ends.specs.declared.stop.Stop.{Stop}
 use Rattle.sam_ends.specs.declared.stop.Stop.TheVariants as stop
 use Rattle.sam_apart.proofs.RealLaws.{each_of_all, works}
 use Rattle.sam_settle.proofs.SettlingLists.{Parts, parts_of, senders_within, nothing_joined, split_map, frames_taken, all_before_mark, none_left, items_mine}
-use Rattle.sam_apart.proofs.ApartJoins.{files-joined}
+use Rattle.sam_apart.proofs.ApartJoins.{files-joined, files-marked}
+use Rattle.sam_apart.specs.Apart.{joined_in, marked_in}
 use Rattle.sam_apart.proofs.ApartLaws.{joins, merges_alone, understood}
 use Rattle.std.proofs.lemmas.List.Sums.{sum_by-cons}
 
@@ -284,7 +285,14 @@ module _ (e : Ends) (ends : AreEnds e) (given : LinesGive e) where
 
     -- no file joins in the schedule
     none_joins : joined_files s.schedule.items ≡ []
-    none_joins = ap joined_files (c.schedule ∙ sym schedule) ∙ files-joined 0 joined.events ∙ ap (map (λ (j : ℕ × (List ℕ × List ℕ)). j.1)) joined.joins_are
+    none_joins = ap joined_files (c.schedule ∙ sym schedule) ∙ files-joined 0 joined.events ∙ ap joined_in joined.asides_are
+
+    -- and none is marked
+    none_marked : marked_files s.schedule.items ≡ []
+    none_marked = ap marked_files (c.schedule ∙ sym schedule) ∙ files-marked 0 joined.events ∙ ap marked_in joined.asides_are
+
+    unmarked_in : (done more : List Event) → s.schedule.items ≡ done ++ more → marked_files done ≡ []
+    unmarked_in done more parts = first_none (marked_files done) (marked_files more) (sym (marks_then done more) ∙ ap marked_files (sym parts) ∙ none_marked)
 
     none_in : (done more : List Event) → s.schedule.items ≡ done ++ more → joined_files done ≡ []
     none_in done more parts = first_none (joined_files done) (joined_files more) (sym (files_then done more) ∙ ap joined_files (sym parts) ∙ none_joins)
@@ -298,7 +306,8 @@ module _ (e : Ends) (ends : AreEnds e) (given : LinesGive e) where
       host = states.0;
       term = states.1;
       quiet = λ done more w parts reached. quiet_means_agreement w (reached_in_order e.host.files.items w apart.given_fit (done, reached));
-      local = λ done more w parts reached. runs_are_as_if_local e.host.files.items done w apart.given_fit reached (none_in done more parts);
+      local = λ done more w parts reached. runs_are_as_if_local e.host.files.items done w
+          (record { limits = apart.given_fit; run = reached }) (none_in done more parts) (unmarked_in done more parts);
     }
 
     pub has_streams : HasStreams e s
@@ -329,7 +338,7 @@ module _ (e : Ends) (ends : AreEnds e) (given : LinesGive e) where
     is_whole none =
         let end = at_its_end none in
         let files = e.host.files.items in
-        let local : IsAsIfLocal files (user_events s.schedule.items) s.world = runs_are_as_if_local files s.schedule.items s.world apart.given_fit headline.run none_joins in
+        let local : IsAsIfLocal files (user_events s.schedule.items) s.world = runs_are_as_if_local files s.schedule.items s.world (record { limits = apart.given_fit; run = headline.run }) none_joins none_marked in
         record {
           events = grind (arith, joined, schedule, handled_all);
           exited = end.exited;

@@ -21,6 +21,7 @@ fn letter(event: &Event) -> char {
     match event {
         Event::User(_) => 'u',
         Event::Add(_, _) => 'j',
+        Event::Mark(_) => 'd',
         Event::Act => 'a',
         Event::Flush => 'f',
         Event::HostTake => 'h',

@@ -13,7 +13,7 @@ use Rattle.sam_endpoint.specs.declared.step.HostStep.{HostStep}
 use Rattle.sam_endpoint.specs.declared.step.HostStep.TheVariants as step
 use Rattle.sam_endpoint.specs.HostEndpoints.{PlainHostEndpoint, TakesIn}
 use Rattle.sam_endpoint.specs.HostStepping.{Steps}
-use Rattle.sam_endpoint.specs.HostRuns.{AddFile, Bring, Call, Feed, MakeStep, NextWritten, Runs, TakeOut, came_in, joined_by, went_out}
+use Rattle.sam_endpoint.specs.HostRuns.{AddFile, Bring, Call, Feed, MakeStep, MarkDirty, NextWritten, Runs, TakeOut, asides_by, came_in, went_out}
 use Rattle.sam_ends.specs.Gates.{LetOn}
 use Rattle.sam_ends.proofs.GateLaws.{let_on_at, let_on_none, let_on_to}
 use Rattle.sam_ends.specs.declared.stop.Stop.TheVariants as stop
@@ -26,6 +26,7 @@ runs_then (Feed piece answer ∷ xs) ys e k g (m, feeds, goes, more) runs = (m, 
 runs_then (Bring piece result ∷ xs) ys e k g (m, brings, more) runs = (m, brings, runs_then xs ys m k g more runs)
 runs_then (MakeStep result ∷ xs) ys e k g (m, steps, goes, more) runs = (m, steps, goes, runs_then xs ys m k g more runs)
 runs_then (AddFile count name text result ∷ xs) ys e k g (m, then, adds, more) runs = (m, then, adds, runs_then xs ys m k g more runs)
+runs_then (MarkDirty count f result ∷ xs) ys e k g (m, then, marks, more) runs = (m, then, marks, runs_then xs ys m k g more runs)
 runs_then (TakeOut bytes ∷ xs) ys e k g (rest, is, more) runs = (rest, is, runs_then xs ys _ k g more runs)
 runs_then (NextWritten tag ∷ xs) ys e k g (is, more) runs = (is, runs_then xs ys _ k g more runs)
 
@@ -37,7 +38,7 @@ no_calls e p none = record {
   calls = [];
   runs = refl;
   came_is = refl;
-  no_file = refl;
+  no_aside = refl;
   put = put_none (bytes_of p.put) e.pending_bytes none;
   line = refl;
   number = refl;
@@ -53,7 +54,7 @@ calls_then e k g p q r came more unput none a b = record {
   calls = a.calls ++ b.calls;
   runs = runs_then a.calls b.calls e k g a.runs b.runs;
   came_is = grind (arith, (flat_map-append came_in a.calls b.calls));
-  no_file = grind (arith, (flat_map-append joined_by a.calls b.calls));
+  no_aside = grind (arith, (flat_map-append asides_by a.calls b.calls));
   put = put_then (bytes_of p.put) (bytes_of q.put) (bytes_of r.put) (flat_map went_out a.calls) (flat_map went_out b.calls) k.pending_bytes g.pending_bytes unput none a.put b.put
       ∙ ap (λ (x : List ℕ). (bytes_of p.put ++ x) ++ g.pending_bytes) (sym (flat_map-append went_out a.calls b.calls));
   line = b.line ∙ a.line;
@@ -121,7 +122,7 @@ step_put most e k g done p q steps is put = record {
   calls = MakeStep (Ok done) ∷ TakeOut k.pending_bytes ∷ [];
   runs = (k, steps, tt, ([], sym (append-nil k.pending_bytes), is));
   came_is = refl;
-  no_file = refl;
+  no_aside = refl;
   put = grind (arith, append-nil, append_assoc, (flat_map-append (λ (v : Vec ℕ). v.items) p.put put.pieces));
   line = grind arith;
   number = grind arith;
@@ -156,7 +157,7 @@ step_cut refuses must most e k g done p q steps single asked is (unput, put) = (
       calls = MakeStep (Ok done) ∷ [];
       runs = (k, steps, tt, refl);
       came_is = refl;
-      no_file = refl;
+      no_aside = refl;
       put = grind (arith, append-nil, append_assoc, (flat_map-append (λ (v : Vec ℕ). v.items) p.put put.pieces));
       line = grind arith;
       number = grind arith;
@@ -207,7 +208,7 @@ piece_begins must e g p q piece (ready, none) same takes =
       calls = Bring piece (Ok tt) ∷ [];
       runs = (g, (ready, takes), refl);
       came_is = append-nil piece;
-      no_file = refl;
+      no_aside = refl;
       put = put_none (bytes_of p.put) g.pending_bytes pending;
       line = refl;
       number = refl;

@@ -5,8 +5,8 @@ use Rattle.std.proofs.lemmas.List.Elements.{All-head, All-tail}
 use Rattle.sam_runes.specs.Texts.{most_files}
 use Rattle.sam_frame.specs.Reading.{IsStream}
 use Rattle.sam_endpoint.specs.Streams.{mesg_fault}
-use Rattle.sam_endpoint.specs.HostEndpoints.{PlainHostEndpoint, Step, Answered, Joined, Serves as HostServes}
-use Rattle.sam_endpoint.specs.HostRuns.{begun_with, joined_after, messages_in, went_out}
+use Rattle.sam_endpoint.specs.HostEndpoints.{PlainHostEndpoint, Step, Answered, Joined, Marked, Serves as HostServes}
+use Rattle.sam_endpoint.specs.HostRuns.{asides_after, begun_with, messages_in, went_out}
 use Rattle.sam_endpoint.proofs.HostEndpointRuns.{kept_begun, kept_run}
 use Rattle.sam_sides.specs.Given.{IsFile}
 use Rattle.sam_sides.specs.RealSides.{unless_refused}
@@ -51,13 +51,14 @@ gate_refuses refuses e g p q taken s serves is = grind arith
 
 -- ## What a host did
 
--- where no file joined, it handled messages alone
-serves_runs : (count : ℕ) (steps : List Step) (h k : PlainHost) (frames : List HFrame) (writes : List ℕ) → HostServes h steps frames writes k → joined_after count steps ≡ []
+-- where no file joined or was marked, it handled messages alone
+serves_runs : (count : ℕ) (steps : List Step) (h k : PlainHost) (frames : List HFrame) (writes : List ℕ) → HostServes h steps frames writes k → asides_after count steps ≡ []
     → HostRuns sides h (messages_in steps) frames k
 serves_runs count [] h k frames writes s none = (s.0, s.2)
 serves_runs count (Answered m ∷ steps) h k frames writes (j, first, rest, more, answered, parts, noted, s) none =
     (j, first, rest, ap unless_refused answered, parts, serves_runs (count + 1) steps j k rest more s none)
 serves_runs count (Joined file ∷ steps) h k frames writes (may, s) none = absurd (cc)
+serves_runs count (Marked f ∷ steps) h k frames writes (rest, may, parts, s) none = absurd (cc)
 
 each_fits : (frames : List HFrame) → All (FitsH 2) frames → Each (FitsH 2) frames
 each_fits [] fit = tt
@@ -89,7 +90,7 @@ came_of h e p q came unput none c =
     record {
       handled = messages_in s.steps;
       answered = s.frames;
-      runs = serves_runs h.taken s.steps h e.host s.frames s.writes s.serves (s.files ∙ c.no_file);
+      runs = serves_runs h.taken s.steps h e.host s.frames s.writes s.serves (s.asides_are ∙ c.no_aside);
       answers_fit = each_fits s.frames s.frames_fit;
       reads = subst (λ (x : List ℕ). IsStream terminal 1 x (messages_in s.steps ++ e.waiting) e.framer.bytes (option_map mesg_fault e.broken_by)) c.came_is s.reads;
       sent = sent_of (bytes_of q.put) unput (flat_map went_out c.calls) e.pending_bytes (stream_of host e.unwritten) (stream_of host s.frames) put s.bytes;

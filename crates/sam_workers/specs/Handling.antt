@@ -11,7 +11,7 @@ use Rattle.sam_endpoint.specs.declared.fault.EndpointFault.{EndpointFault}
 use Rattle.sam_endpoint.specs.declared.fault.EndpointFault.TheVariants as fault
 use Rattle.sam_endpoint.specs.Streams.{mesg_fault}
 use Rattle.sam_endpoint.specs.HostEndpoints.{PlainHostEndpoint, TakesIn}
-use Rattle.sam_endpoint.specs.HostRuns.{Call, HasStopped, Runs, came_in, joined_by, went_out}
+use Rattle.sam_endpoint.specs.HostRuns.{Call, HasStopped, Runs, asides_by, came_in, went_out}
 use Rattle.sam_endpoint.specs.HostStepping.{IsReady}
 use Rattle.sam_queue.specs.declared.rule.Entry.{Entry}
 use Rattle.sam_queue.specs.History.{items_of, IsEnded}
@@ -29,13 +29,13 @@ stop_of fault.CountFull = stop.Frame 7
 stop_of (fault.Stopped (halt.Stream why)) = stop.Frame (mesg_fault_number (mesg_fault why))
 stop_of (fault.Stopped (halt.Refused why)) = of_refusal why
 
--- Calls of the endpoint led from e to g. So much of the stream came in with them, and no file joined. The post has put what they took out
--- and what is pending, all but the last of it
+-- Calls of the endpoint led from e to g. So much of the stream came in with them, and no file joined or was marked. The post has put what
+-- they took out and what is pending, all but the last of it
 pub record Calls (e g : PlainHostEndpoint) (before after : PostView (Vec ℕ)) (came unput : List ℕ) : Type 0 where
   pub calls : List Call
   pub runs : Runs e calls g
   pub came_is : flat_map came_in calls ≡ came
-  pub no_file : flat_map joined_by calls ≡ []
+  pub no_aside : flat_map asides_by calls ≡ []
   pub put : bytes_of after.put ++ unput ≡ (bytes_of before.put ++ flat_map went_out calls) ++ g.pending_bytes
   pub line : after.line ≡ before.line
   pub number : after.number ≡ before.number

@@ -46,5 +46,5 @@ pub use Rattle.sam_world.specs.UnderWay.{AreFilled, head, joined}
 pub use Rattle.sam_world.specs.Drain.{acts, drain_limit, drained, next_event}
 pub use Rattle.sam_world.specs.Merging.{is_bad_log, merged, merged_from}
 pub use Rattle.sam_crossing.specs.declared.event.Event.{Event}
-pub use Rattle.sam_crossing.specs.declared.event.Event.TheVariants.{Act, Add, Flush, HostTake, TermTake, User}
-pub use Rattle.sam_world.specs.declared.event.StepFault.TheVariants.{CountFull, NotAdded, NothingThere, OutOfMemory}
+pub use Rattle.sam_crossing.specs.declared.event.Event.TheVariants.{Act, Add, Flush, HostTake, Mark, TermTake, User}
+pub use Rattle.sam_world.specs.declared.event.StepFault.TheVariants.{CountFull, Barred, NothingThere, OutOfMemory}

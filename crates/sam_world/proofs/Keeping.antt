@@ -1,5 +1,5 @@
 -- What is kept of every world, step by step.
-use Rattle.sam_world.proofs.Common.{◌≡◌, refl, ap, ◌∙◌, ℕ, suc, Bool, true, if◌then◌else◌, None, List, [], ◌∷◌, ◌++◌, drop, Some, Ok, arith, append-nil, All, IsTrue, All-append, same_Some, PlainHost, answer, AreGiven, PlainTerminal, act_of, flush_of, take_of, UserEvent, Acted, Done, Tmesg, fits_h, HFrame, PlainWorld, new_world, composed_by, after_act, after_compose, after_answer, host_takes, term_takes, is_quiet, head, IsSoundWorld, User, Add, Act, Flush, HostTake, TermTake}
+use Rattle.sam_world.proofs.Common.{◌≡◌, refl, ap, ◌∙◌, ℕ, suc, Bool, true, if◌then◌else◌, None, List, [], ◌∷◌, ◌++◌, drop, Some, Ok, arith, append-nil, All, IsTrue, All-append, same_Some, PlainHost, answer, AreGiven, PlainTerminal, act_of, flush_of, take_of, UserEvent, Acted, Done, Tmesg, fits_h, HFrame, PlainWorld, new_world, composed_by, after_act, after_compose, after_answer, host_takes, term_takes, is_quiet, head, IsSoundWorld, User, Add, Mark, Act, Flush, HostTake, TermTake}
 use Rattle.sam_term.specs.Sound.{IsSound}
 use Rattle.sam_mesg.specs.TerminalKinds.{fits_t}
 use Rattle.sam_term.proofs.Fits.{act_fits, flushed_fits, taken_fits}
@@ -8,7 +8,14 @@ use Rattle.std.specs.Prelude.{Result, Err, OnOk, OnErr}
 use Rattle.sam_text.specs.declared.fault.FilesFault.{FilesFault}
 use Rattle.sam_host.specs.Host.{with_given}
 use Rattle.sam_crossing.specs.Joining.{may_join}
-use Rattle.sam_crossing.specs.World.{joined_by}
+use Rattle.sam_crossing.specs.World.{joined_by, marked_by, may_mark}
+use Rattle.std.proofs.Common.{not, ◌&&◌, ◌==◌}
+use Rattle.std.proofs.lemmas.List.Elements.{All-cons, All-nil}
+use Rattle.sam_text.specs.Files.{file_at}
+use Rattle.sam_mesg.specs.declared.hmesg.Hmesg.TheVariants.{Hdirty}
+use Rattle.sam_host.specs.Host.{stamped}
+unfoldable use Rattle.sam_host.specs.Host.{when}
+use Rattle.sam_host.specs.Marking.{mark_frames, marked}
 use Rattle.sam_world.proofs.Within.{reached_step, answered_fits}
 
 fit_rest : {X : Type 0} (P : X → Type 0) (xs : List X) → All P xs → All P (drop 1 xs)
@@ -27,6 +34,22 @@ pub kept_added : (w : PlainWorld) (name text name2 text2 : List ℕ) (h : PlainH
     → h ≡ with_given w.host (name2, text2) → IsSoundWorld (record { host = h; term = w.term; up = w.up; down = w.down })
 kept_added w name text name2 text2 h k may first second same =
     rw (same, first, second) (record { reached = reached_step w _ (Add name text) k.reached (ap (λ (b : Bool). if b then Some (joined_by w name text) else None) may); up = k.up; down = k.down })
+
+-- a file that is marked, where it may be
+mark_fits : (b : Bool) (n f : ℕ) → All (λ frame. IsTrue (fits_h 2 frame.msg)) (stamped n (when b (Hdirty f ∷ [])))
+unfolding when
+mark_fits b n f = grind (arith, All-nil, All-cons)
+
+pub kept_marked : (w : PlainWorld) (f : ℕ) (h : PlainHost) (frames down : List HFrame) → IsSoundWorld w → may_mark w.host f ≡ true → h ≡ marked w.host f → frames ≡ mark_frames w.host f
+    → down ≡ w.down ++ frames → IsSoundWorld (record { host = h; term = w.term; up = w.up; down = down })
+kept_marked w f h frames down k may same are joined = rw (same, joined, are) (record {
+  reached = reached_step w _ (Mark f) k.reached (ap (λ (b : Bool). if b then Some (marked_by w f) else None) may);
+  up = k.up;
+  down = All-append (λ frame. IsTrue (fits_h 2 frame.msg)) w.down (mark_frames w.host f) k.down (mark_fits (not (file_at w.host.files f).dirty && not (f == 0)) w.host.taken f);
+})
+
+-- what a mark of a file keeps
+pub ruleset mark_facts = (kept_marked)
 
 -- so it is where the host may have refused it, and stayed as it was
 pub kept_tried : (w : PlainWorld) (name text name2 text2 : List ℕ) (h : PlainHost) (result : Result ℕ FilesFault) → IsSoundWorld w → may_join w.host name text ≡ true → name2 ≡ name → text2 ≡ text

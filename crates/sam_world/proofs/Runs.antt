@@ -1,6 +1,6 @@
 -- Runs, step by step, and what a drain has done.
-use Rattle.sam_world.proofs.Common.{◌≡◌, ◌⊎◌, inl, inr, refl, sym, same_Some, ap, ◌∙◌, ◌<◌, ◌+◌, ◌-◌, ℕ, zero, suc, true, List, [], ◌∷◌, ◌++◌, take, length, Option, Some, None, arith, option_and_then, slice_index_or, is_empty, PlainWorld, step_of, run_of, next_event, drained, acts, act_of, Advances, HasMade, IsDrainedUpTo, IsFaultOf, IsNextFault, Event, Act, NothingThere, NotAdded, OutOfMemory, CountFull}
-use Rattle.sam_crossing.specs.World.{user_events, joined_files}
+use Rattle.sam_world.proofs.Common.{◌≡◌, ◌⊎◌, inl, inr, refl, sym, same_Some, ap, ◌∙◌, ◌<◌, ◌+◌, ◌-◌, ℕ, zero, suc, true, List, [], ◌∷◌, ◌++◌, take, length, Option, Some, None, arith, option_and_then, slice_index_or, is_empty, is_some, false, Flush, HostTake, TermTake, PlainWorld, step_of, run_of, next_event, drained, acts, act_of, Advances, HasMade, IsDrainedUpTo, IsFaultOf, IsNextFault, Event, Act, NothingThere, Barred, OutOfMemory, CountFull}
+use Rattle.sam_crossing.specs.World.{user_events, joined_files, marked_files}
 use Rattle.sam_world.specs.declared.event.StepFault.{StepFault}
 use Rattle.sam_world.proofs.Stopping.{passing_stops}
 
@@ -54,6 +54,23 @@ drained_stops (suc n) w v d = go (next_event w) (λ u r. drained_stops n u v r) 
     go None more next q = inl (ap next_event (sym (same_Some w v q)) ∙ next)
     go (Some x) more next q = past x (step_of w x) next refl more q
 
+-- ## What applies next
+
+pub next_host : (w v : PlainWorld) → is_empty w.up ≡ false → step_of w HostTake ≡ Some v → Advances w v
+next_host w v up s = record { event = HostTake; next = grind (arith, up); stepped = s }
+
+pub next_term : (w v : PlainWorld) → is_empty w.up ≡ true → is_empty w.down ≡ false → step_of w TermTake ≡ Some v → Advances w v
+next_term w v up down s = record { event = TermTake; next = grind (arith, up, down); stepped = s }
+
+pub next_act : (w v : PlainWorld) → is_empty w.up ≡ true → is_empty w.down ≡ true → acts (act_of w.term) ≡ true → step_of w Act ≡ Some v → Advances w v
+next_act w v up down a s = record { event = Act; next = grind (arith, up, down, a); stepped = s }
+
+pub next_flush : (w v : PlainWorld) → is_empty w.up ≡ true → is_empty w.down ≡ true → acts (act_of w.term) ≡ false → is_some w.term.unsent ≡ true → step_of w Flush ≡ Some v
+    → Advances w v
+next_flush w v up down a u s = record { event = Flush; next = grind (arith, up, down, a, u); stepped = s }
+
+pub ruleset next_facts = (next_host, next_term, next_act, next_flush)
+
 -- ## A drain is a run
 
 -- events lead from w to v, the user does nothing in them, and no file joins
@@ -62,6 +79,7 @@ pub record DoesSilently (w v : PlainWorld) : Type 0 where
   pub leads : run_of w events ≡ Some v
   pub none : user_events events ≡ []
   pub no_file : joined_files events ≡ []
+  pub no_mark : marked_files events ≡ []
 
 no_user : (w : PlainWorld) (e : Event) → next_event w ≡ Some e → user_events (e ∷ []) ≡ []
 no_user w e next = grind arith
@@ -75,8 +93,14 @@ no_join w e next = grind arith
 still_no_file : (e : Event) (es : List Event) → joined_files (e ∷ []) ≡ [] → joined_files es ≡ [] → joined_files (e ∷ es) ≡ []
 still_no_file e es one rest = grind arith
 
+not_marked : (w : PlainWorld) (e : Event) → next_event w ≡ Some e → marked_files (e ∷ []) ≡ []
+not_marked w e next = grind arith
+
+still_no_mark : (e : Event) (es : List Event) → marked_files (e ∷ []) ≡ [] → marked_files es ≡ [] → marked_files (e ∷ es) ≡ []
+still_no_mark e es one rest = grind arith
+
 pub drained_runs : (n : ℕ) (w v : PlainWorld) → drained n w ≡ Some v → DoesSilently w v
-drained_runs zero w v d = record { events = []; leads = d; none = refl; no_file = refl }
+drained_runs zero w v d = record { events = []; leads = d; none = refl; no_file = refl; no_mark = refl }
 drained_runs (suc n) w v d = go (next_event w) (λ u r. drained_runs n u v r) refl d
   where
     past : (x : Event) (o : Option PlainWorld) → next_event w ≡ Some x → step_of w x ≡ o → ((u : PlainWorld) → drained n u ≡ Some v → DoesSilently u v)
@@ -84,11 +108,11 @@ drained_runs (suc n) w v d = go (next_event w) (λ u r. drained_runs n u v r) re
     past x None next e more y = absurd (grind arith)
     past x (Some u) next e more y =
         let rest = more u y in
-        record { events = x ∷ rest.events; leads = rw e rest.leads; none = still_none x rest.events (no_user w x next) rest.none; no_file = still_no_file x rest.events (no_join w x next) rest.no_file }
+        record { events = x ∷ rest.events; leads = rw e rest.leads; none = still_none x rest.events (no_user w x next) rest.none; no_file = still_no_file x rest.events (no_join w x next) rest.no_file; no_mark = still_no_mark x rest.events (not_marked w x next) rest.no_mark }
 
     go : (o : Option Event) → ((u : PlainWorld) → drained n u ≡ Some v → DoesSilently u v)
         → next_event w ≡ o → elim o [ None ↦ Some w | Some e ↦ option_and_then (drained n) (step_of w e) ] ≡ Some v → DoesSilently w v
-    go None more next q = record { events = []; leads = q; none = refl; no_file = refl }
+    go None more next q = record { events = []; leads = q; none = refl; no_file = refl; no_mark = refl }
     go (Some x) more next q = past x (step_of w x) next refl more q
 
 -- ## Runs one after another
@@ -105,6 +129,10 @@ pub files_then : (es fs : List Event) → joined_files (es ++ fs) ≡ joined_fil
 files_then [] fs = refl
 files_then (e ∷ es) fs = grind (arith, (files_then es fs))
 
+pub marks_then : (es fs : List Event) → marked_files (es ++ fs) ≡ marked_files es ++ marked_files fs
+marks_then [] fs = refl
+marks_then (e ∷ es) fs = grind (arith, (marks_then es fs))
+
 -- ## Where it meets a fault
 
 full_differs : ◌≡◌ {A = StepFault} CountFull OutOfMemory → ⊥
@@ -115,7 +143,7 @@ pub never_nothing : (n : ℕ) (w v : PlainWorld) → IsDrainedUpTo n w v Nothing
 never_nothing n w v d = grind arith
 
 -- nor is a file added
-pub never_barred : (n : ℕ) (w v : PlainWorld) → IsDrainedUpTo n w v NotAdded → ⊥
+pub never_barred : (n : ℕ) (w v : PlainWorld) → IsDrainedUpTo n w v Barred → ⊥
 never_barred n w v d = grind arith
 
 -- a full count leads nowhere

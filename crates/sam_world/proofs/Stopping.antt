@@ -1,5 +1,5 @@
 -- Why a step of the world stops: it wants memory, or a count is full. Neither side refuses the other.
-use Rattle.sam_world.proofs.Common.{◌≡◌, ◌⊎◌, ℕ, Bool, true, false, if◌then◌else◌, ◌==◌, List, ◌∷◌, drop, Some, Result, Ok, Err, refl, sym, ap, ◌∙◌, arith, answer, HostFault, take_of, TermFault, Tmesg, HFrame, PlainWorld, new_world, IsAhead, head, WasReached, IsInOrder, IsCountable, IsFaultOf, OutOfMemory, CountFull, Event, Act, Flush, HostTake, TermTake, PlainHost, is_empty, step_of, act_of, flush_of}
+use Rattle.sam_world.proofs.Common.{◌≡◌, ◌⊎◌, ℕ, Bool, true, false, if◌then◌else◌, ◌==◌, List, drop, Some, Result, Ok, Err, refl, sym, ap, ◌∙◌, arith, answer, HostFault, take_of, TermFault, Tmesg, HFrame, PlainWorld, new_world, IsAhead, head, WasReached, IsInOrder, IsCountable, IsFaultOf, OutOfMemory, CountFull, Event, Act, Flush, HostTake, TermTake, PlainHost, is_empty, step_of, act_of, flush_of}
 use Rattle.sam_host.specs.declared.fault.HostFault.TheVariants as host
 use Rattle.sam_term.specs.declared.fault.TermFault.TheVariants as term
 use Rattle.std.specs.Prelude.{OnOk, IfErr}

@@ -1,6 +1,6 @@
 -- What a try of the oldest held event leaves, and what a step answers for whose messages no room could be made.
 use Rattle.std.proofs.Common.{true≢false}
-use Rattle.sam_world.proofs.Common.{◌≡◌, ◌==◌, Bool, true, false, if◌then◌else◌, Some, Result, Ok, Err, refl, sym, subst, arith, append-nil, take_of, TermFault, Tmesg, HFrame, PlainTerminal, PlainWorld, head, WasReached, IsFaultOf, OutOfMemory, CountFull, Act, Flush, HostTake, TermTake, Acted, Locked, acts, step_of, act_of, flush_of, after_act}
+use Rattle.sam_world.proofs.Common.{◌≡◌, ◌==◌, Bool, false, if◌then◌else◌, Some, Result, Ok, refl, sym, subst, arith, append-nil, take_of, TermFault, Tmesg, HFrame, PlainTerminal, PlainWorld, head, WasReached, IsFaultOf, OutOfMemory, CountFull, Act, Flush, HostTake, TermTake, Acted, Locked, acts, step_of, act_of, flush_of, after_act}
 use Rattle.sam_runes.specs.Texts.{most_count}
 use Rattle.sam_term.specs.declared.event.Acted.TheVariants.{Idle}
 use Rattle.sam_term.specs.Taking.{is_term_full}

@@ -1,6 +1,7 @@
 -- The host's work file is open at the start, and stays so with each file that is added and each answer.
 use Rattle.sam_world.proofs.Common.{◌≡◌, refl, ap, ◌∙◌, ℕ, true, List, Option, None, arith, unwrap_or, first_of_checks, slot-put_same, slot-map, slot-free_other, opened_file, PlainFile, PlainFiles, PlainOutcome, blank_file, file_at, put_file, put_outcome, committed, answer_is, of_answer, PlainHost, host_checks, reply_to, Tmesg, HFrame, PlainWorld, new_world, WasReached, IsWorkOpen, AddedFilesKeepWorkOpen, AnswersKeepWorkOpen}
 use Rattle.sam_text.specs.Files.{announce_all}
+use Rattle.sam_host.specs.Marking.{marked}
 use Rattle.sam_host.proofs.Keeping.{IsKept, reply_keeps}
 use Rattle.sam_crossing.proofs.RunLaws.{run_keeps}
 use Rattle.sam_world.proofs.TextLaws.{file_at-put, not-new, work-put}
@@ -38,7 +39,11 @@ answers_keep_work_open h g m frames e w =
     let P : PlainHost → List HFrame → Type 0 = λ g frames. IsWorkOpen g.files in
     of_answer P h g m frames e (answer_is P h m w (λ allowed. reply_work h m allowed w))
 
+-- a mark opens and closes nothing
+marked_keep_work_open : (h : PlainHost) (f : ℕ) → IsWorkOpen h.files → IsWorkOpen (marked h f).files
+marked_keep_work_open h f w = grind (arith, work-put)
+
 -- so it is open in every world
 pub work_of : (w : PlainWorld) → WasReached w → IsWorkOpen w.host.files
 work_of w r =
-    run_keeps (λ v. IsWorkOpen v.host.files) (host_step (λ h. IsWorkOpen h.files) answers_keep_work_open (λ h name text short long w. added_files_keep_work_open h (name, text) w)) (new_world r.given) r.reached.0 w tt r.reached.1
+    run_keeps (λ v. IsWorkOpen v.host.files) (host_step (λ h. IsWorkOpen h.files) answers_keep_work_open (λ h name text short long w. added_files_keep_work_open h (name, text) w) (λ h f shown w. marked_keep_work_open h f w)) (new_world r.given) r.reached.0 w tt r.reached.1

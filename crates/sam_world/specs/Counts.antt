@@ -9,7 +9,7 @@ use Rattle.sam_term.specs.Term.{PlainTerminal, act_of, flush_of, take_of}
 pub use Rattle.sam_term.specs.Taking.{is_term_full}
 use Rattle.sam_crossing.specs.World.{PlainWorld, step_of}
 use Rattle.sam_crossing.specs.declared.event.Event.{Event}
-use Rattle.sam_crossing.specs.declared.event.Event.TheVariants.{User, Add, Act, Flush, HostTake, TermTake}
+use Rattle.sam_crossing.specs.declared.event.Event.TheVariants.{User, Add, Mark, Act, Flush, HostTake, TermTake}
 
 -- the host would take more messages than can be counted
 abbrev pub is_host_full : {A : Type 0} → Result A HostFault → Bool
@@ -37,6 +37,7 @@ composes_past t (frame ∷ frames) = is_term_full (take_of t frame)
 abbrev pub passes_count : PlainWorld → Event → Bool
 passes_count w (User e) = false
 passes_count w (Add name text) = false
+passes_count w (Mark f) = false
 passes_count w Act = is_term_full (act_of w.term)
 passes_count w Flush = is_term_full (flush_of w.term)
 passes_count w HostTake = passes_at w.host w.up

@@ -6,28 +6,30 @@ use Rattle.sam_host.specs.declared.fault.HostFault.TheVariants as host
 use Rattle.sam_term.specs.declared.fault.TermFault.{TermFault}
 use Rattle.sam_term.specs.declared.fault.TermFault.TheVariants as term
 use Rattle.sam_crossing.specs.Joining.{may_join}
-use Rattle.sam_crossing.specs.World.{PlainWorld, step_of, run_of}
+use Rattle.sam_crossing.specs.World.{PlainWorld, may_mark, step_of, run_of}
 use Rattle.sam_world.specs.Drain.{next_event, drained}
 use Rattle.sam_world.specs.Counts.{passes_count}
 use Rattle.sam_crossing.specs.declared.event.Event.{Event}
-use Rattle.sam_crossing.specs.declared.event.Event.TheVariants.{User, Add, Act, Flush, HostTake, TermTake}
+use Rattle.sam_crossing.specs.declared.event.Event.TheVariants.{User, Add, Mark, Act, Flush, HostTake, TermTake}
 use Rattle.sam_world.specs.declared.event.RunStop.{RunStop}
 use Rattle.sam_world.specs.declared.event.StepFault.{StepFault}
-use Rattle.sam_world.specs.declared.event.StepFault.TheVariants.{NothingThere, OutOfMemory, CountFull, NotAdded}
+use Rattle.sam_world.specs.declared.event.StepFault.TheVariants.{NothingThere, OutOfMemory, CountFull, Barred}
 
 -- a take, from an empty list
 abbrev pub is_empty_take : PlainWorld → Event → Bool
 is_empty_take w (User e) = false
 is_empty_take w (Add name text) = false
+is_empty_take w (Mark f) = false
 is_empty_take w Act = false
 is_empty_take w Flush = false
 is_empty_take w HostTake = is_empty w.up
 is_empty_take w TermTake = is_empty w.down
 
--- a file that may not join: no tag is left, or its name or its text is too long
+-- a file that may not join, since no tag is left, or its name or its text is too long; or one that may not be marked
 abbrev pub is_barred : PlainWorld → Event → Bool
 is_barred w (User e) = false
 is_barred w (Add name text) = not (may_join w.host name text)
+is_barred w (Mark f) = not (may_mark w.host f)
 is_barred w Act = false
 is_barred w Flush = false
 is_barred w HostTake = false
@@ -41,12 +43,12 @@ IsTermStop why s = ((why ≡ term.OutOfMemory) × (s ≡ OutOfMemory)) ⊎ ((why
 abbrev pub IsHostStop : HostFault → StepFault → Type 0
 IsHostStop why s = ((why ≡ host.OutOfMemory) × (s ≡ OutOfMemory)) ⊎ ((why ≡ host.CountFull) × (s ≡ CountFull))
 
--- nothing is there exactly where the event is a take from an empty list, and a file is not added exactly where it may not join; CountFull
--- is answered only where the step would take a count past 2^64-1; out of memory may come wherever none of these does
+-- nothing is there exactly where the event is a take from an empty list, and the event is barred exactly where a file may not join or be
+-- marked; CountFull is answered only where the step would take a count past 2^64-1; out of memory may come wherever none of these does
 abbrev pub IsFaultOf : PlainWorld → Event → StepFault → Type 0
 IsFaultOf w e NothingThere = is_empty_take w e ≡ true
 IsFaultOf w e CountFull = passes_count w e ≡ true
-IsFaultOf w e NotAdded = is_barred w e ≡ true
+IsFaultOf w e Barred = is_barred w e ≡ true
 IsFaultOf w e OutOfMemory = (is_barred w e || is_empty_take w e || passes_count w e) ≡ false
 
 -- the events before the place of the stop lead from w to v, and the event there met the fault

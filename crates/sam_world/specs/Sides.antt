@@ -49,10 +49,11 @@ module _ {H T M F : Type 0} (s : Steps H T M F) where
   term_take w [] = None
   term_take w (f ∷ rest) = composed (world w.host w.term w.up rest) (s.receive w.term f)
 
-  -- no file joins two such sides
+  -- no file joins two such sides, and none is marked
   abbrev pub step : World H T M F → Event → Option (World H T M F)
   step w (event.User e) = Some (world w.host (s.user w.term e) w.up w.down)
   step w (event.Add name text) = None
+  step w (event.Mark f) = None
   step w event.Act = composed w (s.act w.term)
   step w event.Flush = composed w (s.flush w.term)
   step w event.HostTake = host_take w w.up

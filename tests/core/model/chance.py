@@ -14,7 +14,7 @@ EVENTS = {
     "flush": 3, "edit": 3, "load": 2, "dclick": 2, "scroll": 2, "write": 2, "work": 2, "send": 1.5, "opencmd": 1.5, "setsnarf": 1,
     "new": 0.7, "close": 0.7, "version": 0.6, "getsnarf": 0.5, "exit": 0.1,
 }  # fmt: skip
-STEPS = {"act": 26, "host": 15, "term": 15, "flush": 3, "show": 3, "drain": 2, "add": 1}
+STEPS = {"act": 26, "host": 15, "term": 15, "flush": 3, "show": 3, "drain": 2, "add": 1, "dirty": 1}
 USER = 36  # how often the user does something, by the measure of the steps
 SLIP = 0.03  # how often a value is most likely wrong
 LONG = 0.01  # how often a file is almost as long as it may be
@@ -104,8 +104,12 @@ class User:
         return self.does(word, *(values if scripts.EVENTS[word] else ()))
 
     def step(self, word):
-        """A step, unless it is a take of nothing."""
-        if word == "add":
+        """A step, unless it is a take of nothing, or no file can be marked."""
+        if word == "dirty":
+            tags = [tag for tag, file in self.world.host.files.items() if tag and file.is_announced]
+            if tags:
+                self.write(word, self.source.choice(tags))
+        elif word == "add":
             self.write(word, f"j{len(self.lines)}", some(self.source, 40))
         elif (word != "host" or self.world.up) and (word != "term" or self.world.down):
             self.write(word)

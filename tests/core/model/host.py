@@ -11,6 +11,10 @@ class RefusedMessage(Exception):
     """A message that the host refuses. Its terminal sends none."""
 
 
+class RefusedMark(Exception):
+    """A mark of a file that isn't there, that is the command file, or whose name was not sent."""
+
+
 @dataclass
 class File:
     """A file of the host."""
@@ -49,6 +53,13 @@ class Host:
         self.files[tag] = File(name, text)
         self.next_tag += 1
         return tag
+
+    def mark(self, tag):
+        """Marks a file as dirty. Returns the frames that tell it: one, if it was clean."""
+        file = self.files.get(tag)
+        if file is None or tag == 0 or not file.is_announced:
+            raise RefusedMark(tag)
+        return self.dirtied(tag)
 
     def answer(self, message):
         """The frames of the answer. A host that is done only counts."""

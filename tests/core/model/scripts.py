@@ -4,6 +4,7 @@ import re
 from typing import NamedTuple
 
 from . import texts
+from .host import RefusedMark
 from .world import NothingThere, World, escaped
 
 TAG, NUMBER, PLACE = texts.MOST_TAGS - 1, texts.MOST_TAGS - 1, 2**32 - 1  # the greatest of each
@@ -24,7 +25,7 @@ class WrongScript(Exception):
 
 
 class Line(NamedTuple):
-    """A line that is not skipped: `file` or `add` with name and text, `k` or `m` with an event, or a step alone."""
+    """A line that is not skipped: `file` or `add` with name and text, `dirty` with a tag, `k` or `m` with an event, or a step alone."""
 
     number: int
     word: str
@@ -45,6 +46,11 @@ def file_of(rest):
     if not 1 <= len(name) <= texts.MOST_IN_NAME or text is None or len(text) > texts.MOST_RUNES:
         return None
     return name, text
+
+
+def tag_of(rest):
+    """The tag of a `dirty` line, or None."""
+    return (int(rest),) if re.fullmatch(r"[0-9]+", rest) and int(rest) <= TAG else None
 
 
 def event_of(rest):
@@ -71,6 +77,8 @@ def values_of(word, rest, is_open):
         return event_of(rest)
     if word == "add" or (word == "file" and is_open):
         return file_of(rest or "")
+    if word == "dirty":
+        return tag_of(rest or "")
     return () if word in STEPS and rest is None else None
 
 
@@ -102,6 +110,11 @@ def run(world, line):
         if world.host.next_tag == texts.MOST_TAGS:
             raise WrongScript(line.number)
         world.host.add(*line.values)
+    elif line.word == "dirty":
+        try:
+            world.mark(*line.values)
+        except RefusedMark:
+            raise WrongScript(line.number) from None
     elif line.word == "show":
         return world.show()
     else:

@@ -43,6 +43,10 @@ class World:
         frames = self.host.answer(self.up.pop(0))
         self.down += [(self.host.taken, frame) for frame in frames]
 
+    def mark(self, tag):
+        """The host marks a file as dirty, beside the messages that it answers."""
+        self.down += [(self.host.taken, frame) for frame in self.host.mark(tag)]
+
     def terminal_takes(self):
         if not self.down:
             raise NothingThere
