@@ -7,4 +7,5 @@ pub mod PutLaws
 pub mod SendLaws
 pub mod FillLaws
 pub mod SpotLaws
+pub mod DueLaws
 pub mod LayerLaws

@@ -43,11 +43,11 @@ typed-stays : (g b : ℕ) (d : Option ℕ) (s : List ℕ) → is_group g d ≡ f
 typed-stays g b d [] e u = refl
 typed-stays g b d (c ∷ s) e u = rw (e, u) (ap (λ z. typed_by b d c ∷ z) (typed-stays g b d s e u))
 
-rasp-held : (d : Option ℕ) (r : PartialText) → rasp_of (map (held d) r) ≡ r
+pub rasp-held : (d : Option ℕ) (r : PartialText) → rasp_of (map (held d) r) ≡ r
 rasp-held d [] = refl
 rasp-held d (m ∷ r) = ap (λ z. m ∷ z) (rasp-held d r)
 
-rasp-typed : (b : ℕ) (d : Option ℕ) (s : List ℕ) → rasp_of (map (typed_by b d) s) ≡ []
+pub rasp-typed : (b : ℕ) (d : Option ℕ) (s : List ℕ) → rasp_of (map (typed_by b d) s) ≡ []
 rasp-typed b d [] = refl
 rasp-typed b d (c ∷ s) = rasp-typed b d s
 
@@ -72,7 +72,7 @@ replaced-block l m w z n k e u =
     let b : drop (n + k) (l ++ (m ++ z)) ≡ z = ap (drop (n + k)) (sym (append_assoc l m z)) ∙ (ap (λ i. drop i (l ++ m ++ z)) (sym q) ∙ drop-front (l ++ m) z) in
     ap (λ y. y ++ w ++ drop (n + k) (l ++ (m ++ z))) f ∙ (ap (λ y. l ++ w ++ y) b ∙ append_assoc l w z)
 
-inserted-block : (l m z : PartialText) (n : ℕ) → length l ≡ n → put (l ++ z) (record { p = n; q = n; new = m }) ≡ l ++ (m ++ z)
+pub inserted-block : (l m z : PartialText) (n : ℕ) → length l ≡ n → put (l ++ z) (record { p = n; q = n; new = m }) ≡ l ++ (m ++ z)
 inserted-block l m z n e =
     let f : take n (l ++ z) ≡ l = ap (λ i. take i (l ++ z)) (sym e) ∙ take-front l z in
     let b : drop n (l ++ z) ≡ z = ap (λ i. drop i (l ++ z)) (sym e) ∙ drop-front l z in

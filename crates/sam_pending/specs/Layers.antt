@@ -1,9 +1,9 @@
 -- What waits over a rasp: runs, and the text of the runes in them. The rasp itself stands elsewhere.
-use Rattle.std.specs.Prelude.{◌≡◌, ◌≤◌, ℕ, List, [], ◌∷◌, length, take, drop, map, reverse, Some}
+use Rattle.std.specs.Prelude.{◌≡◌, ◌≤◌, ℕ, List, [], ◌∷◌, length, take, drop, map, reverse, Option, Some, option_map}
 use Rattle.sam_runes.specs.Texts.{max_runes, most_in_message}
 use Rattle.sam_runes.specs.declared.edit.Edit.{Edit}
 use Rattle.sam_pending.specs.Cells.{PartialText, Cell, all_put}
-use Rattle.sam_pending.specs.Runs.{runes_of, cells_of, rooms, waits, above, newest_of, Within, sent_runs, removal_changes, edit_changes}
+use Rattle.sam_pending.specs.Runs.{runes_of, cells_of, rooms, waits, above, newest_of, Within, sent_runs, removal_changes, edit_changes, first_due, edit_at, made_first, next_deed}
 use Rattle.sam_pending.specs.declared.run.Run.{Run}
 use Rattle.sam_pending.specs.declared.run.Run.TheVariants.{Held, Typed}
 use Rattle.sam_pending.specs.declared.told.Sent.{Sent}
@@ -68,6 +68,18 @@ sent_text r s = all_put (all_put r (reverse (removal_changes s.removals.items)))
 abbrev pub AreShort : List Edit → Type 0
 AreShort [] = Unit {0}
 AreShort (e ∷ es) = (length e.text ≤ most_in_message) × AreShort es
+
+-- the next edit by which what waits comes to the rasp; none where nothing waits
+abbrev pub next_edit : Layer → Option Edit
+next_edit l = option_map (λ x. edit_at l.text x.1 x.0) (first_due (next_deed l.runs) 0 l.runs)
+
+-- the layer once that edit is made
+abbrev pub next_made : Layer → Layer
+next_made l = record l { runs = made_first (next_deed l.runs) l.runs }
+
+-- the layer with those runs
+abbrev pub with_runs : Layer → List Run → Layer
+with_runs l xs = record l { runs = xs }
 
 -- what stands at a place of the shown text, over that rasp
 abbrev pub shown_members : PartialText → Shown → PartialText

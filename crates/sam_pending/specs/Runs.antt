@@ -1,10 +1,12 @@
 -- Stretches of cells of one sort, as the code keeps them. The rasp below keeps its members, and the runes that wait stand in one text.
-use Rattle.std.specs.Prelude.{◌≡◌, ℕ, zero, suc, ◌+◌, ◌-◌, ◌≤◌, max, Bool, true, false, nat_le, ◌==◌, ◌&&◌, if◌then◌else◌, List, [], ◌∷◌, ◌++◌, map, take, drop, Option, Some, None, is_none}
+use Rattle.std.specs.Prelude.{◌≡◌, ℕ, zero, suc, ◌+◌, ◌-◌, ◌≤◌, max, Bool, true, false, nat_lt, nat_le, ◌==◌, ◌&&◌, ◌||◌, if◌then◌else◌, List, [], ◌∷◌, ◌++◌, map, take, drop, Option, Some, None, is_none}
 use Rattle.sam_pending.specs.Cells.{Member, PartialText, Cell, Change, in_rasp, is_shown, is_group}
 use Rattle.sam_runes.specs.declared.edit.Edit.{Edit}
 use Rattle.sam_pending.specs.declared.run.Stretch.{Stretch}
 use Rattle.sam_pending.specs.declared.run.Run.{Run}
 use Rattle.sam_pending.specs.declared.run.Run.TheVariants.{Held, Typed}
+use Rattle.sam_pending.specs.declared.run.Deed.{Deed}
+use Rattle.sam_pending.specs.declared.run.Deed.TheVariants.{Removes, Inserts}
 use Rattle.sam_pending.specs.declared.run.Side.{Side}
 use Rattle.sam_pending.specs.declared.run.Side.TheVariants.{Below, Above}
 use Rattle.sam_pending.specs.declared.told.Removal.{Removal}
@@ -251,6 +253,44 @@ run_rests (Typed s b d) = s.count == 0
 abbrev pub rests : List Run → Bool
 rests [] = true
 rests (x ∷ xs) = run_rests x && rests xs
+
+-- ## The next edit by which what waits comes to the rasp
+
+-- the edit is due at the run: there are members of the rasp in it that a group removes, or runes that wait
+abbrev pub is_due : Deed → Run → Bool
+is_due Removes (Held n None) = false
+is_due Removes (Held n (Some g)) = nat_lt 0 n
+is_due Removes (Typed s b d) = false
+is_due Inserts (Held n d) = false
+is_due Inserts (Typed s b d) = nat_lt 0 s.count
+
+-- the first run at which it is due, and how many members of the rasp stand before it, where n stand before these runs
+abbrev pub first_due : Deed → ℕ → List Run → Option (Run × ℕ)
+first_due w n [] = None
+first_due w n (x ∷ xs) = if is_due w x then Some (x, n) else first_due w (n + room x) xs
+
+-- an edit at a run, before which n members of the rasp stand
+abbrev pub edit_at : List ℕ → ℕ → Run → Edit
+edit_at t n (Held k d) = record { p = n; q = n + k; text = [] }
+edit_at t n (Typed s b d) = record { p = n; q = n; text = runes_of t s }
+
+-- the run once the edit is made
+abbrev pub made_run : Run → Run
+made_run (Held k d) = Held 0 None
+made_run (Typed s b d) = Held s.count d
+
+-- the runs once the edit at the first run is made at which it is due
+abbrev pub made_first : Deed → List Run → List Run
+made_first w [] = []
+made_first w (x ∷ xs) = if is_due w x then made_run x ∷ xs else x ∷ made_first w xs
+
+abbrev pub has_due : Deed → List Run → Bool
+has_due w [] = false
+has_due w (x ∷ xs) = is_due w x || has_due w xs
+
+-- all removals come before the first insertion
+abbrev pub next_deed : List Run → Deed
+next_deed xs = if has_due Removes xs then Removes else Inserts
 
 -- ## What the code says of changes
 

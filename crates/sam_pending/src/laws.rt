@@ -1,7 +1,7 @@
 //! Laws of the definitions in specs/. Each is the contract of a function that does nothing; a caller's proof may use what it says.
 
 ghost use Rattle.std.specs.Prelude.{◌≡◌, ◌<◌, ◌≤◌, ◌+◌, ◌-◌, ◌++◌, ℕ, List, length, map, take, drop, reverse, Some, All};
-ghost use Rattle.sam_pending.specs.Cells.{Cell, PartialText, Change, put, all_put, members, in_rasp, is_shown, rasp_of, shown_of, waiting_of, resting, part_by, take_by, drop_by, shown_place, replaced, inserted, removed, filled, sent, changes_of, gone_from, IsOf, text_at, place_at, IsOldest, IsNewest};
+ghost use Rattle.sam_pending.specs.Cells.{Cell, PartialText, Change, put, all_put, members, in_rasp, is_shown, rasp_of, shown_of, waiting_of, resting, part_by, take_by, drop_by, shown_place, replaced, inserted, removed, filled, sent, changes_of, gone_from, IsOf, text_at, place_at, IsOldest, IsNewest, IsMade};
 
 /// States that what is typed is what is seen: `s` in place of what was shown from `p` to `q`. While the edit waits the rasp stays.
 pub fn typed_is_shown()
@@ -79,4 +79,11 @@ pub fn requests_come_to_what_was_shown()
 pub fn one_path_serves()
     ensures { (r : PartialText) (g p q : ℕ) (s : List ℕ) → p ≤ q →
         sent g (replaced g p q s (resting r)) ≡ resting (take p r ++ map Some s ++ drop q r) }
+{}
+
+/// States that as an edit of what waits comes to the rasp what is shown stays.
+#[tactic(auto, using(crate::proofs::DueLaws::made_texts))]
+pub fn edits_come_one_by_one()
+    ensures shown { (cs ds : List Cell) (e : Change) → IsMade cs e ds → shown_of ds ≡ shown_of cs }
+    ensures rasp { (cs ds : List Cell) (e : Change) → IsMade cs e ds → rasp_of ds ≡ put (rasp_of cs) e }
 {}

@@ -2,6 +2,7 @@
 //! `Pending`; the module `laws` says what is true of the cells that its clauses speak of.
 #![tactic(auto)]
 
+mod due;
 mod fault;
 pub mod laws;
 mod pending;
@@ -11,4 +12,4 @@ mod told;
 
 pub use fault::PendingFault;
 pub use pending::Pending;
-pub use told::{Filling, Removal, Sent, Shown};
+pub use told::{Filling, Prepared, Removal, Sent, Shown};

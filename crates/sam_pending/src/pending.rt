@@ -1,16 +1,17 @@
 //! `Pending`: edits of one file that wait, over its rasp.
 
-ghost use Rattle.std.specs.Prelude.{◌≡◌, ◌⊎◌, ◌<◌, ◌≤◌, ◌+◌, ◌-◌, ◌++◌, ◌↔◌, IsTrue, ℕ, List, [], ◌∷◌, length, take, drop, map, reverse, Some, Err, IfOk, OnOk, OnErr, MatchOption, All};
+ghost use Rattle.std.specs.Prelude.{◌≡◌, ◌⊎◌, ◌<◌, ◌≤◌, ◌+◌, ◌-◌, ◌++◌, ◌↔◌, IsTrue, ℕ, List, [], ◌∷◌, length, take, drop, map, reverse, Some, None, Err, IfOk, OnOk, OnErr, MatchOption, All};
 ghost use Rattle.sam_runes.specs.Texts.{max_runes};
-ghost use Rattle.sam_pending.specs.Cells.{PartialText, all_put, rasp_of, shown_of, shown_place, waiting_of, IsNewest, resting, replaced, inserted, removed, filled, sent};
-ghost use Rattle.sam_pending.specs.Runs.{rests, removal_changes, filling_changes};
-ghost use Rattle.sam_pending.specs.Layers.{cells_over, rasp_length, waiting_length, shown_length, newest_group, sent_length, sent_text, shown_members, IsOver, IsTidied, AreShort, most_kept};
+ghost use Rattle.sam_pending.specs.Cells.{PartialText, IsMade, all_put, put, rasp_of, shown_of, shown_place, waiting_of, IsNewest, resting, replaced, inserted, removed, filled, sent};
+ghost use Rattle.sam_pending.specs.Runs.{rests, edit_change, removal_changes, filling_changes};
+ghost use Rattle.sam_pending.specs.Layers.{cells_over, rasp_length, waiting_length, shown_length, newest_group, sent_length, sent_text, shown_members, next_edit, next_made, with_runs, IsLayer, IsOver, IsTidied, AreShort, most_kept};
+ghost use Rattle.sam_runes.specs.declared.edit.Edit.{Edit};
 
 use crate::fault::PendingFault;
 use crate::run::{Run, Stretch};
-use crate::runs;
-use crate::told::{Filling, Removal, Sent, Shown};
-use sam_runes::MAX_RUNES;
+use crate::told::{Filling, Prepared, Removal, Sent, Shown};
+use crate::{due, runs};
+use sam_runes::{Edit, MAX_RUNES};
 use std::alloc::Global;
 use std::marker::Model;
 
@@ -203,12 +204,65 @@ impl Pending {
         }
     }
 
-    /// Takes on that the host put `count` members in at place `p` of the rasp. Returns the place of what is shown where they stand: before
-    /// what waits there.
+    /// Prepares that the host puts `count` members in at place `p` of the rasp: `take_on` then makes it so. Returns the place of what is
+    /// shown where they will stand, before what waits there.
     ///
     /// Errors, in this order: `BadPosition` if `p` is past the end of the rasp; `TooLong` if the rasp would have more than `MAX_RUNES`
-    /// members; `OutOfMemory`. After an error all is unchanged.
+    /// members; `OutOfMemory`.
     #[tactic(auto, using(crate::proofs::LayerLaws::insert_facts))]
+    pub fn prepare_insert(&self, p: u32, count: u32) -> Result<(u32, Prepared), PendingFault>
+        ensures layer { IfOk result (λ x. IsLayer (with_runs self.now x.1)) }
+        ensures cells { IfOk result (λ x. (r new : PartialText) → IsOver r self.now → length new ≡ count
+            → cells_over (take p r ++ new ++ drop p r) (with_runs self.now x.1) ≡ inserted p new (cells_over r self.now)) }
+        ensures place { IfOk result (λ x. (r : PartialText) → IsOver r self.now → x.0 ≡ shown_place p (cells_over r self.now)) }
+        ensures rasp { IfOk result (λ x. rasp_length (with_runs self.now x.1) ≡ rasp_length self.now + count) }
+        ensures position { (result ≡ Err PendingFault.BadPosition) ↔ (rasp_length self.now < p) }
+        ensures long { (result ≡ Err PendingFault.TooLong) ↔ ((p ≤ rasp_length self.now) × (max_runes < rasp_length self.now + count)) }
+    {
+        let len = runs::rasp_len(self.runs.as_slice());
+        if p > len {
+            return Err(PendingFault::BadPosition);
+        }
+        if count > MAX_RUNES - len {
+            return Err(PendingFault::TooLong);
+        }
+        let (place, runs) = runs::inserted(self.alloc, self.runs.as_slice(), p, count)?;
+        Ok((place, Prepared { runs }))
+    }
+
+    /// Prepares that the host removes what stands from place `p` to place `q` of the rasp: `take_on` then makes it so. Returns what will go
+    /// of what is shown, as removals in ascending places: they are made one after another, the last one first. What waits between stays.
+    ///
+    /// Errors, in this order: `BadPosition` if `q` is less than `p` or past the end of the rasp; `OutOfMemory`.
+    #[tactic(auto, using(crate::proofs::LayerLaws::remove_facts))]
+    pub fn prepare_remove(&self, p: u32, q: u32) -> Result<(Vec<Removal>, Prepared), PendingFault>
+        ensures layer { IfOk result (λ x. IsLayer (with_runs self.now x.1)) }
+        ensures cells { IfOk result (λ x. (r : PartialText) → IsOver r self.now
+            → cells_over (take p r ++ drop q r) (with_runs self.now x.1) ≡ removed p q (cells_over r self.now)) }
+        ensures told { IfOk result (λ x. (r : PartialText) → IsOver r self.now
+            → all_put (shown_of (cells_over r self.now)) (reverse (removal_changes x.0.items))
+            ≡ shown_of (removed p q (cells_over r self.now))) }
+        ensures rasp { IfOk result (λ x. rasp_length (with_runs self.now x.1) + (q - p) ≡ rasp_length self.now) }
+        ensures position { (result ≡ Err PendingFault.BadPosition) ↔ ((q < p) ⊎ (rasp_length self.now < q)) }
+        ensures err { OnErr result ((result ≡ Err PendingFault.BadPosition) ⊎ (result ≡ Err PendingFault.OutOfMemory)) }
+    {
+        if p > q || q > runs::rasp_len(self.runs.as_slice()) {
+            return Err(PendingFault::BadPosition);
+        }
+        let (told, runs) = runs::removed(self.alloc, self.runs.as_slice(), p, q)?;
+        Ok((told, Prepared { runs }))
+    }
+
+    /// Makes a change of the host's that was prepared, of this layer as it is now. It takes no memory.
+    pub fn take_on(&mut self, change: Prepared)
+        requires { IsLayer (with_runs self.old change) }
+        ensures { self.new ≡ with_runs self.old change }
+    {
+        self.runs = change.runs;
+    }
+
+    /// Takes on that the host put `count` members in at place `p` of the rasp. Returns the place of what is shown where they stand: before
+    /// what waits there. The errors are those of `prepare_insert`; after an error all is unchanged.
     pub fn insert_by_host(&mut self, p: u32, count: u32) -> Result<u32, PendingFault>
         ensures cells { OnOk result ((r new : PartialText) → IsOver r self.old → length new ≡ count
             → cells_over (take p r ++ new ++ drop p r) self.new ≡ inserted p new (cells_over r self.old)) }
@@ -218,24 +272,14 @@ impl Pending {
         ensures long { (result ≡ Err PendingFault.TooLong) ↔ ((p ≤ rasp_length self.old) × (max_runes < rasp_length self.old + count)) }
         ensures err { OnErr result (self.new ≡ self.old) }
     {
-        let len = runs::rasp_len(self.runs.as_slice());
-        if p > len {
-            return Err(PendingFault::BadPosition);
-        }
-        if count > MAX_RUNES - len {
-            return Err(PendingFault::TooLong);
-        }
-        let (place, after) = runs::inserted(self.alloc, self.runs.as_slice(), p, count)?;
-        self.runs = after;
+        let (place, change) = self.prepare_insert(p, count)?;
+        self.take_on(change);
         Ok(place)
     }
 
     /// Takes on that the host removed what stood from place `p` to place `q` of the rasp. Returns what goes of what is shown, as removals
-    /// in ascending places: they are made one after another, the last one first. What waits between stays.
-    ///
-    /// Errors, in this order: `BadPosition` if `q` is less than `p` or past the end of the rasp; `OutOfMemory`. After an error all is
-    /// unchanged.
-    #[tactic(auto, using(crate::proofs::LayerLaws::remove_facts))]
+    /// in ascending places: they are made one after another, the last one first. What waits between stays. The errors are those of
+    /// `prepare_remove`; after an error all is unchanged.
     pub fn remove_by_host(&mut self, p: u32, q: u32) -> Result<Vec<Removal>, PendingFault>
         ensures cells { OnOk result ((r : PartialText) → IsOver r self.old
             → cells_over (take p r ++ drop q r) self.new ≡ removed p q (cells_over r self.old)) }
@@ -247,11 +291,8 @@ impl Pending {
         ensures err { OnErr result ((self.new ≡ self.old)
             × ((result ≡ Err PendingFault.BadPosition) ⊎ (result ≡ Err PendingFault.OutOfMemory))) }
     {
-        if p > q || q > runs::rasp_len(self.runs.as_slice()) {
-            return Err(PendingFault::BadPosition);
-        }
-        let (told, after) = runs::removed(self.alloc, self.runs.as_slice(), p, q)?;
-        self.runs = after;
+        let (told, change) = self.prepare_remove(p, q)?;
+        self.take_on(change);
         Ok(told)
     }
 
@@ -334,6 +375,45 @@ impl Pending {
             removals,
             insertions,
         })
+    }
+
+    /// Returns the next edit by which what waits comes to the rasp; `None` if nothing waits. It takes members out that edits remove, or
+    /// puts runes in that wait; it puts none in while members are to be taken out, so no rasp is longer than it has to be. Groups that wait
+    /// beside one another aren't told apart.
+    ///
+    /// Errors, in this order: `TooLong` if the rasp would have more than `MAX_RUNES` members, because the host put more in meanwhile;
+    /// `OutOfMemory`.
+    #[tactic(auto, using(crate::proofs::DueLaws::next_facts))]
+    pub fn next_edit(&self) -> Result<Option<Edit>, PendingFault>
+        ensures edit { IfOk result (λ x. x ≡ next_edit self.now) }
+        ensures none { IfOk result (λ x. (x ≡ None) ↔ IsTrue (rests self.now.runs)) }
+        ensures room { OnOk result (rasp_length (next_made self.now) ≤ max_runes) }
+        ensures long { (result ≡ Err PendingFault.TooLong) ↔ (max_runes < rasp_length (next_made self.now)) }
+        ensures err { OnErr result ((result ≡ Err PendingFault.TooLong) ⊎ (result ≡ Err PendingFault.OutOfMemory)) }
+    {
+        let runs = self.runs.as_slice();
+        let deed = due::next_deed(runs);
+        if due::made_len(runs, deed) > MAX_RUNES {
+            return Err(PendingFault::TooLong);
+        }
+        let Some((run, at)) = due::first_due(runs, deed) else {
+            return Ok(None);
+        };
+        let edit = due::edit_at(self.alloc, self.text.as_slice(), run, at)?;
+        Ok(Some(edit))
+    }
+
+    /// Takes on that the next edit was made in the rasp. What is shown stays. It takes no memory.
+    #[tactic(auto, using(crate::proofs::DueLaws::make_facts))]
+    pub fn make_next(&mut self)
+        requires { rasp_length (next_made self.old) ≤ max_runes }
+        ensures made { self.new ≡ next_made self.old }
+        ensures cells { (r : PartialText) (e : Edit) → IsOver r self.old → next_edit self.old ≡ Some e
+            → IsMade (cells_over r self.old) (edit_change e) (cells_over (put r (edit_change e)) self.new)
+            × IsOver (put r (edit_change e)) self.new }
+    {
+        let deed = due::next_deed(self.runs.as_slice());
+        due::make_first(&mut self.runs, deed);
     }
 
     /// Returns what stands from that place of what is shown on: so many members of the rasp, or runes that wait; `None` from the end on.

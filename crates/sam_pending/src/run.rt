@@ -1,7 +1,7 @@
 //! Stretches of cells of one sort.
 
 ghost use Rattle.std.specs.Prelude.{◌≡◌, ◌≤◌, ◌<◌, ◌^◌, ◌∷◌, [], IfSome};
-ghost use Rattle.sam_pending.specs.Runs.{run_counts, size, head_of, tail_of, room, wait, newest_run, run_rests, reach, IsSame};
+ghost use Rattle.sam_pending.specs.Runs.{run_counts, size, head_of, tail_of, room, wait, newest_run, run_rests, reach, IsSame, is_due, made_run};
 ghost use Rattle.sam_pending.specs.declared.run.Run.TheVariants.{Held, Typed};
 
 /// Where runes stand in the text of those that wait.
@@ -29,6 +29,15 @@ pub enum Side {
     Below,
     /// What is shown.
     Above,
+}
+
+/// What an edit of what waits does to the rasp.
+#[derive(Clone, Copy)]
+pub enum Deed {
+    /// It takes members out.
+    Removes,
+    /// It puts runes in.
+    Inserts,
 }
 
 impl Run {
@@ -98,6 +107,35 @@ impl Run {
         match self {
             Run::Held(_, died) => died.unwrap_or(0),
             Run::Typed(_, born, died) => born.max(died.unwrap_or(0)),
+        }
+    }
+
+    /// Returns whether such an edit is due at it.
+    pub fn is_due(self, deed: Deed) -> bool
+        ensures { result ≡ is_due deed self }
+    {
+        match self {
+            Run::Held(count, died) => match died {
+                None => false,
+                Some(_) => match deed {
+                    Deed::Removes => count > 0,
+                    Deed::Inserts => false,
+                },
+            },
+            Run::Typed(runes, _, _) => match deed {
+                Deed::Removes => false,
+                Deed::Inserts => runes.count > 0,
+            },
+        }
+    }
+
+    /// Returns it as it is once the edit at it is made.
+    pub fn made(self) -> Run
+        ensures { result ≡ made_run self }
+    {
+        match self {
+            Run::Held(_, _) => Run::Held(0, None),
+            Run::Typed(runes, _, died) => Run::Held(runes.count, died),
         }
     }
 

@@ -1,6 +1,25 @@
 //! What calls of `Pending` tell their caller.
 
+use crate::run::Run;
 use sam_runes::Edit;
+use std::marker::Model;
+
+/// A change of the host's to the rasp, prepared: `Pending::take_on` makes it, and can't fail. It fits the layer that prepared it, as it was
+/// then. A clause sees the runs that it leads to.
+#[derive(Drop)]
+pub struct Prepared {
+    /// The cells in order, as they will be.
+    pub(crate) runs: Vec<Run>,
+}
+
+impl Model for Prepared {
+    ghost use Rattle.std.specs.Prelude.{List};
+    ghost use Rattle.sam_pending.specs.declared.run.Run.{Run};
+
+    ghost Value = { List Run };
+
+    ghost view = { λ s. s.runs.items };
+}
 
 /// A removal: what stands from place `p` to place `q` goes.
 #[derive(Clone, Copy, Debug, PartialEq, Eq)]

@@ -17,6 +17,8 @@ enum Step<'a> {
     Fill(u32, u32, usize),
     /// A group comes to the rasp, by so many removals and insertions.
     Send(u32, usize, usize),
+    /// The next edit is between these places of the rasp and has so many runes, and it is made.
+    Make(u32, u32, usize),
     /// How many pieces what is shown has, and how many members.
     Pieces(u32, u32),
     /// How many runes wait, and how many members the rasp has.
@@ -74,6 +76,13 @@ fn is_right(pending: &mut Pending, step: Step<'_>) -> Result<bool, PendingFault>
         Step::Send(group, removals, insertions) => {
             Ok(has(&pending.send(group)?, removals, insertions))
         }
+        Step::Make(p, q, count) => {
+            let Some(edit) = pending.next_edit()? else {
+                return Ok(false);
+            };
+            pending.make_next();
+            Ok(edit.p == p && edit.q == q && edit.text.len() == count)
+        }
         Step::Pieces(count, len) => Ok(pieces(pending) == count && pending.shown_len() == len),
         Step::Waits(count, len) => Ok(pending.waiting() == count && pending.rasp_len() == len),
         Step::Rests => Ok(pending.is_resting()),
@@ -113,9 +122,23 @@ const MANY_KEYS: [Step<'_>; 6] = [
     Step::Pieces(1, 1_006),
 ];
 
+/// `hello` becomes `ho!`, one edit at a time: what goes is first.
+const ONE_BY_ONE: [Step<'_>; 6] = [
+    Step::Replace(1, 5, 5, &['!']),
+    Step::Replace(1, 1, 4, &[]),
+    Step::Make(1, 4, 0),
+    Step::Make(2, 2, 1),
+    Step::Rests,
+    Step::Waits(0, 3),
+];
+
 #[test]
 fn edits_wait_and_are_sent(rt: HostRuntime) {
-    for steps in [STORY.as_slice(), MANY_KEYS.as_slice()] {
+    for steps in [
+        STORY.as_slice(),
+        MANY_KEYS.as_slice(),
+        ONE_BY_ONE.as_slice(),
+    ] {
         let wrong = match Pending::new(rt.alloc(), 5) {
             Ok(pending) => lent(pending, |pending| first_wrong(pending, steps)),
             Err(_) => Some(0),

@@ -1,0 +1,5 @@
+pub mod SlotSteps
+pub mod OutcomeLaws
+pub mod EffectLaws
+pub mod StepLaws
+pub mod CallLaws

@@ -1,0 +1,158 @@
+-- An overlay, and what its calls do.
+use Rattle.std.specs.Prelude.{◌≡◌, ◌≢◌, ℕ, ◌+◌, ◌-◌, ◌^◌, ◌<◌, Bool, true, not, ◌&&◌, ◌||◌, ◌==◌, nat_lt, List, [], ◌∷◌, length, take, drop, Option, Some, None, is_some, Result, Ok, Err}
+use Rattle.sam_runes.specs.Checks.{Checks}
+use Rattle.sam_runes.specs.Slots.{Slots, slot}
+use Rattle.sam_runes.specs.Texts.{is_empty, max_runes}
+use Rattle.sam_runes.specs.declared.edit.Edit.{Edit}
+use Rattle.sam_pending.specs.Cells.{PartialText, Cell, Change, IsMade, shown_of}
+use Rattle.sam_pending.specs.Layers.{Layer, next_edit, next_made, rasp_length, waiting_length}
+use Rattle.sam_term.specs.Term.{PlainTerminal, is_known, is_open, rasp_at, window_at}
+use Rattle.sam_term.specs.declared.event.UserEvent.{UserEvent}
+use Rattle.sam_endpoint.specs.TermEndpoints.{PlainTermEndpoint, IsDone, new_term_endpoint}
+use Rattle.sam_endpoint.specs.TermStepping.{BringsEvent, BringsIn}
+use Rattle.sam_endpoint.specs.declared.fault.TermStop.{TermStop}
+use Rattle.sam_endpoint.specs.declared.step.BringFault.{BringFault}
+use Rattle.sam_endpoint.specs.declared.step.BringFault.TheVariants as bring
+use Rattle.sam_overlay.specs.Effects.{cells_after}
+use Rattle.sam_overlay.specs.Overlays.{AreOver, AreRequests, IsPutting, cells_of_file, edit_event, step_effect}
+use Rattle.sam_overlay.specs.declared.fault.ReplaceFault.{ReplaceFault}
+use Rattle.sam_overlay.specs.declared.fault.ReplaceFault.TheVariants as refuses
+use Rattle.sam_overlay.specs.declared.fault.PutFault.{PutFault}
+use Rattle.sam_overlay.specs.declared.fault.PutFault.TheVariants as unput
+use Rattle.sam_overlay.specs.declared.shown_change.Put.{Put}
+use Rattle.sam_overlay.specs.declared.shown_change.Put.TheVariants as put
+use Rattle.sam_overlay.specs.declared.overlay.Overlay.TheInside.{Inside}
+use Rattle.sam_overlay.specs.declared.shown_change.OverlayStep.{OverlayStep}
+
+pub record PlainOverlay : Type 0 where
+  pub end : PlainTermEndpoint
+  pub layers : Slots Layer  -- what waits over the rasp of each file, by tag
+  pub putting : Option ℕ  -- the file whose next edit was put and has not acted yet
+
+-- the overlay as contracts see it
+abbrev pub seen : Inside → PlainOverlay
+seen a = record { end = a.end; layers = a.layers; putting = a.putting }
+
+abbrev pub new_overlay : PlainOverlay
+new_overlay = record { end = new_term_endpoint; layers = []; putting = None }
+
+-- the cells of a file: its rasp, with what waits over it
+abbrev pub cells_at : PlainOverlay → ℕ → List Cell
+cells_at o f = cells_of_file o.end.term o.layers f
+
+-- what is shown of it
+abbrev pub shown_at : PlainOverlay → ℕ → PartialText
+shown_at o f = shown_of (cells_at o f)
+
+-- these members, one at least, stand in the text from that place on
+abbrev pub IsShownFrom : ℕ → PartialText → PartialText → Type 0
+IsShownFrom place text found = (0 < length found) × (take (length found) (drop place text) ≡ found)
+
+-- requests alone are held, or the edit that was put
+abbrev pub HoldsOnly : PlainTermEndpoint → Slots Layer → Option ℕ → Type 0
+HoldsOnly e ls None = AreRequests e.term.held
+HoldsOnly e ls (Some f) = IsPutting e ls f
+
+-- what is true of each overlay
+pub record IsSound (o : PlainOverlay) : Type 0 where
+  pub over : AreOver o.end.term o.layers
+  pub holds : HoldsOnly o.end o.layers o.putting
+
+-- ## The host's stream, and requests
+
+-- what waits, and what was put, is as before
+abbrev pub Keeps : PlainOverlay → PlainOverlay → Type 0
+Keeps o n = (n.layers ≡ o.layers) × (n.putting ≡ o.putting)
+
+-- an edit that was put has to act first
+abbrev pub IsNotNow : PlainTermEndpoint → BringFault TermStop → Type 0
+IsNotNow e (bring.Stopped why) = e.stop ≡ Some why
+IsNotNow e bring.Waiting = e.stop ≡ None
+IsNotNow e bring.CountFull = ⊥
+IsNotNow e bring.OutOfMemory = ⊥
+
+abbrev pub Refuses : PlainOverlay → Result (Unit {0}) (BringFault TermStop) → PlainOverlay → Type 0
+Refuses o (Err why) n = IsNotNow o.end why × (n ≡ o)
+Refuses o (Ok done) n = ⊥
+
+-- the end takes the piece, unless an edit that was put has to act first
+abbrev pub Brings : PlainOverlay → List ℕ → Result (Unit {0}) (BringFault TermStop) → PlainOverlay → Type 0
+Brings o piece result n = When o.putting
+  where
+    When : Option ℕ → Type 0
+    When None = BringsIn o.end piece result n.end × Keeps o n
+    When (Some f) = Refuses o result n
+
+-- the end holds the request, unless an edit that was put has to act first
+abbrev pub Asks : PlainOverlay → UserEvent → Result (Unit {0}) (BringFault TermStop) → PlainOverlay → Type 0
+Asks o event result n = When o.putting
+  where
+    When : Option ℕ → Type 0
+    When None = BringsEvent o.end event result n.end × Keeps o n
+    When (Some f) = Refuses o result n
+
+-- ## Steps
+
+-- the cells of each file go as the frame says that was received; or one edit of what waits came to the rasp of the file for which it was
+-- put, and by it nothing that is shown moves
+abbrev pub CellsGo : PlainOverlay → OverlayStep → PlainOverlay → Type 0
+CellsGo o x n = When o.putting
+  where
+    When : Option ℕ → Type 0
+    When None = (f : ℕ) → cells_at n f ≡ cells_after (step_effect o.end x.step f) (cells_at o f)
+    When (Some g) =
+        (e : Change) × IsMade (cells_at o g) e (cells_at n g) × ((f : ℕ) → f ≢ g → cells_at n f ≡ cells_at o f)
+
+-- ## What the user does
+
+-- how many runes wait
+abbrev pub waiting_in : Option Layer → ℕ
+waiting_in None = 0
+waiting_in (Some l) = waiting_length l
+
+abbrev pub waiting_at : PlainOverlay → ℕ → ℕ
+waiting_at o f = waiting_in (slot o.layers f)
+
+-- what stands against an edit, in its order
+abbrev pub replace_checks : PlainOverlay → ℕ → ℕ → ℕ → List ℕ → Checks ReplaceFault
+replace_checks o f p q s =
+    (o.end.term.has_exited, refuses.Exited)
+    ∷ (is_some o.end.stop, refuses.Stopped)
+    ∷ (not (is_known o.end.term f), refuses.NoFile)
+    ∷ (f == 0, refuses.CommandFile)
+    ∷ (not (is_open o.end.term f), refuses.NotOpen)
+    ∷ (nat_lt q p || nat_lt (length (shown_at o f)) q, refuses.BadPosition)
+    ∷ (not (is_empty s) && nat_lt max_runes (length (rasp_at o.end.term f) + waiting_at o f + length s), refuses.TooLong)
+    ∷ []
+
+-- ## Edits that waited are put
+
+-- an edit of the file can act at once: the end has nothing else to do, and no lock holds the user out
+abbrev pub is_free : PlainTerminal → ℕ → Bool
+is_free t f = not t.has_exited && not t.command_lock && is_open t f && not (f == 0) && ((window_at t f).locks == 0)
+
+pub record IsFree (e : PlainTermEndpoint) (f : ℕ) : Type 0 where
+  pub going : e.stop ≡ None
+  pub done : IsDone e
+  pub none_held : e.term.held ≡ []
+  pub free : is_free e.term f ≡ true
+
+-- what to put an edit that waits over file f leads to: nothing waits over it; or an edit can't act at once; or the next edit was put,
+-- alone, and the next step has it act; or why it isn't, and all is as before
+abbrev pub Puts : PlainOverlay → ℕ → Result Put PutFault → PlainOverlay → Type 0
+Puts o f (Ok put.Nothing) n =
+    (n.end ≡ o.end) × (n.putting ≡ o.putting) × (slot n.layers f ≡ None) × ((g : ℕ) → cells_at n g ≡ cells_at o g)
+Puts o f (Ok put.NotFree) n = (n ≡ o) × ((o.putting ≡ None) → IsFree o.end f → ⊥)
+Puts o f (Ok put.Edit) n =
+    (l : Layer) × (e : Edit) × (slot o.layers f ≡ Some l) × (next_edit l ≡ Some e) × BringsEvent o.end (edit_event f e) (Ok tt) n.end
+    × (n.layers ≡ o.layers) × (n.putting ≡ Some f)
+Puts o f (Err (unput.Stopped why)) n = (o.end.stop ≡ Some why) × (n ≡ o)
+Puts o f (Err unput.TooLong) n = (l : Layer) × (slot o.layers f ≡ Some l) × (max_runes < rasp_length (next_made l)) × (n ≡ o)
+Puts o f (Err unput.CountFull) n = (o.end.events ≡ 2 ^ 64 - 1) × (n ≡ o)
+Puts o f (Err unput.OutOfMemory) n = n ≡ o
+
+-- ## Laws
+
+-- where nothing waits over a file its rasp is shown
+abbrev pub RestsShow : Type 0
+RestsShow = (o : PlainOverlay) (f : ℕ) → slot o.layers f ≡ None → shown_at o f ≡ rasp_at o.end.term f

@@ -1,0 +1,87 @@
+-- What a change of the host's does to what waits over one rasp, and to what is shown.
+use Rattle.std.specs.Prelude.{◌≡◌, ◌≤◌, ℕ, List, ◌++◌, map, take, drop, length, reverse, Option, Some, None, option_map, All}
+use Rattle.sam_runes.specs.Texts.{max_runes}
+use Rattle.sam_runes.specs.declared.edit.Edit.{Edit}
+use Rattle.sam_pending.specs.Cells.{PartialText, Cell, IsMade, IsNewest, all_put, put, rasp_of, replaced, resting, shown_of}
+use Rattle.sam_pending.specs.Layers.{Layer, IsLayer, IsOver, cells_over, next_edit, next_made, with_runs}
+use Rattle.sam_pending.specs.Runs.{edit_change, filling_changes, removal_changes}
+use Rattle.sam_pending.specs.declared.run.Run.{Run}
+use Rattle.sam_overlay.specs.Effects.{Effect, FitsIn, cells_after, members_after, plan_of}
+use Rattle.sam_overlay.specs.declared.frame_plan.Plan.{Plan}
+use Rattle.sam_overlay.specs.declared.outcome.LayerChange.{LayerChange}
+use Rattle.sam_overlay.specs.declared.outcome.LayerChange.TheVariants as change
+use Rattle.sam_overlay.specs.declared.outcome.Outcome.{Outcome}
+use Rattle.sam_overlay.specs.declared.shown_change.Told.{Told}
+use Rattle.sam_overlay.specs.declared.shown_change.Told.TheVariants as told
+
+-- the cells over a rasp: those of the layer, or, where nothing waits, the rasp's own
+abbrev pub cells_in : PartialText → Option Layer → List Cell
+cells_in r None = resting r
+cells_in r (Some l) = cells_over r l
+
+-- the layer, if there is one, is over that rasp
+abbrev pub IsOverRasp : PartialText → Option Layer → Type 0
+IsOverRasp r None = Unit {0}
+IsOverRasp r (Some l) = IsOver r l
+
+-- what waits after a change
+abbrev pub layer_after : LayerChange → Option Layer → Option Layer
+layer_after change.Stays o = o
+layer_after (change.Runs runs) o = option_map (λ l. with_runs l runs) o
+layer_after change.Ends o = None
+
+-- what is told leads from the old shown text to the new one: some members came in at a place; some went, the last removal first; runes
+-- were stored, and nothing moved; or the text is empty
+abbrev pub Leads : Told → PartialText → PartialText → Type 0
+Leads told.Nothing old new = new ≡ old
+Leads (told.Came p n) old new = (cells : PartialText) × (length cells ≡ n) × (new ≡ take p old ++ cells ++ drop p old)
+Leads (told.Went removals) old new = new ≡ all_put old (reverse (removal_changes removals.items))
+Leads (told.Filled fillings) old new = (s : List ℕ) × (new ≡ all_put old (reverse (filling_changes s fillings.items)))
+Leads told.Emptied old new = length new ≡ 0
+
+-- the change by that plan fits a rasp that the layer is over
+pub record Meets (o : Option Layer) (plan : Plan) (r : PartialText) (e : Effect) : Type 0 where
+  pub plan_is : plan_of e ≡ plan
+  pub size : length r ≤ max_runes
+  pub over : IsOverRasp r o
+  pub fit : FitsIn (length r) e
+
+-- whatever rasp the layer is over, and whatever members come: the layer after the change is over the rasp after it, its cells are those
+-- after the change, and what is told leads to what is shown then
+pub record Follows (o : Option Layer) (plan : Plan) (x : Outcome) : Type 0 where
+  pub kept : (l : Layer) (runs : List Run) → o ≡ Some l → x.change ≡ change.Runs runs → IsLayer (with_runs l runs)
+  pub over : (r : PartialText) (e : Effect) → Meets o plan r e → IsOverRasp (members_after e r) (layer_after x.change o)
+  pub cells : (r : PartialText) (e : Effect) → Meets o plan r e
+      → cells_in (members_after e r) (layer_after x.change o) ≡ cells_after e (cells_in r o)
+  pub told : (r : PartialText) (e : Effect) → Meets o plan r e
+      → Leads x.told (shown_of (cells_in r o)) (shown_of (cells_after e (cells_in r o)))
+
+-- the same where nothing waits: what is told of the change leads from the old members of the rasp to the new ones
+abbrev pub TellsRasp : Plan → Told → Type 0
+TellsRasp plan x = (r : PartialText) (e : Effect) → Meets None plan r e → Leads x r (members_after e r)
+
+-- over whatever rasp, the next edit of the layer leads from its cells to those of the layer that it leaves
+abbrev pub IsNextMade : Layer → Type 0
+IsNextMade l =
+    (r : PartialText) (e : Edit) → IsOver r l → next_edit l ≡ Some e
+    → IsMade (cells_over r l) (edit_change e) (cells_over (put r (edit_change e)) (next_made l))
+    × IsOver (put r (edit_change e)) (next_made l)
+
+-- ## What the user does
+
+-- these runes are in the place of what was shown from p to q, put in by a group that is not older than any that waits
+pub record Replaces (cs : List Cell) (p q : ℕ) (s : List ℕ) (ds : List Cell) : Type 0 where
+  pub group : ℕ
+  pub newest : All (IsNewest group) cs
+  pub cells : ds ≡ replaced group p q s cs
+
+-- over whatever rasp of n members
+abbrev pub LayerReplaces : ℕ → Option Layer → ℕ → ℕ → List ℕ → Option Layer → Type 0
+LayerReplaces n o p q s k =
+    (r : PartialText) → length r ≡ n → IsOverRasp r o → IsOverRasp r k × Replaces (cells_in r o) p q s (cells_in r k)
+
+-- what is typed is shown, and the rasp stays
+abbrev pub TypedShows : Type 0
+TypedShows =
+    (cs ds : List Cell) (p q : ℕ) (s : List ℕ) → p ≤ q → Replaces cs p q s ds
+    → (shown_of ds ≡ take p (shown_of cs) ++ map Some s ++ drop q (shown_of cs)) × (rasp_of ds ≡ rasp_of cs)

@@ -1,0 +1,37 @@
+//! Laws of the definitions in specs/. Each is the contract of a function that does nothing.
+
+ghost use Rattle.sam_overlay.specs.Effects.{CellsFollow, WaitingStays};
+ghost use Rattle.sam_overlay.specs.Calls.{RestsShow};
+ghost use Rattle.sam_overlay.specs.Outcomes.{TypedShows};
+ghost use Rattle.sam_overlay.specs.Frames.{FramesMoveRasps};
+
+/// States what a frame that the terminal takes does to the rasp of each file: what `effect` says, and its places are within the rasp.
+#[tactic(auto, using(crate::proofs::EffectLaws::frames_move_rasps))]
+pub fn frames_move_rasps()
+    ensures { FramesMoveRasps }
+{}
+
+/// States that the cells over a rasp go with it: those that are in the rasp become the members that the frame leaves there.
+#[tactic(auto, using(crate::proofs::OutcomeLaws::cells_follow))]
+pub fn cells_follow()
+    ensures { CellsFollow }
+{}
+
+/// States that no frame takes, adds or reorders what waits, but one that ends its file.
+#[tactic(auto, using(crate::proofs::OutcomeLaws::waiting_stays))]
+pub fn what_waits_stays()
+    ensures { WaitingStays }
+{}
+
+/// States what `Overlay::replace` does to what is shown, and that the rasp stays meanwhile.
+#[tactic(auto, using(crate::proofs::CallLaws::typed_shows))]
+pub fn typed_shows()
+    ensures { TypedShows }
+{}
+
+/// States that where nothing waits the rasp is shown. So once `put_next` answers `Nothing` the rasp is what was shown as the edits were
+/// put, since nothing that is shown moves by them.
+#[tactic(auto, using(crate::proofs::CallLaws::rests_show))]
+pub fn rests_show()
+    ensures { RestsShow }
+{}

@@ -1,0 +1,238 @@
+//! What waits over the rasps of files, by tag.
+
+ghost use Rattle.std.specs.Prelude.{◌≡◌, ◌++◌, ◌+◌, ◌-◌, ◌<◌, ◌≤◌, ◌^◌, ℕ, [], length, OnErr, OnOk, IfOk, Some, None, IsTrue, ◌≢◌, is_some, option_copied, option_map, List, replicate, vec_len, vec_capacity};
+ghost use Rattle.sam_runes.specs.Slots.{slot};
+ghost use Rattle.sam_pending.specs.Layers.{Layer, IsLayer, with_runs, next_made, rasp_length};
+ghost use Rattle.sam_overlay.specs.Outcomes.{IsNextMade, LayerReplaces, layer_after};
+ghost use Rattle.sam_overlay.specs.Setting.{Sets};
+ghost use Rattle.sam_pending.specs.declared.run.Run.{Run};
+ghost use Rattle.sam_runes.specs.Texts.{max_runes};
+
+use crate::outcome::LayerChange;
+use sam_pending::{Pending, PendingFault, Prepared};
+use std::alloc::{AllocError, Global};
+use std::marker::Model;
+
+/// What waits over the rasps of files, by tag: nothing over most. Contracts see a list of slots, whose index is the tag.
+#[derive(Drop)]
+pub(crate) struct Layers {
+    /// What gives the memory.
+    alloc: Global,
+    /// What waits over the file of each tag. A tag after the end has nothing that waits.
+    slots: Vec<Option<Pending>>,
+}
+
+impl Model for Layers {
+    ghost use Rattle.std.specs.Prelude.{List, Option};
+    ghost use Rattle.sam_pending.specs.Layers.{Layer};
+
+    ghost Value = { List (Option Layer) };
+
+    ghost view = { λ a. a.slots.items };
+}
+
+impl Layers {
+    /// Returns a list in which nothing waits over any file. It takes no memory.
+    pub fn new(alloc: Global) -> Layers
+        ensures { result ≡ [] }
+    {
+        Layers {
+            alloc,
+            slots: Vec::new(alloc),
+        }
+    }
+
+    /// Returns what waits over a file; `None` if nothing does.
+    #[tactic(auto, using(crate::proofs::SlotSteps::slot_facts))]
+    pub fn at(&self, tag: u16) -> Option<&Pending>
+        ensures { option_copied result ≡ slot self.now tag }
+    {
+        let index = tag as usize;
+        if index < self.slots.len() {
+            self.slots[index].as_ref()
+        } else {
+            None
+        }
+    }
+
+    /// Puts `runes` in the place of what is shown of a file from place `p` to place `q`, where its rasp has `len` members. Errors are those
+    /// of `Pending::new` and of `Pending::replace`; after an error all is unchanged.
+    #[tactic(auto, using(crate::proofs::SlotSteps::set_facts))]
+    pub fn replace(
+        &mut self,
+        tag: u16,
+        len: u32,
+        p: u32,
+        q: u32,
+        runes: &[char],
+    ) -> Result<(), PendingFault>
+        ensures ok { OnOk result (LayerReplaces len (slot self.old tag) p q runes.now (slot self.new tag)) }
+        ensures others { OnOk result ((f : ℕ) → f ≢ tag → slot self.new f ≡ slot self.old f) }
+        ensures err { OnErr result (self.new ≡ self.old) }
+    {
+        let index = tag as usize;
+        if index < self.slots.len() && self.slots[index].is_some() {
+            return replace_in(&mut self.slots[index], p, q, runes);
+        }
+        let layer = new_layer(self.alloc, len, p, q, runes)?;
+        self.reserve(tag)?;
+        self.put(tag, Some(layer));
+        Ok(())
+    }
+
+    /// Makes room for a file, so that `put` at its tag takes no memory. What waits stays. The only error is out of memory.
+    #[tactic(auto, using(crate::proofs::SlotSteps::room_facts))]
+    pub fn reserve(&mut self, tag: u16) -> Result<(), AllocError>
+        ensures room { OnOk result (tag < length self.new) }
+        ensures same { (f : ℕ) → slot self.new f ≡ slot self.old f }
+        ensures err { OnErr result (self.new ≡ self.old) }
+    {
+        let index = tag as usize;
+        if index < self.slots.len() {
+            return Ok(());
+        }
+        let more = index + 1 - self.slots.len();
+        self.slots.reserve(more)?;
+        push_slots(&mut self.slots, more);
+        Ok(())
+    }
+
+    /// Puts what waits over a file for which there is room. What waited over it before is dropped.
+    #[tactic(auto, using(crate::proofs::SlotSteps::set_facts))]
+    pub fn put(&mut self, tag: u16, layer: Option<Pending>)
+        requires { tag < length self.old }
+        ensures { Sets self.old tag layer self.new }
+    {
+        self.slots[tag as usize] = layer;
+    }
+
+    /// Lets go what waits over a file.
+    #[tactic(auto, using(crate::proofs::SlotSteps::free_facts))]
+    pub fn free(&mut self, tag: u16)
+        ensures { Sets self.old tag None self.new }
+    {
+        let index = tag as usize;
+        if index < self.slots.len() {
+            self.slots[index] = None;
+        }
+    }
+
+    /// Makes a change of the host's that was prepared, of what waits over a file now. Nothing is done if nothing waits.
+    #[tactic(auto, using(crate::proofs::SlotSteps::set_facts))]
+    pub fn take_on(&mut self, tag: u16, change: Prepared)
+        requires { (l : Layer) → slot self.old tag ≡ Some l → IsLayer (with_runs l change) }
+        ensures { Sets self.old tag (option_map (λ l. with_runs l change) (slot self.old tag)) self.new }
+    {
+        let index = tag as usize;
+        if index < self.slots.len() {
+            take_on(&mut self.slots[index], change);
+        }
+    }
+
+    /// Makes of what waits over a file what a change of the host's leaves of it.
+    pub fn follow(&mut self, tag: u16, change: LayerChange)
+        requires { (l : Layer) (runs : List Run) → slot self.old tag ≡ Some l → change ≡ LayerChange.Runs runs
+            → IsLayer (with_runs l runs) }
+        ensures { Sets self.old tag (layer_after change (slot self.old tag)) self.new }
+    {
+        match change {
+            LayerChange::Stays => {}
+            LayerChange::Runs(prepared) => self.take_on(tag, prepared),
+            LayerChange::Ends => self.free(tag),
+        }
+    }
+
+    /// Takes on that the next edit of what waits over a file was made in its rasp. Nothing is done if nothing waits.
+    #[tactic(auto, using(crate::proofs::SlotSteps::set_facts))]
+    pub fn make_next(&mut self, tag: u16)
+        requires { (l : Layer) → slot self.old tag ≡ Some l → rasp_length (next_made l) ≤ max_runes }
+        ensures layers { Sets self.old tag (option_map next_made (slot self.old tag)) self.new }
+        ensures made { (l : Layer) → slot self.old tag ≡ Some l → IsNextMade l }
+    {
+        let index = tag as usize;
+        if index < self.slots.len() {
+            make_next(&mut self.slots[index]);
+        }
+    }
+}
+
+/// Adds `more` empty slots at the end, for which there is room.
+fn push_slots(slots: &mut Vec<Option<Pending>>, more: usize)
+    requires { vec_len slots.old + more ≤ vec_capacity slots.old }
+    ensures { slots.new.items ≡ slots.old.items ++ replicate more None }
+{
+    for _ in 0..more {
+        if slots.push(None).is_err() {
+            unreachable!()
+        }
+    }
+}
+
+/// Returns a layer over a rasp of `len` members, in which these runes are in the place of what is shown.
+#[tactic(auto, using(crate::proofs::CallLaws::new_replaces))]
+fn new_layer(
+    alloc: Global,
+    len: u32,
+    p: u32,
+    q: u32,
+    runes: &[char],
+) -> Result<Pending, PendingFault>
+    ensures { IfOk result (λ l. LayerReplaces len None p q runes.now (Some l)) }
+{
+    let mut pending = Pending::new(alloc, len)?;
+    replace_pending(&mut pending, p, q, runes)?;
+    Ok(pending)
+}
+
+/// Puts runes in the place of what is shown, where something waits.
+fn replace_in(
+    layer: &mut Option<Pending>,
+    p: u32,
+    q: u32,
+    runes: &[char],
+) -> Result<(), PendingFault>
+    requires { IsTrue (is_some layer.old) }
+    ensures ok { OnOk result ((n : ℕ) → LayerReplaces n layer.old p q runes.now layer.new) }
+    ensures err { OnErr result (layer.new ≡ layer.old) }
+{
+    match layer {
+        Some(pending) => replace_pending(pending, p, q, runes),
+        None => Ok(()),
+    }
+}
+
+/// Puts runes in the place of what is shown, by the newest group.
+#[tactic(auto, using(crate::proofs::CallLaws::replaces_layer))]
+fn replace_pending(
+    pending: &mut Pending,
+    p: u32,
+    q: u32,
+    runes: &[char],
+) -> Result<(), PendingFault>
+    ensures ok { OnOk result ((n : ℕ) → LayerReplaces n (Some pending.old) p q runes.now (Some pending.new)) }
+    ensures err { OnErr result (pending.new ≡ pending.old) }
+{
+    let group = pending.newest();
+    pending.replace(group, p, q, runes)
+}
+
+/// Makes a change of the host's that was prepared, if something waits.
+fn take_on(layer: &mut Option<Pending>, change: Prepared)
+    requires { (l : Layer) → layer.old ≡ Some l → IsLayer (with_runs l change) }
+    ensures { layer.new ≡ option_map (λ l. with_runs l change) layer.old }
+{
+    if let Some(pending) = layer {
+        pending.take_on(change);
+    }
+}
+
+/// Takes on that the next edit was made, if something waits.
+fn make_next(layer: &mut Option<Pending>)
+    requires { (l : Layer) → layer.old ≡ Some l → rasp_length (next_made l) ≤ max_runes }
+    ensures layer { layer.new ≡ option_map next_made layer.old }
+    ensures made { (l : Layer) → layer.old ≡ Some l → IsNextMade l }
+{
+    if let Some(pending) = layer {
+        pending.make_next();
+    }
+}

@@ -1,0 +1,400 @@
+//! `Overlay`: a terminal end, and edits of the user that wait over its rasps.
+
+ghost use Rattle.std.specs.Prelude.{◌≡◌, ◌≢◌, ◌⊎◌, ◌↔◌, ◌<◌, ◌≤◌, ℕ, OnErr, OnOk, IfOk, IfErr, IsTrue, MatchOption, Some, None, Err, if◌then◌else◌, is_some, length, false, drop, slice_get};
+ghost use Rattle.sam_runes.specs.Checks.{first_of_checks};
+ghost use Rattle.sam_runes.specs.Texts.{max_runes};
+ghost use Rattle.sam_pending.specs.Layers.{IsOver, cells_over, next_edit, next_made, rasp_length, shown_members};
+ghost use Rattle.sam_pending.specs.Cells.{PartialText, rasp_of, shown_of};
+ghost use Rattle.sam_pending.specs.Runs.{rests};
+ghost use Rattle.sam_endpoint.specs.TermEndpoints.{IsDone};
+ghost use Rattle.sam_endpoint.specs.TermStepping.{Steps};
+ghost use Rattle.sam_overlay.specs.Calls.{Asks, Brings, CellsGo, IsFree, IsNotNow, Keeps, is_free, Puts, IsShownFrom, cells_at, new_overlay, replace_checks, shown_at, waiting_at};
+ghost use Rattle.sam_overlay.specs.Outcomes.{Leads, Replaces};
+ghost use Rattle.sam_overlay.specs.Overlays.{StopsOnly, end_step, is_request, told_at};
+ghost use Rattle.sam_term.specs.Term.{is_known, is_open, rasp_at};
+
+use crate::fault::{PutFault, ReplaceFault};
+use crate::layers::Layers;
+use crate::shown_change::{OverlayStep, Put};
+use crate::steps::{quiet, step_edit, step_over};
+use sam_endpoint::{BringFault, EndpointFault, FinishFault, TermEndpoint, TermStop};
+use sam_pending::{Pending, PendingFault, Shown};
+use sam_rasp::Rasp;
+use sam_runes::{Edit, MAX_RUNES};
+use sam_term::{Refusal, Terminal, UserEvent};
+use std::alloc::Global;
+use std::marker::Model;
+
+/// A terminal end, and edits of the user that wait over its rasps. What the user does is shown at once, also while a file is locked; the
+/// host's changes go through it; and once a file is free it is put as events, one edit at a time. Of the other events those are taken that
+/// leave each text. Typing into the command file is not, so far.
+///
+/// ```rust
+/// overlay.replace(1, 5, 5, &['!'])?; // `hello!` is shown, though a paste has locked file 1
+/// overlay.bring(piece)?; // what came from the host
+/// let step = overlay.step()?; // ` world` came in at place 5 of the rasp: `Told::Came(5, 6)`, and `hello world!` is shown
+/// let step = overlay.step()?; // the file is free
+/// let put = overlay.put_next(1)?; // `Put::Edit`: the `!` is put at place 11
+/// let step = overlay.step()?; // it acts: the rasp is what was shown
+/// ```
+#[derive(Drop)]
+pub struct Overlay {
+    /// What gives the memory.
+    alloc: Global,
+    /// The terminal end. It holds requests alone, which leave each text, or the one edit that was put.
+    end: TermEndpoint,
+    /// What waits over its rasps.
+    layers: Layers,
+    /// The file whose next edit was put and has not acted yet: memory was refused, or no step was made since.
+    putting: Option<u16>,
+}
+
+impl Model for Overlay {
+    ghost use Rattle.sam_overlay.specs.Calls.{IsSound, PlainOverlay, seen};
+
+    ghost Value = { PlainOverlay };
+
+    ghost view = { seen };
+
+    ghost invariant = { λ a. IsSound (seen a) };
+}
+
+impl Overlay {
+    /// Makes an overlay over a terminal that knows no file. It takes no memory.
+    pub fn new(alloc: Global) -> Overlay
+        ensures { result ≡ new_overlay }
+    {
+        Overlay {
+            alloc,
+            end: TermEndpoint::new(alloc),
+            layers: Layers::new(alloc),
+            putting: None,
+        }
+    }
+
+    /// Returns the terminal end, to be read.
+    pub fn end(&self) -> &TermEndpoint
+        ensures { result.now ≡ self.now.end }
+    {
+        &self.end
+    }
+
+    /// Returns how many runes and gaps are shown of a file; `None` if it is not open.
+    #[tactic(auto, using(crate::proofs::CallLaws::shown_facts))]
+    pub fn shown_len(&self, tag: u16) -> Option<u32>
+        ensures { result ≡ (if is_open self.now.end.term tag then Some (length (shown_at self.now tag)) else None) }
+    {
+        let rasp = self.end.term().rasp(tag)?;
+        match self.layers.at(tag) {
+            Some(pending) => Some(pending.shown_len()),
+            None => Some(rasp.len()),
+        }
+    }
+
+    /// Returns how many runes of a file wait, those that a later edit removes among them.
+    pub fn waiting(&self, tag: u16) -> u32
+        ensures { result ≡ waiting_at self.now tag }
+    {
+        match self.layers.at(tag) {
+            Some(pending) => pending.waiting(),
+            None => 0,
+        }
+    }
+
+    /// Returns what stands from that place of the shown text of a file on: so many members of its rasp, or runes that wait; `None` from the
+    /// end on, or if the file is not open. The next call is for the place after these, so what is shown can be read piece by piece.
+    #[tactic(auto, using(crate::proofs::CallLaws::reading_facts))]
+    pub fn shown_at(&self, tag: u16, place: u32) -> Option<Shown<'_>>
+        ensures { MatchOption result ((is_open self.now.end.term tag ≡ false) ⊎ (length (shown_at self.now tag) ≤ place))
+            (λ x. IsShownFrom place (shown_at self.now tag) (shown_members (rasp_at self.now.end.term tag) x)) }
+    {
+        let rasp = self.end.term().rasp(tag)?;
+        match self.layers.at(tag) {
+            Some(pending) => pending_from(pending, place),
+            None => rasp_from(rasp, place),
+        }
+    }
+
+    /// Takes out the first `count` bytes for the host, or all if there are fewer, as `TermEndpoint::consume` does. All else stays.
+    pub fn consume(&mut self, count: usize)
+        ensures { self.new ≡ record self.old { end = record self.old.end { pending_bytes = drop count self.old.end.pending_bytes } } }
+    {
+        self.end.consume(count);
+    }
+
+    /// Hands out the oldest request that was refused and was not handed out before, as `TermEndpoint::next_refusal` does: its number among
+    /// all events, edits that were put among them, and why. All else stays.
+    pub fn next_refusal(&mut self) -> Option<(u64, Refusal)>
+        ensures told { result ≡ slice_get self.old.end.refusals 0 }
+        ensures rest { self.new ≡ record self.old { end = record self.old.end { refusals = drop 1 self.old.end.refusals } } }
+    {
+        self.end.next_refusal()
+    }
+
+    /// States what is true of every overlay: the cells of a file that no edit which waits put in are its rasp. It does nothing when the
+    /// program runs.
+    #[tactic(auto, using(crate::proofs::CallLaws::rasp_of_file))]
+    pub fn facts(&self)
+        ensures { (f : ℕ) → rasp_of (cells_at self.now f) ≡ rasp_at self.now.end.term f }
+    {
+        let _ = &self.alloc;
+    }
+
+    /// Finds whether no edit was put that has not acted. Errors, in this order: `Stopped` if the end has stopped; `Waiting`.
+    fn check_put(&self) -> Result<(), BringFault<TermStop>>
+        ensures ok { OnOk result (self.now.putting ≡ None) }
+        ensures put { OnErr result (IsTrue (is_some self.now.putting)) }
+        ensures err { IfErr result (λ why. IsNotNow self.now.end why) }
+    {
+        match self.putting {
+            None => Ok(()),
+            Some(_) => Err(not_now(&self.end)),
+        }
+    }
+
+    /// Takes a piece of the host's stream, of any length, by framing alone, as `TermEndpoint::bring` does.
+    ///
+    /// Errors are those of that call, in its order. `Waiting` is also returned while an edit that was put has not acted: go on by steps.
+    pub fn bring(&mut self, piece: &[u8]) -> Result<(), BringFault<TermStop>>
+        ensures { Brings self.old piece.now result self.new }
+    {
+        self.check_put()?;
+        self.end.bring(piece)
+    }
+
+    /// Takes an event of the user that leaves each text, and goes no further, as `TermEndpoint::bring_event` does. Edits come by `replace`.
+    ///
+    /// Errors are those of that call, in its order. `Waiting` is also returned while an edit that was put has not acted: go on by steps.
+    #[tactic(auto, using(crate::proofs::CallLaws::asked_sound))]
+    pub fn bring_event(&mut self, event: UserEvent) -> Result<(), BringFault<TermStop>>
+        requires { IsTrue (is_request event) }
+        ensures { Asks self.old event result self.new }
+    {
+        self.check_put()?;
+        self.end.bring_event(event)
+    }
+
+    /// Goes on by one step, and says what it did and how what is shown changed. All memory is had before the end's own step.
+    ///
+    /// Errors are those of `TermEndpoint::step`, in its order. After each what is shown, and what waits, is as before.
+    #[tactic(auto, using(crate::proofs::CallLaws::brought_told))]
+    pub fn step(&mut self) -> Result<OverlayStep, EndpointFault<TermStop>>
+        ensures step { Steps self.old.end (end_step result) self.new.end }
+        ensures cells { IfOk result (λ x. CellsGo self.old x self.new) }
+        ensures put { OnOk result (self.new.putting ≡ None) }
+        ensures told { IfOk result (λ x. (f : ℕ) → Leads (told_at x f) (shown_at self.old f) (shown_at self.new f)) }
+        ensures err { OnErr result (Keeps self.old self.new × StopsOnly self.old.end self.new.end) }
+    {
+        if let Some(why) = self.end.stopped() {
+            return Err(EndpointFault::Stopped(why));
+        }
+        match self.putting {
+            None => step_over(&mut self.end, &mut self.layers, self.alloc),
+            Some(tag) => {
+                let step = step_edit(&mut self.end, &mut self.layers, tag)?;
+                self.putting = None;
+                Ok(quiet(step))
+            }
+        }
+    }
+
+    /// Puts `runes` in the place of what is shown of a file from place `p` to place `q`. That is shown at once, and waits until `put_next`
+    /// puts it. The runes stand behind what is shown before `p`.
+    ///
+    /// Errors, in this order, after which all is as before: `Exited` if the session is over; `Stopped`; `NoFile`; `CommandFile`; `NotOpen`;
+    /// `BadPosition` if `q` is less than `p` or past the end of what is shown; `TooLong` if there are runes, and these, the rasp and all
+    /// that waits over it (with what goes) are more than `MAX_RUNES`; `OutOfMemory`, also while an edit of the file was put that has not
+    /// acted: go on by steps. No lock is an error.
+    #[tactic(auto, using(crate::proofs::CallLaws::replace_facts))]
+    pub fn replace(&mut self, tag: u16, p: u32, q: u32, runes: &[char]) -> Result<(), ReplaceFault>
+        ensures tests { OnOk result (first_of_checks (replace_checks self.old tag p q runes.now) ≡ None) }
+        ensures refused { IfErr result (λ why. (first_of_checks (replace_checks self.old tag p q runes.now) ≡ Some why)
+            ⊎ ((why ≡ ReplaceFault.OutOfMemory) × (first_of_checks (replace_checks self.old tag p q runes.now) ≡ None))) }
+        ensures replaced { OnOk result (Replaces (cells_at self.old tag) p q runes.now (cells_at self.new tag)) }
+        ensures others { OnOk result ((f : ℕ) → f ≢ tag → cells_at self.new f ≡ cells_at self.old f) }
+        ensures end { (self.new.end ≡ self.old.end) × (self.new.putting ≡ self.old.putting) }
+        ensures err { OnErr result (self.new ≡ self.old) }
+    {
+        if let Some(why) = self.refusal(tag, p, q, runes) {
+            return Err(why);
+        }
+        if self.putting == Some(tag) {
+            return Err(ReplaceFault::OutOfMemory);
+        }
+        let len = rasp_len(self.end.term(), tag);
+        match self.layers.replace(tag, len, p, q, runes) {
+            Ok(()) => Ok(()),
+            Err(_) => Err(ReplaceFault::OutOfMemory),
+        }
+    }
+
+    /// Returns what stands against an edit, if something does.
+    #[tactic(auto, using(crate::proofs::CallLaws::refusal_facts))]
+    fn refusal(&self, tag: u16, p: u32, q: u32, runes: &[char]) -> Option<ReplaceFault>
+        ensures { result ≡ first_of_checks (replace_checks self.now tag p q runes.now) }
+    {
+        if self.end.term().exited() {
+            return Some(ReplaceFault::Exited);
+        }
+        if self.end.stopped().is_some() {
+            return Some(ReplaceFault::Stopped);
+        }
+        if !knows(self.end.term(), tag) {
+            return Some(ReplaceFault::NoFile);
+        }
+        if tag == 0 {
+            return Some(ReplaceFault::CommandFile);
+        }
+        let Some(len) = self.shown_len(tag) else {
+            return Some(ReplaceFault::NotOpen);
+        };
+        if p > q || q > len {
+            return Some(ReplaceFault::BadPosition);
+        }
+        let kept = rasp_len(self.end.term(), tag) as usize + self.waiting(tag) as usize;
+        let room = (MAX_RUNES as usize).saturating_sub(kept);
+        if !runes.is_empty() && runes.len() > room {
+            return Some(ReplaceFault::TooLong);
+        }
+        None
+    }
+
+    /// Puts the next edit of what waits over a file as an event, if it can act at once: the next `step` has it act. All that waits over a
+    /// file comes to the rasp so, one edit at a time, and nothing that is shown moves by it.
+    ///
+    /// Errors, in this order, after which all is as before: `Stopped`; `TooLong` if the rasp would have more than `MAX_RUNES` members,
+    /// because the host put more in meanwhile; `CountFull` if 2^64-1 events were taken before; `OutOfMemory`.
+    #[tactic(auto, using(crate::proofs::CallLaws::put_facts))]
+    pub fn put_next(&mut self, tag: u16) -> Result<Put, PutFault>
+        ensures { Puts self.old tag result self.new }
+    {
+        if let Some(why) = self.end.stopped() {
+            return Err(PutFault::Stopped(why));
+        }
+        let Some(pending) = self.layers.at(tag) else {
+            return Ok(Put::Nothing);
+        };
+        if self.putting.is_some() || !is_free(&self.end, tag) {
+            return Ok(Put::NotFree);
+        }
+        if pending.is_resting() {
+            self.layers.free(tag);
+            return Ok(Put::Nothing);
+        }
+        let edit = next_edit(pending)?;
+        match self
+            .end
+            .bring_event(UserEvent::Edit(tag, edit.p, edit.q, edit.text))
+        {
+            Ok(()) => {
+                self.putting = Some(tag);
+                Ok(Put::Edit)
+            }
+            Err(why) => Err(PutFault::of(why)),
+        }
+    }
+}
+
+/// Returns why nothing is brought while an edit that was put has not acted.
+fn not_now(end: &TermEndpoint) -> BringFault<TermStop>
+    ensures { IsNotNow end.now result }
+{
+    match end.stopped() {
+        Some(why) => BringFault::Stopped(why),
+        None => BringFault::Waiting,
+    }
+}
+
+/// Returns whether the terminal knows a file.
+#[tactic(auto, using(crate::proofs::SlotSteps::slot_facts))]
+fn knows(term: &Terminal, tag: u16) -> bool
+    ensures { result ≡ is_known term.now tag }
+{
+    let files = term.files();
+    let index = tag as usize;
+    index < files.len() && files[index].is_some()
+}
+
+/// Returns how many members the rasp of a file has; 0 if it is not open.
+fn rasp_len(term: &Terminal, tag: u16) -> u32
+    ensures { result ≡ length (rasp_at term.now tag) }
+{
+    match term.rasp(tag) {
+        Some(rasp) => rasp.len(),
+        None => 0,
+    }
+}
+
+/// Returns what stands from a place of the shown text on, where something waits; `None` from its end on.
+#[tactic(auto, using(crate::proofs::CallLaws::pending_read))]
+fn pending_from(pending: &Pending, place: u32) -> Option<Shown<'_>>
+    ensures { (r : PartialText) → IsOver r pending.now → MatchOption result (length (shown_of (cells_over r pending.now)) ≤ place)
+        (λ x. IsShownFrom place (shown_of (cells_over r pending.now)) (shown_members r x)) }
+{
+    if place >= pending.shown_len() {
+        return None;
+    }
+    pending.shown_at(place)
+}
+
+/// Returns what stands from a place of a rasp on; `None` from its end on.
+#[tactic(auto, using(crate::proofs::CallLaws::rasp_read))]
+fn rasp_from(rasp: &Rasp, place: u32) -> Option<Shown<'static>>
+    ensures { MatchOption result (length rasp.now ≤ place) (λ x. IsShownFrom place rasp.now (shown_members rasp.now x)) }
+{
+    let len = rasp.len();
+    if place >= len {
+        return None;
+    }
+    Some(Shown::Rasp(place, len - place))
+}
+
+/// Returns whether an edit of a file can act at once.
+#[tactic(auto, using(crate::proofs::CallLaws::held_none))]
+fn is_free(end: &TermEndpoint, tag: u16) -> bool
+    ensures { IsTrue result ↔ IsFree end.now tag }
+{
+    if !is_done(end) || end.term().held() != 0 {
+        return false;
+    }
+    is_unlocked(end.term(), tag)
+}
+
+/// Returns whether the end goes on, with no frame, no message and no fault that waits.
+fn is_done(end: &TermEndpoint) -> bool
+    ensures { IsTrue result ↔ ((end.now.stop ≡ None) × IsDone end.now) }
+{
+    match end.finish() {
+        Ok(()) => true,
+        Err(FinishFault::Truncated) => true,
+        Err(FinishFault::Unfinished) => false,
+        Err(FinishFault::Stopped(_)) => false,
+    }
+}
+
+/// Returns whether a file is open, is not the command file, and no lock holds the user out of it.
+#[tactic(auto, using(crate::proofs::CallLaws::free_by))]
+fn is_unlocked(term: &Terminal, tag: u16) -> bool
+    ensures { result ≡ is_free term.now tag }
+{
+    if term.exited() || term.locked(tag) || tag == 0 {
+        return false;
+    }
+    term.rasp(tag).is_some()
+}
+
+/// Returns the next edit of what waits, where something does.
+fn next_edit(pending: &Pending) -> Result<Edit, PutFault>
+    requires { rests pending.now.runs ≡ false }
+    ensures edit { IfOk result (λ e. next_edit pending.now ≡ Some e) }
+    ensures room { OnOk result (rasp_length (next_made pending.now) ≤ max_runes) }
+    ensures err { IfErr result (λ why. ((why ≡ PutFault.TooLong) × (max_runes < rasp_length (next_made pending.now)))
+        ⊎ (why ≡ PutFault.OutOfMemory)) }
+{
+    match pending.next_edit() {
+        Ok(Some(edit)) => Ok(edit),
+        Ok(None) => unreachable!(),
+        Err(PendingFault::TooLong) => Err(PutFault::TooLong),
+        Err(_) => Err(PutFault::OutOfMemory),
+    }
+}

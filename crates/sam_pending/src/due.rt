@@ -1,0 +1,88 @@
+//! The next edit by which what waits comes to the rasp.
+
+ghost use Rattle.std.specs.Prelude.{◌≡◌, ◌≤◌, ◌<◌, ◌+◌, ◌^◌, length, IfOk};
+ghost use Rattle.sam_pending.specs.Runs.{rooms, room, waits, reach, first_due, next_deed, edit_at, made_first};
+
+use crate::run::{Deed, Run};
+use sam_runes::{Edit, Runes};
+use std::alloc::{AllocError, Global};
+
+/// Returns the first run at which such an edit is due, and how many members of the rasp stand before it; `None` if it is due at none.
+pub(crate) fn first_due(runs: &[Run], deed: Deed) -> Option<(Run, u32)>
+    requires { rooms runs.now < 2 ^ 32 }
+    ensures { result ≡ first_due deed 0 runs.now }
+{
+    let mut at = 0;
+    for run in runs {
+        if run.is_due(deed) {
+            return Some((*run, at));
+        }
+        at += run.room();
+    }
+    None
+}
+
+/// Returns what the next edit does: it inserts only if nothing is to be removed.
+pub(crate) fn next_deed(runs: &[Run]) -> Deed
+    ensures { result ≡ next_deed runs.now }
+{
+    for run in runs {
+        if run.is_due(Deed::Removes) {
+            return Deed::Removes;
+        }
+    }
+    Deed::Inserts
+}
+
+/// Returns how many members of the rasp the runs hold once the edit at the first run is made at which it is due.
+#[tactic(auto, using(crate::proofs::DueLaws::length_facts))]
+pub(crate) fn made_len(runs: &[Run], deed: Deed) -> u32
+    requires { rooms runs.now + waits runs.now < 2 ^ 32 }
+    ensures { result ≡ rooms (made_first deed runs.now) }
+{
+    let mut count = 0;
+    let mut is_made = false;
+    for run in runs {
+        if !is_made && run.is_due(deed) {
+            count += run.made().room();
+            is_made = true;
+        } else {
+            count += run.room();
+        }
+    }
+    count
+}
+
+/// Returns the edit at a run, before which so many members of the rasp stand. The only error is out of memory.
+pub(crate) fn edit_at(alloc: Global, text: &[char], run: Run, at: u32) -> Result<Edit, AllocError>
+    requires within { reach run ≤ length text.now }
+    requires text { length text.now < 2 ^ 32 }
+    requires fits { at + room run < 2 ^ 32 }
+    ensures { IfOk result (λ edit. edit ≡ edit_at text.now at run) }
+{
+    match run {
+        Run::Held(count, _) => Ok(Edit {
+            p: at,
+            q: at + count,
+            text: Runes::from_vec(Vec::new(alloc)),
+        }),
+        Run::Typed(runes, _, _) => {
+            let end = (runes.start + runes.count) as usize;
+            let text = Runes::from_slice(alloc, &text[runes.start as usize..end])?;
+            Ok(Edit { p: at, q: at, text })
+        }
+    }
+}
+
+/// Makes the edit at the first run at which such an edit is due; all stays if it is due at none.
+pub(crate) fn make_first(runs: &mut Vec<Run>, deed: Deed)
+    ensures { runs.new.items ≡ made_first deed runs.old.items }
+{
+    for at in 0..runs.len() {
+        let run = runs[at];
+        if run.is_due(deed) {
+            runs[at] = run.made();
+            return;
+        }
+    }
+}
