@@ -1,0 +1,11 @@
+pub mod Lefts
+pub mod Gates
+pub mod Likes
+pub mod Repeating
+pub mod Crashing
+pub mod Following
+pub mod Counting
+pub mod Turning
+pub mod Entries
+pub mod Remaking
+pub mod Serving

@@ -1,0 +1,6 @@
+pub mod Crashes
+pub mod Gates
+pub mod Marks
+pub mod Serving
+pub mod Sessions
+pub mod Turns

@@ -1,0 +1,306 @@
+-- What a server takes, and where what is left of it leads.
+use Rattle.std.proofs.Common.{◌≡◌, ◌≢◌, ℕ, List, [], ◌∷◌, ◌++◌, map, Bool, true, false, true≢false, ◌⊎◌, inl, inr, None, Some, Result, Ok, Err, refl, sym, ap, ◌∙◌, subst, append-nil}
+use Rattle.std.proofs.lemmas.List.{map-append}
+use Rattle.std.specs.Prelude.{◌==◌, if◌then◌else◌}
+use Rattle.sam_link.specs.Calls.{Does}
+use Rattle.sam_link.specs.Calls.Call.{Answer, Feed, PutNote}
+use Rattle.sam_link.specs.End.{End, AnswersBy, broken, ended}
+use Rattle.sam_link.specs.Inbox.{nothing}
+use Rattle.sam_link.specs.Packets.{Packet}
+use Rattle.sam_link.specs.declared.fault.FeedFault.{FeedFault}
+use Rattle.sam_link.specs.declared.fault.FeedFault.TheVariants as feeds
+use Rattle.sam_link.specs.declared.hello.Hello.{Hello}
+use Rattle.sam_link.specs.declared.hello.Id.{Id}
+use Rattle.sam_link.specs.declared.phase.Role.{Role}
+use Rattle.sam_link.specs.declared.phase.Role.TheVariants.{Host, Terminal}
+use Rattle.sam_server.specs.Records.{Called, Came, Done, Joined, PlainRecord, record_bytes}
+use Rattle.sam_endpoint.specs.HostEndpoints.{Adds, with_file}
+use Rattle.sam_server.specs.Servers.{Effect, Hands, Server, Takes, Write, emptied}
+use Rattle.sam_server.specs.DurableServers.{Finishing, GoesOn, GoesOnNow, IsOwing, IsWell, Leads, LeadsBy, Left, LeftAt, PlainDurableServer, RefusesPiece, TakesRecord, gone_to, recorded, told_of_feed}
+use Rattle.sam_server.specs.Servers.{new_server}
+use Rattle.sam_server.specs.Turns.{DroppedEffect, Finishes, IsHanded, IsResting, Nears, PlainTurn, hosted, linked}
+use Rattle.sam_server.specs.declared.fault.CallFault.{CallFault}
+use Rattle.sam_server.specs.declared.fault.CallFault.TheVariants as fault
+use Rattle.sam_server.specs.declared.fault.GoOnFault.{GoOnFault}
+use Rattle.sam_server.specs.declared.fault.GoOnFault.TheVariants as go_on
+use Rattle.sam_server.specs.declared.server.Stage.{Stage}
+use Rattle.sam_server.specs.declared.server.Stage.TheVariants.{Answering, Recording, Settled, Stopped}
+use Rattle.sam_server.specs.declared.turn.Stop.{Stop}
+use Rattle.sam_server.proofs.Turns.{HandsFrom, ends_ready, no_effects, plain_host}
+
+-- what is left of a piece that was fed leads where its record leads
+pub came_leads : (t : PlainTurn) (l : End) (attempt : ℕ) (piece : List ℕ) (z : Server) → IsResting t
+    → Does t.server.link (Feed attempt piece (Ok tt)) l → Finishes (linked t l) z → Takes t.server (Came attempt piece) z
+came_leads t l attempt piece z rests does ends =
+    let from = ends_ready (linked t l) z rests.handed.ready ends in
+    let effects : t.server.effects ++ map Write t.server.host.writes ≡ t.server.effects =
+    no_effects t.server.effects t.server.host.writes rests.handed.writes in
+    let packets : t.held ++ l.waiting.packets ≡ l.waiting.packets = ap (λ (h : List Packet). h ++ l.waiting.packets) rests.handed.held in
+    let same : record { link = emptied l; host = record t.server.host { writes = [] }; effects = t.server.effects ++ map Write t.server.host.writes }
+    ≡ record t.server { link = emptied l } =
+    λ i. record { link = emptied l; host = plain_host t.server.host rests.handed.writes i; effects = effects i } in (
+      l,
+      from.0,
+      does,
+      subst (λ (s : Server). Hands s l.waiting.packets from.0) same
+          (subst (λ (ps : List Packet). Hands (record { link = emptied l; host = record t.server.host { writes = [] }; effects = t.server.effects ++ map Write t.server.host.writes }) ps from.0) packets from.1),
+      from.2,
+    )
+
+-- ## What is left
+
+pub owing_at : (stage : Stage) → stage ≡ Recording → IsOwing stage
+owing_at stage is = subst IsOwing (sym is) tt
+
+pub owing_answers : (stage : Stage) → stage ≡ Answering → IsOwing stage
+owing_answers stage is = subst IsOwing (sym is) tt
+
+pub leads_itself : (d : PlainDurableServer) → Leads d d
+leads_itself d = record { leads = λ z left. left }
+
+pub left_recording : (d : PlainDurableServer) → d.stage ≡ Recording → Left d d.turn.server
+left_recording d is = subst (λ (s : Stage). LeftAt s d.turn d.turn.server) (sym is) refl
+
+pub rests_at : (stage : Stage) (t : PlainTurn) → stage ≡ Recording → IsWell stage t → IsResting t
+rests_at stage t is well = subst (λ (s : Stage). IsWell s t) is well
+
+pub ruleset record_facts = (owing_at, leads_itself, left_recording, map-append, rests_at)
+
+pub ruleset finish_facts = (owing_answers)
+
+-- it goes on with the rest of the turn, and memory is refused
+near_leads : (d e : PlainDurableServer) → d.stage ≡ Answering → e.stage ≡ Answering → Nears d.turn e.turn → Leads d e
+near_leads d e is is_too near = record {
+  leads = λ z left.
+      subst (λ (s : Stage). LeftAt s d.turn z) (sym is) (near.leads z (subst (λ (s : Stage). LeftAt s e.turn z) is_too left));
+}
+
+settled_not : (A : Type 0) (stage : Stage) → IsOwing stage → stage ≡ Settled → A
+settled_not A stage owing is = absurd (subst IsOwing is owing)
+
+stopped_not : (A : Type 0) (stage : Stage) (why : Stop) → IsOwing stage → stage ≡ Stopped why → A
+stopped_not A stage why owing is = absurd (subst IsOwing is owing)
+
+finished_leads : (d m e : PlainDurableServer) → d.stage ≡ Answering → m.stage ≡ Recording → Finishes d.turn m.turn.server → Leads m e
+    → Leads d e
+finished_leads d m e is is_too ends more = record {
+  leads = λ z left.
+      let same : z ≡ m.turn.server = subst (λ (s : Stage). LeftAt s m.turn z) is_too (more.leads z left) in
+      subst (λ (s : Stage). LeftAt s d.turn z) (sym is) (subst (λ (x : Server). Finishes d.turn x) (sym same) ends);
+}
+
+finished_left : (d m : PlainDurableServer) (z : Server) → d.stage ≡ Answering → m.stage ≡ Recording → Finishes d.turn m.turn.server
+    → Left m z → Left d z
+finished_left d m z is is_too ends left =
+    let same : z ≡ m.turn.server = subst (λ (s : Stage). LeftAt s m.turn z) is_too left in
+    subst (λ (s : Stage). LeftAt s d.turn z) (sym is) (subst (λ (x : Server). Finishes d.turn x) (sym same) ends)
+
+-- the turn is finished, and then recorded
+pub finished_then : (d m e : PlainDurableServer) (r : Result (Unit {0}) GoOnFault) → d.stage ≡ Answering → Finishing d (Ok tt) m
+    → GoesOn m r e → GoesOn d r e
+finished_then d m e (Ok done) is (ends, at) (inl (settled, same)) =
+    settled_not _ m.stage (subst IsOwing (sym (ap (λ (x : PlainDurableServer). x.stage) at)) tt) settled
+finished_then d m e (Ok done) is (ends, at) (inr (owing, left, same)) =
+    let stage : m.stage ≡ Recording = ap (λ (x : PlainDurableServer). x.stage) at in
+    inr (
+      owing_answers d.stage is,
+      finished_left d m e.turn.server is stage ends left,
+      same ∙ ap (λ (x : PlainDurableServer). recorded x e.turn x.owed) at,
+    )
+finished_then d m e (Err go_on.Unfinished) is (ends, at) (owing, still, leads, same) =
+    let stage : m.stage ≡ Recording = ap (λ (x : PlainDurableServer). x.stage) at in (
+      owing_answers d.stage is,
+      still,
+      finished_leads d m e is stage ends leads,
+      same ∙ ap (λ (x : PlainDurableServer). gone_to x e.turn e.stage x.owed) at,
+    )
+finished_then d m e (Err (go_on.Stopped why)) is (ends, at) (inl (stops, same)) =
+    stopped_not _ m.stage why (subst IsOwing (sym (ap (λ (x : PlainDurableServer). x.stage) at)) tt) stops
+finished_then d m e (Err (go_on.Stopped why)) is (ends, at) (inr (owing, same)) =
+    inr (owing_answers d.stage is, same ∙ ap (λ (x : PlainDurableServer). gone_to x e.turn (Stopped why) x.owed) at)
+
+pub finished_not : (d e : PlainDurableServer) (why : GoOnFault) → d.stage ≡ Answering → Finishing d (Err why) e → GoesOn d (Err why) e
+finished_not d e go_on.Unfinished is (near, at) =
+    let stage : e.stage ≡ Answering = ap (λ (x : PlainDurableServer). x.stage) at in (
+      owing_answers d.stage is,
+      owing_answers e.stage stage,
+      near_leads d e is stage near,
+      at ∙ ap (λ (s : Stage). gone_to d e.turn s d.owed) (sym stage),
+    )
+finished_not d e (go_on.Stopped why) is at = inr (owing_answers d.stage is, at)
+
+pub stage_of : (d m : PlainDurableServer) → Finishing d (Ok tt) m → m.stage ≡ Recording
+stage_of d m (ends, at) = ap (λ (x : PlainDurableServer). x.stage) at
+
+pub ruleset finished_facts = (finished_then, finished_not, stage_of)
+
+pub goes_nowhere : (d : PlainDurableServer) → d.stage ≡ Settled → GoesOn d (Ok tt) d
+goes_nowhere d is = inl (is, refl)
+
+pub stays_stopped : (d : PlainDurableServer) (why : Stop) → d.stage ≡ Stopped why → GoesOn d (Err (go_on.Stopped why)) d
+stays_stopped d why is = inl (is, refl)
+
+pub ruleset nothing_facts = (goes_nowhere, stays_stopped)
+
+-- ## A call takes a record
+
+-- the call is made, and its record is owed
+pub taken : {F : Type 0} (d m e : PlainDurableServer) (t : PlainTurn) (stage : Stage) (r : PlainRecord)
+    (refuses : F → PlainDurableServer → Type 0) (result : Result (Unit {0}) (CallFault F)) → d.stage ≡ Settled
+    → m ≡ gone_to d t stage (record_bytes r) → IsOwing stage → ((z : Server) → LeftAt stage t z → Takes d.turn.server r z)
+    → GoesOnNow m result e → TakesRecord d r refuses result e
+taken d m e t stage r refuses (Ok done) settled at owing leads (inl (is, same)) =
+    settled_not _ m.stage (subst IsOwing (sym (ap (λ (x : PlainDurableServer). x.stage) at)) owing) is
+taken d m e t stage r refuses (Ok done) settled at owing leads (inr (still, left, same)) = (
+  settled,
+  leads e.turn.server (subst (λ (x : PlainDurableServer). Left x e.turn.server) at left),
+  same ∙ ap (λ (x : PlainDurableServer). recorded x e.turn x.owed) at,
+)
+taken d m e t stage r refuses (Err fault.Unfinished) settled at owing leads (was, still, more, same) = (
+  settled,
+  still,
+  record { leads = λ z left. leads z (subst (λ (x : PlainDurableServer). Left x z) at (more.leads z left)) },
+  same ∙ ap (λ (x : PlainDurableServer). gone_to x e.turn e.stage x.owed) at,
+)
+taken d m e t stage r refuses (Err (fault.Stopped why)) settled at owing leads (inl (is, same)) =
+    stopped_not _ m.stage why (subst IsOwing (sym (ap (λ (x : PlainDurableServer). x.stage) at)) owing) is
+taken d m e t stage r refuses (Err (fault.Stopped why)) settled at owing leads (inr (was, same)) =
+    inr (settled, same ∙ ap (λ (x : PlainDurableServer). gone_to x e.turn (Stopped why) x.owed) at)
+taken d m e t stage r refuses (Err fault.Waiting) settled at owing leads goes = absurd goes
+taken d m e t stage r refuses (Err fault.OutOfMemory) settled at owing leads goes = absurd goes
+taken d m e t stage r refuses (Err (fault.Refused why)) settled at owing leads goes = absurd goes
+
+pub new_rests : (id : Id) → IsResting (record { server = new_server id; held = [] })
+new_rests id = record {
+  handed = record { ready = (refl, (record { waiting = refl; unwritten = refl }, refl)); writes = refl; held = refl; waiting = refl };
+  answers = refl;
+}
+
+-- a link that waits for as much as before leaves the turn done
+pub linked_rests : (t : PlainTurn) (l : End) → l.waiting ≡ t.server.link.waiting → IsResting t → IsResting (linked t l)
+linked_rests t l same rests = record {
+  handed = record {
+    ready = rests.handed.ready;
+    writes = rests.handed.writes;
+    held = rests.handed.held;
+    waiting = same ∙ rests.handed.waiting;
+  };
+  answers = rests.answers;
+}
+
+linked_well : (stage : Stage) (t : PlainTurn) (l : End) → l.waiting ≡ t.server.link.waiting → IsWell stage t → IsWell stage (linked t l)
+linked_well Settled t l same well = linked_rests t l same well
+linked_well Recording t l same well = linked_rests t l same well
+linked_well Answering t l same well = tt
+linked_well (Stopped why) t l same well = tt
+
+broken_waits : (b : Bool) (e : End) → (if b then ended e else e).waiting ≡ e.waiting
+broken_waits true e = refl
+broken_waits false e = refl
+
+pub broken_well : (stage : Stage) (t : PlainTurn) (attempt : ℕ) → IsWell stage t → IsWell stage (linked t (broken t.server.link attempt))
+broken_well stage t attempt well =
+    linked_well stage t (broken t.server.link attempt) (broken_waits (attempt == t.server.link.attempt) t.server.link) well
+
+pub answered_waits : (role : Role) (e n : End) (h : Hello) → AnswersBy role e h (Ok tt) n → n.waiting ≡ e.waiting
+answered_waits Host e n h x = ap (λ (k : End). k.waiting) x.1
+answered_waits Terminal e n h x = absurd x
+
+resting : (stage : Stage) (t : PlainTurn) → stage ≡ Settled → IsWell stage t → IsResting t
+resting stage t is well = subst (λ (s : Stage). IsWell s t) is well
+
+pub accept_well : (d : PlainDurableServer) (t : PlainTurn) (h : Hello) → d.stage ≡ Settled → IsWell d.stage d.turn
+    → t ≡ linked d.turn t.server.link → Does d.turn.server.link (Answer h (Ok tt)) t.server.link → IsResting t
+accept_well d t h settled well is does =
+    subst IsResting (sym is)
+    (linked_rests d.turn t.server.link (answered_waits d.turn.server.link.role d.turn.server.link t.server.link h does)
+    (resting d.stage d.turn settled well))
+
+pub accept_takes : {F : Type 0} (d e : PlainDurableServer) (t : PlainTurn) (h : Hello) (body : List ℕ)
+    (refuses : F → PlainDurableServer → Type 0) (result : Result (Unit {0}) (CallFault F)) → d.stage ≡ Settled
+    → body ≡ record_bytes (Called h) → t ≡ linked d.turn t.server.link → Does d.turn.server.link (Answer h (Ok tt)) t.server.link
+    → GoesOnNow (gone_to d t Recording body) result e → TakesRecord d (Called h) refuses result e
+accept_takes d e t h body refuses result settled body_is is does goes =
+    taken d (gone_to d t Recording body) e t Recording (Called h) refuses result settled
+    (ap (λ (b : List ℕ). gone_to d t Recording b) body_is) tt
+    (λ z left. (t.server.link, does, left ∙ ap (λ (x : PlainTurn). x.server) is)) goes
+
+pub receive_takes : {F : Type 0} (d e : PlainDurableServer) (t : PlainTurn) (attempt : ℕ) (piece body : List ℕ)
+    (refuses : F → PlainDurableServer → Type 0) (result : Result (Unit {0}) (CallFault F)) → d.stage ≡ Settled → IsWell d.stage d.turn
+    → body ≡ record_bytes (Came attempt piece) → t ≡ linked d.turn t.server.link
+    → Does d.turn.server.link (Feed attempt piece (Ok tt)) t.server.link
+    → GoesOnNow (gone_to d t Answering body) result e → TakesRecord d (Came attempt piece) refuses result e
+receive_takes d e t attempt piece body refuses result settled well body_is is does goes =
+    taken d (gone_to d t Answering body) e t Answering (Came attempt piece) refuses result settled
+    (ap (λ (b : List ℕ). gone_to d t Answering b) body_is) tt
+    (λ z left. came_leads d.turn t.server.link attempt piece z (resting d.stage d.turn settled well) does
+    (subst (λ (x : PlainTurn). Finishes x z) is left)) goes
+
+-- the piece is not taken
+pub refuses_piece : (d : PlainDurableServer) (t : PlainTurn) (attempt : ℕ) (piece : List ℕ) (why : FeedFault) → d.stage ≡ Settled
+    → t ≡ linked d.turn t.server.link → Does d.turn.server.link (Feed attempt piece (Err why)) t.server.link
+    → TakesRecord {A = Unit {0}} d (Came attempt piece) (RefusesPiece d attempt piece) (Err (told_of_feed why)) (record d { turn = t })
+refuses_piece d t attempt piece feeds.OutOfMemory settled is does =
+    (settled, ap (λ (x : PlainTurn). record d { turn = x }) (is ∙ ap (λ (l : End). linked d.turn l) does.1))
+refuses_piece d t attempt piece feeds.NotOpen settled is does =
+    (settled, (t.server.link, (λ e. cc), does, ap (λ (x : PlainTurn). record d { turn = x }) is))
+refuses_piece d t attempt piece feeds.CountFull settled is does =
+    (settled, (t.server.link, (λ e. cc), does, ap (λ (x : PlainTurn). record d { turn = x }) is))
+refuses_piece d t attempt piece (feeds.Wrong why) settled is does =
+    (settled, (t.server.link, (λ e. cc), does, ap (λ (x : PlainTurn). record d { turn = x }) is))
+refuses_piece d t attempt piece feeds.AckAhead settled is does =
+    (settled, (t.server.link, (λ e. cc), does, ap (λ (x : PlainTurn). record d { turn = x }) is))
+
+-- a record that is done at once
+pub single_takes : {F : Type 0} (d e : PlainDurableServer) (t : PlainTurn) (r : PlainRecord) (body : List ℕ)
+    (refuses : F → PlainDurableServer → Type 0) (result : Result (Unit {0}) (CallFault F)) → d.stage ≡ Settled → body ≡ record_bytes r
+    → Takes d.turn.server r t.server → GoesOnNow (gone_to d t Recording body) result e → TakesRecord d r refuses result e
+single_takes d e t r body refuses result settled body_is takes goes =
+    taken d (gone_to d t Recording body) e t Recording r refuses result settled
+    (ap (λ (b : List ℕ). gone_to d t Recording b) body_is) tt
+    (λ z left. subst (λ (x : Server). Takes d.turn.server r x) (sym left) takes) goes
+
+-- a file joined
+pub joined_takes : (t u : PlainTurn) (name text : List ℕ) (tag : ℕ) → u ≡ hosted t u.server.host
+    → Adds t.server.host name text (Ok tag) u.server.host → Takes t.server (Joined name text) u.server
+joined_takes t u name text tag is adds = (tag, u.server.host, adds, ap (λ (x : PlainTurn). x.server) is)
+
+pub joined_well : (d : PlainDurableServer) (u : PlainTurn) (name text : List ℕ) (tag : ℕ) → d.stage ≡ Settled → IsWell d.stage d.turn
+    → u ≡ hosted d.turn u.server.host → Adds d.turn.server.host name text (Ok tag) u.server.host → IsResting u
+joined_well d u name text tag settled well is adds =
+    let rests = resting d.stage d.turn settled well in
+    let shape : u ≡ hosted d.turn (with_file d.turn.server.host name text) = is ∙ ap (hosted d.turn) adds.2 in
+    subst IsResting (sym shape) (record {
+      handed = record {
+        ready = (rests.handed.ready.0, (record { waiting = rests.handed.ready.1.0.waiting; unwritten = rests.handed.ready.1.0.unwritten }, rests.handed.ready.1.1));
+        writes = rests.handed.writes;
+        held = rests.handed.held;
+        waiting = rests.handed.waiting;
+      };
+      answers = rests.answers;
+    })
+
+pub said_well : (d : PlainDurableServer) (u : PlainTurn) (message : List ℕ) → d.stage ≡ Settled → IsWell d.stage d.turn
+    → u ≡ linked d.turn u.server.link → Does d.turn.server.link (PutNote message (Ok tt)) u.server.link → IsResting u
+said_well d u message settled well is does =
+    subst IsResting (sym is)
+    (linked_rests d.turn u.server.link (ap (λ (l : End). l.waiting) does.1) (resting d.stage d.turn settled well))
+
+pub done_well : (d : PlainDurableServer) (u : PlainTurn) → d.stage ≡ Settled → IsWell d.stage d.turn → DroppedEffect d.turn true u
+    → IsResting u
+done_well d u settled well (e, rest, was, is) =
+    let rests = resting d.stage d.turn settled well in
+    subst IsResting (sym is) (record {
+      handed = record {
+        ready = rests.handed.ready;
+        writes = rests.handed.writes;
+        held = rests.handed.held;
+        waiting = rests.handed.waiting;
+      };
+      answers = rests.answers;
+    })
+
+-- an effect is done
+pub done_takes : (t u : PlainTurn) (ending : ℕ) (b : Bool) → b ≡ true → DroppedEffect t b u → Takes t.server (Done ending) u.server
+done_takes t u ending true some (e, rest, was, is) = (e, rest, was, ap (λ (x : PlainTurn). x.server) is)
+done_takes t u ending false some dropped = absurd (true≢false (sym some))

@@ -1,0 +1,8 @@
+pub mod Records
+pub mod DurableServers
+pub mod Laws
+pub mod Gates
+pub mod HostLinks
+pub mod Owing
+pub mod Servers
+pub mod Turns

@@ -1,0 +1,82 @@
+//! What a server's program gives it: files, messages, and how effects ended.
+
+ghost use Rattle.std.specs.Prelude.{◌≡◌, IfOk, length, option_copied, option_map, slice_get};
+ghost use Rattle.sam_server.specs.DurableServers.{RefusesEffect, RefusesFile, RefusesNote, TakesRecord};
+ghost use Rattle.sam_server.specs.Records.{Done, Joined, Said};
+ghost use Rattle.sam_server.specs.Turns.{plain_effect};
+
+use crate::effect::Effect;
+use crate::fault::{CallFault, NoEffect};
+use crate::record::Record;
+use crate::server::{DurableServer, Stage};
+use sam_endpoint::AddFault;
+use sam_link::NoteFault;
+
+impl DurableServer {
+    /// Adds a file under the next tag, and returns the tag, as `HostEndpoint::add_file` does.
+    ///
+    /// Errors, in this order: `Stopped`; `Waiting`; `OutOfMemory`; `Refused` as the endpoint refuses it; `Unfinished`, after which the file
+    /// has joined under the next tag. After all but the last it is as it was.
+    #[tactic(auto, using(crate::proofs::DurableServers::joined_well))]
+    pub fn add_file(&mut self, name: &[u8], text: &[u8]) -> Result<u16, CallFault<AddFault>>
+        ensures takes { TakesRecord self.old (Joined name.now text.now) (RefusesFile self.old name.now text.now) result self.new }
+        ensures tag { IfOk result (λ tag. tag ≡ length self.old.turn.server.host.host.files.slots) }
+    {
+        let body = self.prepare(Record::Joined(name, text))?;
+        let tag = match self.turn.add_file(name, text) {
+            Ok(tag) => tag,
+            Err(AddFault::OutOfMemory) => return Err(CallFault::OutOfMemory),
+            Err(why) => return Err(CallFault::Refused(why)),
+        };
+        self.owed = body;
+        self.stage = Stage::Recording;
+        match self.go_on_now() {
+            Ok(()) => Ok(tag),
+            Err(why) => Err(why),
+        }
+    }
+
+    /// Puts a message for the terminal's program, behind all that was put.
+    ///
+    /// Errors, in this order: `Stopped`; `Waiting`; `OutOfMemory`; `Refused` with `TooLong` or `CountFull`; `Unfinished`, after which the
+    /// message is put. After all but the last it is as it was.
+    #[tactic(auto, using(crate::proofs::DurableServers::said_well))]
+    pub fn say(&mut self, message: &[u8]) -> Result<(), CallFault<NoteFault>>
+        ensures { TakesRecord self.old (Said message.now) (RefusesNote self.old message.now) result self.new }
+    {
+        let body = self.prepare(Record::Said(message))?;
+        match self.turn.put_note(message) {
+            Ok(()) => {}
+            Err(NoteFault::OutOfMemory) => return Err(CallFault::OutOfMemory),
+            Err(why) => return Err(CallFault::Refused(why)),
+        }
+        self.owed = body;
+        self.stage = Stage::Recording;
+        self.go_on_now()
+    }
+
+    /// Lends the oldest effect that is not done; `None` if there is none. A file is written only once all records that were handed out are
+    /// durable, and `effect_done` says how that ended.
+    pub fn next_effect(&self) -> Option<&Effect>
+        ensures { option_map plain_effect (option_copied result) ≡ slice_get self.now.turn.server.effects 0 }
+    {
+        self.turn.first_effect()
+    }
+
+    /// Takes note that the oldest effect is done, with a number of the program's for how it ended.
+    ///
+    /// Errors, in this order: `Stopped`; `Waiting`; `OutOfMemory`; `Refused` if there is no effect; `Unfinished`, after which it counts as
+    /// done. After all but the last it is as it was.
+    #[tactic(auto, using(crate::proofs::DurableServers::done_well))]
+    pub fn effect_done(&mut self, ending: u64) -> Result<(), CallFault<NoEffect>>
+        ensures { TakesRecord self.old (Done ending) (RefusesEffect self.old) result self.new }
+    {
+        let body = self.prepare(Record::Done(ending))?;
+        if self.turn.drop_effect() {
+            self.owed = body;
+            self.stage = Stage::Recording;
+            return self.go_on_now();
+        }
+        Err(CallFault::Refused(NoEffect))
+    }
+}
