@@ -26,10 +26,10 @@
  * (U+0000) as they hold any other rune, and no call adds one at their end: go by the lengths. Runes are counted by uint32_t; bytes in
  * memory, the room of a buffer, tags and lines of a script by size_t; events, messages and the bytes of a whole stream by uint64_t.
  *
- * Handles. sam_host, sam_term and sam_link are the caller's, on the stack or anywhere else. A handle whose bytes are all zero is empty:
- * SAM_HOST_INIT, SAM_TERM_INIT and SAM_LINK_INIT are, and in C so is {0}. sam_host_new and its like make it, and sam_host_free and its
- * like leave it empty again. The caller doesn't read, change or copy a handle that is made. Readers take it without const, because each
- * call takes out the content of the handle and puts it back: two of them may not run at once.
+ * Handles. sam_host, sam_term, sam_link and sam_line are the caller's, on the stack or anywhere else. A handle whose bytes are all zero is
+ * empty: SAM_HOST_INIT, SAM_TERM_INIT, SAM_LINK_INIT and SAM_LINE_INIT are, and in C so is {0}. sam_host_new and its like make it, and
+ * sam_host_free and its like leave it empty again. The caller doesn't read, change or copy a handle that is made. Readers take it without
+ * const, because each call takes out the content of the handle and puts it back: two of them may not run at once.
  *
  * Status. Each call returns an enum sam_status, but for sam_library_version, sam_status_text and sam_is_stop, and hands other results out
  * through pointers. A call refuses a handle that is NULL or empty first of all (SAM_NO_HANDLE); its comment says the refusals after that.
@@ -123,6 +123,10 @@ enum sam_status {
     SAM_ADD_TOO_LONG = SAM_ADD + 3, /* the name has more than 64 runes, or the text more than 1,000,000 */
     SAM_ADD_NO_TAG = SAM_ADD + 4,   /* all 65,536 tags were given */
 
+    SAM_MARK = 48, /* sam_host_mark_dirty refused to mark a file, and the host is as it was; SAM_NONE if there is no such file */
+    SAM_MARK_COMMAND_FILE = SAM_MARK + 2,  /* the command file is never dirty */
+    SAM_MARK_NOT_ANNOUNCED = SAM_MARK + 3, /* the terminal was not told the file's name yet */
+
     SAM_STREAM = 32,                 /* the other side's stream is wrong, and the handle has stopped */
     SAM_BAD_KIND = SAM_STREAM + 1,   /* a kind that this direction doesn't have */
     SAM_BAD_LENGTH = SAM_STREAM + 2, /* a length that the kind can't have */
@@ -163,20 +167,23 @@ enum sam_status {
     SAM_SCRIPT_COUNT_FULL = SAM_SCRIPT + 2, /* a line would count more than 2^64-1 messages */
 
     SAM_LINK = 192, /* the reasons of a link's refusals; the link goes on. The first seven also go over the line, as 17 to 23 */
-    SAM_LINK_NOT_A_LINK = SAM_LINK + 1,    /* the bytes are no hello */
-    SAM_LINK_OTHER_VERSION = SAM_LINK + 2, /* a hello of another version */
-    SAM_LINK_BAD_HELLO = SAM_LINK + 3,     /* a hello that says nothing which this side takes */
-    SAM_LINK_NO_SESSION = SAM_LINK + 4,    /* the terminal resumes a session that the host doesn't have */
-    SAM_LINK_OTHER_SESSION = SAM_LINK + 5, /* the id is another */
-    SAM_LINK_OLD_ATTEMPT = SAM_LINK + 6,   /* the connection isn't the newest */
-    SAM_LINK_WRONG_COUNT = SAM_LINK + 7,   /* bytes are counted that can't have come */
-    SAM_LINK_WRONG_ROLE = SAM_LINK + 8,    /* a call of the other side, or no side at all */
-    SAM_LINK_NOT_OPEN = SAM_LINK + 9,      /* the connection is over, replaced, or has no hello yet */
-    SAM_LINK_TOO_LONG = SAM_LINK + 10,     /* a note of more than 4,096 bytes */
-    SAM_LINK_BAD_KIND = SAM_LINK + 11,     /* a packet of an unknown kind came; this connection is over */
-    SAM_LINK_BAD_LENGTH = SAM_LINK + 12,   /* a packet of a length that its kind can't have came; this connection is over */
-    SAM_LINK_ACK_AHEAD = SAM_LINK + 13,    /* bytes were acknowledged that didn't go; this connection is over */
-    SAM_LINK_NO_ROOM = SAM_LINK + 14,      /* the buffer has less room than the longest note */
+    SAM_LINK_NOT_A_LINK = SAM_LINK + 1,        /* the bytes are no hello */
+    SAM_LINK_OTHER_VERSION = SAM_LINK + 2,     /* a hello of another version */
+    SAM_LINK_BAD_HELLO = SAM_LINK + 3,         /* a hello that says nothing which this side takes */
+    SAM_LINK_NO_SESSION = SAM_LINK + 4,        /* the terminal resumes a session that the host doesn't have */
+    SAM_LINK_OTHER_SESSION = SAM_LINK + 5,     /* the id is another */
+    SAM_LINK_OLD_ATTEMPT = SAM_LINK + 6,       /* the connection isn't the newest */
+    SAM_LINK_WRONG_COUNT = SAM_LINK + 7,       /* bytes are counted that can't have come */
+    SAM_LINK_WRONG_ROLE = SAM_LINK + 8,        /* a call of the other side, or no side at all */
+    SAM_LINK_NOT_OPEN = SAM_LINK + 9,          /* the connection is over, replaced, or has no hello yet */
+    SAM_LINK_TOO_LONG = SAM_LINK + 10,         /* a note of more than 4,096 bytes */
+    SAM_LINK_BAD_KIND = SAM_LINK + 11,         /* a packet of an unknown kind came; this connection is over */
+    SAM_LINK_BAD_LENGTH = SAM_LINK + 12,       /* a packet of a length that its kind can't have came; this connection is over */
+    SAM_LINK_ACK_AHEAD = SAM_LINK + 13,        /* bytes were acknowledged that didn't go; this connection is over */
+    SAM_LINK_NO_ROOM = SAM_LINK + 14,          /* the buffer has less room than the longest note */
+    SAM_LINK_TOO_MANY_WORDS = SAM_LINK + 15,   /* more than 65,536 bytes came before the host's hello; this connection is over */
+    SAM_LINK_TOO_MANY_ANSWERS = SAM_LINK + 16, /* the host asks and asks, and takes no answer; this connection is over */
+    SAM_LINK_WRONG_HELLO = SAM_LINK + 17,      /* what should be the host's hello is none, or doesn't fit; this connection is over */
 
     SAM_NOTE = 224, /* why bytes are no message of a session, or a message is not written: they are tested in this order */
     SAM_NOTE_BAD_KIND = SAM_NOTE + 1,   /* no kind has this number: a message of a later version, which is skipped */
@@ -230,11 +237,19 @@ struct sam_link {
 };
 typedef struct sam_link sam_link;
 
+/* The handle of a line. Both fields are the library's. */
+struct sam_line {
+    void *at;
+    uint64_t made;
+};
+typedef struct sam_line sam_line;
+
 /* Empty handles, as in `sam_host host = SAM_HOST_INIT;`. */
 /* clang-format off */
 #define SAM_HOST_INIT {NULL, 0}
 #define SAM_TERM_INIT {NULL, 0}
 #define SAM_LINK_INIT {NULL, 0}
+#define SAM_LINE_INIT {NULL, 0}
 /* clang-format on */
 
 /* ---- Single steps ---- */
@@ -437,6 +452,13 @@ SAM_MUST_USE sam_status sam_host_version(sam_host *host, uint16_t *version);
  * Twrite gives its tag once, in order, so a file that was written twice comes twice. Ask after each feed, because the saved text is gone
  * once the file is closed. Returns SAM_NONE if no tag is left. */
 SAM_MUST_USE sam_status sam_host_next_written(sam_host *host, uint16_t *tag);
+
+/* Marks a file as dirty, open or not: for a program whose write of it failed, or that has another text on disk. If the file was clean, the
+ * frame that says so (Hdirty) is then pending, behind all answers of before. It frees no lock, and no text, dot or name changes. A program
+ * may call it at any time, also on a host that has stopped. Messages that wait, as after SAM_UNFINISHED, are answered after the mark.
+ * Refused, in this order: SAM_NONE if the tag has no file; SAM_MARK_COMMAND_FILE for tag 0; SAM_MARK_NOT_ANNOUNCED if the terminal was not
+ * told the file's name yet: the answer to its next Tversion has the name; SAM_NO_MEMORY. The host is then as it was. */
+SAM_MUST_USE sam_status sam_host_mark_dirty(sam_host *host, uint16_t tag);
 
 /* Hands out the length in runes of the text that a file had when it was written last (Twrite). Returns SAM_NONE if the tag has no file, or
  * if the file was never written. */
@@ -1004,6 +1026,148 @@ SAM_MUST_USE sam_status sam_link_unsent(sam_link *link, size_t *count);
 /* Hands out the number of bytes of the other side's stream that have come. */
 SAM_MUST_USE sam_status sam_link_received(sam_link *link, uint64_t *count);
 
+/* ==== A line ====
+ *
+ * A line is the terminal's end of a link with the clock of its connections: it decides when a connection is to be made, when the host is to
+ * be asked, and when the connection is to be given up. It also finds the host's hello behind words that a login may print. It opens no
+ * connection and has no clock: the program does as sam_line_tick says, moves the bytes, and hands in the time. A program calls either these
+ * calls or those of a link. docs/howto/RECONNECTING.md has the loop:
+ *
+ *     sam_line_tick(&line, now, &tick)              SAM_TICK_CONNECT: the program opens a connection
+ *     sam_line_connected(&line, now, &attempt)      it is open; or sam_line_not_connected, if it can't be made
+ *     sam_line_take_out(&line, attempt, ..)         bytes for it: the hello first
+ *     sam_line_receive(&line, attempt, .., now)     all bytes that came on it
+ *     sam_line_take_in(&line, ..)                   the program's bytes among them, and sam_line_next_note the notes
+ *     sam_line_ask(&line, now)                      asks whether all has come, if that is to be asked
+ *     sam_line_broken(&line, attempt, now)          the connection has ended
+ *     sam_line_due_in(&line, now, &left)            for so long nothing is to be done, unless a call comes
+ *
+ * `now` is the time: milliseconds of any clock that doesn't jump, as of CLOCK_MONOTONIC. A time below the greatest that was handed in
+ * counts as the greatest. A call that is refused has changed nothing but the time, unless its comment says more. Of these calls
+ * sam_line_new, _put, _put_note, _ask, _acknowledge and _receive take memory, the others none. */
+
+/* The work that sam_line_tick hands out. */
+enum sam_tick {
+    SAM_TICK_NOTHING = 0, /* nothing */
+    SAM_TICK_CONNECT = 1, /* make a connection */
+    SAM_TICK_DROP = 2,    /* close the connection, or end the attempt to make one: for the line it is over */
+    SAM_TICK_ASK = 3      /* call sam_line_ask: nothing has come for 15 seconds, though an answer is due */
+};
+
+/* The state of a line. */
+enum sam_line_state {
+    SAM_LINE_DOWN = 0,       /* there is no connection; the next is tried when sam_line_due_in says */
+    SAM_LINE_CONNECTING = 1, /* one is being made, or waits for the host's hello; it is given up after 30 seconds */
+    SAM_LINE_OPEN = 2,       /* a host has welcomed the newest connection */
+    SAM_LINE_LATE = 3,       /* it has, but nothing has come for long, though an answer is due */
+    SAM_LINE_LOST = 4        /* the host has refused for good: no connection is tried any more */
+};
+
+/* What sam_line_describe hands out: the state, the counts and the times of a line. */
+struct sam_line_details {
+    uint64_t silence;      /* milliseconds for which nothing has come, though something was due */
+    uint64_t round_trip;   /* milliseconds that the answer to the last question took; 0 before the first */
+    uint64_t failures;     /* connections that failed, one after another; 6 stands for more, too */
+    uint64_t attempt;      /* the number of the newest connection; 0 before the first */
+    uint64_t put_count;    /* bytes of this side's stream, heads of packets and questions included */
+    uint64_t acknowledged; /* of these the bytes that the host has acknowledged */
+    uint64_t received;     /* bytes of the host's stream that have come */
+    uint32_t state;        /* enum sam_line_state */
+    uint32_t why;          /* in SAM_LINE_LOST the host's reason, of SAM_LINK_NOT_A_LINK to SAM_LINK_WRONG_COUNT; else SAM_OK */
+    bool is_known;         /* a host has welcomed this line */
+    bool has_all;          /* the host has acknowledged all that was put */
+};
+typedef struct sam_line_details sam_line_details;
+
+/* ---- A line: making and freeing ---- */
+
+/* Makes a line, whose first connection is due at once. The id is the session's name: 16 bytes that the terminal chose at random. It is no
+ * secret. With `take_over`, the session is to begin with the texts of another, as long as no host has welcomed this line. Refused, in this
+ * order: SAM_NO_HANDLE if the handle is NULL; SAM_MADE if it is made already; SAM_NO_MEMORY. The handle is then as it was. */
+SAM_MUST_USE sam_status sam_line_new(sam_line *line, const uint8_t id[SAM_LINK_ID_BYTES], bool take_over, uint64_t now);
+
+/* Frees a line, with all the bytes that it keeps, and leaves the handle empty. Refused: SAM_NO_HANDLE if the handle is NULL or empty. */
+sam_status sam_line_free(sam_line *line);
+
+/* ---- A line: connections ---- */
+
+/* Hands out what the program is to do at this time (enum sam_tick). What it hands out counts as begun: another call at the same time hands
+ * out something else, so call it until it hands out SAM_TICK_NOTHING. */
+SAM_MUST_USE sam_status sam_line_tick(sam_line *line, uint64_t now, uint32_t *tick);
+
+/* Hands out the number of milliseconds until sam_line_tick has something to say, if no other call comes before. Returns SAM_NONE if it
+ * never has. */
+SAM_MUST_USE sam_status sam_line_due_in(sam_line *line, uint64_t now, uint64_t *left);
+
+/* Takes a connection that the program has opened: the connection before is over. Hands out its number, counted from 1, which names it in
+ * the calls below. Send the bytes of sam_line_take_out: its hello. Refused: SAM_COUNT_FULL after 2^64-1 connections. */
+SAM_MUST_USE sam_status sam_line_connected(sam_line *line, uint64_t now, uint64_t *attempt);
+
+/* Gives up the connection for which SAM_TICK_CONNECT asked, because it can't be made: another is tried after a pause. At any other time it
+ * changes nothing. */
+SAM_MUST_USE sam_status sam_line_not_connected(sam_line *line, uint64_t now);
+
+/* Ends a connection, because it broke or because the program gives it up: another is tried after a pause, which grows from 0 over 1, 2, 4,
+ * 8 and 16 to 30 seconds, and begins anew after a connection that stood for a second. Nothing changes if it isn't the newest, or is over
+ * already. */
+SAM_MUST_USE sam_status sam_line_broken(sam_line *line, uint64_t attempt, uint64_t now);
+
+/* Doubts an open connection, because an address of the machine came or went: it is late, so call sam_line_ask, and if no byte comes it is
+ * given up after 2 seconds. A connection that is to be made is tried after 1 second at most. */
+SAM_MUST_USE sam_status sam_line_address_changed(sam_line *line, uint64_t now);
+
+/* ---- A line: bytes and notes to send ---- */
+
+/* Puts bytes for the host's program, all or none, with or without a connection: an answer is then due. Refused, in this order:
+ * SAM_COUNT_FULL if the stream would have more than 2^64-1 bytes; SAM_NO_MEMORY. */
+SAM_MUST_USE sam_status sam_line_put(sam_line *line, const uint8_t *bytes, size_t len, uint64_t now);
+
+/* Puts a note behind all bytes that were put: it comes out after these bytes and before later ones. Refused, in this order:
+ * SAM_LINK_TOO_LONG for more than 4,096 bytes; SAM_COUNT_FULL; SAM_NO_MEMORY. */
+SAM_MUST_USE sam_status sam_line_put_note(sam_line *line, const uint8_t *bytes, size_t len, uint64_t now);
+
+/* Asks the host whether all has come, if something that was put is not acknowledged, or the line is late; but not while such a question is
+ * under way. So it may be called after each put and each piece. Refused, in this order: SAM_COUNT_FULL; SAM_NO_MEMORY. */
+SAM_MUST_USE sam_status sam_line_ask(sam_line *line, uint64_t now);
+
+/* Acknowledges all bytes that have come. The line does so by itself when it is asked, and after each 16,384 bytes. Refused, in this order:
+ * SAM_COUNT_FULL; SAM_NO_MEMORY. */
+SAM_MUST_USE sam_status sam_line_acknowledge(sam_line *line);
+
+/* ---- A line: bytes out and in ---- */
+
+/* Moves the next bytes for a connection into the buffer, as many as there are and fit, and hands out their number: first the hello, and
+ * then the stream from the place where this connection goes on. Call it after each put, question and piece. Refused: SAM_LINK_NOT_OPEN if
+ * the connection is over or isn't the newest. */
+SAM_MUST_USE sam_status sam_line_take_out(sam_line *line, uint64_t attempt, uint8_t *into, size_t room, size_t *count);
+
+/* Takes bytes that came on a connection, from its first one on, in pieces of any length, all or none. Refused, in this order:
+ * SAM_LINK_NOT_OPEN if the connection is over or isn't the newest; SAM_LINK_TOO_MANY_ANSWERS if 65,536 bytes or more are kept that answer
+ * the host; before the host's welcome SAM_LINK_TOO_MANY_WORDS, SAM_LINK_WRONG_HELLO, and the host's reason, if it refuses; then
+ * SAM_COUNT_FULL, SAM_LINK_BAD_KIND, SAM_LINK_BAD_LENGTH and SAM_LINK_ACK_AHEAD, as sam_link_feed has them. After each of these but the
+ * first the connection is over: close it. The line then tries another, or is lost: sam_line_describe says why. SAM_NO_MEMORY may come at
+ * any place: the connection stays, and the same bytes are to be given again. Of these only the host's welcome may have been taken, as
+ * is_known and the counts then say. */
+SAM_MUST_USE sam_status sam_line_receive(sam_line *line, uint64_t attempt, const uint8_t *bytes, size_t len, uint64_t now);
+
+/* Moves the next bytes of the host's program into the buffer, as many as one packet has left and fit, and hands out their number. Call it
+ * until it hands out 0: then a note is next, or nothing. */
+SAM_MUST_USE sam_status sam_line_take_in(sam_line *line, uint8_t *into, size_t room, size_t *count);
+
+/* Moves the note that is next into the buffer, and hands out its length in bytes, which may be 0. Refused, in this order: SAM_LINK_NO_ROOM
+ * if the buffer has less room than 4,096 bytes; SAM_NONE if no note is next, because bytes before it are not taken in yet, or because none
+ * has come. */
+SAM_MUST_USE sam_status sam_line_next_note(sam_line *line, uint8_t *into, size_t room, size_t *len);
+
+/* ---- A line: readers ---- */
+
+/* Hands out the state, the counts and the times of a line, in one call. */
+SAM_MUST_USE sam_status sam_line_describe(sam_line *line, uint64_t now, sam_line_details *details);
+
+/* Copies the words that came on the newest connection before the host's hello, perhaps of a login, as many bytes as fit, and hands out
+ * their number. They are bytes, and need be no text. A room of 65,536 bytes is always enough while a connection stands. */
+SAM_MUST_USE sam_status sam_line_words(sam_line *line, uint8_t *into, size_t room, size_t *len);
+
 /* ==== The messages of a session ====
  *
  * samhost and its front ends exchange these messages as the notes of a link: docs/reference/SESSION.md has the meaning of each. A message
@@ -1025,7 +1189,7 @@ enum sam_note_kind {
     SAM_NOTE_OPENED = 70,     /* request, tag: the file of an Open */
     SAM_NOTE_REFUSED = 71,    /* request, code, text: what was asked for is not done, and why */
     SAM_NOTE_NAMES = 72,      /* request, code, path: names, each with a newline behind it; those of folders end in `/` */
-    SAM_NOTE_ANEW = 73,       /* request, number: the file of the tag `number` has what stands on the disk */
+    SAM_NOTE_ANEW = 73,       /* request, number: the file of the tag `number` is hidden; that of an answer has what stands on the disk */
     SAM_NOTE_SAVED = 74,      /* request, tag, code, path, copy, text: a write went to the disk, at the path */
     SAM_NOTE_NOT_SAVED = 75,  /* request, tag, code, path, copy, text: a write failed, and why; its text is in the copy, if not empty */
     SAM_NOTE_CHANGED = 76,    /* tag, code, path, text: another program changed the file, or removed it */

@@ -37,6 +37,8 @@ const char *sam_status_text(sam_status status)
         TEXT(SAM_WAITING, "some of what came before waits, so make steps first; what the call brought was not taken");
         TEXT(SAM_ADD_TOO_LONG, "the name has more than 64 runes, or the text more than 1,000,000");
         TEXT(SAM_ADD_NO_TAG, "all 65,536 tags were given");
+        TEXT(SAM_MARK_COMMAND_FILE, "the file is the command file, which is never dirty");
+        TEXT(SAM_MARK_NOT_ANNOUNCED, "the terminal was not told the file's name yet");
         TEXT(SAM_BAD_KIND, "the stream is wrong: it has a message of an unknown kind");
         TEXT(SAM_BAD_LENGTH, "the stream is wrong: a message has a length that its kind can't have");
         TEXT(SAM_BAD_TEXT, "the stream is wrong: a text is not UTF-8, or too long");
@@ -82,6 +84,9 @@ const char *sam_status_text(sam_status status)
         TEXT(SAM_LINK_BAD_LENGTH, "a packet came with a length that its kind can't have, and the connection is over");
         TEXT(SAM_LINK_ACK_AHEAD, "bytes are acknowledged that did not go, and the connection is over");
         TEXT(SAM_LINK_NO_ROOM, "the buffer has less room than the longest note, 4,096 bytes");
+        TEXT(SAM_LINK_TOO_MANY_WORDS, "more than 65,536 bytes came before the host's hello, and the connection is over");
+        TEXT(SAM_LINK_TOO_MANY_ANSWERS, "the host asks and takes no answer, and the connection is over");
+        TEXT(SAM_LINK_WRONG_HELLO, "what should be the host's hello is none or doesn't fit, and the connection is over");
         TEXT(SAM_NOTE_BAD_KIND, "no kind of message has this number");
         TEXT(SAM_NOTE_BAD_FIELD, "the message has a field that its kind has not");
         TEXT(SAM_NOTE_BAD_LENGTH, "the message has too few bytes or too many for its fields, or more than there is room for");

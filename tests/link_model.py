@@ -22,7 +22,7 @@ BODIES = {DATA: (1, MOST_BODY), NOTE: (0, MOST_NOTE), ACKNOWLEDGEMENT: (8, 8), A
 
 
 class Status(enum.IntEnum):
-    """Those statuses of the library that a link answers."""
+    """Those statuses of the library that a link or a line answers."""
 
     OK = 0
     NO_MEMORY = 1
@@ -44,6 +44,9 @@ class Status(enum.IntEnum):
     LINK_BAD_LENGTH = 204
     LINK_ACK_AHEAD = 205
     LINK_NO_ROOM = 206
+    LINK_TOO_MANY_WORDS = 207
+    LINK_TOO_MANY_ANSWERS = 208
+    LINK_WRONG_HELLO = 209
 
 
 class What(enum.IntEnum):

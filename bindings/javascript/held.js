@@ -1,4 +1,4 @@
-/* The handle of the library that a host, a terminal and a link each have, and the calls of it. */
+/* The handle of the library that a host, a terminal, a link and a line each have, and the calls of it. */
 import * as module from "./module.js";
 import { call, lend, result, space } from "./module.js";
 import { Missing, Status, errorOf } from "./status.js";
@@ -47,10 +47,11 @@ export function makeOfText(side, name, words, text) {
   makeOfBytes(side, name, words, bytes);
 }
 
-export function makeOfBytes(side, name, words, bytes) {
+/** Makes a call that takes these words, the bytes' place and length, and then the words after them. */
+export function makeOfBytes(side, name, words, bytes, ...after) {
   lend([bytes], (places) => {
     if (places === null) throw errorOf(isFreed(side) ? Status.NO_HANDLE : Status.NO_MEMORY);
-    make(side, name, ...words, places[0], BigInt(bytes.length));
+    make(side, name, ...words, places[0], BigInt(bytes.length), ...after);
   });
 }
 
@@ -60,7 +61,7 @@ export function one(side, name, as, ...words) {
   return as(0);
 }
 
-/** A handle, which host, terminal and link share. */
+/** A handle, which host, terminal, link and line share. */
 export class Held {
   /** Makes the handle, by the call `new` with these words. */
   constructor(...words) {

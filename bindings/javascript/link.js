@@ -3,10 +3,10 @@ import { Held, PREFIX, ifAny, isFreed, make, makeOfBytes, one } from "./held.js"
 import { PIECE, bytesOut, call, least, lend, long, part, result, size, sizesAt, space, u32, u64 } from "./module.js";
 import { Status, errorOf } from "./status.js";
 
-const ID_BYTES = 16;
+export const ID_BYTES = 16;
 const HELLO_BYTES = 42;
 export const MOST_NOTE = 4096;
-const MOST_BODY = 4096; // bytes that one packet has for the program
+export const MOST_BODY = 4096; // bytes that one packet has for the program
 const MOST_PLACES = 256; // of bytes in a piece, that are handed out at once
 const PLACE_SIZE = 16; // bytes of a place: two numbers of 64 bits
 

@@ -22,7 +22,7 @@ export const NoteKind = Object.freeze({
   OPENED: 70, // request, tag: the file of an Open
   REFUSED: 71, // request, code, text: what was asked for is not done, and why
   NAMES: 72, // request, code, path: names, each with a newline behind it; those of folders end in `/`
-  ANEW: 73, // request, number: the file of the tag `number` has what stands on the disk
+  ANEW: 73, // request, number: the file of the tag `number` is hidden; that of an answer has what stands on the disk
   SAVED: 74, // request, tag, code, path, copy, text: a write went to the disk, at the path
   NOT_SAVED: 75, // request, tag, code, path, copy, text: a write failed, and why; its text is in the copy, if not empty
   CHANGED: 76, // tag, code, path, text: another program changed the file, or removed it

@@ -157,6 +157,10 @@ export class Host extends Side {
     for (let tag = this.nextWritten(); tag !== null; tag = this.nextWritten()) yield tag;
   }
 
+  markDirty(tag) {
+    make(this, "mark_dirty", short(tag));
+  }
+
   get isDone() {
     return one(this, "is_done", truth);
   }

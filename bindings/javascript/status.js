@@ -18,6 +18,8 @@ export const Status = Object.freeze({
   BAD_LENGTH: 34,
   BAD_TEXT: 35,
   TRUNCATED: 36,
+  MARK_COMMAND_FILE: 50,
+  MARK_NOT_ANNOUNCED: 51,
   HOST_NO_FILE: 65,
   HOST_NOT_OPEN: 66,
   HOST_BAD_POSITION: 67,
@@ -57,6 +59,9 @@ export const Status = Object.freeze({
   LINK_BAD_LENGTH: 204,
   LINK_ACK_AHEAD: 205,
   LINK_NO_ROOM: 206,
+  LINK_TOO_MANY_WORDS: 207,
+  LINK_TOO_MANY_ANSWERS: 208,
+  LINK_WRONG_HELLO: 209,
   NOTE_BAD_KIND: 225,
   NOTE_BAD_FIELD: 226,
   NOTE_BAD_LENGTH: 227,
@@ -169,6 +174,10 @@ export class Missing extends SamError {}
 /** A file can't be added: its name or text is too long, or no tag is left (SAM_ADD_..). The host is as it was. */
 export class AddRefused extends SamError {}
 
+/** A file can't be marked as dirty: it is the command file, or the terminal was not told its name yet (SAM_MARK_..). The host is as it
+ * was. */
+export class MarkRefused extends SamError {}
+
 /** The other side's stream is wrong, and this side has stopped (SAM_BAD_..); or `finish` found that it ends inside a message or frame
  * (SAM_TRUNCATED). */
 export class StreamFault extends SamError {}
@@ -200,6 +209,7 @@ const KINDS = {
   NotText,
   Missing,
   AddRefused,
+  MarkRefused,
   StreamFault,
   HostRefused,
   TerminalRefused,
@@ -213,7 +223,8 @@ const SINGLE = [undefined, NoMemory, Unfinished, CountFull, HandleFault, HandleF
 // The first number of each family, and the first after it.
 const FAMILIES = [
   [16, 32, AddRefused],
-  [32, 64, StreamFault],
+  [32, 48, StreamFault],
+  [48, 64, MarkRefused],
   [64, 96, HostRefused],
   [96, 128, TerminalRefused],
   [160, 192, ScriptFault],

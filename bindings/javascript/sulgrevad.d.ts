@@ -76,6 +76,8 @@ export declare const Status: {
   readonly BAD_LENGTH: 34;
   readonly BAD_TEXT: 35;
   readonly TRUNCATED: 36;
+  readonly MARK_COMMAND_FILE: 50;
+  readonly MARK_NOT_ANNOUNCED: 51;
   readonly HOST_NO_FILE: 65;
   readonly HOST_NOT_OPEN: 66;
   readonly HOST_BAD_POSITION: 67;
@@ -115,6 +117,9 @@ export declare const Status: {
   readonly LINK_BAD_LENGTH: 204;
   readonly LINK_ACK_AHEAD: 205;
   readonly LINK_NO_ROOM: 206;
+  readonly LINK_TOO_MANY_WORDS: 207;
+  readonly LINK_TOO_MANY_ANSWERS: 208;
+  readonly LINK_WRONG_HELLO: 209;
   readonly NOTE_BAD_KIND: 225;
   readonly NOTE_BAD_FIELD: 226;
   readonly NOTE_BAD_LENGTH: 227;
@@ -167,6 +172,8 @@ export declare class NotText extends SamError {}
 export declare class Missing extends SamError {}
 /** A file can't be added. The host is as it was. */
 export declare class AddRefused extends SamError {}
+/** A file can't be marked as dirty: it is the command file, or the terminal was not told its name yet. The host is as it was. */
+export declare class MarkRefused extends SamError {}
 /** The other side's stream is wrong, and this side has stopped; or `finish` found that it ends inside a message or frame. */
 export declare class StreamFault extends SamError {}
 /** The result of a step of a host. A field that is not of its step is 0. */
@@ -255,6 +262,11 @@ export declare class Host extends Side {
   nextWritten(): number | null;
   /** Yields the tags of `nextWritten`, up to the last. */
   written(): Generator<number, void>;
+  /** Marks a file as dirty, open or not: for a program whose write of it failed, or that has another text on disk. If the file was clean,
+   * the frame that says so (Hdirty) is then pending, behind all answers of before. No text, dot or name changes. A program may call it at
+   * any time. Throws, in this order: Missing if the tag has no file; MarkRefused for the command file, and then if the terminal was not
+   * told the file's name yet; NoMemory. The host is then as it was. */
+  markDirty(tag: number): void;
   /** Returns whether the session is over: the terminal has sent Texit, or a command line was `q`. */
   readonly isDone: boolean;
   /** Returns the number of messages that the host has answered. */
@@ -605,6 +617,107 @@ export declare class Link extends Held {
   readonly unsent: number;
   /** Returns the number of bytes of the other side's stream that have come. */
   readonly received: number;
+}
+
+/** What a program is to do for its line (enum sam_tick of sulgrevad.h). */
+export declare const Tick: {
+  readonly NOTHING: 0;
+  readonly CONNECT: 1;
+  readonly DROP: 2;
+  readonly ASK: 3;
+};
+
+/** The state, the counts and the times of a line. `state` is one of Line.DOWN to Line.LOST. `why` is the status of the host's reason if the
+ * line is lost, else Status.OK. Times are in milliseconds: `silence` is that for which nothing has come, though something was due, and
+ * `roundTrip` that of the last question. Counts are in bytes, but for `failures`, the connections that failed one after another, up to 6,
+ * and `attempt`, the number of the newest one. `isKnown` says whether a host has welcomed the line, `hasAll` whether the host has
+ * acknowledged all that was put. */
+export type LineDetails = {
+  silence: number;
+  roundTrip: number;
+  failures: number;
+  attempt: number;
+  putCount: number;
+  acknowledged: number;
+  received: number;
+  state: number;
+  why: number;
+  isKnown: boolean;
+  hasAll: boolean;
+};
+
+/** The terminal's end of a link, which also decides when a connection is to be made, when the host is to be asked, and when the connection
+ * is to be given up. It opens no connection and has no clock: calls take the time, in whole milliseconds of any clock that doesn't jump, as
+ * `Math.floor(performance.now())`. A time below the greatest that was handed in counts as the greatest:
+ *
+ *     line.tick(now);                             CONNECT: open a connection; DROP: close it; ASK: line.ask(now); until NOTHING
+ *     const attempt = line.connected(now);        it is open; or line.notConnected(now)
+ *     socket.send(line.takeOut(attempt));         the hello first; again after each put, question and piece
+ *     line.receive(attempt, bytes, now);          all bytes that came
+ *     line.takeIn();                              the program's bytes among them, until there are none; then nextNote()
+ *     line.dueIn(now);                            for so long nothing is to be done
+ *
+ * A put, a note and a piece are taken whole or not at all. */
+export declare class Line extends Held {
+  static readonly DOWN: 0;
+  static readonly CONNECTING: 1;
+  static readonly OPEN: 2;
+  static readonly LATE: 3;
+  static readonly LOST: 4;
+
+  /** Makes a line, whose first connection is due at once. The id is the session's name: 16 bytes that the terminal chose at random. It is
+   * no secret. With `takeOver`, the session is to begin with the texts of another, as long as no host has welcomed this line. Throws
+   * RangeError for an id of another length, NoMemory. */
+  constructor(id: Uint8Array, takeOver: boolean, now: number);
+  /** Returns what the program is to do at this time, by the numbers of Tick. What it returns counts as begun: another call at the same time
+   * returns something else, so call it until it returns NOTHING. DROP means that the connection, or the attempt to make one, is over for
+   * the line. */
+  tick(now: number): number;
+  /** Returns the number of milliseconds until `tick` has something to say, if no other call comes before; null if it never has. */
+  dueIn(now: number): number | null;
+  /** Takes a connection that the program has opened: the connection before is over. Returns its number, counted from 1, which names it in
+   * the calls below. Throws CountFull after 2^64-1 connections. */
+  connected(now: number): number;
+  /** Gives up the connection for which CONNECT asked, because it can't be made: another is tried after a pause. At any other time it
+   * changes nothing. */
+  notConnected(now: number): void;
+  /** Ends a connection, because it broke or because the program gives it up: another is tried after a pause. Nothing changes if it isn't
+   * the newest, or is over already. */
+  broken(attempt: number, now: number): void;
+  /** Doubts an open connection, because an address of the machine came or went: it is late, so call `ask`, and if no byte comes it is given
+   * up after 2 seconds. A connection that is to be made is tried after 1 second at most. */
+  addressChanged(now: number): void;
+  /** Puts bytes for the host's program, all or none, with or without a connection. Throws, in this order: CountFull if the stream would
+   * have more than 2^64-1 bytes; NoMemory. */
+  put(bytes: Uint8Array, now: number): void;
+  /** Puts a note behind all bytes that were put: it comes out after these bytes and before later ones. Throws, in this order: LinkFault
+   * (LINK_TOO_LONG) for more than 4,096 bytes; CountFull; NoMemory. */
+  putNote(bytes: Uint8Array, now: number): void;
+  /** Asks the host whether all has come, if something that was put is not acknowledged, or the line is late; but not while such a question
+   * is under way. So it may be called after each put and each piece. Throws, in this order: CountFull; NoMemory. */
+  ask(now: number): void;
+  /** Acknowledges all bytes that have come. The line does so by itself when it is asked, and after each 16,384 bytes. Throws, in this
+   * order: CountFull; NoMemory. */
+  acknowledge(): void;
+  /** Returns the next bytes for a connection, at most `most`, and never more than 65,536; none if there are none: first the hello, and then
+   * the stream from the place where this connection goes on. Call it after each put, question and piece. Throws LinkFault (LINK_NOT_OPEN)
+   * if the connection is over or isn't the newest. */
+  takeOut(attempt: number, most?: number): Uint8Array;
+  /** Takes bytes that came on a connection, from its first one on, in pieces of any length, all or none. Throws, in this order: LinkFault
+   * (LINK_NOT_OPEN) if the connection is over or isn't the newest; LINK_TOO_MANY_ANSWERS; before the host's welcome LINK_TOO_MANY_WORDS,
+   * LINK_WRONG_HELLO, and the host's reason, if it refuses; then CountFull, LINK_BAD_KIND, LINK_BAD_LENGTH and LINK_ACK_AHEAD. After each
+   * of these but the first the connection is over. Throws NoMemory at any place: the connection stays, and the same bytes are to be given
+   * again. */
+  receive(attempt: number, bytes: Uint8Array, now: number): void;
+  /** Returns the next bytes of the host's program, at most `most` and of one packet. Call it until it returns none: then a note is next, or
+   * nothing. */
+  takeIn(most?: number): Uint8Array;
+  /** Returns the note that is next; null if bytes before it are not taken in yet, or if none has come. */
+  nextNote(): Uint8Array | null;
+  /** Returns the state, the counts and the times of the line. */
+  describe(now: number): LineDetails;
+  /** Returns the words that came on the newest connection before the host's hello, perhaps of a login. They need be no text. */
+  readonly words: Uint8Array;
 }
 
 // What follows is written by tools/session_messages, from the tables of docs/reference/SESSION.md.

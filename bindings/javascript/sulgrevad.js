@@ -1,4 +1,5 @@
 /* A proved host and a proved terminal for editors whose screen and text live apart, after Rob Pike's sam. README.md explains it. */
+export { Line, Tick } from "./line.js";
 export { Link, What, readHello, writeRefusal } from "./link.js";
 export { memory } from "./module.js";
 export { NoteCode, NoteKind, readNote, writeNote } from "./note.js";
@@ -11,6 +12,7 @@ export {
   HostRefused,
   Kind,
   LinkFault,
+  MarkRefused,
   Missing,
   NoMemory,
   NotText,

@@ -22,9 +22,9 @@ program gives may be a `str`, or its UTF-8 as `bytes`.
 Words: the dot is the selection, a place an offset in runes, the snarf buffer the clipboard, which the host holds. A message goes to the
 host, a frame to the terminal. docs/reference/GLOSSARY.md has the other words.
 
-A `Link` carries the bytes of both, and notes of the program, over connections that may break at any byte: docs/howto/RECONNECTING.md has
-the order of calls. The notes that samhost and its front ends exchange are read by `read_note` and written by `write_note`:
-docs/reference/SESSION.md.
+A `Link` carries the bytes of both, and notes of the program, over connections that may break at any byte. A `Line` is the terminal's end of
+one that also says when to connect, to ask and to give up. docs/howto/RECONNECTING.md has the order of calls. `sulgrevad.aio` does all of it over asyncio. The notes that samhost and its front ends
+exchange are read by `read_note` and written by `write_note`: docs/reference/SESSION.md.
 
 `replay` runs a script of docs/reference/SCRIPTS.md over a host and a terminal of its own.
 
@@ -52,8 +52,10 @@ piece or an event was taken, and the result of `step`, `edits`, `next_written`, 
 on after a signal has a handler that only notes it. A `MemoryError` of Python's own may lose the results of these and of `add_file`, too;
 but nothing that a link hands out.
 """
+from sulgrevad.carrier import MOST_NOTE
 from sulgrevad.edits import Edit, Edits, Pieces
-from sulgrevad.link import HELLO_BYTES, MOST_NOTE, Hello, Link, What, read_hello, write_refusal
+from sulgrevad.line import Line, LineDetails, Tick
+from sulgrevad.link import HELLO_BYTES, Hello, Link, What, read_hello, write_refusal
 from sulgrevad.note import Note, NoteCode, NoteKind, read_note, write_note
 from sulgrevad.scripts import replay
 from sulgrevad.sides import Change, FileState, Host, HostDid, NextFrame, Refusal, Terminal, TerminalDid, TerminalState
@@ -64,6 +66,7 @@ from sulgrevad.status import (
     HostRefused,
     Kind,
     LinkFault,
+    MarkRefused,
     Missing,
     NoMemory,
     NoteFault,
@@ -85,8 +88,8 @@ __version__ = "0.1.0"
 
 __all__ = [
     "HELLO_BYTES", "MOST_NOTE", "AddRefused", "Change", "CountFull", "Edit", "Edits", "FileState", "HandleFault", "Hello", "Host",
-    "HostDid", "HostRefused", "Kind", "Link", "LinkFault", "Missing", "NextFrame", "NoMemory", "NotText", "Note", "NoteCode", "NoteFault",
-    "NoteKind", "Pieces", "Refusal", "SamError", "ScriptFault", "Status", "Step", "StreamFault", "Terminal", "TerminalDid",
-    "TerminalRefused", "TerminalState", "Unfinished", "Waiting", "What", "error_of", "library_version", "read_hello", "read_note", "replay",
+    "HostDid", "HostRefused", "Kind", "Line", "LineDetails", "Link", "LinkFault", "MarkRefused", "Missing", "NextFrame", "NoMemory", "NotText", "Note", "NoteCode",
+    "NoteFault", "NoteKind", "Pieces", "Refusal", "SamError", "ScriptFault", "Status", "Step", "StreamFault", "Terminal", "TerminalDid",
+    "TerminalRefused", "TerminalState", "Tick", "Unfinished", "Waiting", "What", "error_of", "library_version", "read_hello", "read_note", "replay",
     "status_text", "write_note", "write_refusal",
 ]  # fmt: skip

@@ -51,6 +51,16 @@ class Place(ctypes.Structure):
     _fields_ = [("start", c_size_t), ("len", c_size_t)]
 
 
+class Details(ctypes.Structure):
+    """sam_line_details: the state, the counts and the times of a line."""
+
+    _fields_ = [
+        ("silence", c_uint64), ("round_trip", c_uint64), ("failures", c_uint64), ("attempt", c_uint64), ("put_count", c_uint64),
+        ("acknowledged", c_uint64), ("received", c_uint64), ("state", c_uint32), ("why", c_uint32), ("is_known", c_bool),
+        ("has_all", c_bool),
+    ]  # fmt: skip
+
+
 class CNote(ctypes.Structure):
     """sam_note: a message of a session."""
 
@@ -74,7 +84,7 @@ class Record(ctypes.Structure):
 
 
 class Handle(ctypes.Structure):
-    """sam_host, sam_term and sam_link; empty if all bytes are zero."""
+    """sam_host, sam_term, sam_link and sam_line; empty if all bytes are zero."""
 
     _fields_ = [("at", c_void_p), ("made", c_uint64)]
 
@@ -89,7 +99,8 @@ SIGNATURES: Dict[str, Tuple[Any, ...]] = {
     "host_new": (), "host_free": (), "host_add_file": (*_BYTES, *_BYTES, _TAG), "host_feed": _BYTES, "host_finish": (),
     "host_bring": _BYTES, "host_next_message": (POINTER(c_uint8), _TAG), "host_step": (_DID,),
     "host_pending": (_SIZE,),
-    "host_take_out": (*_BUFFER, _SIZE), "host_next_written": (_TAG,), "host_is_done": (_BOOL,), "host_taken": (_U64,),
+    "host_take_out": (*_BUFFER, _SIZE), "host_next_written": (_TAG,), "host_mark_dirty": (c_uint16,), "host_is_done": (_BOOL,),
+    "host_taken": (_U64,),
     "host_fault_place": (_U64,),
     "host_version": (_TAG,), "host_tags": (_SIZE,), "host_has_file": (c_uint16, _BOOL), "host_name": (c_uint16, *_BUFFER, _SIZE),
     "host_len": (c_uint16, _U32), "host_is_dirty": (c_uint16, _BOOL), "host_text": (c_uint16, *_TEXT_FROM),
@@ -128,6 +139,12 @@ SIGNATURES: Dict[str, Tuple[Any, ...]] = {
     "link_feed_places": (c_uint64, *_BYTES, POINTER(Place), c_size_t, _SIZE),
     "link_next_note": (*_BUFFER, _SIZE), "link_phase": (_U32,), "link_attempt": (_U64,), "link_put_count": (_U64,),
     "link_acknowledged": (_U64,), "link_unsent": (_SIZE,), "link_received": (_U64,),
+    "line_new": (c_char_p, c_bool, c_uint64), "line_free": (), "line_tick": (c_uint64, _U32), "line_due_in": (c_uint64, _U64),
+    "line_connected": (c_uint64, _U64), "line_not_connected": (c_uint64,), "line_broken": (c_uint64, c_uint64),
+    "line_address_changed": (c_uint64,), "line_put": (*_BYTES, c_uint64), "line_put_note": (*_BYTES, c_uint64),
+    "line_ask": (c_uint64,), "line_acknowledge": (), "line_take_out": (c_uint64, *_BUFFER, _SIZE),
+    "line_receive": (c_uint64, *_BYTES, c_uint64), "line_take_in": (*_BUFFER, _SIZE), "line_next_note": (*_BUFFER, _SIZE),
+    "line_describe": (c_uint64, POINTER(Details)), "line_words": (*_BUFFER, _SIZE),
 }  # fmt: skip
 
 # All arguments, and the result, of each call that takes no handle.

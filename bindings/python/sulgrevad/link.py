@@ -1,26 +1,16 @@
 """One end of a link, and hellos."""
 import ctypes
 import enum
-from collections import deque
 from ctypes import byref, c_size_t, c_uint32, c_uint64
-from typing import Any, Deque, List, NamedTuple, Optional, Tuple, Union
+from typing import List, NamedTuple, Optional
 
 from sulgrevad._library import LIBRARY, Place
-from sulgrevad.sides import OK, Held, least
+from sulgrevad.carrier import ID_BYTES, MOST_PIECE, NOT_YET, Bytes, Carrier, id_of
+from sulgrevad.sides import OK, least
 from sulgrevad.status import Status, error_of
 
-ID_BYTES = 16
 HELLO_BYTES = 42
-MOST_NOTE = 4096
-MOST_BODY = 4096  # bytes that one packet has for the program
-MOST_PIECE = 2**20  # bytes that are taken out together
 MOST_PLACES = 1024  # places that are handed out together
-
-# How much of a buffer a call has filled that was not made yet.
-_NOT_YET = 2 ** (8 * ctypes.sizeof(c_size_t)) - 1
-_NONE = int(Status.NONE)
-
-_Bytes = Union[bytes, bytearray, memoryview]
 
 
 class What(enum.IntEnum):
@@ -47,7 +37,7 @@ class Hello(NamedTuple):
     attempt: int
 
 
-def read_hello(data: _Bytes) -> Optional[Hello]:
+def read_hello(data: Bytes) -> Optional[Hello]:
     """Reads the hello with which the bytes begin, and returns it; None if nothing is wrong so far, but there are fewer than 42. Raises
     LinkFault, in this order: LINK_NOT_A_LINK as soon as the bytes differ from the mark; LINK_OTHER_VERSION with the ninth byte;
     LINK_BAD_HELLO with the tenth."""
@@ -61,7 +51,7 @@ def read_hello(data: _Bytes) -> Optional[Hello]:
     return Hello(What(what.value), name.raw, attempt.value)
 
 
-def write_refusal(status: int, data: _Bytes) -> bytes:
+def write_refusal(status: int, data: Bytes) -> bytes:
     """Returns the hello by which a host refuses a connection, for one of Status.LINK_NOT_A_LINK to LINK_WRONG_COUNT. It names the session
     and the connection of the hello with which the bytes begin; if `read_hello` reads none, it names all zeros. Raises Missing for any other
     status."""
@@ -73,7 +63,7 @@ def write_refusal(status: int, data: _Bytes) -> bytes:
     return into.raw
 
 
-class Link(Held):
+class Link(Carrier):
     """One end of a link, which carries bytes and notes over connections that may break at any byte: each comes out at the other side once
     and in order. It opens no connection and knows no clock. The terminal's side opens a connection and calls, the host's answers.
 
@@ -92,52 +82,10 @@ class Link(Held):
 
     _prefix = "sam_link"
 
-    def __init__(self, role: int, id: _Bytes) -> None:
+    def __init__(self, role: int, id: Bytes) -> None:
         """Makes the end of one side, TERMINAL or HOST, before its first connection. The id is the session's name: 16 bytes that the
         terminal chose at random. It is no secret. Raises ValueError for an id of another length, LinkFault for another role, NoMemory."""
-        name = bytes(memoryview(id))
-        if len(name) != ID_BYTES:
-            raise ValueError(f"an id has {ID_BYTES} bytes, not {len(name)}")
-        if not hasattr(self, "_out"):
-            # The bytes that were moved out of the library when an exception broke in before they were returned: a buffer, how much of it
-            # was returned, and how much it has.
-            self._out: Deque[Tuple[Any, int, c_size_t]] = deque()
-            self._in: Deque[Tuple[Any, int, c_size_t]] = deque()
-            self._notes: Deque[Tuple[Any, int, c_size_t]] = deque()
-        super().__init__(role, name)
-
-    def free(self) -> None:
-        """Frees it, with all the bytes that it keeps. Any later call but this one and `close` raises HandleFault."""
-        for left in (self._out, self._in, self._notes):
-            left.clear()
-        super().free()
-
-    def close(self) -> None:
-        """Frees it, as `free` does."""
-        self.free()
-
-    def _moved(self, left: Deque[Tuple[Any, int, c_size_t]], room: int, name: str, *arguments: Any) -> Optional[bytes]:
-        """Returns the next bytes that a call moves out, at most `room`; None if the call answers SAM_NONE. If an exception breaks in, the
-        next call has them."""
-        moved = left.popleft() if left else (ctypes.create_string_buffer(room), 0, c_size_t(_NOT_YET))
-        into, start, count = moved
-        try:
-            if count.value == _NOT_YET:
-                code = self._answer(name, *arguments, into, len(into), byref(count))
-                if code == _NONE:
-                    return None
-                if code != OK:
-                    raise error_of(code)
-            end = min(start + room, count.value)
-            taken: bytes = into[start:end]
-            rest = (into, end, count) if end < count.value else None
-        except BaseException:
-            if count.value != _NOT_YET:
-                left.appendleft(moved)  # which wants no memory
-            raise
-        if rest:
-            left.appendleft(rest)
-        return taken
+        super().__init__(role, id_of(id))
 
     # ---- Connections
 
@@ -149,14 +97,14 @@ class Link(Held):
         self._out.clear()
         return attempt
 
-    def welcomed(self, hello: _Bytes) -> None:
+    def welcomed(self, hello: Bytes) -> None:
         """Takes the host's hello at the terminal's end: the first 42 bytes that came on the newest connection. Raises the faults of
         `read_hello`, and Missing for fewer bytes; then LinkFault, in this order: LINK_WRONG_ROLE; LINK_NOT_OPEN if no call waits for a
         welcome; the host's reason, if the host refuses; LINK_BAD_HELLO; LINK_OTHER_SESSION; LINK_OLD_ATTEMPT; LINK_WRONG_COUNT."""
         hello = bytes(memoryview(hello))
         self._call("welcomed", hello, len(hello))
 
-    def answer(self, hello: _Bytes) -> None:
+    def answer(self, hello: Bytes) -> None:
         """Takes a connection at the host's end by its first 42 bytes, the terminal's hello: the connection before is over. Its number is
         the one that `read_hello` returns. Raises the faults of `read_hello`, and Missing for fewer bytes; then LinkFault, in this order:
         LINK_WRONG_ROLE; LINK_BAD_HELLO; LINK_NO_SESSION; LINK_OTHER_SESSION; LINK_OLD_ATTEMPT; LINK_WRONG_COUNT. The older connection goes
@@ -171,13 +119,13 @@ class Link(Held):
 
     # ---- Bytes and notes to send
 
-    def put(self, data: _Bytes) -> None:
+    def put(self, data: Bytes) -> None:
         """Puts bytes for the other side's program, all or none, with or without a connection. Raises, in this order: CountFull if the
         stream would have more than 2**64-1 bytes; NoMemory."""
         data = bytes(memoryview(data))
         self._call("put", data, len(data))
 
-    def put_note(self, data: _Bytes) -> None:
+    def put_note(self, data: Bytes) -> None:
         """Puts a note behind all bytes that were put: it comes out after these bytes and before later ones. Raises, in this order:
         LinkFault (LINK_TOO_LONG) for more than 4,096 bytes; CountFull; NoMemory."""
         data = bytes(memoryview(data))
@@ -187,23 +135,9 @@ class Link(Held):
         """Asks the other side to acknowledge now: if no byte comes, the line is broken. Raises, in this order: CountFull; NoMemory."""
         self._call("ask")
 
-    def acknowledge(self) -> None:
-        """Acknowledges all bytes that have come. The end does so by itself when it is asked, and after each 16,384 bytes. Raises, in this
-        order: CountFull; NoMemory."""
-        self._call("acknowledge")
-
     # ---- Bytes out and in
 
-    def take_out(self, attempt: int, most: int = 65_536) -> bytes:
-        """Returns the next bytes for a connection, at most `most`; b"" if there are none: first the hello, and then the stream from the
-        place where this connection goes on. Before the welcome, a terminal's end hands out bytes of the stream on the first connection
-        alone. Raises LinkFault (LINK_NOT_OPEN) if the connection is over or isn't the newest, ValueError if `most` is below 0."""
-        room = least(most, MOST_PIECE)
-        if self._out:
-            self._call("take_out", attempt, ctypes.create_string_buffer(1), 0, byref(c_size_t()))  # is it still the newest?
-        return self._moved(self._out, room, "take_out", attempt) or b""
-
-    def feed(self, attempt: int, data: _Bytes) -> None:
+    def feed(self, attempt: int, data: Bytes) -> None:
         """Takes bytes that came on a connection after the hello, in pieces of any length, all or none. Raises, in this order: LinkFault
         (LINK_NOT_OPEN) if the connection is over, isn't the newest, or has no hello yet; CountFull; NoMemory, and the piece may be fed
         again. Three other faults end the connection: LINK_BAD_KIND or LINK_BAD_LENGTH if the piece has a wrong packet; else LINK_ACK_AHEAD
@@ -211,19 +145,19 @@ class Link(Held):
         data = bytes(memoryview(data))
         self._call("feed", attempt, data, len(data))
 
-    def feed_into(self, attempt: int, data: _Bytes, most: int = 65_536) -> bytes:
+    def feed_into(self, attempt: int, data: Bytes, most: int = 65_536) -> bytes:
         """Takes bytes that came as `feed` does, and returns the next bytes of the other side's program, at most `most` and none behind a
         note: `take_in` has those after them. Raises as `feed` does, and ValueError if `most` is below 0."""
         room = least(most, MOST_PIECE)
         data = bytes(memoryview(data))
-        if self._in and self._in[-1][2].value == _NOT_YET:
+        if self._in and self._in[-1][2].value == NOT_YET:
             self._in.pop()  # of a call that an exception broke off
-        into, count = ctypes.create_string_buffer(room), c_size_t(_NOT_YET)
+        into, count = ctypes.create_string_buffer(room), c_size_t(NOT_YET)
         self._in.append((into, 0, count))
         try:
             self._call("feed_into", attempt, data, len(data), into, room, byref(count))
         except BaseException:
-            if count.value == _NOT_YET:
+            if count.value == NOT_YET:
                 self._in.pop()
             raise
         try:
@@ -233,7 +167,7 @@ class Link(Held):
         except MemoryError:
             return b""  # the piece was taken: if this were raised, it would be fed again
 
-    def feed_places(self, attempt: int, data: _Bytes, most: int = 32) -> List[Place]:
+    def feed_places(self, attempt: int, data: Bytes, most: int = 32) -> List[Place]:
         """Takes bytes that came as `feed` does, and returns the places in `data` of the next bytes of the other side's program: of each its
         `start` and `len`. There are such places only if nothing is left of earlier pieces, no note and no part of a packet: then they are
         those of whole packets, at most `most` and none behind a note. `take_in` has all other bytes. Raises as `feed` does, and ValueError
@@ -251,15 +185,6 @@ class Link(Held):
             self._in.extend((data, place.start, c_size_t(place.start + place.len)) for place in found[: count.value])
             raise
         return found
-
-    def take_in(self, most: int = 65_536) -> bytes:
-        """Returns the next bytes of the other side's program, at most `most` and of one packet. Call it until it returns b"": then a note
-        is next, or nothing. Raises ValueError if `most` is below 0."""
-        return self._moved(self._in, least(most, MOST_BODY), "take_in") or b""
-
-    def next_note(self) -> Optional[bytes]:
-        """Returns the note that is next; None if bytes before it are not taken in yet, or if none has come."""
-        return None if self._in else self._moved(self._notes, MOST_NOTE, "next_note")
 
     # ---- Readers
 

@@ -143,7 +143,7 @@ def least(most: Optional[int], there: int) -> int:
 
 
 class Held:
-    """A handle and its calls, which host, terminal and link share."""
+    """A handle and its calls, which host, terminal, link and line share."""
 
     _prefix = ""
 
@@ -355,6 +355,13 @@ class Host(_Side):
         """Yields the tags of `next_written`, up to the last."""
         while (tag := self.next_written()) is not None:
             yield tag
+
+    def mark_dirty(self, tag: SupportsIndex) -> None:
+        """Marks a file as dirty, open or not: for a program whose write of it failed, or that has another text on disk. If the file was
+        clean, the frame that says so (Hdirty) is then pending, behind all answers of before. No text, dot or name changes. A program may
+        call it at any time. Raises, in this order: Missing if the tag has no file; MarkRefused for the command file, and then if the
+        terminal was not told the file's name yet; NoMemory. The host is then as it was."""
+        self._call("mark_dirty", index(c_uint16, tag))
 
     @property
     def is_done(self) -> bool:

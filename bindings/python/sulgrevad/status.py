@@ -24,6 +24,8 @@ class Status(enum.IntEnum):
     BAD_LENGTH = 34
     BAD_TEXT = 35
     TRUNCATED = 36
+    MARK_COMMAND_FILE = 50
+    MARK_NOT_ANNOUNCED = 51
     HOST_NO_FILE = 65
     HOST_NOT_OPEN = 66
     HOST_BAD_POSITION = 67
@@ -63,6 +65,9 @@ class Status(enum.IntEnum):
     LINK_BAD_LENGTH = 204
     LINK_ACK_AHEAD = 205
     LINK_NO_ROOM = 206
+    LINK_TOO_MANY_WORDS = 207
+    LINK_TOO_MANY_ANSWERS = 208
+    LINK_WRONG_HELLO = 209
     NOTE_BAD_KIND = 225
     NOTE_BAD_FIELD = 226
     NOTE_BAD_LENGTH = 227
@@ -200,7 +205,7 @@ class Waiting(SamError):
 
 
 class HandleFault(SamError, ValueError):
-    """The host, terminal or link was freed (SAM_NO_HANDLE), or was made twice (SAM_MADE)."""
+    """The host, terminal, link or line was freed (SAM_NO_HANDLE), or was made twice (SAM_MADE)."""
 
 
 class NotText(SamError, ValueError):
@@ -213,6 +218,11 @@ class Missing(SamError, LookupError):
 
 class AddRefused(SamError, ValueError):
     """A file can't be added: its name or text is too long, or no tag is left (SAM_ADD_..). The host is as it was."""
+
+
+class MarkRefused(SamError, ValueError):
+    """A file can't be marked as dirty: it is the command file, or the terminal was not told its name yet (SAM_MARK_..). The host is as it
+    was."""
 
 
 class StreamFault(SamError):
@@ -229,7 +239,7 @@ class TerminalRefused(SamError):
 
 
 class LinkFault(SamError):
-    """A call of a link was refused, or bytes are no hello (SAM_LINK_..). The link goes on."""
+    """A call of a link or a line was refused, or bytes are no hello (SAM_LINK_..). The link or line goes on."""
 
 
 class NoteFault(SamError, ValueError):
@@ -255,7 +265,8 @@ SINGLE = {
 }
 FAMILIES = (
     (range(16, 32), AddRefused),
-    (range(32, 64), StreamFault),
+    (range(32, 48), StreamFault),
+    (range(48, 64), MarkRefused),
     (range(64, 96), HostRefused),
     (range(96, 128), TerminalRefused),
     (range(160, 192), ScriptFault),

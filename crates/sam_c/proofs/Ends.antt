@@ -9,9 +9,12 @@ use Rattle.sam_endpoint.specs.contracts.host_endpoint.HostEndpoint.{the_row as H
 use Rattle.sam_endpoint.proofs.host_endpoint.HostEndpoint.TheLaws.{the_row_laws as host_endpoint}
 use Rattle.sam_endpoint.specs.contracts.term_endpoint.TermEndpoint.{the_row as TermEndpoint}
 use Rattle.sam_endpoint.proofs.term_endpoint.TermEndpoint.TheLaws.{the_row_laws as term_endpoint}
+use Rattle.sam_line.specs.contracts.line.Line.{the_row as Line}
+use Rattle.sam_line.proofs.line.Line.TheLaws.{the_row_laws as line}
 use Rattle.sam_link.specs.contracts.link.Link.{the_row as Link}
 use Rattle.sam_link.proofs.link.Link.TheLaws.{the_row_laws as link}
 use Rattle.sam_c.specs.contracts.handle.HeldHost as HeldHost
+use Rattle.sam_c.specs.contracts.handle.HeldLine as HeldLine
 use Rattle.sam_c.specs.contracts.handle.HeldLink as HeldLink
 use Rattle.sam_c.specs.contracts.handle.HeldTerm as HeldTerm
 use Rattle.sam_c.specs.contracts.parts.Parts as Parts
@@ -45,3 +48,12 @@ LinkParts = plain (λ _. Parts.the_row Link Heap.the_row ghosts)
 
 abbrev pub HeldLinks : Slot 0
 HeldLinks = plain (λ _. HeldLink.the_row)
+
+abbrev pub LineBox : Bx
+LineBox = boxed Line line
+
+abbrev pub LineParts : Slot 0
+LineParts = plain (λ _. Parts.the_row Line Heap.the_row ghosts)
+
+abbrev pub HeldLines : Slot 0
+HeldLines = plain (λ _. HeldLine.the_row)

@@ -10,6 +10,7 @@ use Rattle.std.specs.Global.{Global}
 use Rattle.std_heap.specs.contracts.GlobalAllocator.TheImpl.{ghosts}
 use Rattle.sam_endpoint.specs.contracts.host_endpoint.HostEndpoint.{the_row as HostEndpoint}
 use Rattle.sam_endpoint.specs.contracts.term_endpoint.TermEndpoint.{the_row as TermEndpoint}
+use Rattle.sam_line.specs.contracts.line.Line.{the_row as Line}
 use Rattle.sam_link.specs.contracts.link.Link.{the_row as Link}
 
 -- what a box of this value owns, its token being the right to free the block; nothing where there is no value
@@ -27,6 +28,9 @@ holds_term alloc = holds (ghosts.dealloc_token alloc) TermEndpoint
 abbrev pub holds_link : Global → Ptr → Option Link.Denot → Fml
 holds_link alloc = holds (ghosts.dealloc_token alloc) Link
 
+abbrev pub holds_line : Global → Ptr → Option Line.Denot → Fml
+holds_line alloc = holds (ghosts.dealloc_token alloc) Line
+
 abbrev pub held_host_coded : Coded (Option HostEndpoint.Denot)
 held_host_coded = coded_option HostEndpoint.coded
 
@@ -36,7 +40,10 @@ held_term_coded = coded_option TermEndpoint.coded
 abbrev pub held_link_coded : Coded (Option Link.Denot)
 held_link_coded = coded_option Link.coded
 
--- "sam host", "sam term" and "sam link", the first letter in the highest byte
+abbrev pub held_line_coded : Coded (Option Line.Denot)
+held_line_coded = coded_option Line.coded
+
+-- "sam host", "sam term", "sam link" and "sam line", the first letter in the highest byte
 abbrev pub host_mark : ℕ
 host_mark = 8314046373061161844
 
@@ -45,3 +52,6 @@ term_mark = 8314046373261832813
 
 abbrev pub link_mark : ℕ
 link_mark = 8314046373127876203
+
+abbrev pub line_mark : ℕ
+line_mark = 8314046373127876197

@@ -6,8 +6,9 @@ use Rattle.sam_endpoint.specs.declared.fault.EndpointFault.{EndpointFault}
 use Rattle.sam_endpoint.specs.declared.fault.FinishFault.{FinishFault}
 use Rattle.sam_endpoint.specs.declared.fault.HostStop.{HostStop}
 use Rattle.sam_endpoint.specs.declared.fault.AddFault.{AddFault}
-use Rattle.sam_endpoint.specs.HostEndpoints.{PlainHostEndpoint, new_host_endpoint, Adds, Feeds, Finishes}
-use Rattle.sam_c.specs.Status.{ok, no_memory, is_made, no_handle, nothing, add_status, host_status, host_finish_status}
+use Rattle.sam_host.specs.declared.fault.MarkFault.{MarkFault}
+use Rattle.sam_endpoint.specs.HostEndpoints.{PlainHostEndpoint, new_host_endpoint, Adds, Feeds, Finishes, Marks}
+use Rattle.sam_c.specs.Status.{ok, no_memory, is_made, no_handle, nothing, add_status, mark_status, host_status, host_finish_status}
 use Rattle.sam_c.specs.Calls.{AtHandle}
 
 -- a new host, or why there is none and the handle is as before
@@ -45,6 +46,14 @@ HostAdded None name text old_tag status new_tag after = (status ≡ no_handle) �
 HostAdded (Some e) name text old_tag status new_tag after =
     (g : PlainHostEndpoint) × (result : Result ℕ AddFault) × (after ≡ Some g) × Adds e name text result g
     × (status ≡ add_status_of result) × (new_tag ≡ tag_or old_tag result)
+
+abbrev pub mark_status_of : Result (Unit {0}) MarkFault → ℕ
+mark_status_of (Ok done) = ok
+mark_status_of (Err why) = mark_status why
+
+abbrev pub HostMarked : Option PlainHostEndpoint → ℕ → ℕ → Option PlainHostEndpoint → Type 0
+HostMarked before tag status after =
+    AtHandle before status after (λ e status g. (result : Result (Unit {0}) MarkFault) × Marks e tag result g × (status ≡ mark_status_of result))
 
 -- the first pending bytes went into the buffer, as many as have room
 abbrev pub Takes : List ℕ → List ℕ → List ℕ → ℕ → List ℕ → Type 0

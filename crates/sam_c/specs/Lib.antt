@@ -8,6 +8,8 @@ pub mod Scripts
 pub mod Measures
 pub mod LinkStatus
 pub mod Links
+pub mod LineStatus
+pub mod Lines
 pub mod Notes
 pub mod Journals
 pub mod Walking

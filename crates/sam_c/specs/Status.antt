@@ -4,6 +4,8 @@ use Rattle.sam_runes.specs.declared.codec.ReadFault.{ReadFault}
 use Rattle.sam_runes.specs.declared.codec.ReadFault.TheVariants as reading
 use Rattle.sam_host.specs.declared.fault.HostFault.{HostFault}
 use Rattle.sam_host.specs.declared.fault.HostFault.TheVariants as host
+use Rattle.sam_host.specs.declared.fault.MarkFault.{MarkFault}
+use Rattle.sam_host.specs.declared.fault.MarkFault.TheVariants as marking
 use Rattle.sam_term.specs.declared.fault.TermFault.{TermFault}
 use Rattle.sam_term.specs.declared.fault.Refusal.{Refusal}
 use Rattle.sam_term.specs.declared.fault.TermFault.TheVariants as term
@@ -63,6 +65,13 @@ add_status opening.NotText = not_text
 add_status opening.TooLong = 19
 add_status opening.NoTag = 20
 add_status opening.OutOfMemory = no_memory
+
+-- why a file is not marked as dirty
+abbrev pub mark_status : MarkFault → ℕ
+mark_status marking.NoFile = nothing
+mark_status marking.CommandFile = 50
+mark_status marking.NotAnnounced = 51
+mark_status marking.OutOfMemory = no_memory
 
 abbrev pub stream_status : StreamFault → ℕ
 stream_status stream.BadKind = 33

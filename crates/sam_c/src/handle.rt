@@ -2,14 +2,16 @@
 //! address to the calls. An exported type may hold no box, so a handle carries the parts of one under a pointer to bytes.
 
 ghost use Rattle.std.specs.Prelude.{◌≡◌, None, Option, Some, eqb, is_some, option_map};
-ghost use Rattle.sam_c.specs.Handles.{held_host_coded, held_link_coded, held_term_coded, holds_host, holds_link, holds_term};
-ghost use Rattle.sam_c.specs.Handles.{host_mark, link_mark, term_mark};
+ghost use Rattle.sam_c.specs.Handles.{held_host_coded, held_line_coded, held_link_coded, held_term_coded, holds_host, holds_line, holds_link};
+ghost use Rattle.sam_c.specs.Handles.{holds_term, host_mark, line_mark, link_mark, term_mark};
 ghost use Rattle.sam_endpoint.specs.HostEndpoints.{PlainHostEndpoint};
 ghost use Rattle.sam_endpoint.specs.TermEndpoints.{PlainTermEndpoint};
+ghost use Rattle.sam_line.specs.declared.line.Line.{Line as PlainLine};
 ghost use Rattle.sam_link.specs.End.{End};
 
 use crate::parts::Parts;
 use sam_endpoint::{HostEndpoint, TermEndpoint};
+use sam_line::Line;
 use sam_link::Link;
 use std::alloc::Global;
 use std::marker::Model;
@@ -45,6 +47,9 @@ const TERM_MARK: u64 = 8_314_046_373_261_832_813;
 
 /// What stands in a link's handle that is made: "sam link" as a number. Any other number says that the handle is empty.
 const LINK_MARK: u64 = 8_314_046_373_127_876_203;
+
+/// What stands in a line's handle that is made: "sam line" as a number. Any other number says that the handle is empty.
+const LINE_MARK: u64 = 8_314_046_373_127_876_197;
 
 /// A host end behind a pointer, or none. The derived drop leaves the memory to whoever holds the pointer by then.
 #[repr(C)]
@@ -377,6 +382,118 @@ impl SamLink {
 
 impl Drop for SamLink {
     /// Frees the end, if the handle holds one.
+    fn drop(self) {
+        drop(self.into_end());
+    }
+}
+
+/// A line behind a pointer, or none. The derived drop leaves the memory to whoever holds the pointer by then.
+#[repr(C)]
+#[derive(Drop)]
+pub struct HeldLine {
+    /// Where the line lies, as a pointer to bytes; null if there is none.
+    at: *mut u8,
+    /// The allocator that the line's box came from.
+    alloc: Global,
+    /// The line behind the pointer, as contracts see it.
+    pub ghost end: { Option PlainLine } by { held_line_coded },
+}
+
+impl Model for HeldLine {
+    ghost also_owns = { λ h. holds_line h.alloc h.at h.end };
+}
+
+unsafe impl Send for HeldLine {}
+
+impl HeldLine {
+    /// Keeps the parts of a box.
+    fn of_parts(parts: Parts<Line, Global>) -> HeldLine
+        ensures { result.end ≡ parts.value }
+    {
+        let Parts { at, alloc } = parts;
+        HeldLine {
+            at: at as *mut u8,
+            alloc,
+        }
+    }
+
+    /// Gives the parts back.
+    fn into_parts(self) -> Parts<Line, Global>
+        ensures { result.value ≡ self.end }
+    {
+        let HeldLine { at, alloc } = self;
+        Parts {
+            at: at as *mut Line,
+            alloc,
+        }
+    }
+}
+
+/// The handle of a line: `sam_line` of include/sulgrevad.h. It is empty, or holds a line, which clauses call `held.end`.
+#[repr(C)]
+pub struct SamLine {
+    /// The line, if the handle is made.
+    held: HeldLine,
+    /// `LINE_MARK` if and only if the handle holds a line.
+    made: u64,
+    /// States that `held` and `made` agree.
+    ghost is_marked: { is_some held.end ≡ eqb made line_mark },
+}
+
+impl SamLine {
+    /// Makes an empty handle.
+    fn empty(alloc: Global) -> SamLine
+        ensures { result.held.end ≡ None }
+    {
+        SamLine {
+            held: HeldLine::of_parts(Parts::none(alloc)),
+            made: 0,
+        }
+    }
+
+    /// Returns the line; `None` if the handle is empty.
+    fn into_end(self) -> Option<Box<Line>>
+        ensures { option_map (λ end. end.value) result ≡ self.held.end }
+    {
+        let SamLine { held, made } = self;
+        if made == LINE_MARK {
+            Some(held.into_parts().into_box())
+        } else {
+            None
+        }
+    }
+
+    /// Returns whether the handle holds a line.
+    pub(crate) fn is_made(&self) -> bool
+        ensures { result ≡ is_some self.now.held.end }
+    {
+        self.made == LINE_MARK
+    }
+
+    /// Takes the line out of the handle, which is then empty. Returns `None` if it was empty.
+    pub(crate) fn take(&mut self, alloc: Global) -> Option<Box<Line>>
+        ensures end { option_map (λ end. end.value) result ≡ self.old.held.end }
+        ensures empty { self.new.held.end ≡ None }
+    {
+        if !self.is_made() {
+            return None;
+        }
+        std::mem::replace(self, SamLine::empty(alloc)).into_end()
+    }
+
+    /// Puts a line into the handle. One that it held before is freed.
+    pub(crate) fn put(&mut self, end: Box<Line>)
+        ensures { self.new.held.end ≡ Some end.value }
+    {
+        *self = SamLine {
+            held: HeldLine::of_parts(Parts::of(end)),
+            made: LINE_MARK,
+        };
+    }
+}
+
+impl Drop for SamLine {
+    /// Frees the line, if the handle holds one.
     fn drop(self) {
         drop(self.into_end());
     }

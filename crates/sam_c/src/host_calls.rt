@@ -3,11 +3,11 @@
 
 ghost use Rattle.std.specs.Prelude.{◌≡◌, length};
 ghost use Rattle.sam_c.specs.Calls.{Reports};
-ghost use Rattle.sam_c.specs.Hosts.{Freed, HostAdded, HostFed, HostFinished, HostMade, HostNextWritten, HostTaken};
+ghost use Rattle.sam_c.specs.Hosts.{Freed, HostAdded, HostFed, HostFinished, HostMade, HostMarked, HostNextWritten, HostTaken};
 
 use crate::handle::{SamHost, with_end};
 use crate::status::{
-    MADE, NO_HANDLE, NO_MEMORY, NONE, OK, add_status, host_finish_status, host_status,
+    MADE, NO_HANDLE, NO_MEMORY, NONE, OK, add_status, host_finish_status, host_status, mark_status,
 };
 use sam_endpoint::HostEndpoint;
 use std::alloc::Global;
@@ -65,6 +65,23 @@ pub extern "C" fn sam_host_add_file(
                 OK
             }
             Err(why) => add_status(why),
+        }
+    })
+}
+
+/// Marks a file as dirty: for a program whose write of it failed. The frame `Hdirty` is then pending, behind all answers, if the file was
+/// clean.
+///
+/// Errors, in this order: `SAM_NO_HANDLE`; `SAM_NONE` if the tag has no file; `SAM_MARK_COMMAND_FILE` for tag 0; `SAM_MARK_NOT_ANNOUNCED`
+/// if the terminal was not told the file's name yet; `SAM_NO_MEMORY`. After an error the host is as it was.
+#[unsafe(no_mangle)]
+pub extern "C" fn sam_host_mark_dirty(host: &mut SamHost, tag: u16, alloc: Global) -> u32
+    ensures { HostMarked host.old.held.end tag result host.new.held.end }
+{
+    with_end!(host alloc mut end {
+        match end.mark_dirty(tag) {
+            Ok(()) => OK,
+            Err(why) => mark_status(why),
         }
     })
 }

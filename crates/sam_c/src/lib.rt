@@ -1,4 +1,4 @@
-//! The host, the terminal, a link and its messages for C, and the replay of scripts. Each export does what a call of a lower crate does,
+//! The host, the terminal, a link, a line and messages for C, and the replay of scripts. Each export does what a call of a lower crate does,
 //! and states its clauses again over the value that the handle holds, or over the bytes that it is given. What a C program owes, and what
 //! each call does, stands in include/sulgrevad.h.
 #![tactic(auto)]
@@ -7,6 +7,9 @@ mod handle;
 mod host_calls;
 mod host_readers;
 mod journal_calls;
+mod line_calls;
+mod line_readers;
+mod line_status;
 mod link_calls;
 mod link_status;
 mod measures;
@@ -24,8 +27,9 @@ mod term_readers;
 mod term_texts;
 mod utf8;
 
-pub use handle::{SamHost, SamLink, SamTerm};
+pub use handle::{SamHost, SamLine, SamLink, SamTerm};
 pub use journal_calls::{SamJournalHead, SamRecord, SamRecordFrame};
+pub use line_readers::SamLineDetails;
 pub use link_calls::{SamLinkHello, SamLinkId};
 pub use note_calls::SamNote;
 pub use snapshots::{SamTermFile, SamTermState};

@@ -47,7 +47,7 @@ fn number_of(bytes: &[u8]) -> u64
 
 impl SamLinkId {
     /// Returns the id that the bytes spell.
-    fn to_id(&self) -> Id
+    pub(crate) fn to_id(&self) -> Id
         ensures bytes { id_bytes result ≡ self.now.bytes }
         ensures numbers { IsId result }
     {

@@ -19,22 +19,31 @@ const LINK: u32 = 192;
 pub(crate) const WRONG_ROLE: u32 = LINK + 8;
 
 /// The connection is over, isn't the newest, or has no hello yet.
-const NOT_OPEN: u32 = LINK + 9;
+pub(crate) const NOT_OPEN: u32 = LINK + 9;
 
 /// A note of more than 4,096 bytes.
 const TOO_LONG: u32 = LINK + 10;
 
 /// A packet of an unknown kind.
-const BAD_KIND: u32 = LINK + 11;
+pub(crate) const BAD_KIND: u32 = LINK + 11;
 
 /// A packet of a length that its kind can't have.
-const BAD_LENGTH: u32 = LINK + 12;
+pub(crate) const BAD_LENGTH: u32 = LINK + 12;
 
 /// Bytes are acknowledged that did not go.
-const ACK_AHEAD: u32 = LINK + 13;
+pub(crate) const ACK_AHEAD: u32 = LINK + 13;
 
 /// The buffer has less room than the longest note.
 pub(crate) const NO_ROOM: u32 = LINK + 14;
+
+/// More than 65,536 bytes before the hello that a line waits for.
+pub(crate) const TOO_MANY_WORDS: u32 = LINK + 15;
+
+/// More than 65,536 bytes of answers that a line keeps.
+pub(crate) const TOO_MANY_ANSWERS: u32 = LINK + 16;
+
+/// What should be the host's hello to a line is none, or does not fit the call.
+pub(crate) const WRONG_HELLO: u32 = LINK + 17;
 
 /// Returns the side of a number, if it has one.
 pub(crate) fn role_of(number: u32) -> Option<Role>

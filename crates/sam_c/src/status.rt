@@ -1,14 +1,14 @@
 //! The numbers by which C knows what came of a call: enum sam_status of include/sulgrevad.h.
 
 ghost use Rattle.std.specs.Prelude.{◌≡◌};
-ghost use Rattle.sam_c.specs.Status.{add_status, bring_status, host_finish_status, host_refusal, host_status, host_stop_status, refusal_status, script_status};
-ghost use Rattle.sam_c.specs.Status.{stream_status, term_finish_status, term_refusal, term_status, term_stop_status, truncated};
+ghost use Rattle.sam_c.specs.Status.{add_status, bring_status, host_finish_status, host_refusal, host_status, host_stop_status, mark_status, refusal_status};
+ghost use Rattle.sam_c.specs.Status.{script_status, stream_status, term_finish_status, term_refusal, term_status, term_stop_status, truncated};
 
 use sam_endpoint::{
     AddFault, BringFault, EndpointFault, FinishFault, HostStop, StreamFault, TermStop,
 };
 use sam_frame::FeedFault;
-use sam_host::HostFault;
+use sam_host::{HostFault, MarkFault};
 use sam_script::ScriptFault;
 use sam_term::{Refusal, TermFault};
 
@@ -40,12 +40,15 @@ pub(crate) const NONE: u32 = 7;
 /// Some of what came before waits, and what the call brought was not taken.
 const WAITING: u32 = 8;
 
-/// Added to the number, from 1, of why a file is not added; so too in the families below. Bytes that are no text, and out of memory for a
-/// file or a script, are `NOT_TEXT` and `NO_MEMORY` in place of that.
+/// Added to the number, from 1, of why a file is not added; so too in the families below. Bytes that are no text, a file that isn't there to
+/// be marked, and out of memory for a file, a mark or a script are `NOT_TEXT`, `NONE` and `NO_MEMORY` in place of that.
 const ADD: u32 = 16;
 
 /// Added to the number of what is wrong with the other side's stream, which has stopped the handle.
 const STREAM: u32 = 32;
+
+/// Added to the number of why a file is not marked as dirty.
+const MARK: u32 = 48;
 
 /// Added to the number of why the host refused a message, which has stopped the handle.
 const HOST_REFUSED: u32 = 64;
@@ -67,6 +70,17 @@ pub(crate) fn add_status(why: AddFault) -> u32
         AddFault::NotText => NOT_TEXT,
         AddFault::OutOfMemory => NO_MEMORY,
         AddFault::TooLong | AddFault::NoTag => ADD + why as u32,
+    }
+}
+
+/// Returns the number of why a file is not marked as dirty.
+pub(crate) fn mark_status(why: MarkFault) -> u32
+    ensures { result ≡ mark_status why }
+{
+    match why {
+        MarkFault::NoFile => NONE,
+        MarkFault::OutOfMemory => NO_MEMORY,
+        MarkFault::CommandFile | MarkFault::NotAnnounced => MARK + why as u32,
     }
 }
 

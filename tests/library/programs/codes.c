@@ -31,6 +31,7 @@ static void no_host(sam_host *host, struct handed *out)
     WANT(sam_host_pending(host, &out->len), SAM_NO_HANDLE);
     WANT(sam_host_take_out(host, out->buffer, sizeof out->buffer, &out->len), SAM_NO_HANDLE);
     WANT(sam_host_next_written(host, &out->tag), SAM_NO_HANDLE);
+    WANT(sam_host_mark_dirty(host, 0), SAM_NO_HANDLE);
     WANT(sam_host_is_done(host, &out->is), SAM_NO_HANDLE);
     WANT(sam_host_taken(host, &out->many), SAM_NO_HANDLE);
     WANT(sam_host_version(host, &out->version), SAM_NO_HANDLE);
@@ -186,6 +187,34 @@ static void adding(void)
     WANT(sam_host_feed(&host, NULL, 0), SAM_BAD_KIND);
     WANT(sam_host_free(&host), SAM_OK);
     WANT(sam_host_free(&host), SAM_NO_HANDLE);
+}
+
+/* Marking a file: each refusal in its order, and what is pending after it. */
+static void marking(void)
+{
+    sam_host host = {0};
+    uint16_t tag = 0;
+    uint8_t bytes[64];
+    size_t len = 99;
+    bool is = true;
+    WANT(sam_host_new(&host), SAM_OK);
+    WANT(sam_host_add_file(&host, BYTES("a"), BYTES("one"), &tag), SAM_OK);
+    WANT(sam_host_mark_dirty(&host, 2), SAM_NONE);
+    WANT(sam_host_mark_dirty(&host, 0), SAM_MARK_COMMAND_FILE);
+    WANT(sam_host_mark_dirty(&host, 1), SAM_MARK_NOT_ANNOUNCED);
+    WANT(sam_host_pending(&host, &len), SAM_OK);
+    WANT(len, 0);
+    WANT(sam_host_is_dirty(&host, 1, &is), SAM_OK);
+    WANT(is, 0);
+    WANT(sam_host_feed(&host, BYTES("\1\0\2\0\2")), SAM_OK); /* Tversion(2) */
+    WANT(sam_host_take_out(&host, bytes, sizeof bytes, &len), SAM_OK);
+    WANT(sam_host_mark_dirty(&host, 1), SAM_OK);
+    WANT(sam_host_mark_dirty(&host, 1), SAM_OK); /* it is dirty already */
+    WANT(sam_host_is_dirty(&host, 1, &is), SAM_OK);
+    WANT(is, 1);
+    WANT(sam_host_take_out(&host, bytes, sizeof bytes, &len), SAM_OK);
+    WANT(len == 13 && memcmp(bytes, "\x50\0\x0a\0\0\0\0\0\0\0\1\0\1", 13) == 0, 1); /* one Hdirty(1) */
+    WANT(sam_host_free(&host), SAM_OK);
 }
 
 static void all_tags(void)
@@ -875,6 +904,7 @@ int main(void)
     no_handles(&host, &term);
     puts("empty handles");
     adding();
+    marking();
     all_tags();
     puts("adding files");
     wrong_streams();

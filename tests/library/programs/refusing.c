@@ -289,6 +289,48 @@ static void add_while_waiting(void)
     want_pending(HOST, &wanted);
 }
 
+/* ---- Marks ---- */
+
+/* Marks file 1 as dirty once memory is there; nothing has changed before. */
+static void mark_file(void)
+{
+    sam_status status;
+    read_state(HOST, &before);
+    while ((status = sam_host_mark_dirty(&host, 1)) == SAM_NO_MEMORY)
+        want_as_before(HOST, "a file that is not marked");
+    want("a mark", status);
+}
+
+/* A mark stands behind an answer that waits to be written, and before one that is not made yet. */
+static void mark_while_waiting(void)
+{
+    struct piece piece = {0}, wanted = {0};
+    struct state start;
+    uint64_t taken = 0;
+    bool is_first = false;
+    sam_status status;
+    show_host("ab");
+    ASK(TVERSION, "2", 2);
+    add_message(&piece, TCHECK, "2", 1);
+    read_state(HOST, &start);
+    while ((status = sam_host_feed(&host, piece.bytes, piece.len)) == SAM_NO_MEMORY)
+        continue;
+    want("taken", sam_host_taken(&host, &taken));
+    is_first = taken == 2;
+    mark_file();
+    while (status == SAM_UNFINISHED || status == SAM_NO_MEMORY)
+        status = sam_host_feed(&host, NULL, 0);
+    want("a message that waited", status);
+    if (is_first)
+        add_frame(&wanted, HDIRTY, 2, "2", 1);
+    add_frame(&wanted, HCHECK, 3, "2", 1);
+    if (!is_first)
+        add_frame(&wanted, HDIRTY, 3, "2", 1);
+    before = start;
+    want_pending(HOST, &wanted);
+    want_text(1, "ab");
+}
+
 /* ---- Rasps ---- */
 
 static void grow(void)
@@ -719,6 +761,7 @@ static const struct {
     {"feed_fault", feed_fault},
     {"add_late_file", add_late_file},
     {"add_while_waiting", add_while_waiting},
+    {"mark_while_waiting", mark_while_waiting},
     {"grow", grow},
     {"data", data},
     {"type_in", type_in},

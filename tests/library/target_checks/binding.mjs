@@ -1,7 +1,7 @@
 /* What bindings/javascript promises: results, errors by code, texts, ends, numbers. Node and a page of a browser run it. */
 import * as sulgrevad from "../../../bindings/javascript/sulgrevad.js";
 
-const { Host, Link, NoteCode, NoteKind, Terminal, Status, What, memory, readHello, readNote, replay, statusText } = sulgrevad;
+const { Host, Line, Link, NoteCode, NoteKind, Terminal, Status, Tick, What, memory, readHello, readNote, replay, statusText } = sulgrevad;
 const { libraryVersion, writeNote, writeRefusal } = sulgrevad;
 const KEYS = 20000;
 
@@ -96,6 +96,9 @@ function checkFiles() {
   terminal.write(one);
   carry(terminal, host);
   same([[...host.written()], host.nextWritten()], [[one], null]);
+  host.markDirty(one);
+  terminal.feed(host.takeOut());
+  same([host.isDirty(one), terminal.isChanged(one)], [true, true]);
   same([host.saved(one), host.savedLen(one), host.savedLen(two)], ["a\nB\n", 4, null]);
   terminal.select(one, 0, 1);
   terminal.snarf(one);
@@ -166,6 +169,9 @@ function checkRefusals() {
   same([terminal.nextRefusal(), terminal.decided, terminal.locked(tag), terminal.commandLocked], [null, events, false, false]);
   throws("AddRefused", "ADD_TOO_LONG", () => host.addFile("n".repeat(65)));
   same([host.addFile("late", "x"), host.text(2)], [2, "x"]);
+  throws("Missing", "NONE", () => host.markDirty(9));
+  throws("MarkRefused", "MARK_COMMAND_FILE", () => host.markDirty(0));
+  throws("MarkRefused", "MARK_NOT_ANNOUNCED", () => host.markDirty(2));
   throws("Missing", "NONE", () => host.text(9));
   throws("Missing", "NONE", () => host.saved(tag));
   throws("NotText", "NOT_TEXT", () => terminal.type(tag, "\ud834"));
@@ -331,6 +337,51 @@ function checkRefusedLink() {
   same(link.putCount, 0);
 }
 
+/** A line whose first connection brings words and breaks, and whose second is asked and given up. */
+function checkLine() {
+  const id = new TextEncoder().encode("a session's name");
+  const [line, host] = [new Line(id, false, 1000), new Link(Link.HOST, id)];
+  line.put(bytes(2, 120), 1000);
+  line.putNote(new TextEncoder().encode("note"), 1000);
+  same([line.dueIn(1000), line.tick(1000), line.tick(1000)], [0, Tick.CONNECT, Tick.NOTHING]);
+  line.notConnected(1000);
+  same([line.tick(1000), line.describe(1000).failures], [Tick.CONNECT, 1]);
+  const first = line.connected(1000);
+  host.answer(line.takeOut(first, 42));
+  host.feed(first, line.takeOut(first));
+  host.put(new TextEncoder().encode("hello"));
+  host.putNote(new TextEncoder().encode("back"));
+  line.receive(first, new TextEncoder().encode("a login\n"), 1020);
+  line.receive(first, host.takeOut(first), 1020);
+  const text = (found) => new TextDecoder().decode(found);
+  same([text(line.words), text(line.takeIn(3)), text(line.takeIn())], ["a login\n", "hel", "lo"]);
+  same([text(line.nextNote()), line.nextNote()], ["back", null]);
+  line.ask(1020);
+  host.feed(first, line.takeOut(first));
+  line.receive(first, host.takeOut(first), 1100);
+  const wanted = {
+    ...{ silence: 0, roundTrip: 80, failures: 1, attempt: 1, putCount: 15, acknowledged: 15, received: 26 },
+    ...{ state: Line.OPEN, why: Status.OK, isKnown: true, hasAll: true },
+  };
+  same(line.describe(1100), wanted);
+  line.acknowledge();
+  same(line.takeOut(first).length, 11);
+  line.addressChanged(1200);
+  same([line.describe(1200).state, line.dueIn(1200), line.tick(3200)], [Line.LATE, 2000, Tick.DROP]);
+  throws("LinkFault", "LINK_NOT_OPEN", () => line.takeOut(first));
+  line.broken(first, 3200);
+  const second = line.connected(3200);
+  line.takeOut(second);
+  throws("LinkFault", "LINK_OTHER_SESSION", () => line.receive(second, writeRefusal(Status.LINK_OTHER_SESSION, bytes(0)), 3200));
+  same([line.describe(3200).state, line.describe(3200).why, line.dueIn(3200)], [Line.LOST, Status.LINK_OTHER_SESSION, null]);
+  throws("LinkFault", "LINK_TOO_LONG", () => line.putNote(bytes(4097), 3200));
+  throwsPlain(RangeError, () => new Line(bytes(15), false, 0));
+  throwsPlain(RangeError, () => line.tick(-1));
+  throwsPlain(TypeError, () => line.put("text", 3200));
+  line.free();
+  throws("HandleFault", "NO_HANDLE", () => line.tick(3200));
+}
+
 function checkNotes() {
   const bytes = (text) => new TextEncoder().encode(text);
   const shown = ({ kind, request = 0, tag = 0, code = 0, number = 0, path = [], copy = [], text = "" }) => {
@@ -389,7 +440,7 @@ function keyTime() {
 
 const CHECKS = [
   ...[checkTexts, checkFiles, checkEditing, checkRefusals, checkSteps, checkStates, checkNumbers, checkEnds],
-  ...[checkLink, checkRefusedLink, checkNotes, checkMemory, checkScripts],
+  ...[checkLink, checkRefusedLink, checkLine, checkNotes, checkMemory, checkScripts],
 ];
 
 /** Runs all checks. Throws where one fails; returns what was measured. */

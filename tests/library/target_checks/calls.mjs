@@ -69,6 +69,12 @@ class Bytes {
     this.length += 4;
   }
 
+  longNumber(value) {
+    this.make(8);
+    this.view.setBigUint64(this.length, value, true);
+    this.length += 8;
+  }
+
   bytes(values) {
     this.make(values.length);
     this.all.set(values, this.length);
@@ -91,12 +97,16 @@ function note(told) {
 // ---- The module's side
 
 const SPACE = library.malloc(BigInt(SPACE_SIZE));
-const HANDLES = library.malloc(96n);
-const HANDLE_OF = { host: 0, term: 32, link: 64 }; // where the two handles of a kind stand
+const HANDLES_SIZE = 128;
+const HANDLES = library.malloc(BigInt(HANDLES_SIZE));
+const HANDLE_OF = { host: 0, term: 32, link: 64, line: 96 }; // where the two handles of a kind stand
 // That are compared: of a struct all but what fills it up.
-const OUT_BYTES = { did: 39, state: 68, file: 25, note: 64, record: 32, frame: 28, bytes16: 16, bytes24: 24, bytes42: 42 };
+const OUT_BYTES = {
+  ...{ did: 39, state: 68, file: 25, note: 64, record: 32, frame: 28, details: 66 },
+  ...{ bytes16: 16, bytes24: 24, bytes42: 42 },
+};
 let baseline = 0n; // how many requests were made when the session began
-part(HANDLES, 96).fill(0);
+part(HANDLES, HANDLES_SIZE).fill(0);
 
 function part(place, length) {
   return new Uint8Array(library.memory.buffer, Number(place), length);
@@ -143,16 +153,18 @@ function make(name, ...words) {
       const at = room(word.length);
       part(at, word.length).set(word);
       given.push(at, ...(kind === "lent" ? [BigInt(word.length)] : []));
+    } else if (kind.startsWith("room")) {
+      orders.number(word);
+      const length = word * Number(kind.slice(4));
+      const at = room(length);
+      given.push(at, BigInt(word));
+      handedOut.push([at, length]);
+    } else if (kind === "size" || kind === "u64") {
+      orders.longNumber(BigInt(word));
+      given.push(BigInt(word));
     } else {
       orders.number(word);
-      if (kind.startsWith("room")) {
-        const length = word * Number(kind.slice(4));
-        const at = room(length);
-        given.push(at, BigInt(word));
-        handedOut.push([at, length]);
-      } else {
-        given.push(kind === "size" || kind === "u64" ? BigInt(word) : word);
-      }
+      given.push(word);
     }
   }
   answers.number(library[name](...given));
@@ -193,6 +205,7 @@ function reset() {
     library.sam_host_free(handle("host", which));
     library.sam_term_free(handle("term", which));
     library.sam_link_free(handle("link", which));
+    library.sam_line_free(handle("line", which));
   }
   library.heap_refuse(0n, 0n);
   baseline = library.heap_asked();
@@ -259,7 +272,7 @@ function which() {
 /** A word of a kind: most are such that the call does something. */
 function word(kind) {
   if (kind === "host" || kind === "term") return which();
-  if (kind === "link") return chance(200) === 0 ? 2 : chance(2);
+  if (kind === "link" || kind === "line") return chance(200) === 0 ? 2 : chance(2);
   if (kind === "truth") return chance(2);
   if (kind === "u64") return chance(4) ? attempt : chance(100) === 0 ? Number.MAX_SAFE_INTEGER : chance(8);
   if (kind === "lent16") return any(IDS);
@@ -271,13 +284,14 @@ function word(kind) {
 }
 
 const RARE = new Set([
-  ...["host", "term", "link"].flatMap((kind) => [`sam_${kind}_free`, `sam_${kind}_new`]),
+  ...["host", "term", "link", "line"].flatMap((kind) => [`sam_${kind}_free`, `sam_${kind}_new`]),
   ...["sam_term_exit", "sam_term_close", "sam_replay"],
 ]);
 const BAD_STREAMS = new Set(["sam_host_feed", "sam_term_feed"]);
-const ELSEWHERE = /^sam_(link|note)_/;
+const ELSEWHERE = /^sam_(link|line|note)_/;
 const COMMON = CALLS.map(([name]) => name).filter((name) => !RARE.has(name) && !BAD_STREAMS.has(name) && !ELSEWHERE.test(name));
 const LINK_CALLS = CALLS.map(([name]) => name).filter((name) => !RARE.has(name) && name.startsWith("sam_link_"));
+const LINE_CALLS = CALLS.map(([name]) => name).filter((name) => !RARE.has(name) && name.startsWith("sam_line_"));
 
 function common() {
   const name = any(COMMON);
@@ -358,6 +372,48 @@ function link() {
   }
 }
 
+// ---- Lines: what the host has for line 0 comes from end 1 of the links
+
+let now = 0; // the time, in milliseconds
+
+function makeLines() {
+  now = 0;
+  for (const which of [0, 1]) make("sam_line_new", which, IDS[0], which, now);
+}
+
+/** The line opens a connection, which may bring words first, and the host answers. */
+function connectLine() {
+  make("sam_line_tick", 0, now);
+  const [number] = make("sam_line_connected", 0, now);
+  attempt = Math.min(Number(new DataView(number.buffer).getBigUint64(0, true)), 2 ** 32 - 1);
+  if (chance(2)) make("sam_line_receive", 0, attempt, spoiled(ENCODER.encode("a login\n")), now);
+  make("sam_link_answer", 1, spoiled(moved(make("sam_line_take_out", 0, attempt, HELLO_BYTES))));
+  make("sam_line_receive", 0, attempt, takeOut(1, 1 + chance(MOST_OF_LINK)), now);
+}
+
+/** What one side has for the connection goes to the other, and what has come is taken in. */
+function carryLine() {
+  if (chance(2)) make("sam_link_feed", 1, attempt, spoiled(moved(make("sam_line_take_out", 0, attempt, 1 + chance(MOST_OF_LINK)))));
+  else make("sam_line_receive", 0, attempt, takeOut(1, 1 + chance(MOST_OF_LINK)), now);
+  for (let pieces = chance(4); pieces > 0; pieces--) make("sam_line_take_in", 0, chance(MOST_OF_LINK));
+  if (chance(2)) make("sam_line_next_note", 0, chance(30) ? 4096 : 4095);
+}
+
+/** One or more calls of the lines. */
+function line() {
+  const drawn = chance(20);
+  now += chance(3) ? chance(2000) : chance(20000);
+  if (drawn < 2) connectLine();
+  else if (drawn < 10) carryLine();
+  else if (drawn < 13) {
+    make(chance(3) ? "sam_line_put" : "sam_line_put_note", chance(2), ENCODER.encode(any(PIECES).repeat(chance(80))), now);
+  } else {
+    const name = any(LINE_CALLS);
+    const kinds = CALLS[CODE[name]][1].filter((kind) => !kind.startsWith("out "));
+    make(name, ...kinds.map((kind) => (kind === "u64" && chance(2) ? now : word(kind))));
+  }
+}
+
 // ---- Messages of a session
 
 const KINDS = [1, 2, 3, 4, 5, ...Array.from({ length: 17 }, (_, at) => 65 + at)];
@@ -395,7 +451,8 @@ function one() {
   else if (drawn < 60) commandLine();
   else if (drawn < 350) carry(drawn % 2 === 1, 1 + chance(600));
   else if (drawn < 450) make("sam_term_type", 0, 1 + chance(2), text());
-  else if (drawn < 650) link();
+  else if (drawn < 550) link();
+  else if (drawn < 650) line();
   else if (drawn < 680) message();
   else common();
 }
@@ -406,6 +463,7 @@ function begin() {
   make("sam_host_new", 0);
   make("sam_term_new", 0);
   makeLinks();
+  makeLines();
   make("sam_host_add_file", 0, ENCODER.encode("one"), ENCODER.encode("some line of text\n".repeat(chance(200))));
   make("sam_host_add_file", 0, ENCODER.encode("two"), text());
   make("sam_term_offer_version", 0, 1 + chance(2));
@@ -413,7 +471,7 @@ function begin() {
   for (const tag of [1, 2]) make("sam_term_open", 0, tag);
   make("sam_term_open_cmd", 0);
   for (const isUp of [true, false, true, false]) carry(isUp, 600);
-  return 19;
+  return 21;
 }
 
 /** Calls at random, in sessions. Returns how many were made, and how many bytes were compared. */
@@ -443,12 +501,14 @@ function refusing(session, request) {
 function refusedSession() {
   for (const name of ["sam_host_new", "sam_term_new"]) for (const _ of [1, 2]) make(name, 0);
   makeLinks();
+  makeLines();
   make("sam_host_add_file", 0, ENCODER.encode("one"), ENCODER.encode("some line of text\n".repeat(20)));
   make("sam_term_offer_version", 0, 2);
   for (const isUp of [true, false, true, false]) carry(isUp, 600);
   for (let events = 0; events < REFUSED_EVENTS; events++) {
     one();
     link();
+    line();
     if (chance(2)) carry(chance(2) === 1, 600);
   }
 }

@@ -24,6 +24,7 @@ union out {
     sam_note note;
     sam_record record;
     sam_record_frame frame;
+    sam_line_details details;
     uint8_t u8;
     uint16_t u16;
     uint32_t u32;
@@ -37,6 +38,7 @@ union out {
 static sam_host hosts[2];
 static sam_term terms[2];
 static sam_link links[2]; /* both in use: an end of the terminal's side, and one of the host's */
+static sam_line lines[2]; /* both in use */
 static uint64_t asked, refused_from, refused_to;
 
 void *__real_malloc(size_t size);
@@ -88,6 +90,13 @@ static uint32_t number(void)
     return value;
 }
 
+static uint64_t long_number(void)
+{
+    uint64_t value;
+    get(&value, sizeof value);
+    return value;
+}
+
 static void put_number(uint32_t value)
 {
     put(&value, sizeof value);
@@ -109,6 +118,12 @@ static sam_link *link(void)
 {
     int which = getchar();
     return which == 2 ? NULL : &links[which];
+}
+
+static sam_line *line(void)
+{
+    int which = getchar();
+    return which == 2 ? NULL : &lines[which];
 }
 
 static struct lent lent(void)
@@ -141,6 +156,7 @@ static void reset(void)
         sam_host_free(&hosts[i]);
         sam_term_free(&terms[i]);
         sam_link_free(&links[i]);
+        sam_line_free(&lines[i]);
     }
     refused_from = refused_to = asked = 0;
 }

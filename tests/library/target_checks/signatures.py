@@ -6,15 +6,19 @@ DECLARATION = re.compile(r"^(?:SAM_MUST_USE )?sam_status (sam_\w+)\(([^)]*)\);",
 FIELDS = {
     "uint8_t": "u8", "uint16_t": "u16", "uint32_t": "u32", "uint64_t": "u64", "size_t": "size", "bool": "truth", "sam_status": "status",
     "sam_did": "did", "sam_state": "state", "sam_file": "file", "sam_note": "note", "sam_record": "record", "sam_record_frame": "frame",
+    "sam_line_details": "details",
 }
 NUMBERS = {"uint16_t": "u16", "uint32_t": "u32", "uint64_t": "u64", "size_t": "size", "bool": "truth"}
+LONG = ("u64", "size")  # those of 64 bits
 ARRAYS = {"SAM_LINK_ID_BYTES": 16, "SAM_LINK_HELLO_BYTES": 42, "SAM_JOURNAL_HEAD_BYTES": 24}
 # Bytes that are compared of what is handed out: of a struct all but those that fill it up.
-OUT = {"did": 39, "state": 68, "file": 25, "note": 64, "record": 32, "frame": 28, "bytes16": 16, "bytes24": 24, "bytes42": 42}
+OUT = {
+    "did": 39, "state": 68, "file": 25, "note": 64, "record": 32, "frame": 28, "details": 66, "bytes16": 16, "bytes24": 24, "bytes42": 42,
+}
 OUT_ELSE = 8
 ROOMS = {"uint8_t *": 1, "uint32_t *": 4, "sam_place *": 16}  # bytes of each thing that a room is for
 ROOM_KINDS = tuple(f"room{size}" for size in ROOMS.values())
-HANDLES = {"sam_host": "host", "sam_term": "term", "sam_link": "link"}
+HANDLES = {"sam_host": "host", "sam_term": "term", "sam_link": "link", "sam_line": "line"}
 
 
 def kinds_of(words):
@@ -58,7 +62,7 @@ def case(code, name, kinds):
     makers = dict.fromkeys(("lent", "lent0", "lent16", "lent64"), "lent()") | {f"room{size}": f"filled({size})" for size in ROOMS.values()}
     makers |= {handle: f"{handle}()" for handle in HANDLES.values()}
     types = {**{handle: f"{kind} *" for kind, handle in HANDLES.items()}, **{field: f"{kind} " for kind, field in NUMBERS.items()}}
-    makers |= {field: f"({kind})number()" for kind, field in NUMBERS.items()}
+    makers |= {field: f"({kind}){'long_number' if field in LONG else 'number'}()" for kind, field in NUMBERS.items()}
     lines, words, after = [], [], []
     for at, kind in enumerate(kinds):
         if kind.startswith("out "):

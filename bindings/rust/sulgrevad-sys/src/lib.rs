@@ -22,6 +22,8 @@ pub const SAM_BAD_KIND: sam_status = 33;
 pub const SAM_BAD_LENGTH: sam_status = 34;
 pub const SAM_BAD_TEXT: sam_status = 35;
 pub const SAM_TRUNCATED: sam_status = 36;
+pub const SAM_MARK_COMMAND_FILE: sam_status = 50;
+pub const SAM_MARK_NOT_ANNOUNCED: sam_status = 51;
 pub const SAM_HOST_NO_FILE: sam_status = 65;
 pub const SAM_HOST_NOT_OPEN: sam_status = 66;
 pub const SAM_HOST_BAD_POSITION: sam_status = 67;
@@ -61,6 +63,9 @@ pub const SAM_LINK_BAD_KIND: sam_status = 203;
 pub const SAM_LINK_BAD_LENGTH: sam_status = 204;
 pub const SAM_LINK_ACK_AHEAD: sam_status = 205;
 pub const SAM_LINK_NO_ROOM: sam_status = 206;
+pub const SAM_LINK_TOO_MANY_WORDS: sam_status = 207;
+pub const SAM_LINK_TOO_MANY_ANSWERS: sam_status = 208;
+pub const SAM_LINK_WRONG_HELLO: sam_status = 209;
 pub const SAM_NOTE_BAD_KIND: sam_status = 225;
 pub const SAM_NOTE_BAD_FIELD: sam_status = 226;
 pub const SAM_NOTE_BAD_LENGTH: sam_status = 227;
@@ -90,6 +95,19 @@ pub const SAM_LINK_WELCOME: u32 = 4;
 pub const SAM_LINK_ID_BYTES: usize = 16;
 pub const SAM_LINK_HELLO_BYTES: usize = 42;
 pub const SAM_LINK_MOST_NOTE: usize = 4096;
+
+/// What a program is to do for its line.
+pub const SAM_TICK_NOTHING: u32 = 0;
+pub const SAM_TICK_CONNECT: u32 = 1;
+pub const SAM_TICK_DROP: u32 = 2;
+pub const SAM_TICK_ASK: u32 = 3;
+
+/// The states of a line.
+pub const SAM_LINE_DOWN: u32 = 0;
+pub const SAM_LINE_CONNECTING: u32 = 1;
+pub const SAM_LINE_OPEN: u32 = 2;
+pub const SAM_LINE_LATE: u32 = 3;
+pub const SAM_LINE_LOST: u32 = 4;
 
 // What follows is written by tools/session_messages, from the tables of docs/reference/SESSION.md.
 /// The kinds of messages.
@@ -298,6 +316,34 @@ pub struct sam_record {
     pub next: usize,
 }
 
+/// What `sam_line_describe` hands out: the state, the counts and the times of a line. Times are in milliseconds.
+#[derive(Clone, Copy, Debug, Default, PartialEq, Eq)]
+#[repr(C)]
+pub struct sam_line_details {
+    /// For how long nothing has come, though something was due.
+    pub silence: u64,
+    /// How long the answer to the last question took; 0 before the first.
+    pub round_trip: u64,
+    /// How many connections failed, one after another; 6 stands for more, too.
+    pub failures: u64,
+    /// The number of the newest connection; 0 before the first.
+    pub attempt: u64,
+    /// How many bytes this side's stream has, heads of packets and questions included.
+    pub put_count: u64,
+    /// How many of them the host has acknowledged.
+    pub acknowledged: u64,
+    /// How many bytes of the host's stream have come.
+    pub received: u64,
+    /// enum sam_line_state.
+    pub state: u32,
+    /// The host's reason if the line is lost, else SAM_OK.
+    pub why: u32,
+    /// Whether a host has welcomed the line.
+    pub is_known: bool,
+    /// Whether the host has acknowledged all that was put.
+    pub has_all: bool,
+}
+
 /// The number by which `sam_term_read` stands for a rune that is not loaded.
 pub const SAM_GAP: u32 = u32::MAX;
 
@@ -325,6 +371,14 @@ pub struct sam_link {
     pub made: u64,
 }
 
+/// The handle of a line. It is empty if all its bytes are zero.
+#[derive(Debug)]
+#[repr(C)]
+pub struct sam_line {
+    pub at: *mut c_void,
+    pub made: u64,
+}
+
 impl sam_host {
     /// An empty handle: SAM_HOST_INIT.
     pub const INIT: sam_host = sam_host {
@@ -344,6 +398,14 @@ impl sam_term {
 impl sam_link {
     /// An empty handle: SAM_LINK_INIT.
     pub const INIT: sam_link = sam_link {
+        at: std::ptr::null_mut(),
+        made: 0,
+    };
+}
+
+impl sam_line {
+    /// An empty handle: SAM_LINE_INIT.
+    pub const INIT: sam_line = sam_line {
         at: std::ptr::null_mut(),
         made: 0,
     };
@@ -417,6 +479,12 @@ extern "C" {
     /// Twrite gives its tag once, in order, so a file that was written twice comes twice. Ask after each feed, because the saved text is
     /// gone once the file is closed. Returns SAM_NONE if no tag is left.
     pub fn sam_host_next_written(host: *mut sam_host, tag: *mut u16) -> sam_status;
+    /// Marks a file as dirty, open or not: for a program whose write of it failed, or that has another text on disk. If the file was clean,
+    /// the frame that says so (Hdirty) is then pending, behind all answers of before. It frees no lock, and no text, dot or name changes. A
+    /// program may call it at any time, also on a host that has stopped. Messages that wait, as after SAM_UNFINISHED, are answered after
+    /// the mark. Refused, in this order: SAM_NONE if the tag has no file; SAM_MARK_COMMAND_FILE for tag 0; SAM_MARK_NOT_ANNOUNCED if the
+    /// terminal was not told the file's name yet: the answer to its next Tversion has the name; SAM_NO_MEMORY. The host is then as it was.
+    pub fn sam_host_mark_dirty(host: *mut sam_host, tag: u16) -> sam_status;
     /// Hands out whether the session is over: the terminal has sent Texit, or a command line was `q`.
     pub fn sam_host_is_done(host: *mut sam_host, done: *mut bool) -> sam_status;
     /// Hands out the number of messages that the host has answered.
@@ -814,6 +882,67 @@ extern "C" {
     pub fn sam_link_unsent(link: *mut sam_link, count: *mut usize) -> sam_status;
     /// Hands out the number of bytes of the other side's stream that have come.
     pub fn sam_link_received(link: *mut sam_link, count: *mut u64) -> sam_status;
+    /// Makes a line, whose first connection is due at once. The id is the session's name: 16 bytes that the terminal chose at random. It is
+    /// no secret. With `take_over`, the session is to begin with the texts of another, as long as no host has welcomed this line. Refused,
+    /// in this order: SAM_NO_HANDLE if the handle is NULL; SAM_MADE if it is made already; SAM_NO_MEMORY. The handle is then as it was.
+    pub fn sam_line_new(line: *mut sam_line, id: *const u8, take_over: bool, now: u64) -> sam_status;
+    /// Frees a line, with all the bytes that it keeps, and leaves the handle empty. Refused: SAM_NO_HANDLE if the handle is NULL or empty.
+    pub fn sam_line_free(line: *mut sam_line) -> sam_status;
+    /// Hands out what the program is to do at this time (enum sam_tick). What it hands out counts as begun: another call at the same time
+    /// hands out something else, so call it until it hands out SAM_TICK_NOTHING.
+    pub fn sam_line_tick(line: *mut sam_line, now: u64, tick: *mut u32) -> sam_status;
+    /// Hands out the number of milliseconds until sam_line_tick has something to say, if no other call comes before. Returns SAM_NONE if it
+    /// never has.
+    pub fn sam_line_due_in(line: *mut sam_line, now: u64, left: *mut u64) -> sam_status;
+    /// Takes a connection that the program has opened: the connection before is over. Hands out its number, counted from 1, which names it
+    /// in the calls below. Send the bytes of sam_line_take_out: its hello. Refused: SAM_COUNT_FULL after 2^64-1 connections.
+    pub fn sam_line_connected(line: *mut sam_line, now: u64, attempt: *mut u64) -> sam_status;
+    /// Gives up the connection for which SAM_TICK_CONNECT asked, because it can't be made: another is tried after a pause. At any other
+    /// time it changes nothing.
+    pub fn sam_line_not_connected(line: *mut sam_line, now: u64) -> sam_status;
+    /// Ends a connection, because it broke or because the program gives it up: another is tried after a pause, which grows from 0 over 1,
+    /// 2, 4, 8 and 16 to 30 seconds, and begins anew after a connection that stood for a second. Nothing changes if it isn't the newest, or
+    /// is over already.
+    pub fn sam_line_broken(line: *mut sam_line, attempt: u64, now: u64) -> sam_status;
+    /// Doubts an open connection, because an address of the machine came or went: it is late, so call sam_line_ask, and if no byte comes it
+    /// is given up after 2 seconds. A connection that is to be made is tried after 1 second at most.
+    pub fn sam_line_address_changed(line: *mut sam_line, now: u64) -> sam_status;
+    /// Puts bytes for the host's program, all or none, with or without a connection: an answer is then due. Refused, in this order:
+    /// SAM_COUNT_FULL if the stream would have more than 2^64-1 bytes; SAM_NO_MEMORY.
+    pub fn sam_line_put(line: *mut sam_line, bytes: *const u8, len: usize, now: u64) -> sam_status;
+    /// Puts a note behind all bytes that were put: it comes out after these bytes and before later ones. Refused, in this order:
+    /// SAM_LINK_TOO_LONG for more than 4,096 bytes; SAM_COUNT_FULL; SAM_NO_MEMORY.
+    pub fn sam_line_put_note(line: *mut sam_line, bytes: *const u8, len: usize, now: u64) -> sam_status;
+    /// Asks the host whether all has come, if something that was put is not acknowledged, or the line is late; but not while such a
+    /// question is under way. So it may be called after each put and each piece. Refused, in this order: SAM_COUNT_FULL; SAM_NO_MEMORY.
+    pub fn sam_line_ask(line: *mut sam_line, now: u64) -> sam_status;
+    /// Acknowledges all bytes that have come. The line does so by itself when it is asked, and after each 16,384 bytes. Refused, in this
+    /// order: SAM_COUNT_FULL; SAM_NO_MEMORY.
+    pub fn sam_line_acknowledge(line: *mut sam_line) -> sam_status;
+    /// Moves the next bytes for a connection into the buffer, as many as there are and fit, and hands out their number: first the hello,
+    /// and then the stream from the place where this connection goes on. Call it after each put, question and piece. Refused:
+    /// SAM_LINK_NOT_OPEN if the connection is over or isn't the newest.
+    pub fn sam_line_take_out(line: *mut sam_line, attempt: u64, into: *mut u8, room: usize, count: *mut usize) -> sam_status;
+    /// Takes bytes that came on a connection, from its first one on, in pieces of any length, all or none. Refused, in this order:
+    /// SAM_LINK_NOT_OPEN if the connection is over or isn't the newest; SAM_LINK_TOO_MANY_ANSWERS if 65,536 bytes or more are kept that
+    /// answer the host; before the host's welcome SAM_LINK_TOO_MANY_WORDS, SAM_LINK_WRONG_HELLO, and the host's reason, if it refuses; then
+    /// SAM_COUNT_FULL, SAM_LINK_BAD_KIND, SAM_LINK_BAD_LENGTH and SAM_LINK_ACK_AHEAD, as sam_link_feed has them. After each of these but
+    /// the first the connection is over: close it. The line then tries another, or is lost: sam_line_describe says why. SAM_NO_MEMORY may
+    /// come at any place: the connection stays, and the same bytes are to be given again. Of these only the host's welcome may have been
+    /// taken, as is_known and the counts then say.
+    pub fn sam_line_receive(line: *mut sam_line, attempt: u64, bytes: *const u8, len: usize, now: u64) -> sam_status;
+    /// Moves the next bytes of the host's program into the buffer, as many as one packet has left and fit, and hands out their number. Call
+    /// it until it hands out 0: then a note is next, or nothing.
+    pub fn sam_line_take_in(line: *mut sam_line, into: *mut u8, room: usize, count: *mut usize) -> sam_status;
+    /// Moves the note that is next into the buffer, and hands out its length in bytes, which may be 0. Refused, in this order:
+    /// SAM_LINK_NO_ROOM if the buffer has less room than 4,096 bytes; SAM_NONE if no note is next, because bytes before it are not taken in
+    /// yet, or because none has come.
+    pub fn sam_line_next_note(line: *mut sam_line, into: *mut u8, room: usize, len: *mut usize) -> sam_status;
+    /// Hands out the state, the counts and the times of a line, in one call.
+    pub fn sam_line_describe(line: *mut sam_line, now: u64, details: *mut sam_line_details) -> sam_status;
+    /// Copies the words that came on the newest connection before the host's hello, perhaps of a login, as many bytes as fit, and hands out
+    /// their number. They are bytes, and need be no text. A room of 65,536 bytes is always enough while a connection stands.
+    pub fn sam_line_words(line: *mut sam_line, into: *mut u8, room: usize, len: *mut usize) -> sam_status;
 
     /// Reads the message that bytes spell, all of them. Refused, in this order, and the note is then as it was: SAM_NOTE_BAD_KIND (skip
     /// such a message: it comes from a later version); SAM_NOTE_BAD_LENGTH if there is no byte, if there are too few or too many for the

@@ -114,7 +114,7 @@ family! {
 }
 
 family! {
-    /// The reason why a call of a link was refused. The first seven also go over the line.
+    /// The reason why a call of a link or a line was refused. The first seven also go over the line.
     LinkFault {
         /// The bytes are no hello.
         NotALink = SAM_LINK_NOT_A_LINK,
@@ -142,6 +142,12 @@ family! {
         BadLength = SAM_LINK_BAD_LENGTH,
         /// Bytes are acknowledged that did not go, and the connection is over.
         AckAhead = SAM_LINK_ACK_AHEAD,
+        /// More than 65,536 bytes came before the host's hello, and the connection is over.
+        TooManyWords = SAM_LINK_TOO_MANY_WORDS,
+        /// The host asks and asks, and takes no answer; the connection is over.
+        TooManyAnswers = SAM_LINK_TOO_MANY_ANSWERS,
+        /// What should be the host's hello is none, or doesn't fit, and the connection is over.
+        WrongHello = SAM_LINK_WRONG_HELLO,
     }
 }
 
@@ -180,13 +186,19 @@ pub enum Error {
     TooLong,
     /// All 65,536 tags were given.
     NoTag,
+    /// There is no such file.
+    NoFile,
+    /// The file is the command file, which is never dirty.
+    CommandFile,
+    /// The terminal was not told the file's name yet.
+    NotAnnounced,
     /// The other side's stream is wrong, and this side has stopped.
     Stream(StreamFault),
     /// The host refused a message, and has stopped.
     HostRefused(HostFault),
     /// The terminal refused a frame, and has stopped.
     TermRefused(TermFault),
-    /// A call of a link was refused. The link goes on.
+    /// A call of a link or a line was refused, which goes on.
     Link(LinkFault),
     /// Bytes are no message of a session, or a message isn't written.
     Note(NoteFault),
@@ -209,6 +221,9 @@ impl Error {
             sys::SAM_NOT_TEXT => Error::NotText,
             sys::SAM_ADD_TOO_LONG => Error::TooLong,
             sys::SAM_ADD_NO_TAG => Error::NoTag,
+            sys::SAM_NONE => Error::NoFile,
+            sys::SAM_MARK_COMMAND_FILE => Error::CommandFile,
+            sys::SAM_MARK_NOT_ANNOUNCED => Error::NotAnnounced,
             sys::SAM_SCRIPT_COUNT_FULL => Error::ScriptCountFull,
             _ => StreamFault::of(status)
                 .map(Error::Stream)
@@ -230,6 +245,9 @@ impl Error {
             Error::NotText => sys::SAM_NOT_TEXT,
             Error::TooLong => sys::SAM_ADD_TOO_LONG,
             Error::NoTag => sys::SAM_ADD_NO_TAG,
+            Error::NoFile => sys::SAM_NONE,
+            Error::CommandFile => sys::SAM_MARK_COMMAND_FILE,
+            Error::NotAnnounced => sys::SAM_MARK_NOT_ANNOUNCED,
             Error::Stream(why) => why.status(),
             Error::HostRefused(why) => why.status(),
             Error::TermRefused(why) => why.status(),
@@ -270,11 +288,12 @@ mod tests {
     use super::*;
 
     /// The numbers of sulgrevad.h, with the errors that they are.
-    const ERRORS: [(u32, Error); 45] = [
+    const ERRORS: [(u32, Error); 51] = [
         (1, Error::NoMemory),
         (2, Error::Unfinished),
         (3, Error::CountFull),
         (6, Error::NotText),
+        (7, Error::NoFile),
         (8, Error::Waiting),
         (19, Error::TooLong),
         (20, Error::NoTag),
@@ -282,6 +301,8 @@ mod tests {
         (34, Error::Stream(StreamFault::BadLength)),
         (35, Error::Stream(StreamFault::BadText)),
         (36, Error::Stream(StreamFault::Truncated)),
+        (50, Error::CommandFile),
+        (51, Error::NotAnnounced),
         (65, Error::HostRefused(HostFault::NoFile)),
         (66, Error::HostRefused(HostFault::NotOpen)),
         (67, Error::HostRefused(HostFault::BadPosition)),
@@ -311,6 +332,9 @@ mod tests {
         (203, Error::Link(LinkFault::BadKind)),
         (204, Error::Link(LinkFault::BadLength)),
         (205, Error::Link(LinkFault::AckAhead)),
+        (207, Error::Link(LinkFault::TooManyWords)),
+        (208, Error::Link(LinkFault::TooManyAnswers)),
+        (209, Error::Link(LinkFault::WrongHello)),
         (225, Error::Note(NoteFault::BadKind)),
         (226, Error::Note(NoteFault::BadField)),
         (227, Error::Note(NoteFault::BadLength)),
@@ -331,7 +355,7 @@ mod tests {
 
     /// Those that no safe call hands on: SAM_OK, SAM_NO_HANDLE, SAM_MADE, SAM_NONE, SAM_LINK_NO_ROOM, those of a
     /// journal, which has no safe calls, and SAM_SCRIPT_LINE, which `replay` gives its line.
-    const OTHERS: [u32; 13] = [0, 4, 5, 7, 161, 206, 257, 258, 259, 260, 261, 262, 263];
+    const OTHERS: [u32; 12] = [0, 4, 5, 161, 206, 257, 258, 259, 260, 261, 262, 263];
 
     #[test]
     fn each_number_is_its_error() {

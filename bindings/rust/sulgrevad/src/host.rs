@@ -119,6 +119,14 @@ impl Host {
         std::iter::from_fn(|| self.next_written())
     }
 
+    /// Marks a file as dirty, open or not: for a program whose write of it failed, or that has another text on disk. If the file was clean,
+    /// the frame that says so (Hdirty) is then pending, behind all answers of before. No text, dot or name changes. A program may call it
+    /// at any time. Errors, in this order: `NoFile` if the tag has no file; `CommandFile` for tag 0; `NotAnnounced` if the terminal was not
+    /// told the file's name yet; `NoMemory`. The host is then as it was.
+    pub fn mark_dirty(&mut self, tag: u16) -> Result<(), Error> {
+        done(unsafe { sys::sam_host_mark_dirty(self.at(), tag) })
+    }
+
     /// Returns whether the session is over: the terminal has sent Texit, or a command line was `q`.
     pub fn is_done(&self) -> bool {
         tells(|done| unsafe { sys::sam_host_is_done(self.at(), done) })

@@ -1,5 +1,5 @@
 //! A proved host and a proved terminal for editors whose screen and text live apart, after Rob Pike's sam: safe Rust over the C library.
-//! A [`Link`] carries the bytes of both over connections that may break.
+//! A [`Link`] carries the bytes of both over connections that may break; a [`Line`] also says when a terminal is to connect.
 //! `sulgrevad.h` and the page EMBEDDING of the repository have the whole story, and `sulgrevad-sys` says how the library is found.
 //!
 //! A [`Host`] is the server: it holds whole texts and runs commands. A [`Terminal`] is the client: it holds windows, and of each open text
@@ -41,6 +41,7 @@
 
 mod error;
 mod host;
+mod line;
 mod link;
 mod note;
 mod script;
@@ -49,6 +50,7 @@ mod terminal;
 
 pub use error::{Error, HostFault, LinkFault, NoteFault, Refusal, StreamFault, TermFault};
 pub use host::Host;
+pub use line::{Line, LineDetails, LineState, Tick};
 pub use link::{read_hello, write_refusal, Hello, Link, Phase, Place, Role, What, HELLO_BYTES, MOST_NOTE};
 pub use note::{read_note, write_note, Note, NoteCode, NoteKind};
 pub use script::replay;

@@ -34,7 +34,7 @@ pub enum NoteKind {
     Refused = 71,
     /// Request, code, path: names, each with a newline behind it; those of folders end in `/`.
     Names = 72,
-    /// Request, number: the file of the tag `number` has what stands on the disk.
+    /// Request, number: the file of the tag `number` is hidden; that of an answer has what stands on the disk.
     Anew = 73,
     /// Request, tag, code, path, copy, text: a write went to the disk, at the path.
     Saved = 74,

@@ -154,6 +154,23 @@ fn a_written_file_is_told_once() -> Result<(), Error> {
 }
 
 #[test]
+fn a_file_whose_write_failed_is_dirty() -> Result<(), Error> {
+    let (mut host, mut term, file) = opened("one\n")?;
+    term.write(file)?;
+    carry(&mut term, &mut host)?;
+    assert_eq!((host.is_dirty(file), term.is_dirty(file)), (Some(false), Some(false)));
+    host.mark_dirty(file)?;
+    carry(&mut term, &mut host)?;
+    assert_eq!((host.is_dirty(file), term.is_dirty(file)), (Some(true), Some(true)));
+    let late = host.add_file("late", "two\n")?;
+    let faults = [(9, Error::NoFile), (0, Error::CommandFile), (late, Error::NotAnnounced)];
+    for (tag, fault) in faults {
+        assert_eq!(host.mark_dirty(tag), Err(fault));
+    }
+    Ok(())
+}
+
+#[test]
 fn what_was_written_is_read_as_it_is_told() -> Result<(), Error> {
     let (mut host, mut term, file) = opened("one\n")?;
     term.write(file)?;

@@ -1,0 +1,286 @@
+"""The host's end of a session."""
+import asyncio
+import contextlib
+import errno
+import os
+import socket
+from typing import Callable, Dict, List, Mapping, Optional, Sequence, Set, Tuple, Union
+
+from sulgrevad.aio.ends import MESSAGES_VERSION, End, within
+from sulgrevad.carrier import ID_BYTES
+from sulgrevad.link import HELLO_BYTES, Hello, Link, What, read_hello, write_refusal
+from sulgrevad.note import Note, NoteCode, NoteKind
+from sulgrevad.sides import Host
+from sulgrevad.status import LinkFault, MarkRefused, Missing, Status, Step
+
+GREETING = 30.0  # seconds that a hello may take
+LINGER = 30.0  # seconds for which an ended session waits for its terminal to hear of that
+CLOSING = 1.0  # seconds that connections may take to close
+CODES = {
+    errno.ENOSPC: NoteCode.NO_SPACE, errno.EDQUOT: NoteCode.NO_SPACE, errno.EACCES: NoteCode.NO_PERMISSION,
+    errno.EPERM: NoteCode.NO_PERMISSION, errno.EROFS: NoteCode.READ_ONLY, errno.ENOENT: NoteCode.NOT_FOUND,
+    errno.EISDIR: NoteCode.IS_FOLDER, errno.EIO: NoteCode.FAILED,
+}  # fmt: skip
+
+OnWrite = Callable[[str, str], object]
+Address = Union[str, "os.PathLike[str]", Tuple[str, int], Tuple[asyncio.StreamReader, asyncio.StreamWriter]]
+
+
+class _Served(End):
+    """The host's end of one terminal's session."""
+
+    def __init__(self, server: "Server", id: bytes) -> None:
+        self.id, self.host, self.link = id, Host(), Link(Link.HOST, id)
+        super().__init__(self.host, self.link)
+        self.server = server
+        self.tags: Dict[int, str] = {}
+        self.requests: Dict[int, int] = {}  # of the next write of each file
+        self.to_mark: Set[int] = set()  # files that are dirty, and not marked yet
+        self._queue_note(Note(NoteKind.SESSION, number=MESSAGES_VERSION, path=id.hex().encode(), text=socket.gethostname()))
+
+    def add(self, name: str, text: str) -> int:
+        tag = self.host.add_file(name, text)
+        self.tags[tag] = name
+        return tag
+
+    def tag_of(self, name: str) -> Optional[int]:
+        return next((tag for tag, known in self.files() if known == name), None)
+
+    def files(self) -> List[Tuple[int, str]]:
+        """The tags and names of the texts that are not closed."""
+        return [(tag, name) for tag, name in self.tags.items() if self.host.has_file(tag)]
+
+    @property
+    def has_heard(self) -> bool:
+        """Whether the terminal has all that was put for it."""
+        return not self._outgoing and self.host.pending == 0 and self.link.acknowledged >= self.link.put_count
+
+    async def carry(self, reader: asyncio.StreamReader, writer: asyncio.StreamWriter, attempt: int) -> None:
+        """Carries the session over a connection until that is over."""
+        self._drop(self._attempt)  # a dead one, perhaps
+        self._attempt, self._writer = attempt, writer
+        self._go_on()
+        try:
+            await self._read(reader, attempt)
+        finally:
+            self.link.broken(attempt)
+            self._drop(attempt)
+
+    def stop(self) -> None:
+        """Ends it for this host."""
+        self._is_over = True
+        if self._writer:
+            self._writer.close()  # once it has sent the rest
+
+    def _make_steps(self) -> None:
+        while True:
+            did = self.host.step()
+            for tag in self.host.written():
+                self._write(tag)
+            self._mark()
+            self._take_out()
+            if did.step == Step.IDLE:
+                return
+
+    def _write(self, tag: int) -> None:
+        """Has the program write a text, and says what became of it before the answer goes out."""
+        name, request = self.tags.get(tag) or self.host.name(tag), self.requests.pop(tag, 0)
+        note = Note(NoteKind.SAVED, request, tag, path=name.encode(), text=f"{name} is written")
+        try:
+            self.server._write(name, self.host.saved(tag))
+        except Exception as why:
+            code = CODES.get(why.errno or 0, NoteCode.OTHER) if isinstance(why, OSError) else NoteCode.OTHER
+            note = note._replace(kind=NoteKind.NOT_SAVED, code=code, text=f"{name} is not written: {why}")
+            self.to_mark.add(tag)
+        self._queue_note(note)
+
+    def _mark(self) -> None:
+        """Marks files as dirty whose terminal knows them."""
+        for tag in [*self.to_mark]:
+            with contextlib.suppress(MarkRefused, Missing):
+                self.host.mark_dirty(tag)
+                self.to_mark.discard(tag)
+
+    def _hear(self, note: Note) -> None:
+        if note.kind == NoteKind.WRITE:
+            self.requests[note.tag] = note.request
+        elif note.kind == NoteKind.OPEN:
+            self._open(note)
+        elif note.request:
+            self._queue_note(Note(NoteKind.REFUSED, note.request, code=NoteCode.OTHER, text="this host doesn't do that"))
+
+    def _open(self, note: Note) -> None:
+        name = note.path.decode("utf-8", "surrogateescape")
+        tag = self.tag_of(name)
+        if tag is None and name in self.server.saved:  # it was closed
+            tag = self.add(name, self.server.saved[name])
+        if tag is None:
+            self._queue_note(Note(NoteKind.REFUSED, note.request, code=NoteCode.NOT_FOUND, text=f"there is no {name}"))
+        else:
+            self._queue_note(Note(NoteKind.OPENED, note.request, tag))
+
+    def _act(self) -> None:
+        self._mark()
+
+    def _put(self, data: bytes) -> None:
+        self.link.put(data)
+
+    def _put_note(self, data: bytes) -> None:
+        self.link.put_note(data)
+
+    def _ask(self) -> None:
+        if self.host.is_done:
+            if not self.has_heard:
+                self.link.ask()
+            self.server._end_soon(self.has_heard)
+
+    def _receive(self, attempt: int, data: bytes) -> None:
+        self.link.feed(attempt, data)
+
+    def _end(self, why: Exception) -> None:
+        self.stop()
+        self.server._end(why)
+
+
+class Server:
+    """A host for one session: texts by name, and terminals that come by `accept`, one at a time.
+
+        server = Server({"notes": "tea\\n"}, on_write)
+        async with await asyncio.start_unix_server(server.accept, path):
+            await server.wait()
+
+    The first terminal begins the session, and goes on over as many connections as it needs. Another one is refused, or takes the texts over
+    if it asks for that. `on_write` is called as `on_write(name, text)` when a terminal has a text written: it returns once that is safe, or
+    raises an exception, mostly an OSError, which the terminal is told. It is called in the event loop, so it should not take long. Raises
+    AddRefused and NoMemory.
+    """
+
+    def __init__(self, files: Mapping[str, str], on_write: Optional[OnWrite] = None) -> None:
+        self.saved = dict(files)
+        self._on_write = on_write
+        self._served: Optional[_Served] = None
+        self._over: "asyncio.Future[None]" = asyncio.get_running_loop().create_future()
+        self._linger: Optional[asyncio.TimerHandle] = None
+        self._connections: Dict["Optional[asyncio.Task[None]]", asyncio.StreamWriter] = {}  # by the tasks that serve them
+        self._begin(bytes(ID_BYTES), self.saved, ())  # which raises what these texts raise
+
+    @property
+    def texts(self) -> Dict[str, str]:
+        """Returns the texts by name as they are now, written or not."""
+        served = self._served
+        return {**self.saved, **({name: served.host.text(tag) for tag, name in served.files()} if served else {})}
+
+    @property
+    def unsaved(self) -> List[str]:
+        """Returns the names of the texts that were changed since they were written."""
+        served = self._served
+        return [name for tag, name in served.files() if served.host.is_dirty(tag)] if served else []
+
+    async def accept(self, reader: asyncio.StreamReader, writer: asyncio.StreamWriter) -> None:
+        """Serves one connection until it is over: give it to `asyncio.start_server` or `asyncio.start_unix_server`."""
+        data, task = b"", asyncio.current_task()
+        self._connections[task] = writer
+        try:
+            async def greet() -> Optional[Hello]:
+                nonlocal data
+                while (hello := read_hello(data)) is None and (more := await reader.read(HELLO_BYTES - len(data))):
+                    data += more
+                return hello
+
+            hello = await within(GREETING, greet())
+            if hello is not None and self._over.done():
+                raise LinkFault(Status.LINK_NO_SESSION)
+            if hello is not None:
+                served = self._answer(hello, data)
+                await served.carry(reader, writer, hello.attempt)
+        except LinkFault as fault:
+            writer.write(write_refusal(fault.code, data))
+        except (OSError, EOFError, MemoryError, asyncio.TimeoutError):
+            pass  # its terminal tries again
+        finally:
+            writer.close()
+            self._connections.pop(task, None)
+
+    async def wait(self) -> None:
+        """Waits until the session is over. Raises the fault of a terminal whose bytes were wrong."""
+        await asyncio.shield(self._over)
+
+    async def close(self) -> None:
+        """Ends the session for its terminal, too."""
+        served = self._served
+        if served and not served._is_over:
+            served._queue_note(Note(NoteKind.ENDED))
+            served._go_on()
+            with contextlib.suppress(OSError):
+                if served._writer:
+                    await served._writer.drain()
+            served.stop()
+        self._end(None)
+        for writer in self._connections.values():
+            writer.close()
+        if tasks := [task for task in self._connections if task and task is not asyncio.current_task()]:
+            await asyncio.wait(tasks, timeout=CLOSING)
+
+    # ---- Its sessions
+
+    def _begin(self, id: bytes, texts: Mapping[str, str], unsaved: Sequence[str]) -> _Served:
+        served = _Served(self, id)
+        for name, text in texts.items():
+            tag = served.add(name, text)
+            if name in unsaved:
+                served.to_mark.add(tag)
+        return served
+
+    def _answer(self, hello: Hello, data: bytes) -> _Served:
+        """Takes a connection. Raises LinkFault if it is refused, and then nothing has changed."""
+        served = self._served
+        is_other = served is None or (hello.what == What.TAKE_OVER and hello.id != served.id)
+        if served is None or is_other:
+            served = self._begin(hello.id, self.texts, self.unsaved)
+        served.link.answer(data)
+        if served is not self._served:
+            if self._served:
+                self._served.stop()
+            self._served = served
+        return served
+
+    def _write(self, name: str, text: str) -> None:
+        if self._on_write:
+            self._on_write(name, text)
+        self.saved[name] = text
+
+    def _end_soon(self, has_heard: bool) -> None:
+        """Ends once the terminal has heard that the session is over, or after a while."""
+        if has_heard:
+            self._end(None)
+        elif self._linger is None:
+            self._linger = asyncio.get_running_loop().call_later(LINGER, self._end, None)
+
+    def _end(self, why: Optional[Exception]) -> None:
+        if not self._over.done():
+            if why is None:
+                self._over.set_result(None)
+            else:
+                self._over.set_exception(why)
+
+
+async def serve(files: Mapping[str, str], address: Address, on_write: Optional[OnWrite] = None) -> Dict[str, str]:
+    """Serves texts by name to one session, as a `Server` does, and returns them once that is over, written or not. The address is the path
+    of a Unix socket, a host and a port, or a reader and a writer that are connected: then the session ends with that connection. If the
+    await is cancelled the terminal is told that the session is over. Raises the fault of a terminal whose bytes were wrong, and OSError if
+    nobody can listen there."""
+    server, listener = Server(files, on_write), None
+    try:
+        if isinstance(address, (str, os.PathLike)):
+            listener = await asyncio.start_unix_server(server.accept, address)
+        elif isinstance(address[0], asyncio.StreamReader):
+            await server.accept(*address)
+            return server.texts
+        else:
+            listener = await asyncio.start_server(server.accept, *address)
+        await server.wait()
+    finally:
+        if listener:
+            listener.close()
+        await server.close()
+    return server.texts

@@ -1,0 +1,249 @@
+//! The terminal's end of a link, with the clock of its connections.
+
+use crate::link::MOST_NOTE;
+use crate::{done, tells, told, Error, LinkFault};
+use std::cell::UnsafeCell;
+use sulgrevad_sys::{self as sys, sam_line};
+
+/// The most bytes that may come before the host's hello.
+const MOST_WORDS: usize = 65_536;
+
+/// What a program is to do for its line.
+#[derive(Clone, Copy, Debug, PartialEq, Eq)]
+pub enum Tick {
+    /// Nothing.
+    Nothing,
+    /// Make a connection.
+    Connect,
+    /// Close the connection, or end the attempt to make one: for the line it is over.
+    Drop,
+    /// Call [`Line::ask`]: nothing has come for 15 seconds, though an answer is due.
+    Ask,
+}
+
+/// The state of a line.
+#[derive(Clone, Copy, Debug, PartialEq, Eq)]
+pub enum LineState {
+    /// There is no connection; the next is tried when [`Line::due_in`] says.
+    Down,
+    /// One is being made, or waits for the host's hello; it is given up after 30 seconds.
+    Connecting,
+    /// A host has welcomed the newest connection.
+    Open,
+    /// It has, but nothing has come for long, though an answer is due.
+    Late,
+    /// The host has refused for good: no connection is tried any more.
+    Lost(LinkFault),
+}
+
+impl LineState {
+    fn of(details: &sys::sam_line_details) -> LineState {
+        match details.state {
+            sys::SAM_LINE_DOWN => LineState::Down,
+            sys::SAM_LINE_CONNECTING => LineState::Connecting,
+            sys::SAM_LINE_OPEN => LineState::Open,
+            sys::SAM_LINE_LATE => LineState::Late,
+            _ => LineState::Lost(LinkFault::of(details.why).expect("a lost line has the host's reason")),
+        }
+    }
+}
+
+/// The state, the counts and the times of a line. Counts are in bytes, but for `failures` and `attempt`; times are in milliseconds.
+#[derive(Clone, Copy, Debug, PartialEq, Eq)]
+pub struct LineDetails {
+    /// The state.
+    pub state: LineState,
+    /// For how long nothing has come, though something was due.
+    pub silence: u64,
+    /// How long the answer to the last question took; 0 before the first.
+    pub round_trip: u64,
+    /// How many connections failed, one after another; 6 stands for more, too.
+    pub failures: u64,
+    /// The number of the newest connection; 0 before the first.
+    pub attempt: u64,
+    /// How many bytes this side's stream has, heads of packets and questions included.
+    pub put_count: u64,
+    /// How many of them the host has acknowledged.
+    pub acknowledged: u64,
+    /// How many bytes of the host's stream have come.
+    pub received: u64,
+    /// Whether a host has welcomed the line.
+    pub is_known: bool,
+    /// Whether the host has acknowledged all that was put.
+    pub has_all: bool,
+}
+
+/// The terminal's end of a link, which also decides when a connection is to be made, when the host is to be asked, and when the connection
+/// is to be given up. It opens no connection and has no clock: each call takes the time, in milliseconds of any clock that doesn't jump. A
+/// time below the greatest that was handed in counts as the greatest. A put, a note and a piece are taken whole or not at all.
+///
+/// ```
+/// use sulgrevad::{Line, LineState, Link, Role, Tick};
+///
+/// let mut line = Line::new([7; 16], false, 0)?;
+/// let mut host = Link::new(Role::Host, [7; 16])?;
+/// line.put(b"hello", 0)?;
+/// assert_eq!(line.tick(0), Tick::Connect); // the program opens a connection
+/// let attempt = line.connected(20)?;
+/// let mut bytes = [0; 100]; // the bytes that the connection carries
+/// let count = line.take_out(attempt, &mut bytes)?;
+/// host.answer(bytes[..42].try_into().expect("a hello is first"))?;
+/// host.feed(attempt, &bytes[42..count])?;
+/// let count = host.take_out(attempt, &mut bytes)?;
+/// line.receive(attempt, b"Welcome to this machine\n", 40)?; // words of a login
+/// line.receive(attempt, &bytes[..count], 50)?;
+/// assert_eq!(line.describe(50).state, LineState::Open);
+/// # Ok::<(), sulgrevad::Error>(())
+/// ```
+#[derive(Debug)]
+pub struct Line {
+    // Each call writes to the handle, those that only read included.
+    handle: Box<UnsafeCell<sam_line>>,
+}
+
+// A handle shares nothing with another, and each call has it alone.
+unsafe impl Send for Line {}
+
+impl Line {
+    /// Makes a line, whose first connection is due at once. The id is the session's name: 16 bytes that the terminal chose at random. It is
+    /// no secret. With `take_over`, the session is to begin with the texts of another, as long as no host has welcomed this line. Its only
+    /// error is `NoMemory`.
+    pub fn new(id: [u8; sys::SAM_LINK_ID_BYTES], take_over: bool, now: u64) -> Result<Line, Error> {
+        let handle = Box::new(UnsafeCell::new(sam_line::INIT));
+        done(unsafe { sys::sam_line_new(handle.get(), id.as_ptr(), take_over, now) })?;
+        Ok(Line { handle })
+    }
+
+    fn at(&self) -> *mut sam_line {
+        self.handle.get()
+    }
+
+    /// Returns what the program is to do at this time. What it returns counts as begun: another call at the same time returns something
+    /// else, so call it until it returns `Nothing`.
+    pub fn tick(&mut self, now: u64) -> Tick {
+        match tells(|tick| unsafe { sys::sam_line_tick(self.at(), now, tick) }) {
+            sys::SAM_TICK_CONNECT => Tick::Connect,
+            sys::SAM_TICK_DROP => Tick::Drop,
+            sys::SAM_TICK_ASK => Tick::Ask,
+            _ => Tick::Nothing,
+        }
+    }
+
+    /// Returns the number of milliseconds until `tick` has something to say, if no other call comes before; `None` if it never has.
+    pub fn due_in(&self, now: u64) -> Option<u64> {
+        told(|left| unsafe { sys::sam_line_due_in(self.at(), now, left) })
+    }
+
+    /// Takes a connection that the program has opened: the connection before is over. Returns its number, counted from 1, which names it in
+    /// the calls below. The error is `CountFull`, after 2^64-1 connections.
+    pub fn connected(&mut self, now: u64) -> Result<u64, Error> {
+        let mut attempt = 0;
+        done(unsafe { sys::sam_line_connected(self.at(), now, &mut attempt) })?;
+        Ok(attempt)
+    }
+
+    /// Gives up the connection for which `Connect` asked, because it can't be made: another is tried after a pause. At any other time it
+    /// changes nothing.
+    pub fn not_connected(&mut self, now: u64) {
+        unsafe { sys::sam_line_not_connected(self.at(), now) };
+    }
+
+    /// Ends a connection, because it broke or because the program gives it up: another is tried after a pause. Nothing changes if it isn't
+    /// the newest, or is over already.
+    pub fn broken(&mut self, attempt: u64, now: u64) {
+        unsafe { sys::sam_line_broken(self.at(), attempt, now) };
+    }
+
+    /// Doubts an open connection, because an address of the machine came or went: it is late, so call `ask`, and if no byte comes it is
+    /// given up after 2 seconds. A connection that is to be made is tried after 1 second at most.
+    pub fn address_changed(&mut self, now: u64) {
+        unsafe { sys::sam_line_address_changed(self.at(), now) };
+    }
+
+    /// Puts bytes for the host's program, all or none, with or without a connection. Errors, in this order: `CountFull`; `NoMemory`.
+    pub fn put(&mut self, bytes: &[u8], now: u64) -> Result<(), Error> {
+        done(unsafe { sys::sam_line_put(self.at(), bytes.as_ptr(), bytes.len(), now) })
+    }
+
+    /// Puts a note behind all bytes that were put: it comes out after these bytes and before later ones. Errors, in this order:
+    /// `Link(TooLong)` for more than 4,096 bytes; `CountFull`; `NoMemory`.
+    pub fn put_note(&mut self, bytes: &[u8], now: u64) -> Result<(), Error> {
+        done(unsafe { sys::sam_line_put_note(self.at(), bytes.as_ptr(), bytes.len(), now) })
+    }
+
+    /// Asks the host whether all has come, if something that was put is not acknowledged, or the line is late; but not while such a
+    /// question is under way. So it may be called after each put and each piece. Errors, in this order: `CountFull`; `NoMemory`.
+    pub fn ask(&mut self, now: u64) -> Result<(), Error> {
+        done(unsafe { sys::sam_line_ask(self.at(), now) })
+    }
+
+    /// Acknowledges all bytes that have come. The line does so by itself when it is asked, and after each 16,384 bytes. Errors, in this
+    /// order: `CountFull`; `NoMemory`.
+    pub fn acknowledge(&mut self) -> Result<(), Error> {
+        done(unsafe { sys::sam_line_acknowledge(self.at()) })
+    }
+
+    /// Moves the next bytes for a connection into the buffer, and returns their number: first the hello, and then the stream from the place
+    /// where this connection goes on. Call it after each put, question and piece. The error is `Link(NotOpen)` if the connection is over or
+    /// isn't the newest.
+    pub fn take_out(&mut self, attempt: u64, into: &mut [u8]) -> Result<usize, Error> {
+        let mut count = 0;
+        done(unsafe { sys::sam_line_take_out(self.at(), attempt, into.as_mut_ptr(), into.len(), &mut count) })?;
+        Ok(count)
+    }
+
+    /// Takes bytes that came on a connection, from its first one on, in pieces of any length, all or none. Errors of `Link`, in this order:
+    /// `NotOpen` if the connection is over or isn't the newest; `TooManyAnswers`; before the host's welcome `TooManyWords`, `WrongHello`,
+    /// and the host's reason, if it refuses; then the error `CountFull`, and of `Link` `BadKind`, `BadLength`, `AckAhead`. After each of
+    /// these but the first the connection is over. `NoMemory` may come at any place: the connection stays, and the same bytes are to be
+    /// given again.
+    pub fn receive(&mut self, attempt: u64, bytes: &[u8], now: u64) -> Result<(), Error> {
+        done(unsafe { sys::sam_line_receive(self.at(), attempt, bytes.as_ptr(), bytes.len(), now) })
+    }
+
+    /// Moves the next bytes of the host's program into the buffer, those of one packet at most, and returns their number: 0 if a note is
+    /// next, or nothing.
+    pub fn take_in(&mut self, into: &mut [u8]) -> usize {
+        tells(|count| unsafe { sys::sam_line_take_in(self.at(), into.as_mut_ptr(), into.len(), count) })
+    }
+
+    /// Returns the note that is next; `None` if bytes before it are not taken in yet, or if none has come.
+    pub fn next_note(&mut self) -> Option<Vec<u8>> {
+        let mut note = vec![0; MOST_NOTE];
+        let mut len = 0;
+        let status = unsafe { sys::sam_line_next_note(self.at(), note.as_mut_ptr(), note.len(), &mut len) };
+        note.truncate(len);
+        (status == sys::SAM_OK).then_some(note)
+    }
+
+    /// Returns the state, the counts and the times of the line.
+    pub fn describe(&self, now: u64) -> LineDetails {
+        let details: sys::sam_line_details = tells(|details| unsafe { sys::sam_line_describe(self.at(), now, details) });
+        LineDetails {
+            state: LineState::of(&details),
+            silence: details.silence,
+            round_trip: details.round_trip,
+            failures: details.failures,
+            attempt: details.attempt,
+            put_count: details.put_count,
+            acknowledged: details.acknowledged,
+            received: details.received,
+            is_known: details.is_known,
+            has_all: details.has_all,
+        }
+    }
+
+    /// Returns the words that came on the newest connection before the host's hello, perhaps of a login. They need be no text.
+    pub fn words(&self) -> Vec<u8> {
+        let mut words = vec![0; MOST_WORDS];
+        let count = tells(|len| unsafe { sys::sam_line_words(self.at(), words.as_mut_ptr(), words.len(), len) });
+        words.truncate(count);
+        words
+    }
+}
+
+impl Drop for Line {
+    fn drop(&mut self) {
+        unsafe { sys::sam_line_free(self.at()) };
+    }
+}

@@ -1,0 +1,123 @@
+-- What the calls of a line do. Times are in milliseconds.
+use Rattle.std.specs.Prelude.{◌≡◌, ◌⊎◌, ℕ, List, length, Bool, true, false, nat_lt, Option, Some, None, Result}
+use Rattle.sam_link.specs.Sessions.{IsId}
+use Rattle.sam_link.specs.declared.fault.CallFault.{CallFault}
+use Rattle.sam_link.specs.declared.fault.NotOpen.{NotOpen}
+use Rattle.sam_link.specs.declared.fault.NoteFault.{NoteFault}
+use Rattle.sam_link.specs.declared.hello.Id.{Id}
+use Rattle.sam_link.specs.declared.keeping.PutFault.{PutFault}
+use Rattle.sam_line.specs.Clock.{silence}
+use Rattle.sam_line.specs.Greeting.{IsFront}
+use Rattle.sam_line.specs.Line.{Acknowledges, Asks, Connects, GivesNote, PutsBytes, PutsNote, TakesIn, TakesOut, Ticks, begun, has_all, is_due, put_len}
+use Rattle.sam_line.specs.Receiving.{Receives}
+use Rattle.sam_line.specs.declared.clock.Tick.{Tick}
+use Rattle.sam_line.specs.declared.fault.ReceiveFault.{ReceiveFault}
+use Rattle.sam_line.specs.declared.line.Line.{Line}
+use Rattle.sam_c.specs.Calls.{AtHandle, TellsOne}
+use Rattle.sam_c.specs.Hosts.{Takes}
+use Rattle.sam_c.specs.LineStatus.{lost_status, receive_status, state_number, tick_number}
+use Rattle.sam_c.specs.LinkStatus.{call_status, no_room, note_status, out_status, put_status}
+use Rattle.sam_c.specs.Links.{handed_or, id_bytes}
+use Rattle.sam_c.specs.Status.{ok, no_memory, is_made, no_handle}
+use Rattle.sam_c.specs.declared.line_readers.SamLineDetails.{SamLineDetails}
+
+-- a new line with this id, or why there is none and the handle is as before
+abbrev pub MakesLine : List ℕ → Bool → ℕ → ℕ → Option Line → Type 0
+MakesLine bytes take_over now status after =
+    ((id : Id) × IsId id × (id_bytes id ≡ bytes) × (status ≡ ok) × (after ≡ Some (begun id take_over now)))
+    ⊎ ((status ≡ no_memory) × (after ≡ None))
+
+abbrev pub LineMade : Option Line → List ℕ → Bool → ℕ → ℕ → Option Line → Type 0
+LineMade None bytes take_over now status after = MakesLine bytes take_over now status after
+LineMade (Some l) bytes take_over now status after = (status ≡ is_made) × (after ≡ Some l)
+
+-- ## Connections
+
+abbrev pub LineTicked : Option Line → ℕ → ℕ → ℕ → ℕ → Option Line → Type 0
+LineTicked None now old status new after = (status ≡ no_handle) × (new ≡ old) × (after ≡ None)
+LineTicked (Some l) now old status new after =
+    (n : Line) × (tick : Tick) × (after ≡ Some n) × Ticks l now tick n × (status ≡ ok) × (new ≡ tick_number tick)
+
+abbrev pub LineConnected : Option Line → ℕ → ℕ → ℕ → ℕ → Option Line → Type 0
+LineConnected None now old status new after = (status ≡ no_handle) × (new ≡ old) × (after ≡ None)
+LineConnected (Some l) now old status new after =
+    (n : Line) × (result : Result ℕ CallFault) × (after ≡ Some n) × Connects l now result n
+    × (status ≡ call_status result) × (new ≡ handed_or old result)
+
+-- the call can't be refused, and leads to this line
+abbrev pub LineDone : Option Line → ℕ → Option Line → (Line → Line) → Type 0
+LineDone before status after done = AtHandle before status after (λ l status n. (status ≡ ok) × (n ≡ done l))
+
+-- ## What is put
+
+abbrev pub LinePut : Option Line → List ℕ → ℕ → ℕ → Option Line → Type 0
+LinePut before bytes now status after =
+    AtHandle before status after
+    (λ l status n. (result : Result (Unit {0}) PutFault) × PutsBytes l bytes now result n × (status ≡ put_status result))
+
+abbrev pub LineNotePut : Option Line → List ℕ → ℕ → ℕ → Option Line → Type 0
+LineNotePut before bytes now status after =
+    AtHandle before status after
+    (λ l status n. (result : Result (Unit {0}) NoteFault) × PutsNote l bytes now result n × (status ≡ note_status result))
+
+abbrev pub LineAsked : Option Line → ℕ → ℕ → Option Line → Type 0
+LineAsked before now status after =
+    AtHandle before status after
+    (λ l status n. (result : Result (Unit {0}) PutFault) × Asks l now result n × (status ≡ put_status result))
+
+abbrev pub LineAcknowledges : Option Line → ℕ → Option Line → Type 0
+LineAcknowledges before status after =
+    AtHandle before status after
+    (λ l status n. (result : Result (Unit {0}) PutFault) × Acknowledges l result n × (status ≡ put_status result))
+
+-- ## Bytes out and in
+
+abbrev pub LineTakenOut : Option Line → ℕ → List ℕ → List ℕ → ℕ → ℕ → ℕ → Option Line → Type 0
+LineTakenOut None attempt before after old status new g = (status ≡ no_handle) × (after ≡ before) × (new ≡ old) × (g ≡ None)
+LineTakenOut (Some l) attempt before after old status new g =
+    (n : Line) × (result : Result ℕ NotOpen) × (g ≡ Some n) × TakesOut l attempt before result after n
+    × (status ≡ out_status result) × (new ≡ handed_or old result)
+
+abbrev pub LineReceived : Option Line → ℕ → List ℕ → ℕ → ℕ → Option Line → Type 0
+LineReceived before attempt piece now status after =
+    AtHandle before status after
+    (λ l status n. (result : Result (Unit {0}) ReceiveFault) × Receives l attempt piece now result n × (status ≡ receive_status result))
+
+abbrev pub LineTakenIn : Option Line → List ℕ → List ℕ → ℕ → ℕ → ℕ → Option Line → Type 0
+LineTakenIn None before after old status new g = (status ≡ no_handle) × (after ≡ before) × (new ≡ old) × (g ≡ None)
+LineTakenIn (Some l) before after old status new g = (n : Line) × (g ≡ Some n) × (status ≡ ok) × TakesIn l before new after n
+
+-- a note is moved only where there is room for the longest
+abbrev pub LineNote : Line → Bool → List ℕ → List ℕ → ℕ → ℕ → ℕ → Line → Type 0
+LineNote l true before after old status new n = (status ≡ no_room) × (after ≡ before) × (new ≡ old) × (n ≡ l)
+LineNote l false before after old status new n =
+    (count : Option ℕ) × GivesNote l before count after n × TellsOne count status old new
+
+abbrev pub LineNextNote : Option Line → List ℕ → List ℕ → ℕ → ℕ → ℕ → Option Line → Type 0
+LineNextNote None before after old status new g = (status ≡ no_handle) × (after ≡ before) × (new ≡ old) × (g ≡ None)
+LineNextNote (Some l) before after old status new g =
+    (n : Line) × (g ≡ Some n) × LineNote l (nat_lt (length before) 4096) before after old status new n
+
+-- ## Readers
+
+-- the words that came before the host's hello, as many of their bytes as have room
+abbrev pub LineWords : Option Line → List ℕ → List ℕ → ℕ → ℕ → ℕ → Type 0
+LineWords None before after old status new = (status ≡ no_handle) × (after ≡ before) × (new ≡ old)
+LineWords (Some l) before after old status new =
+    (front : List ℕ) × (left : List ℕ) × IsFront l.greeting front × (status ≡ ok) × Takes front before after new left
+
+abbrev pub line_details : ℕ → Line → SamLineDetails
+line_details now l =
+    record {
+      silence = silence l.clock (is_due l) now;
+      round_trip = l.question.round_trip;
+      failures = l.clock.failures;
+      attempt = l.link.attempt;
+      put_count = put_len l.link;
+      acknowledged = l.link.keeps.base;
+      received = l.link.received;
+      state = state_number l.clock.state;
+      why = lost_status l.clock.state;
+      is_known = l.link.is_known;
+      has_all = has_all l;
+    }

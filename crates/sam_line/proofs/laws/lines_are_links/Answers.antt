@@ -1,0 +1,5 @@
+use Rattle.sam_line.proofs.LineLaws.{lines_are_links}
+use Rattle.sam_line.proofs.laws.lines_are_links.Goals as goal
+
+pub returns : goal.returns
+returns c = lines_are_links
