@@ -181,14 +181,13 @@ static bool has_file(struct session *session, size_t tag)
     return sam_host_has_file(&session->host, (uint16_t)tag, &has) == SAM_OK && has;
 }
 
-/* Whether the text of a file may be nowhere on disk. */
-static bool is_changed(struct session *session, uint16_t tag)
+bool is_changed(struct session *session, uint16_t tag)
 {
     bool is_dirty = true;
 
-    if (tag == 0 || tag == session->vault || !has_file(session, tag))
+    if (tag == 0 || is_hidden(session, tag) || !has_file(session, tag))
         return false;
-    return sam_host_is_dirty(&session->host, tag, &is_dirty) != SAM_OK || is_dirty || session->documents[tag].is_unsaved;
+    return sam_host_is_dirty(&session->host, tag, &is_dirty) != SAM_OK || is_dirty || session->documents[tag].is_unmarked;
 }
 
 bool stands_in_its_file(struct session *session, uint16_t tag)

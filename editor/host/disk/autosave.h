@@ -28,6 +28,9 @@ struct due {
 /* Takes the text of a file into session->text. */
 int take_text(struct session *session, uint16_t tag);
 
+/* Whether the text of a file of the user's may be nowhere on disk. */
+bool is_changed(struct session *session, uint16_t tag);
+
 /* Has the text of a file stand on disk, and hands out where: in its file where that has it, else in the document's copy. */
 enum place { IN_ITS_FILE, ASIDE };
 int secure(struct session *session, uint16_t tag, enum place *place);

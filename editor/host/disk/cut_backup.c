@@ -122,13 +122,14 @@ static bool is_in(const struct text *part, const struct text *whole)
     }
 }
 
-/* Whether a text stands in a file of the session, other than the command file and the one for undo. */
+/* Whether a text stands in a file of the user's, or in a copy that an earlier session saved. */
 static bool stands_in_a_file(struct session *session, const struct text *text)
 {
     size_t tags = count_tags(session);
 
     for (size_t tag = 1; tag < tags; tag++) {
-        if (tag != session->vault && take_text(session, (uint16_t)tag) == 0 && is_in(text, &session->text))
+        bool may_be = !is_hidden(session, tag) || session->documents[tag].purpose == LEFT_OVER;
+        if (may_be && take_text(session, (uint16_t)tag) == 0 && is_in(text, &session->text))
             return true;
     }
     return false;

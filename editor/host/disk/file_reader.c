@@ -60,12 +60,6 @@ int read_unlinked(const char *path, struct text *text, struct stat *status)
     return read_regular(path, O_NOFOLLOW, text, status);
 }
 
-/* A path as a file of the session has it, in memory of its own: with a front where it begins as the names do of what is no file. */
-static char *own_path(const char *path)
-{
-    return formatted(strncmp(path, RESERVED, strlen(RESERVED)) == 0 ? "./%s" : "%s", path);
-}
-
 /* The name of a path in the session: the path, or of a long one its last runes after a sign that it was cut. */
 static char *shown_name(const char *path)
 {
@@ -83,7 +77,7 @@ static char *shown_name(const char *path)
 
 int add_text(struct session *session, const char *path, const struct text *text, uint16_t *tag)
 {
-    struct document document = {.path = own_path(path)};
+    struct document document = {.path = formatted("%s", path)};
     struct content content = access(path, F_OK) == 0 ? content_of(text) : (struct content){.kind = NOT_THERE};
     char *end = NULL;
     int error = document.path == NULL ? ENOMEM : end_of_links(document.path, &end);
@@ -257,9 +251,12 @@ void tell_times(struct session *session)
 
 int add_vault(struct session *session)
 {
-    uint32_t code = sam_host_add_file(&session->host, (const uint8_t *)VAULT, strlen(VAULT), (const uint8_t *)"", 0, &session->vault);
+    const char *name = NAME_FOR_UNDO;
+    uint32_t code = sam_host_add_file(&session->host, (const uint8_t *)name, strlen(name), (const uint8_t *)"", 0, &session->vault);
 
-    if (code != SAM_OK)
-        say("%s: %s", VAULT, cause(error_of_status(code)));
+    if (code == SAM_OK)
+        session->documents[session->vault].purpose = FOR_UNDO;
+    else
+        say("%s: %s", name, cause(error_of_status(code)));
     return code == SAM_OK ? STATUS_OK : code == SAM_NO_MEMORY ? STATUS_MEMORY : STATUS_UNREADABLE;
 }

@@ -90,7 +90,7 @@ static bool is_watched(struct session *session, size_t tag)
 {
     bool has = false;
 
-    return session->documents[tag].is_open && !session->documents[tag].is_left && tag != session->vault &&
+    return session->documents[tag].is_open && !is_hidden(session, tag) &&
            sam_host_has_file(&session->host, (uint16_t)tag, &has) == SAM_OK && has;
 }
 
@@ -136,8 +136,8 @@ static bool is_tag(struct session *session, uint64_t tag)
 /* Adds what stands at a path as a file of its own. */
 static int add_anew(struct session *session, uint16_t tag, const char *end, const struct text *text, uint16_t *anew)
 {
-    struct document document = {.is_left = true};
-    char *name = formatted(ANEW "%u", (unsigned)tag);
+    struct document document = {.purpose = READ_ANEW, .is_told_of = true};
+    char *name = formatted(NAME_READ_ANEW "%u", (unsigned)tag);
     uint32_t code = SAM_NO_MEMORY;
 
     if (name != NULL && note_known(&document, end, content_of(text)) == 0)

@@ -125,13 +125,13 @@ static void offer(struct search *search, size_t tag, const struct left *left)
     const struct text *text = &left->text;
     uint16_t own = 0;
     char *path = formatted("%s", left->path);
-    char *name = formatted(LEFT_OVER " %u %c %s", (unsigned)tag, left->is_newer ? '+' : '-', left->when);
+    char *name = formatted(NAME_LEFT_OVER " %u %c %s", (unsigned)tag, left->is_newer ? '+' : '-', left->when);
 
     search->is_short |= path == NULL || name == NULL;
     if (left->is_read && path != NULL && name != NULL && search->offered < MOST_OFFERED &&
         sam_host_add_file(&session->host, (const uint8_t *)name, strlen(name), text->bytes, text->len, &own) == SAM_OK) {
         search->offered++;
-        session->documents[own] = (struct document){.path = path, .shown = name, .is_left = true};
+        session->documents[own] = (struct document){.path = path, .shown = name, .purpose = LEFT_OVER};
         (void)note_known(&session->documents[own], path, content_of(text)); /* where memory is out it can't be dropped */
         path = name = NULL;
     }

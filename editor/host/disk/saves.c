@@ -1,7 +1,7 @@
 /* saves.c: writes a file when the terminal says so.
  *
  * A file that another program changed is not replaced at once: that is reported, and only the next write replaces it, and keeps what it had
- * beside it. What can't be written is saved aside, since the terminal takes it for written, and closes the file without a question.
+ * beside it. What can't be written is saved aside at once, and its file is marked as dirty.
  */
 #define _XOPEN_SOURCE 700
 #include <errno.h>
@@ -19,6 +19,7 @@
 #include "journal/journal_records.h"
 #include "journal/replay.h"
 #include "limits.h"
+#include "session/dirty_marks.h"
 #include "session/document.h"
 #include "session/messages.h"
 #include "session/persistent_session.h"
@@ -187,7 +188,7 @@ void report_taken(struct session *session)
 
     for (size_t tag = 1; tag < tags; tag++) {
         int error;
-        if (!session->documents[tag].is_unsaved)
+        if (!session->documents[tag].is_unmarked)
             continue;
         char *path = path_of(session, (uint16_t)tag, &error);
         put_answer(session, answer_unwritten(session, (uint16_t)tag, path, NOT_WRITTEN));
@@ -215,7 +216,7 @@ static bool is_dropped(struct session *session, uint16_t tag)
 {
     uint32_t runes = 1;
 
-    return session->documents[tag].is_left && sam_host_len(&session->host, tag, &runes) == SAM_OK && runes == 0;
+    return session->documents[tag].purpose == LEFT_OVER && sam_host_len(&session->host, tag, &runes) == SAM_OK && runes == 0;
 }
 
 /* Removes such a text, unless it is another one by now. */
@@ -234,6 +235,7 @@ static struct message *drop_left(struct session *session, uint16_t tag, const ch
         error = errno;
     if (error == 0)
         return answer_write(session, event, "");
+    mark_dirty(session, tag);
     event.kind = SAM_NOTE_NOT_SAVED;
     event.code = code_of(error);
     return answer_write(session, event, "%s is not dropped: %s", path, error == IS_CHANGED ? "it has changed since" : cause(error));
@@ -263,7 +265,9 @@ static struct message *write_text(struct session *session, uint16_t tag)
     } else {
         if (path != NULL && !has_it_anew(session, tag))
             attempt = put_text(session, tag, path);
-        session->documents[tag].is_unsaved = attempt.error != 0;
+        session->documents[tag].is_unmarked = false;
+        if (attempt.error != 0)
+            mark_dirty(session, tag);
         answer =
             attempt.error != 0 ? answer_unwritten(session, tag, path, attempt.error) : answer_written(session, tag, path, attempt.theirs);
     }
@@ -288,7 +292,7 @@ void write_files(struct session *session)
     uint16_t tag;
 
     while (sam_host_next_written(&session->host, &tag) == SAM_OK) {
-        if (tag != session->vault)
+        if (!is_hidden(session, tag) || session->documents[tag].purpose == LEFT_OVER)
             write_file(session, tag);
     }
 }

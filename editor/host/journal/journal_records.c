@@ -69,9 +69,10 @@ static void add_document(struct body *body, uint16_t tag, const struct document 
     add_number(body, tag);
     add_words(body, document->path);
     add_words(body, document->shown);
-    add_number(body, document->is_unsaved + (document->is_unsaved && document->is_taken));
+    add_number(body, document->is_unmarked);
+    add_number(body, document->is_taken);
     add_number(body, document->is_reported);
-    add_number(body, document->is_left);
+    add_number(body, document->purpose);
     add_copy(body, &document->aside);
     for (const struct known *known = document->known; known != NULL; known = known->next)
         count++;
@@ -102,6 +103,14 @@ static void take_known(struct record *record, struct document *document)
     }
 }
 
+static enum purpose take_purpose(struct record *record)
+{
+    uint64_t purpose = take_number(record);
+
+    record->is_wrong |= purpose > READ_ANEW;
+    return (enum purpose)purpose;
+}
+
 void take_document(struct session *session, struct record *record)
 {
     uint64_t tag = take_number(record);
@@ -113,17 +122,18 @@ void take_document(struct session *session, struct record *record)
     }
     document.path = take_words(record);
     document.shown = take_words(record);
-    uint64_t unsaved = take_number(record);
-    document.is_unsaved = unsaved > 0;
-    document.is_taken = unsaved > 1;
+    document.is_unmarked = take_number(record) != 0;
+    document.is_taken = take_number(record) != 0;
     document.is_reported = take_number(record) != 0;
-    document.is_left = take_number(record) != 0;
+    document.purpose = take_purpose(record);
     take_copy(record, &document.aside);
     take_known(record, &document);
-    free_document(&session->documents[tag]);
     document.is_open = session->documents[tag].is_open;
+    document.is_told_of = session->documents[tag].is_told_of;
+    free_document(&session->documents[tag]);
     document.noted = (struct copy_mark){document.aside.device, document.aside.inode, document.aside.written};
     session->documents[tag] = document;
+    session->has_unmarked |= document.is_unmarked;
 }
 
 /* ---- Steps ---- */
@@ -209,6 +219,11 @@ void note_file(struct session *session, uint16_t tag)
     add_body(session, STEP_FILE, &body);
 }
 
+uint64_t form_and_version(uint32_t form, uint32_t version)
+{
+    return (uint64_t)form << 32 | version;
+}
+
 void note_start(struct session *session)
 {
     struct stay *stay = session->stay;
@@ -221,7 +236,7 @@ void note_start(struct session *session)
     add_number(&body, session->mode_of_new_files);
     add_number(&body, session->vault);
     add_number(&body, (uint64_t)stay->longest_alone);
-    add_number(&body, sam_library_version());
+    add_number(&body, form_and_version(RECORDS_FORM, sam_library_version()));
     free(folder);
     add_body(session, STEP_START, &body);
     for (size_t tag = 1; tag < tags; tag++)

@@ -10,6 +10,13 @@
 struct message;
 struct session;
 
+/* The form of the records. It grows with each change of what they say, so that no samhost takes up a session whose records it would read
+ * otherwise: tests/host/host_checks/journals.py has a sum of the code that decides. */
+#define RECORDS_FORM 2
+
+/* What the first record says that the others are of: the form, and the library's version. */
+uint64_t form_and_version(uint32_t form, uint32_t version);
+
 /* Notes how a session began, and its files. */
 void note_start(struct session *session);
 

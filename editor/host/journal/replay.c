@@ -22,6 +22,7 @@
 #include "limits.h"
 #include "log.h"
 #include "net/event_loop.h"
+#include "session/dirty_marks.h"
 #include "session/ending.h"
 #include "session/messages.h"
 #include "session/persistent_session.h"
@@ -62,7 +63,8 @@ bool is_done_already(struct session *session, enum doing doing, uint16_t tag)
         return false;
     if (replay->next == replay->count) {
         bool is_write = replay->is_damaged && doing == DOING_WRITE; /* nobody knows what came after it */
-        session->documents[tag].is_unsaved |= is_write;
+        if (is_write)
+            mark_dirty(session, tag);
         return is_write;
     }
     struct record record = replay->done[replay->next++];
@@ -148,7 +150,13 @@ static void take_start(struct session *session, struct record *record)
     session->mode_of_new_files = (mode_t)take_number(record);
     session->vault = (uint16_t)take_number(record);
     session->stay->longest_alone = (int64_t)take_number(record);
-    session->stay->replay->is_other = take_number(record) != sam_library_version();
+    uint64_t written_by = take_number(record);
+    session->stay->replay->is_other = written_by != form_and_version(RECORDS_FORM, sam_library_version());
+    if (written_by >> 32 != RECORDS_FORM) {
+        session->stay->replay->fault = REPLAY_OTHER_FORM;
+        free(folder);
+        return;
+    }
     umask(0666 & ~session->mode_of_new_files);
     if (folder == NULL || chdir(folder) != 0) {
         say("%s: %s", folder == NULL ? "the folder of the session" : folder, cause(errno));
@@ -215,7 +223,10 @@ static void message_again(struct session *session, const uint8_t *bytes, size_t 
     struct stay *stay = session->stay;
     struct sam_note note;
 
-    bool is_last = sam_note_read(bytes, len, &note) == SAM_OK && note.kind == SAM_NOTE_ENDED;
+    bool is_message = sam_note_read(bytes, len, &note) == SAM_OK, is_last = is_message && note.kind == SAM_NOTE_ENDED;
+    if (is_message && note.kind == SAM_NOTE_ANEW && note.number < ALL_TAGS)
+        session->documents[note.number].is_told_of = true;
+    stay->replay->has_first |= is_message && note.kind == SAM_NOTE_SESSION;
     stay->has_ended |= is_last;
     stay->is_kept |= is_last && note.number == STATUS_LOST; /* the journal has what could not be saved */
     was_put(&stay->messages, bytes, len);
@@ -327,6 +338,15 @@ static bool find_done(const struct text *all, uint64_t random, struct record_pla
     return has_begun;
 }
 
+/* Has those messages wait without which no terminal can go on, as far as none of them was put. Returns whether there is memory for that. */
+static bool tell_again(struct session *session)
+{
+    struct stay *stay = session->stay;
+    bool is_told = stay->attempt == 0 || stay->replay->has_first || put_first_message(session);
+
+    return is_told && tell_hidden(session);
+}
+
 static void replay_all(struct session *session, const struct text *all, size_t end)
 {
     struct stay *stay = session->stay;
@@ -340,6 +360,8 @@ static void replay_all(struct session *session, const struct text *all, size_t e
         catch_up(session);
     if (stay->replay->fault == REPLAY_OK && stay->replay->next < stay->replay->count)
         stay->replay->fault = REPLAY_DIFFERS;
+    if (stay->replay->fault == REPLAY_OK && !tell_again(session))
+        stay->replay->fault = REPLAY_SHORT;
     if (stay->attempt > 0)
         (void)!sam_link_broken(&stay->link, stay->attempt);
     stay->out.len = stay->out.sent = 0;

@@ -15,9 +15,10 @@ enum replay_fault {
     REPLAY_OK,
     REPLAY_NOTHING, /* it had not begun */
     REPLAY_UNREADABLE,
-    REPLAY_OTHER,     /* the journal is of another version */
-    REPLAY_SHORT,     /* memory is out */
-    REPLAY_NO_FOLDER, /* the folder in which it began is gone */
+    REPLAY_OTHER,      /* the journal is of another version */
+    REPLAY_OTHER_FORM, /* and its records are of another form, so nothing is known of its texts */
+    REPLAY_SHORT,      /* memory is out */
+    REPLAY_NO_FOLDER,  /* the folder in which it began is gone */
     REPLAY_DIFFERS,
     REPLAY_DAMAGED /* a record is wrong that was on the disk, or it has no begin; what stands before that is known */
 };
@@ -30,6 +31,7 @@ struct replay {
     size_t came;      /* how many bytes came for the host since it caught up */
     bool is_other;    /* another version of the library has written it */
     bool is_damaged;  /* what was done behind its end is not known */
+    bool has_first;   /* the first message was put */
     enum replay_fault fault;
 };
 

@@ -16,6 +16,7 @@
 #include "disk/saves.h"
 #include "limits.h"
 #include "log.h"
+#include "session/dirty_marks.h"
 #include "session/ending.h"
 #include "session/session.h"
 #include "sulgrevad.h"
@@ -127,6 +128,8 @@ static void follow_step(struct session *session, const sam_did *did)
     session->is_met |= did->kind != KIND_VERSION && did->kind != KIND_OPEN_COMMANDS; /* an edit has no kind */
     note_snarf(session, is_edit ? KIND_CUT : did->kind, did->tag);
     write_files(session);
+    if (did->kind == KIND_VERSION && !is_edit)
+        note_names_told(session);
     if (did->kind == KIND_CLOSE)
         forget_closed(session, did->tag);
     else if (did->kind == KIND_OPEN && !is_edit)
@@ -140,6 +143,8 @@ static uint32_t step_host(struct session *session)
     sam_did did;
 
     do {
+        if (!put_marks(session))
+            return SAM_NO_MEMORY;
         prepare_step(session);
         uint32_t code = sam_host_step(&session->host, &did);
         if (code != SAM_OK)

@@ -262,21 +262,13 @@ static void answer_line(int socket, const char *line)
     (void)send(socket, line, strlen(line), MSG_NOSIGNAL | MSG_DONTWAIT); /* where it doesn't go, nobody is there */
 }
 
-static bool is_unwritten(struct session *session, size_t tag)
-{
-    bool is_dirty = false;
-
-    return tag != session->vault && sam_host_is_dirty(&session->host, (uint16_t)tag, &is_dirty) == SAM_OK &&
-           (is_dirty || session->documents[tag].is_unsaved);
-}
-
 static int count_unsaved(struct session *session)
 {
     size_t tags = count_tags(session);
     int count = 0;
 
     for (size_t tag = 1; tag < tags; tag++)
-        count += is_unwritten(session, tag);
+        count += is_changed(session, (uint16_t)tag);
     return count;
 }
 
@@ -289,7 +281,7 @@ static void answer_changed(struct session *session, const struct caller *caller)
 
     for (size_t tag = 1; tag < tags && len + IDENTITY_ROOM + 1 < sizeof line; tag++) {
         struct identity identity = {0};
-        char *path = !is_unwritten(session, tag) || session->documents[tag].is_left ? NULL : path_of(session, (uint16_t)tag, &error);
+        char *path = !is_changed(session, (uint16_t)tag) ? NULL : path_of(session, (uint16_t)tag, &error);
         if (path != NULL && identify(path, &identity) == 0) {
             spell_identity(&identity, words);
             len += (size_t)snprintf(line + len, sizeof line - len, "%s", words);
@@ -363,8 +355,8 @@ static void answer_open(struct session *session, struct caller *caller, const ch
 
 void note_closing(struct session *session, uint16_t tag)
 {
-    bool is_dirty = true;
-    bool is_written = sam_host_is_dirty(&session->host, tag, &is_dirty) == SAM_OK && !is_dirty && !session->documents[tag].is_unsaved;
+    bool is_written = !is_changed(session, tag);
+
     for (int at = 0; at < MOST_WAITERS; at++) {
         struct waiter *waiter = &session->stay->waiters[at];
         if (waiter->socket < 0 || waiter->tag != tag)

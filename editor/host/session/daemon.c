@@ -268,6 +268,7 @@ static const char *why_not_again(enum replay_fault fault)
 {
     switch (fault) {
     case REPLAY_OTHER:
+    case REPLAY_OTHER_FORM:
         return "its journal is of another version of samhost";
     case REPLAY_DIFFERS:
         return "its journal has other answers than samhost gives now, which is a fault of samhost";
@@ -316,7 +317,7 @@ static int give_up(struct session *session, enum replay_fault fault, bool is_att
     if (is_for_ever && is_saved)
         remove_home(home);
     free_staying(session);
-    if (is_attached && (is_for_ever || fault == REPLAY_OTHER))
+    if (is_attached && (is_for_ever || fault == REPLAY_OTHER || fault == REPLAY_OTHER_FORM))
         return refuse_hello(SAM_LINK_NO_SESSION);
     return fault == REPLAY_SHORT ? STATUS_MEMORY : STATUS_UNREADABLE;
 }

@@ -10,10 +10,19 @@
 #include "disk/file_writer.h"
 #include "disk/paths.h"
 
-#define RESERVED "~~"        /* what names begin with, in the session, of what is no file of the user's */
-#define VAULT "~~undo~~"     /* the name of the file in which a terminal keeps text for undo; it is nowhere on disk */
-#define LEFT_OVER "~~left~~" /* what names begin with, in the session, of texts that an earlier session saved */
-#define ANEW "~~anew~~ "     /* the same of files that were read anew; the tag of the old one follows */
+/* What a file of the session is for. All but the user's are hidden: the terminal is told which these are, so that it lists none of them;
+ * they are not watched, not saved aside, and not handed on to another terminal. */
+enum purpose {
+    FOR_USER,
+    FOR_UNDO,  /* there a terminal keeps text; it is nowhere on disk */
+    LEFT_OVER, /* it is what an earlier session saved aside, which goes where it is written empty */
+    READ_ANEW  /* what stood on the disk, for the terminal to put in the place of a file's text */
+};
+
+/* The names of hidden files, or what they begin with. A user's file may have them, too. */
+#define NAME_FOR_UNDO "~~undo~~"
+#define NAME_LEFT_OVER "~~left~~"
+#define NAME_READ_ANEW "~~anew~~ " /* the tag of the old one follows */
 
 /* What a document has read from a file or written to it last, or found there when it refused to write. */
 struct known {
@@ -37,12 +46,13 @@ struct document {
     struct known *known;
     struct copy aside;
     struct copy_mark noted; /* the copy that the journal has */
-    bool is_unsaved;        /* the terminal believes it written, and it is not */
-    bool is_taken;          /* the terminal was told so when it took the session over */
+    bool is_unmarked;       /* its text is on no disk, and the host takes it for written until it is marked as dirty */
+    bool is_taken;          /* the terminal was told that it is not written, when it took the session over */
     bool is_reported;       /* it was said that its text can't be saved */
-    bool is_left;           /* it is what an earlier session saved aside, which goes where it is written empty; or a file read anew */
-    bool is_open;           /* the terminal has opened it, so it is watched */
-    bool is_reloaded;       /* its text was read anew, and the next write may find it in its file */
+    enum purpose purpose;
+    bool is_told_of;  /* the terminal is told that it is hidden, or will be */
+    bool is_open;     /* the terminal has opened it, so it is watched */
+    bool is_reloaded; /* its text was read anew, and the next write may find it in its file */
     struct watch watch;
 };
 

@@ -39,8 +39,7 @@ static uint16_t find_file(struct session *session, const struct identity *wanted
         struct identity identity = {0};
         bool has = false;
         int error;
-        if (tag == session->vault || session->documents[tag].is_left || sam_host_has_file(&session->host, (uint16_t)tag, &has) != SAM_OK ||
-            !has)
+        if (is_hidden(session, tag) || sam_host_has_file(&session->host, (uint16_t)tag, &has) != SAM_OK || !has)
             continue;
         char *path = path_of(session, (uint16_t)tag, &error);
         if (path != NULL && identify(path, &identity) == 0 && is_one_file(&identity, wanted))

@@ -11,7 +11,9 @@
 #include "limits.h"
 #include "log.h"
 #include "net/event_loop.h"
+#include "session/document.h"
 #include "session/ending.h"
+#include "session/messages.h"
 #include "sulgrevad.h"
 
 size_t count_tags(struct session *session)
@@ -19,6 +21,26 @@ size_t count_tags(struct session *session)
     size_t tags = 0;
 
     return sam_host_tags(&session->host, &tags) == SAM_OK ? tags : 0;
+}
+
+bool is_hidden(const struct session *session, size_t tag)
+{
+    return session->documents[tag].purpose != FOR_USER;
+}
+
+bool tell_hidden(struct session *session)
+{
+    size_t tags = count_tags(session);
+
+    for (size_t tag = 1; tag < tags; tag++) {
+        struct document *document = &session->documents[tag];
+        if (!is_hidden(session, tag) || document->is_told_of)
+            continue;
+        if (!put_message(session, &(struct event){.kind = SAM_NOTE_ANEW, .number = tag}, NULL))
+            return false;
+        document->is_told_of = true;
+    }
+    return true;
 }
 
 static mode_t mode_of_new_files(void)
@@ -64,7 +86,12 @@ int open_session(struct session *session, char **paths, int count, const struct 
     if (options->tells_times)
         tell_times(session);
     report_left(session, options->has_vault);
-    return options->has_vault ? add_vault(session) : STATUS_OK;
+    status = options->has_vault ? add_vault(session) : STATUS_OK;
+    if (status == STATUS_OK && !tell_hidden(session)) {
+        say("out of memory");
+        status = STATUS_MEMORY;
+    }
+    return status;
 }
 
 int close_session(struct session *session, enum ending ending)

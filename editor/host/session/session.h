@@ -21,6 +21,7 @@ struct session {
     sam_host host;
     uint16_t vault;             /* the tag of the file for undo; 0 where there is none */
     struct document *documents; /* ALL_TAGS of them */
+    bool has_unmarked;          /* some of them may be to be marked as dirty */
     struct text text;           /* room for one text (MOST_BYTES) */
     struct closed *closed;
     struct cut cut;
@@ -55,5 +56,11 @@ int close_session(struct session *session, enum ending ending);
 
 /* How many tags the host has given; 0 where there is no host. */
 size_t count_tags(struct session *session);
+
+/* Whether a file is none of the user's. */
+bool is_hidden(const struct session *session, size_t tag);
+
+/* Tells the terminal which files are hidden, as far as it was not. Returns whether there is memory for that. */
+bool tell_hidden(struct session *session);
 
 #endif

@@ -48,7 +48,7 @@ void note_about(const struct session *session)
     int count = 0, file;
 
     (void)make_in_home(home, ABOUT, O_WRONLY | O_TRUNC, &file);
-    for (size_t tag = 1; tag < ALL_TAGS && session->documents[tag].path != NULL; tag++, count++)
+    for (size_t tag = 1; tag < ALL_TAGS && session->documents[tag].path != NULL && !is_hidden(session, tag); tag++, count++)
         first = count == 0 ? session->documents[tag].path : first;
     if (first == NULL)
         line = formatted("no files, in %s", folder == NULL ? "?" : folder);
@@ -211,7 +211,7 @@ static int compare_with(struct home *home, void *at)
     for (size_t tag = 1, tags = count_tags(session); has_some && tag < tags; tag++) {
         const struct document *document = &session->documents[tag];
         struct identity identity = {0};
-        bool is_known = document->path != NULL && !document->is_left && identify(document->path, &identity) == 0;
+        bool is_known = document->path != NULL && !is_hidden(session, tag) && identify(document->path, &identity) == 0;
         if (is_known)
             spell_identity(&identity, words);
         if (is_known && strstr(answer, words) != NULL)

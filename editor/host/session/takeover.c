@@ -26,6 +26,7 @@
 #include "log.h"
 #include "net/handshake.h"
 #include "session/daemon.h"
+#include "session/dirty_marks.h"
 #include "session/document.h"
 #include "session/ending.h"
 #include "session/messages.h"
@@ -41,21 +42,7 @@ static bool is_handed_on(struct session *session, size_t tag)
 {
     bool has = false;
 
-    return tag != session->vault && !session->documents[tag].is_left && sam_host_has_file(&session->host, (uint16_t)tag, &has) == SAM_OK &&
-           has;
-}
-
-/* Gives a name that the user has written a front where it begins as the names do of what is no file, and where there is room for it: the
- * new terminal meets it as the name of a file from the start. */
-static void set_apart(char name[NAME_ROOM], size_t *len)
-{
-    bool is_taken = *len >= strlen(RESERVED) && memcmp(name, RESERVED, strlen(RESERVED)) == 0;
-
-    if (!is_taken || *len + 2 > MOST_IN_NAME)
-        return;
-    memmove(name + 2, name, *len);
-    memcpy(name, "./", 2);
-    *len += 2;
+    return !is_hidden(session, tag) && sam_host_has_file(&session->host, (uint16_t)tag, &has) == SAM_OK && has;
 }
 
 /* Gives the new host the names and texts of the old one, in their order. Returns whether there is memory for them. */
@@ -72,29 +59,30 @@ static bool copy_files(struct session *session, struct session *heir)
         if (take_text(session, (uint16_t)old) != 0 ||
             sam_host_name(&session->host, (uint16_t)old, (uint8_t *)name, NAME_ROOM, &len) != SAM_OK)
             return false;
-        set_apart(name, &len);
         if (sam_host_add_file(&heir->host, (const uint8_t *)name, len, session->text.bytes, session->text.len, &tag) != SAM_OK)
             return false;
     }
-    return session->vault == 0 || add_vault(heir) == STATUS_OK;
+    return (session->vault == 0 || add_vault(heir) == STATUS_OK) && tell_hidden(heir);
 }
 
-/* Hands on what is known of the files, which takes no memory. What the new terminal would take for written is marked. */
+/* Hands on what is known of the files, which takes no memory. What is not written is marked, once the new terminal knows it. */
 static void hand_documents(struct session *session, struct session *heir)
 {
     size_t tags = count_tags(session), next = 1;
 
     for (size_t old = 1; old < tags; old++) {
-        bool is_dirty = true;
         if (!is_handed_on(session, old))
             continue;
-        struct document *document = &heir->documents[next++];
+        bool is_unsaved = is_changed(session, (uint16_t)old);
+        struct document *document = &heir->documents[next];
         *document = session->documents[old];
         session->documents[old] = (struct document){0};
         document->is_open = false;
         document->watch = (struct watch){0}; /* the new terminal is told, too */
-        document->is_unsaved |= sam_host_is_dirty(&session->host, (uint16_t)old, &is_dirty) != SAM_OK || is_dirty;
-        document->is_taken = document->is_unsaved;
+        document->is_taken = is_unsaved;
+        if (is_unsaved)
+            mark_dirty(heir, (uint16_t)next);
+        next++;
     }
     heir->closed = session->closed;
     for (struct closed *closed = heir->closed; closed != NULL; closed = closed->next)

@@ -1,5 +1,6 @@
 """The journal of a session that stays: where its samhost is killed, another goes on from it."""
 import contextlib
+import hashlib
 import os
 import random
 import re
@@ -11,7 +12,7 @@ import subprocess
 import time
 
 import sulgrevad
-from checks import Skipped, expect, wait_until
+from checks import ROOT, Skipped, expect, wait_until
 from link_model import What
 
 from .line import Staying, home_of, is_running, pid_of
@@ -19,6 +20,7 @@ from .support import SAMHOST, expect_equal, made, names_in, text_of
 
 HEAD = 24  # bytes of a journal before its first record
 FRONT, BACK = 24, 4  # bytes of a record before its body, and behind it
+FORM_AND_SUM = (2, "4968d69b17d91ee7")  # of the records, and of the code that makes and reads them
 HELLO, UP, DOWN, DONE = 4, 5, 6, 9  # kinds of records: a connection, bytes that came, bytes that the host said, a file that was written
 
 
@@ -231,8 +233,8 @@ def check_journal_behind_garbage(folder):
 
 
 def check_journal_of_another_version(folder):
-    """A journal of another version is told of, and not used; where only the library differs the texts are saved aside."""
-    for what in ("format", "first format", "library"):
+    """A journal of another version is told of, and not used; where only the library differs the texts are saved aside, else it stays."""
+    for what in ("format", "first format", "records", "library"):
         place = folder / what
         place.mkdir()
         made(place, a="one\n")
@@ -246,7 +248,7 @@ def check_journal_of_another_version(folder):
             elif what == "first format":  # it had the library's version there, and records with other heads
                 data = data[:8] + struct.pack(">II", 1, 256) + struct.pack(">IB", 0, 3) + bytes(4) + data[HEAD:]
             else:
-                data = with_turned(data, HEAD, -1)
+                data = with_turned(data, HEAD, -1 if what == "library" else -5)
             journal.write_bytes(data)
             session.drop()
             session.attach()
@@ -258,6 +260,18 @@ def check_journal_of_another_version(folder):
                 expect_equal(text_of(place / "a.txt.sam-saved"), "one\ntwo\n", "the copy")
                 expect("its text is in a.txt.sam-saved" in said, f"it says {said!r}")
                 expect(not home_of(place, session.name).exists(), "its folder stays")
+            else:
+                expect_equal(journal.read_bytes(), data, "the journal")
+
+
+def check_form_of_records(folder):
+    """The code that decides what records say is that of the form whose number they have. Where it changes so that another samhost would read
+    them otherwise, RECORDS_FORM grows; and FORM_AND_SUM in each case."""
+    code = (ROOT / "editor/host/journal/journal_records.c").read_text()
+    functions = re.findall(r"^(?:static )?[^\n;{}]*\b(?:add|take|note)_\w+\([^;{}]*\)\n\{.*?^\}", code, re.MULTILINE | re.DOTALL)
+    expect(len(functions) > 10, f"there are {len(functions)} functions")
+    form = int(re.search(r"#define RECORDS_FORM (\d+)", (ROOT / "editor/host/journal/journal_records.h").read_text())[1])
+    expect_equal((form, hashlib.sha256("\n".join(functions).encode()).hexdigest()[:16]), FORM_AND_SUM, "form and sum")
 
 
 def check_journal_that_differs(folder):

@@ -35,7 +35,8 @@ def is_welcomed(session):
 
 
 def live(session):
-    """Types, writes, opens another file, goes on after a break, and cuts. Returns whether the other file was opened."""
+    """Types, writes, opens another file, which can't be written, goes on after a break, and cuts. Returns whether the other file was
+    opened."""
     session.begin()
     session.type("two\n")
     session.write()
@@ -47,6 +48,9 @@ def live(session):
         session.terminal.open(tag)
         session.settle()
         session.type("more\n", tag)
+        session.rename("gone/b.txt", tag)
+        session.write(tag)
+        expect(session.terminal.is_changed(tag), "what can't be written isn't changed")
     session.drop()
     session.type("three\n")
     session.terminal.select(1, 0, 4)
@@ -102,10 +106,14 @@ def begin_again(place, prefix):
         session.terminal.select(1, 0, 4)
         session.terminal.cut(1)
         session.type("three\n")
+        session.rename("gone/a.txt")
+        session.write()
         session.drop()
         kill(place, session)
         session.prefix = prefix
         session.attach()
+        session.settle()
+        expect(session.terminal.is_changed(1), "what can't be written isn't changed")
         session.type("four\n")
         expect_equal(session.text(), "two\nthree\nfour\n", "the text")
         session.leave()

@@ -237,7 +237,7 @@ def check_stays_after_a_signal(folder):
             session.type("three\n")
             expect(pid_of(place, session.name) != pid, "no other samhost has begun")
             expect_equal(session.text(), "one\ntwo\nthree\n", "the text")
-            expect_equal([message for message in session.messages if message not in session.of("SESSION")], [], "what it says")
+            expect_equal([sulgrevad.NoteKind(message.kind).name for message in session.messages], ["SESSION", "ANEW"], "what it says")
             session.write()
             session.leave()
         expect_equal([name for name in names_in(place) if "sam" in name], [], "the copies that are left")

@@ -17,7 +17,7 @@ DATA, NOTE, ACKNOWLEDGEMENT, ASK = 1, 2, 3, 4
 MOST_BODY = 4096
 # Messages of the core, by their numbers: those that this end makes, and the last ones of their answers.
 VERSION, START_FILE, TYPE, WRITE, EXIT = 1, 6, 8, 13, 22
-UNLOCKED, EXITED = 72, 88
+UNLOCKED, DIRTY, EXITED = 72, 80, 88
 # Messages of the session, and their fields.
 OPEN, WRITES, SESSION, TAKEN_OVER, ENDED, OPENED, SAVED, NOT_SAVED = 1, 5, 65, 68, 69, 70, 74, 75
 FIELDS = {
@@ -171,6 +171,7 @@ def check_second_end(folder):
         first.put(DATA, struct.pack(">BHHI", TYPE, 6 + 1, lost, 0) + b"x")
         failed = first.write(lost, 10)
         expect_equal((failed["kind"], failed["r"], failed["t"], failed["c"]), (NOT_SAVED, 10, lost, 4), "a write that fails")
+        expect_equal(first.frame(DIRTY), struct.pack(">H", lost), "the file that is dirty then")
         copy = failed["k"].decode()
         expect(copy != "" and (folder / copy).read_text() == "x", f"its text is in {copy!r}")
         with End(folder, TAKE_OVER, "--take", name) as second:

@@ -110,6 +110,7 @@ class Session:
 
     def __init__(self, folder, *files, prefix=(), options=(), environment=None, begin=True, limit=None):
         self.folder, self.terminal, self.line = folder, sulgrevad.Terminal(), Line()
+        self.answers = {}  # of each file, the kind of what its last write was answered
         self.lines, self.aloud, self._line = [], [], b""  # lines that it has said; those of standard error, and the one that isn't whole
         more = {"TMPDIR": str(folder / "temporary"), "XDG_STATE_HOME": str(folder / "temporary"), **(environment or {})}
         pipe = subprocess.PIPE
@@ -171,6 +172,8 @@ class Session:
     def hear(self, data):
         """Takes what the host sends. What it says once its input has ended, or while memory is out, stands on standard error, too."""
         stream, messages = self.line.heard(data)
+        kinds = sulgrevad.NoteKind.SAVED, sulgrevad.NoteKind.NOT_SAVED
+        self.answers.update((message.tag, message.kind) for message in messages if message.kind in kinds)
         if self.has_begun:
             self.terminal.feed(stream)
         for line in own_lines("".join(f"samhost: {text}\n" for text in said_in(messages)).encode()):
@@ -222,7 +225,7 @@ class Session:
     def write(self, tag=1):
         self.terminal.write(tag)
         self.settle()
-        expect(not self.terminal.is_dirty(tag), "this test is wrong: the host believes the file dirty")
+        expect_equal(self.terminal.is_dirty(tag), self.answers.get(tag) == sulgrevad.NoteKind.NOT_SAVED, "whether the file is dirty")
 
     def command(self, line, tag=1):
         self.terminal.work(tag)

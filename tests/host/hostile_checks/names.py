@@ -59,17 +59,16 @@ def check_names_in_the_list(folder):
 
 
 def check_names_that_front_ends_take_for_theirs(folder):
-    """A user's file whose name begins as those of texts that were left or read anew has a front in the session, and is read, written,
-    reported and taken over as any other."""
+    """A user's file whose name is that of a hidden one is not hidden, and is read, written, reported and taken over as any other."""
     (folder / "temporary").mkdir()
     names = ["~~left~~ 1 + 2026-01-01 00:00:00", "~~anew~~ 1", "~~undo~~", "~~sam~~", "~~left~~ 0 - " + "x" * 60]
     for name in names:
         (folder / name).write_text("one\n")
     with Staying(folder, *names, options=("--undo",)) as old:
         seen = [old.terminal.name(tag) for tag in sorted(tag for tag in old.terminal.files() if tag != 0)]
-        expect_equal(seen[:4], [f"./{name}" for name in names[:4]], "the names in the session")
+        expect_equal(seen[:4], names[:4], "the names in the session")
         expect(seen[4].startswith("\u2026") and len(seen[4]) == 64, f"the long name is {seen[4]!r}")
-        expect_equal(seen[5], "~~undo~~", "the name of the file for undo")
+        expect_equal([note.number for note in old.of("ANEW")], [6], "the hidden files")
         old.terminal.open(1)
         old.settle()
         old.type("two\n")
@@ -79,10 +78,11 @@ def check_names_that_front_ends_take_for_theirs(folder):
         old.type("three\n")
         old.write()
         why = "another program changed it, and the next write replaces it"
-        told = f"not written: ./{names[0]}: {why}; its text is in ./{names[0]}.sam-saved"
+        told = f"not written: {names[0]}: {why}; its text is in {names[0]}.sam-saved"
         expect(told in old.said(), f"no {told!r} in {old.said()}")
         with Staying(folder, takes=old.name) as new:
-            expect_equal(names_of(new)[:4], [f"./{name}" for name in names[:4]], "the names for the new terminal")
+            expect_equal(names_of(new)[:4], names[:4], "the names for the new terminal")
+            expect_equal([note.number for note in new.of("ANEW")], [6], "the files that are hidden from it")
             new.terminal.open(1)
             new.settle()
             new.write()
@@ -92,13 +92,13 @@ def check_names_that_front_ends_take_for_theirs(folder):
 
 
 def check_names_that_are_given_in_a_session(folder):
-    """A name of that kind that the user gives to a file reaches a new terminal with the front."""
+    """A name of that kind that the user gives to a file makes it none that is hidden, also for a new terminal."""
     made(folder, a="one\n")
     with Staying(folder, "a.txt") as old:
         old.rename("~~left~~ 1 + 1")
         old.type("two\n")
         with Staying(folder, takes=old.name) as new:
-            expect_equal(names_of(new), ["./~~left~~ 1 + 1"], "the names for the new terminal")
+            expect_equal((names_of(new), new.of("ANEW")), (["~~left~~ 1 + 1"], []), "the names for the new terminal, and those hidden")
             new.leave()
     expect_equal(text_of(folder / "~~left~~ 1 + 1.sam-saved"), "one\ntwo\n", "the copy")
 
