@@ -25,6 +25,7 @@ from .text.undo import Undo
 from .text.undo_store import UndoStore
 from .keys.key_queue import BUSY, LEAVING, REST, Pressed, KeyQueue, last_of
 from .line.delivery import Delivery
+from .line.persistent_session import PersistentSession
 
 
 COMMAND_AFTER = 2.0  # seconds of rest after which the command file is opened, if nothing needed it before
@@ -50,7 +51,7 @@ class Editor(WindowLayout, KeyQueue, Actions):
     """The terminal with its windows. Keys come in by `take`, bytes of the host by `feed`, its messages and lines by `hear`."""
 
     def __init__(
-        self, terminal: Terminal, clock: Callable[[], float] = time.monotonic, indents: bool = True,
+        self, terminal: Terminal, line: PersistentSession, clock: Callable[[], float] = time.monotonic, indents: bool = True,
         asked_for: Optional[Sequence[str]] = (), keys: KeySet = SAM,
     ):
         super().__init__(Texts(terminal))
@@ -60,11 +61,11 @@ class Editor(WindowLayout, KeyQueue, Actions):
         # The names that the files have whose paths the user gave; None where he goes on with a session.
         self.asked_for = None if asked_for is None else {shown_name(path) for path in asked_for}
         self.session_files = SessionFiles(terminal)
-        self.way, self.notes = Delivery(terminal, clock), Notes(clock, self.hint)
+        self.way, self.notes = Delivery(terminal, line, clock), Notes(clock, self.hint)
         self.vault = UndoStore(terminal, self.texts)
         self.log, self.numbers, self.keeping = Undo(terminal, self.texts, self.vault), Numbers(self.texts), UnsavedTexts(self)
         self.left, self.slices, self.joining, self.reloading = Recovery(self), Prefetch(self), OpenRequests(self), Reload(self)
-        told = {Kind.HCLEAN: self._meet_clean, Kind.HCLOSE: self._meet_close, Kind.HMOVETO: self._meet_move, Kind.HSETDOT: self._meet_dot}
+        told = {Kind.HCLOSE: self._meet_close, Kind.HMOVETO: self._meet_move, Kind.HSETDOT: self._meet_dot}
         known = self.session_files
         told.update({Kind.HNEWNAME: known.add, Kind.HMOVNAME: known.rename, Kind.HDELNAME: known.drop})
         told.update({Kind.HBINDNAME: known.touch, Kind.HDIRTY: known.touch})
@@ -114,11 +115,7 @@ class Editor(WindowLayout, KeyQueue, Actions):
     @property
     def tags(self) -> List[int]:
         """The user's files."""
-        self._hide_files()
         return self.session_files.tags
-
-    def _hide_files(self) -> None:
-        self.session_files.hide(COMMAND, self.vault.tag, *self.left.tags, *self.reloading.hidden)
 
     @property
     def open_tags(self) -> List[int]:
@@ -128,8 +125,7 @@ class Editor(WindowLayout, KeyQueue, Actions):
     @property
     def changed_tags(self) -> List[int]:
         """Those that are changed, in their order."""
-        may_be = {*self.session_files.touched, *self.keeping.unwritten}
-        return sorted(tag for tag in may_be if self.is_users(tag) and self.is_changed(tag))
+        return sorted(tag for tag in self.session_files.touched if self.is_users(tag) and self.is_changed(tag))
 
     @property
     def changed_names(self) -> str:
@@ -147,7 +143,7 @@ class Editor(WindowLayout, KeyQueue, Actions):
 
     def is_changed(self, tag: int) -> bool:
         """Whether a file was not written since it was changed, or its last write failed. The command file is never written."""
-        return tag != COMMAND and (self.terminal.is_changed(tag) or tag in self.keeping.unwritten)
+        return self.terminal.is_changed(tag)
 
     def name(self, tag: int) -> str:
         terminal = self.terminal
@@ -181,6 +177,8 @@ class Editor(WindowLayout, KeyQueue, Actions):
         if isinstance(told, str):
             self._keep(told)
         elif told.kind in ANSWERS:
+            if told.kind == NoteKind.ANEW:
+                self.session_files.hide(told.number)
             if not self.reloading.meet(told):
                 self.joining.meet(told)
         elif told.kind == NoteKind.DATED:
@@ -188,6 +186,9 @@ class Editor(WindowLayout, KeyQueue, Actions):
         elif told.kind == NoteKind.CHANGED:
             self.reloading.meet_changed(told.tag, words_of(told))
         else:
+            if told.kind == NoteKind.SAVED:
+                self.left.meet_written(told.tag)
+                self.reloading.forget(told.tag)
             self.keeping.meet(told)
             if not self._asks_of(told):
                 self._keep(told, self.left.offer if told.kind == NoteKind.EARLIER and told.code in AGES else "")
@@ -233,17 +234,10 @@ class Editor(WindowLayout, KeyQueue, Actions):
             why += f"; {self.keys.of('paste')} has what you typed for it"
         self.notes.keep(1, why)
 
-    def _meet_clean(self, tag: int) -> None:
-        """The host has written a file, or could not. It may say that a little later, so it is asked once more."""
-        self.keeping.meet_clean(tag)
-        self.left.meet_written(tag)
-        if tag not in self.keeping.unwritten:
-            self.reloading.forget(tag)
-        self.way.confirm()
-
     def _meet_close(self, tag: int) -> None:
-        for memory in (self.log, self.numbers, self.keeping, self.left, self.reloading, self.colours):
+        for memory in (self.log, self.numbers, self.keeping, self.left, self.colours):
             memory.drop(tag)
+        self.reloading.forget(tag)
         self._pasting.discard(tag)
 
     def _meet_move(self, tag: int) -> None:
@@ -266,13 +260,8 @@ class Editor(WindowLayout, KeyQueue, Actions):
             window.select(window.dot[1])
 
     def pause(self) -> None:
-        """The user pauses: sends what was typed, and asks the host whether it has arrived, unless a lock says that an answer is due."""
-        self.way.send(None if self.is_lock_held else self.asking_tag)
-
-    @property
-    def asking_tag(self) -> Optional[int]:
-        """The file by which the host may be asked something: the command file once it is open, and until then that which was used last."""
-        return next((window.tag for window in (self.command, self.active) if window.is_open), None)
+        """The user pauses: sends what was typed."""
+        self.way.send()
 
     def has_command_file(self) -> bool:
         """Whether the command file is open. If not, the host is asked for it, unless its answers are late: no key acts for that round
@@ -322,11 +311,9 @@ class Editor(WindowLayout, KeyQueue, Actions):
     def _meet_files(self) -> None:
         """Shows the first file, and a file that was made; drops the windows of files that were closed."""
         if not self.has_begun and not self.terminal.command_locked:
-            self._hide_files()
-            own = sorted(filter(self.is_users, self.session_files.own))
-            self.vault.find(own)
-            self.reloading.find(own)
-            self.left.find(own)
+            hidden = sorted(filter(self.terminal.is_known, self.session_files.hidden))
+            self.vault.find(hidden)
+            self.left.find(hidden)
             self._begin_with(self.tags)
         known = self.tags
         gone = [window for window in self.files if not self.is_users(window.tag)]

@@ -17,7 +17,6 @@ from .line.host_process import SECONDS_OF_SILENCE, SECONDS_TO_END
 from .loop import KEYBOARD, Loop
 from .view.status_line import printable, words_of
 from .view.screen import FOOT, Screen
-from .text.texts import COMMAND
 from .line.persistent_session import Item, PersistentSession
 from sulgrevad import SamError, Terminal
 
@@ -42,7 +41,6 @@ class Session:
 
     def __init__(self, terminal: Terminal, link: PersistentSession, editor: Editor):
         self.terminal, self.link, self.editor = terminal, link, editor
-        editor.way.line = link
         self.told: Deque[Item] = deque(maxlen=MOST_TOLD)  # what the host told while the screen hid standard error
         self.ended_by = 0
         self.has_colours = False
@@ -130,7 +128,7 @@ class Session:
         """How long the host may take: one that said nothing will say nothing."""
         if self.editor.way.is_broken:
             return 0
-        return SECONDS_OF_SILENCE if self.editor.way.is_silent else SECONDS_TO_END
+        return SECONDS_OF_SILENCE if self.editor.way.is_late else SECONDS_TO_END
 
     @property
     def _stays(self) -> bool:
@@ -181,7 +179,7 @@ class Session:
         """Sends what was typed, and waits for the host's end. Returns its status; None where it doesn't end, or the user doesn't wait."""
         with contextlib.suppress(SamError):  # of a terminal that has stopped, or has no memory
             try:
-                self.editor.way.send_last(self.editor.asking_tag or COMMAND)
+                self.editor.way.send()
             finally:
                 self.link.send(self.terminal.take_out())
         with contextlib.suppress(KeyboardInterrupt):  # the user doesn't wait for the host any longer
@@ -208,7 +206,7 @@ def run_session(wish: Wish, link: PersistentSession) -> int:
     """Edits over a link to a host that has begun. Returns the exit status."""
     layout.TAB = wish.shows.tab
     with CachedTerminal() as terminal:
-        editor = Editor(terminal, indents=wish.indents, asked_for=None if wish.takes_over else wish.files, keys=wish.keys)
+        editor = Editor(terminal, link, indents=wish.indents, asked_for=None if wish.takes_over else wish.files, keys=wish.keys)
         editor.has_numbers, editor.has_details = wish.shows.numbers, wish.shows.details
         session = Session(terminal, link, editor)
         session.has_colours = not wish.shows.plain and not os.environ.get("NO_COLOR")

@@ -33,11 +33,6 @@ class OpenRequests:
         self._asked_for: Optional[Wished] = None  # the wish for which the names were asked for
         self._goes_to: Optional[Wished] = None  # a file that is shown, until the line is gone to
 
-    @property
-    def is_there(self) -> bool:
-        """Whether the host takes paths."""
-        return self.editor.way.line is not None
-
     def next_request(self) -> int:
         """The number of another request; its answer repeats it."""
         self._request += 1

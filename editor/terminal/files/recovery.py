@@ -60,9 +60,9 @@ class Recovery:
     def hear_written(self, tag: int, when: int) -> None:
         self._times[tag] = when
 
-    def find(self, own: List[int]) -> None:
-        """The names of the host's files are known: some of its own are texts that it saved. Others of the files may be here."""
-        for tag in own:
+    def find(self, hidden: List[int]) -> None:
+        """The names of the host's files are known: some of the hidden ones are texts that it saved. Others of the files may be here."""
+        for tag in hidden:
             found = NAMED.fullmatch(self.terminal.name(tag))
             if found:
                 self.tags[tag] = Old(int(found[1]), found[3], found[2] == "+", tag=tag)
@@ -269,6 +269,7 @@ class Recovery:
             self.terminal.close(old.tag)
 
     def meet_written(self, tag: int) -> None:
+        """The host has written a file, and its answer to the write comes next."""
         if tag in self._taken:
             self._written.append(tag)
 
@@ -276,7 +277,7 @@ class Recovery:
         """Drops what was taken back and is in its file by now, unless it was taken out again, or the write failed."""
         editor = self.editor
         self._look_here()
-        while self._written and editor.way.is_confirmed and not editor.keeping.is_writing(self._written[0]):
+        while self._written and not self.terminal.locked(self._written[0]):
             tag = self._written.pop(0)
             olds, step = self._taken.get(tag, ([], None))
             if editor.is_changed(tag) or step not in editor.log.past.get(tag, []):

@@ -3,12 +3,10 @@
 The host reads the file anew as a hidden file of the session, whose text goes in the place of the old one's. Of that nothing crosses the
 line, `^Z` takes it back, and the file counts as written then.
 """
-from typing import Dict, Iterable, List, Optional, Set
+from typing import Dict, List, Optional
 
 from .open_requests import VERSION
 from sulgrevad import Note, NoteKind
-
-NAME = "~~anew~~ "  # what names of the hidden files begin with
 
 
 class Reload:
@@ -17,20 +15,10 @@ class Reload:
     def __init__(self, editor):
         self.editor, self.terminal = editor, editor.terminal
         self.changed: Dict[int, str] = {}  # files that another program has changed since they were read or written here; and the lines
-        self.hidden: Set[int] = set()  # what was read anew
         self._request = 0  # the last one
         self._tag: Optional[int] = None  # the file that is read anew
         self._anew: Optional[int] = None  # its new text, once the host has told it
         self._sure_of: Optional[int] = None  # the file of which the user is sure, though it was not written
-
-    def find(self, own: Iterable[int]) -> None:
-        """The names of the host's own files are known: an earlier terminal may have left some."""
-        self.hidden.update(tag for tag in own if self.terminal.name(tag).startswith(NAME))
-
-    def drop(self, tag: int) -> None:
-        """The file is closed."""
-        self.forget(tag)
-        self.hidden.discard(tag)
 
     def meet_changed(self, tag: int, line: str) -> None:
         """The host has told, by a line, that another program changed a file."""
@@ -47,7 +35,7 @@ class Reload:
     @property
     def is_there(self) -> bool:
         """Whether the host reads files anew."""
-        return self.editor.way.line is not None and self.editor.vault.tag is not None
+        return self.editor.vault.tag is not None
 
     @property
     def all(self) -> List[int]:
@@ -86,7 +74,6 @@ class Reload:
             return False
         if note.kind == NoteKind.ANEW:
             self._anew = note.number
-            self.hidden.add(note.number)
         else:
             self.editor.notes.keep(1, f"{self.editor.name(self._tag)} is not reloaded: {note.text}")
             self._tag = None

@@ -1,37 +1,37 @@
 """The files of the session, by what the host's frames tell. There may be tens of thousands, so what a frame, a key or a line costs here
 doesn't grow with their number."""
 from bisect import bisect_left
-from typing import Dict, FrozenSet, Iterator, List, Optional, Set
+from typing import Dict, Iterator, List, Set
 
 from sulgrevad import Terminal
+from ..text.texts import COMMAND
 from ..view.status_line import printable
 
-OWN = "~~"  # what names of hidden files begin with
+ALL_TAGS = 65_536  # of a session
 
 
 class SessionFiles:
-    """The user's files are all but the hidden ones; `tags` has them in their order."""
+    """The user's files are all but the command file and the hidden ones, of which the host tells; `tags` has them in their order."""
 
     def __init__(self, terminal: Terminal):
         self.terminal = terminal
         self.tags: List[int] = []
         self.all: Set[int] = set()  # the same
-        self.own: Set[int] = set()  # files whose names begin as those of hidden ones, one of which may be the user's
+        self.hidden: Set[int] = set()  # those that the host has told of; of some the names come later
         self.touched: Set[int] = set()  # files that were opened, or of which the host said that they are changed: no others can be either
         self._known: Set[int] = set()  # all files
-        self._hidden: FrozenSet[Optional[int]] = frozenset()
         self._names: Dict[int, str] = {}  # as they are shown
 
-    def hide(self, *hidden: Optional[int]) -> None:
-        """These files are hidden, and no others."""
-        before, self._hidden = self._hidden, frozenset(hidden)
-        for tag in before ^ self._hidden if before != self._hidden else ():
+    def hide(self, tag: int) -> None:
+        """The host has told that a file is hidden."""
+        if tag < ALL_TAGS:
+            self.hidden.add(tag)
             self._sort(tag)
 
-    def _sort(self, tag: Optional[int]) -> None:
+    def _sort(self, tag: int) -> None:
         """Puts a file among the user's, or takes it from these, where that is not so yet."""
-        is_users = tag in self._known and tag not in self._hidden
-        if tag is None or is_users == (tag in self.all):
+        is_users = tag in self._known and tag not in self.hidden and tag != COMMAND
+        if is_users == (tag in self.all):
             return
         at = bisect_left(self.tags, tag)
         if is_users:
@@ -54,10 +54,6 @@ class SessionFiles:
         self._note_name(tag, self.terminal.name(tag))
 
     def _note_name(self, tag: int, name: str) -> None:
-        if name.startswith(OWN):
-            self.own.add(tag)
-        else:
-            self.own.discard(tag)
         self._names[tag] = printable(name or f"unnamed-{tag}")
 
     def touch(self, tag: int) -> None:
@@ -69,7 +65,7 @@ class SessionFiles:
         self._known.discard(tag)
         self._sort(tag)
         self._names.pop(tag, None)
-        self.own.discard(tag)
+        self.hidden.discard(tag)
         self.touched.discard(tag)
 
     # ---- What is asked

@@ -29,14 +29,12 @@ class UnsavedTexts:
 
     def __init__(self, editor):
         self.editor, self.terminal = editor, editor.terminal
-        self.unwritten: Dict[int, bool] = {}  # files whose last write failed; whether that write is answered
         self.is_hopeless = False  # a text could not be saved anywhere
         self.typed_late = ""  # what was typed when the host was lost already, or memory was out for it
         self.has_left = False  # a text was written here
         self.is_cut_saved = False  # the host has saved what was cut last
         # Files that the next write would replace: the name, None where it was not known yet, and what the host told.
         self._refused: Dict[int, Tuple[Optional[str], Note]] = {}
-        self._writing: Counter = Counter()  # of each file, how many writes are not answered
         self._changes: Counter = Counter()  # of each file
         self._written: Dict[int, int] = {}  # how many of them there were at the last write
         self._saved: Dict[int, int] = {}  # how many of them are in what the host has saved aside
@@ -51,16 +49,11 @@ class UnsavedTexts:
     def write(self, tag: int) -> None:
         """The host is told to write a file."""
         self._refused.pop(tag, None)
-        self._writing[tag] += 1
         self._written[tag] = self._changes[tag]
 
     def write_later(self, tag: int, is_sure: bool) -> None:
         """A file is to be written when the line is back; the user may be sure that it replaces another program's text."""
         self.put_off[tag] = is_sure or self.put_off.get(tag, False)
-
-    def is_writing(self, tag: int) -> bool:
-        """Whether a write of a file is not answered."""
-        return self._writing[tag] > 0
 
     def question(self, tag: int) -> str:
         """What is asked before a file is written in which another program's text stands; "" where none is known to."""
@@ -74,14 +67,6 @@ class UnsavedTexts:
     def refusal(self, tag: int) -> str:
         """The words that told of it."""
         return words_of(self._refused[tag][1]) if tag in self._refused else ""
-
-    def meet_clean(self, tag: int) -> None:
-        """A write is answered. Whether it failed was told before, or is told later."""
-        if self.unwritten.get(tag, True):
-            self.unwritten.pop(tag, None)
-        else:
-            self.unwritten[tag] = True
-        self._writing[tag] = max(0, self._writing[tag] - 1)
 
     def hear_changes(self, changes: Changes) -> None:
         self._changes[changes.tag] += len(changes)
@@ -105,7 +90,6 @@ class UnsavedTexts:
         tag = note.tag
         if note.code in REPLACING:
             self._refused[tag] = self.name(tag) if self.terminal.is_known(tag) else None, note
-        self.unwritten[tag] = self._writing[tag] <= 0
         if note.copy:
             self._saved[tag] = self._written.get(tag, -1)
         else:
@@ -121,7 +105,6 @@ class UnsavedTexts:
 
     def drop(self, tag: int) -> None:
         """The file is closed."""
-        self.unwritten.pop(tag, None)
         self._refused.pop(tag, None)
 
     def let_go(self, tag: int) -> None:

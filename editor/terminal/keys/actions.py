@@ -3,7 +3,7 @@ from .command_lines import Commands, line_at
 from .search import Find, nothing_sought
 from ..files.open_requests import Files
 from .bindings import Paste, Text
-from ..view.menus import Help, Menu
+from ..view.menus import Help
 from .motions import Targets
 from .movement import Moves
 from ..text.texts import COMMAND, GAP, MOST_RUNES
@@ -123,12 +123,7 @@ class Actions(Commands, Moves):
             self.message = f"the menu has the first {MOST_IN_MENU:,} of {len(self.tags):,} files; a path opens any"
         entries = [("* " if self.is_changed(tag) else "  ", self.name(tag)) for tag in tags]
         chosen = tags.index(self.active.tag) if self.active.tag in tags else 0
-        if self.joining.is_there:
-            self.menu = Files(self.joining, entries, chosen, lambda at: self.show(tags[at]))
-        elif tags:
-            self.menu = Menu("Files", entries, chosen, lambda at: self.show(tags[at]))
-        else:
-            self.message = f"no file: {self.keys.of('new')} makes one"
+        self.menu = Files(self.joining, entries, chosen, lambda at: self.show(tags[at]))
 
     def do_split(self) -> None:
         shown = [window.tag for window in self.windows]
@@ -263,7 +258,7 @@ class Actions(Commands, Moves):
             self.terminal.snarf(self.focus.tag)
 
     def do_paste(self) -> None:
-        is_short = self.way.line is not None and self.knows_snarfed and 0 < len(self._snarfed) <= MOST_PASTED_HERE
+        is_short = self.knows_snarfed and 0 < len(self._snarfed) <= MOST_PASTED_HERE
         if self.way.is_late or is_short:
             self._paste_here()
         elif self._has_room(len(self._snarfed)) and self._goes("paste"):

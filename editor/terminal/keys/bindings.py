@@ -6,7 +6,6 @@ from typing import Dict, List, NamedTuple, Optional, Tuple, Union
 NOTHING = "nothing"  # it acts at once, before keys that wait
 WINDOWS = "windows"  # until it is known which windows there are
 PLACE = "place"  # until the places in its window are settled: no answer of the host moves them any more
-WRITTEN = "written"  # the same, and until the write before it was answered
 ANSWERS = "answers"  # until no answer of the host is due: what is on the way may still change a file
 
 ROWS = "rows"  # what an action needs that goes by all that is shown
@@ -54,9 +53,9 @@ BINDINGS = (  # with the keys of the set `sam`
     Binding(("^\\", "F12"), "suspend", "goes back to the shell, until its `fg`", WINDOWS, reads=True, order=FREE),
     Binding(("F9",), "old", "takes, compares or drops what an earlier session left", WINDOWS, leads=True, order=ALL),
     Binding(("^N",), "new", "makes a new file; the command line `f NAME` names it", WINDOWS, leads=True, asks=True, order=WINDOW),
-    Binding(("^W",), "write", "writes the file", WRITTEN),
+    Binding(("^W",), "write", "writes the file"),
     Binding(("^U",), "reload", "puts in what another program has written to the file", ANSWERS, asks=True),
-    Binding(("^K",), "close", "closes the file for good; asks if it was not written", WRITTEN, leads=True, asks=True, order=WINDOW),
+    Binding(("^K",), "close", "closes the file for good; asks if it was not written", leads=True, asks=True, order=WINDOW),
     Binding(("^Q",), "leave", "leaves; asks if a file was not written", ANSWERS, reads=True, leads=True, asks=True, order=ALL),
     Binding(("^Z",), "undo", "takes back the last change of this window"),
     Binding(("^R",), "redo", "makes again what was taken back"),

@@ -6,7 +6,7 @@ from itertools import chain, islice, takewhile
 from typing import Callable, Deque, Dict, NamedTuple, Optional, Set
 
 from .ahead import text_ahead
-from .bindings import ALL, ANSWERS, FILE, LINE, NOTHING, PATTERN, PLACE, ROWS, SCREEN, WINDOW, WINDOWS, WRITTEN
+from .bindings import ALL, ANSWERS, FILE, LINE, NOTHING, PATTERN, PLACE, ROWS, SCREEN, WINDOW, WINDOWS
 from .bindings import PROMPT, Binding, Input, Key, KeySet, Mouse, Paste, Text
 from ..view.layout import line_end, line_start
 from ..view.status_line import REPEAT
@@ -127,11 +127,7 @@ class KeyQueue:
         """Whether a lock is held, so that the host will answer, or an event waits for one."""
         if self.vault.is_busy or self.terminal.held > 0:
             return True
-        return any(map(self.terminal.locked, chain(self.all_windows, self.left.tags, self.reloading.hidden)))
-
-    @property
-    def _is_answer_due(self) -> bool:
-        return self.is_lock_held or not self.way.is_confirmed
+        return any(map(self.terminal.locked, chain(self.all_windows, self.session_files.hidden)))
 
     @property
     def _are_windows_due(self) -> bool:
@@ -146,7 +142,7 @@ class KeyQueue:
             key = Text(key.runes[1:])
         pressed, binding = Pressed(key, when, self._answer_of(key, when), self.notes.is_read), self.bound(key)
         is_leave = binding.action == "leave"
-        is_sure = pressed.answers != "" and (self.way.is_silent or pressed.answers in map(self.of_leaving, (LEAVING, WAITING)))
+        is_sure = pressed.answers != "" and (self.way.is_late or pressed.answers in map(self.of_leaving, (LEAVING, WAITING)))
         self._leaves_at = when + REPEAT if is_leave and is_sure else None
         if self._leaves_at is not None or self._stops(key) or (is_leave and self._leaves_silence(key)):
             return
@@ -238,10 +234,10 @@ class KeyQueue:
 
     def _leaves_silence(self, key: Input) -> bool:
         """Whether the user leaves a host that doesn't answer. Where something may be lost by that, one question is asked, and no more."""
-        if self.is_lost or not self.way.is_silent:
+        if self.is_lost or not self.way.is_late:
             return False
         unwritten = self.changed_names
-        if self.way.line is not None and self.way.line.stays and (unwritten or self.deferred or not self.way.has_all):
+        if self.way.line.stays and (unwritten or self.deferred or not self.way.has_all):
             self._ask(f"{self.of_leaving(STAYS)}{unwritten or 'nothing is unwritten'}", key)
         elif unwritten or self.deferred:
             self._ask(f"{self.of_leaving(SILENT)}: {unwritten or 'keys that wait'}", key)
@@ -415,10 +411,8 @@ class KeyQueue:
         if binding.waits == ANSWERS:
             if binding.needs != "" and self.active not in self.windows and not self._has_shown(self.active, binding):
                 return True
-            return self._is_answer_due or (binding.needs != "" and self._lacks_text(self.active, binding))
+            return self.is_lock_held or (binding.needs != "" and self._lacks_text(self.active, binding))
         window = pressed.window or self.focus
-        if binding.waits == WRITTEN and (self.keeping.is_writing(window.tag) or not self.way.is_confirmed):
-            return True  # the write before it may ask
         return not self._has_shown(window, binding) or not window.is_settled or self._lacks_text(window, binding, key)
 
     def _runs_line(self, pressed: Pressed, binding: Binding) -> bool:

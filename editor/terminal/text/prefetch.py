@@ -33,7 +33,7 @@ class Prefetch:
 
     @property
     def _may_load(self) -> bool:
-        return self.editor.way.line is not None and not self.editor.way.is_late and self.editor.has_begun
+        return not self.editor.way.is_late and self.editor.has_begun
 
     def go_on(self) -> None:
         editor = self.editor

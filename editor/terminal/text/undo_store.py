@@ -49,9 +49,9 @@ class UndoStore:
         self._length = self._copied = 0  # runes of the vault, and after these of what the user has copied
         self._refused: Optional[tuple] = None  # what there was no room for
 
-    def find(self, tags: List[int]) -> None:
-        """The names of the host's files are known: the last one of the vault's name is that. A file may have joined after it."""
-        self.tag = next((tag for tag in reversed(tags) if self.terminal.name(tag) == NAME), None)
+    def find(self, hidden: List[int]) -> None:
+        """The names of the host's files are known: of the hidden ones that of the vault's name is the vault."""
+        self.tag = next((tag for tag in hidden if self.terminal.name(tag) == NAME), None)
 
     @property
     def is_busy(self) -> bool:

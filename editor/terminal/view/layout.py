@@ -199,7 +199,7 @@ class Layout:
     def __init__(self, read: Reader, top: int, width: int, height: int, likely: int = 0):
         self.width, self.height = max(width, 2), height
         most, is_all, rows = self.width * height + 2, False, []
-        count = min(likely, most) or most
+        count = likely or most
         while len(rows) < height and not is_all:  # runes that stand on others need no room
             text = read(top, count)
             is_all = len(text) < count

@@ -196,7 +196,7 @@ def sight_of(editor: Editor) -> Optional[tuple]:
     if editor.is_lost or editor.shown_menu is not None:
         return None
     windows = [window.sight for window in editor.windows]
-    return editor.terminal.deeds, editor.message, editor.shown_focus, editor.is_tiny, windows, [*editor.keeping.unwritten]
+    return editor.terminal.deeds, editor.message, editor.shown_focus, editor.is_tiny, windows
 
 
 class Parts(NamedTuple):
@@ -432,7 +432,7 @@ def status(editor: Editor, link: PersistentSession) -> str:
     if is_broken:
         parts.append(way.line.told)
     parts += counts_of(editor, link)
-    if way.is_silent and not editor.is_lost and not is_broken:
+    if way.is_late and not editor.is_lost and not is_broken:
         parts.append(f"no answer for {int(way.silence)} s")
     return " | ".join(parts)
 

@@ -147,12 +147,13 @@ class Window:
         by = (ahead.change, self.texts.versions.get(self.tag, 0), self._top, self.width, self.height)
         if self._shown_ahead[0] != by:
             found: Optional[Layout] = None
+            likely = self._likely(layout)
             if ahead.start >= layout.top:
-                found = Layout(ahead.read, layout.top, self.width, self.height)
+                found = Layout(ahead.read, layout.top, self.width, self.height, likely)
             if found is not None and not found.shows(ahead.caret):
                 start, rows = row_start(ahead.read, ahead.caret, self.width), self._rows_above(ahead.caret, found)
                 top, is_known, _ = top_above(ahead.read, start, rows, self.width)
-                found = Layout(ahead.read, top, self.width, self.height) if is_known else None
+                found = Layout(ahead.read, top, self.width, self.height, likely) if is_known else None
             self._shown_ahead = by, found
         return self._shown_ahead[1]
 
@@ -179,8 +180,11 @@ class Window:
                 changed = before.changed(self.read, change)
             if changed is not None:
                 return changed
-        longest = 0 if before is None else before.end - before.top + 2 * self.width
-        return Layout(self.read, top, self.width, self.height, longest)
+        return Layout(self.read, top, self.width, self.height, 0 if before is None else self._likely(before))
+
+    def _likely(self, before: Layout) -> int:
+        """How many runes a layout shows that comes after another: with fewer the rows have to be worked out again, of four times as many."""
+        return before.end - before.top + 2 * self.width
 
     def put(self, y: int, height: int, width: int) -> None:
         """Gives it a place on the screen. A caret that was shown stays so, and the window begins with a row of the new width; or above it,

@@ -8,9 +8,8 @@ from pathlib import Path
 
 from checks import Skipped, expect_equal, times_longer
 
-from .breaks import Line
 from .key_times import LINE, LINES, PACE, ROW, WORDS, after_the_start, of_words, until_all_is_loaded
-from .pairs import LONG, Pair, loads_of, opened
+from .pairs import LONG, Line, Pair, loads_of, opened
 from .stopped import RUNES, OnTerminal, share_of
 from .support import expect
 
@@ -27,7 +26,7 @@ def slow(*texts, size=(20, 80), speed=1_000_000, each_way=0.3, seed=1):
     """A pair in a session that stays, over a line that carries so many bytes a second, so many seconds each way, by a clock of its own."""
     pair = Pair(random.Random(seed), texts, has_vault=True)
     pair.editor.arrange(*size)
-    pair.editor.way.line = line = Line()
+    line = pair.take_line(Line())
     line.round_trip = 2 * each_way
     pair.speed, pair.each_way, pair.coming, pair.free_at = speed, each_way, [], 0.0
     return pair

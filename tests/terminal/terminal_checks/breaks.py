@@ -16,7 +16,7 @@ from .fuzz import Run
 from .messages import NoteCode, not_saved, replacing
 from .model import Model
 from .pairs import LONG as MANY_LINES
-from .pairs import in_a_small_window, loads_of, opened
+from .pairs import Line, in_a_small_window, loads_of, opened
 from .slow_line import QUIET_LOOP, least_loop
 from .stopped import MOST_FOR_A_KEY
 from .support import COMMAND_WINDOW, READ_AFTER, SAMHOST, SAMHOST_WORD, STATE, Session, expect, host_that, made, wait_for_text, wait_until
@@ -26,22 +26,10 @@ LINES = [f"line {number} {'x' * (number * 7 % 60)}\n" for number in range(1, 150
 LONG = "".join(LINES)
 
 
-class Line:
-    """What the editor knows of a line to a session that stays, as a check says."""
-
-    late_after, round_trip, has_all, told, stays = 1.0, 0.0, True, "LINE LOST", True
-
-    def __init__(self):
-        self.is_broken, self.silence, self.notes = False, 0.0, []
-
-    def put_note(self, note):
-        self.notes.append(note)
-
-
 def with_line(*texts, **more):
     """An editor with windows for texts, and its line."""
     pair, editor, key, text = opened(*texts, **more)
-    editor.way.line = line = Line()
+    line = pair.take_line(Line())
     return pair, editor, key, text, line
 
 
@@ -79,7 +67,7 @@ def check_keys_on_a_lost_line(folder):
     line.is_broken = False
     pair.finish()
     expect(pair.host.text(1) == model.text, f"the host has {pair.host.text(1)!r}, wanted {model.text!r}")
-    expect(list(pair.host.written()) == [1], "the file is not written once the line is back")
+    expect(pair.written == [1], "the file is not written once the line is back")
     expect(pair.host.text(0) == "1d", f"the command window has {pair.host.text(0)!r}")
 
 
@@ -106,7 +94,7 @@ def check_keys_of_a_short_break(folder):
 def check_nothing_is_loaded_without_a_line(folder):
     """While the line is lost nothing is asked for, and a key that needs text which isn't loaded says so."""
     pair, editor, key, text = in_a_small_window(True)
-    editor.way.line = line = Line()
+    line = pair.take_line(Line())
     line.is_broken = True
     pair.wait(4)
     loads = loads_of(pair)
@@ -155,7 +143,7 @@ def check_long_text_beside_keys(folder):
 def check_slices(folder):
     """While the user rests the whole text is loaded; while keys come nothing is asked for."""
     pair, editor, key, text = in_a_small_window(True)
-    editor.way.line = Line()
+    pair.take_line(Line())
     pair.finish(3)
     expect(pair.terminal.first_gap(1) is None, "the text is not loaded whole")
 
@@ -419,6 +407,9 @@ def check_taken_text_is_unsaved(folder):
     pair, editor, key, text = opened("a\n", "b\n")
     taken = "it was not written before this terminal took the session over"
     editor.hear(not_saved(2, NoteCode.TAKEN_UNSAVED, "/tmp/x.sam-saved", taken))
+    pair.host.mark_dirty(2)
+    pair.down += pair.host.take_out()
+    pair.finish()
     expect({tag for tag in editor.tags if editor.is_changed(tag)} == {2}, "not as changed counts what should")
     expect(taken in editor.message, f"it tells {editor.message!r}")
     editor.go_to(editor.files[1])
@@ -433,8 +424,8 @@ def check_one_answer_after_a_break(folder):
         pair, editor, key, text, line = with_line("a\n")
         pair.press(text("x"))
         if when != "told afterwards":
+            pair.failing = [replacing(1)]
             editor.take(key("^W"))
-            editor.hear(replacing(1))
             pair.finish()
             expect("^W again replaces it" in editor.message, f"{when}: this test is wrong: {editor.message!r}")
         if when == "known before":
@@ -447,9 +438,7 @@ def check_one_answer_after_a_break(folder):
         editor.take(key("Left"))
         pair.wait(2)
         line.is_broken, line.silence = False, 0.0
-        pair.pause()
-        if when == "told afterwards":
-            editor.hear(replacing(1))
+        pair.failing = [replacing(1)] if when == "told afterwards" else []
         pair.finish()
         if when != "answered meanwhile":
             expect("^W again replaces it" in editor.message, f"{when}: it doesn't ask, but tells {editor.message!r}")

@@ -66,6 +66,7 @@ def check_on_the_way(folder):
     (path,) = made(folder, a="one two\n")
     with Session(folder, "a.txt") as session:
         session.wait_for("one two")
+        session.keys("Escape", "Escape")  # so that the command file is open, and no rest has it opened meanwhile
         session.wait_for_quiet()
         with session.stopped_host():
             for keys, shown in (("x", "xone two"), ("S-Left", "0,1 of 9"), ("C-x", "0,0 of 8")):

@@ -9,6 +9,7 @@ import subprocess
 import sys
 from pathlib import Path
 
+from .pairs import Line
 from .support import ROOT, SAMHOST_WORD, SAMTERM, SAMTERM_WORD, Failed, Session, expect, made, stat_of, wait_for_text, wait_until
 
 
@@ -170,7 +171,7 @@ class Fed:
         from terminal.text.texts import GAP
 
         self.terminal = sulgrevad.Terminal()
-        self.editor = Editor(self.terminal)
+        self.editor = Editor(self.terminal, Line())
         self.told, self.tags, self.loaded = [], (1, 2), {}  # what is told of edits; the files, and their texts as far as they are loaded
         self.editor.texts.listeners.append(self.told.extend)
         for tag in self.tags:

@@ -14,6 +14,7 @@ import time
 from collections import deque
 from pathlib import Path
 from types import SimpleNamespace
+from unittest import mock
 
 from checks import Failed, times_longer
 
@@ -29,6 +30,7 @@ RUNES = "αβγδεζηθικλμνξο"  # that are typed: nothing else on the 
 MOST_FOR_A_KEY = 0.05  # seconds of the processor until it shows
 MOST_BESIDE_COLOURS = 0.01  # the same beside a lexer that takes for ever, and what a key costs without one
 SECONDS_TO_END = 5
+IDENTITY = bytes(range(16))  # of a session
 MANY_NAMES = 65_000
 FEWEST_HELPS = 5  # that are shown while so many come
 
@@ -212,13 +214,13 @@ def check_host_of_another_version(folder):
 
 
 def check_files_of_names_that_are_ours(folder):
-    """A file of the user's whose name begins as those of hidden files do, behind the front that samhost gives it, is one of his."""
-    names = [f"./~~{name}" for name in ("left~~ 1 + 2026-11-29 10:00:00", "anew~~ 1", "undo~~", "sam~~")]
+    """A file of the user's is one of his, though it has the name of a hidden one."""
+    names = [f"~~{name}" for name in ("left~~ 1 + 2026-11-29 10:00:00", "anew~~ 1", "undo~~", "sam~~")]
     pair = Pair(random.Random(1), ["a\n", "b\n", "c\n", "d\n"], names=names)
     pair.finish()
     editor = pair.editor
     expect([editor.name(tag) for tag in editor.tags] == names, f"the files are {[editor.name(tag) for tag in editor.tags]}")
-    expect(not editor.left.all and editor.vault.tag is None and not editor.reloading.hidden, "one of them is taken for a hidden one")
+    expect(not editor.left.all and editor.vault.tag is None, "one of them is taken for a hidden one")
 
 
 def check_floods(folder):
@@ -323,6 +325,8 @@ def steps_of_names():
             pair.settle()
         pair.finish()
     changed = Note(NoteKind.CHANGED, tag=8, path=b"file7", text="file7: another program changed it")
+    pair.host.mark_dirty(65_000)
+    editor.feed(pair.host.take_out())
     for told in (not_saved(65_000), aside(64_999), changed):
         with steps.step(told.text):
             editor.hear(told)
@@ -356,29 +360,29 @@ def check_steps_of_many_names(folder):
 
 
 def check_files_of_many_names(folder):
-    """The files and their names are known as they come, get other ones, share them, and go; and thousands of one name cost little."""
+    """The files and their names are known as they come, get other ones, share them, are hidden, and go; and thousands of one name cost
+    little."""
     from terminal.files.session_files import SessionFiles
 
-    numbers, names = random.Random(5), {}
+    numbers, names, hidden = random.Random(5), {}, set()
     files = SessionFiles(SimpleNamespace(name=names.__getitem__))
-    files.hide(0, None)
     for _ in range(4000):
         tag, draw = numbers.randrange(12), numbers.random()
         if draw < 0.2 and tag in names:
             del names[tag]
+            hidden.discard(tag)
             files.drop(tag)
-        elif draw < 0.3:
-            files.hide(0, tag)
-            files.hide(0, None)
+        elif draw < 0.25:
+            hidden.add(tag)
+            files.hide(tag)
         elif tag in names:
             names[tag] = numbers.choice(("a", "b", "c\x9b", "~~d", ""))
             files.rename(tag)
         else:
             names[tag] = ""
             files.add(tag)
-        users = {tag: name for tag, name in names.items() if tag != 0}
+        users = {tag: name for tag, name in names.items() if tag != 0 and tag not in hidden}
         expect(files.tags == sorted(users) and files.all == set(users), f"the files are {files.tags}, wanted {sorted(users)}")
-        expect(files.own == {tag for tag, name in names.items() if name.startswith("~~")}, f"own are {files.own}")
         wanted = [(users[tag] or f"unnamed-{tag}").replace("\x9b", "?") for tag in sorted(users)]
         expect([*files.names] == wanted, f"the names are {[*files.names]}, wanted {wanted}")
     names.update(dict.fromkeys(range(1, MANY_NAMES), "a"))
@@ -528,24 +532,66 @@ def check_session_that_is_not_there_yet(folder):
     expect((folder / "a.txt.sam-here").read_text() == "xyone\n", "what was typed is lost")
 
 
+def said_on(session, what):
+    """The host says this hello on the newest connection."""
+    session._hear(spelled(what, session._attempt))
+
+
+def spelled(what, attempt):
+    return b"\x89samlink\1" + bytes([what]) + IDENTITY + attempt.to_bytes(8, "big") + bytes(8)
+
+
 def check_when_a_missing_session_is_final(folder):
-    """The same by the clock, without a host."""
+    """The same by the clock, without a host: a session that was there is tried for a minute, and one that never was is not."""
     from terminal.line import persistent_session as line
 
-    now = [100.0]
-    session = line.PersistentSession(["sleep", "100"], lambda name: [], clock=lambda: now[0])
-    session._is_met = True
+    now, welcome, no_session = [100.0], 4, 20
+    with mock.patch.object(os, "urandom", lambda count: IDENTITY[:count]):
+        session = line.PersistentSession(["sleep", "100"], lambda name: [], clock=lambda: now[0])
+        first = line.PersistentSession(["sleep", "100"], lambda name: [])
+    said_on(session, welcome)
+    expect(session.is_open, "this test is wrong: it is not welcome")
     for seconds, is_final in ((0, False), (1, False), (30, False), (59, False), (60, True)):
         now[0] = 100.0 + seconds
-        session._meet_refusal(line.NO_SESSION)
+        session.connect()
+        said_on(session, no_session)
         expect(session.is_lost == is_final, f"after {seconds} s: final is {session.is_lost}")
     told = [item for item in session._told_of() if "doesn't find" in item]
     expect(len(told) == 1, f"it tells {told}")
     session.close(print, seconds=0)
-    first = line.PersistentSession(["sleep", "100"], lambda name: [])
-    first._meet_refusal(line.NO_SESSION)
+    said_on(first, no_session)
     expect(first.is_lost, "a session that never was is waited for")
     first.close(print, seconds=0)
+
+
+def check_times_of_a_line(folder):
+    """A connection that no host welcomes is given up after 30 seconds, but not while the user waits for it; and so is a silent line where
+    an answer is due, but not where none is."""
+    from terminal.line import persistent_session as line
+
+    now = [100.0]
+    with mock.patch.object(os, "urandom", lambda count: IDENTITY[:count]):
+        session = line.PersistentSession(["sleep", "100"], lambda name: [], clock=lambda: now[0])
+
+    def goes_on(seconds):
+        """Whether the connection is still the same after so many seconds, of which each is looked at."""
+        first = session.relay
+        for _ in range(10 * seconds):
+            now[0] += 0.1
+            session.go_on()
+            session.send()
+        return session.relay is first
+
+    expect(goes_on(100), "the first one is given up while the user waits")
+    session.connect()
+    expect(goes_on(29) and not goes_on(2), "one that isn't welcome isn't given up after 30 seconds")
+    session.connect(in_front=True)
+    expect(goes_on(100), "one is given up while the user waits")
+    said_on(session, 4)
+    expect(session.is_open and goes_on(100), "an open line is given up though nothing is due")
+    session.send(b"x")
+    expect(not session.has_all and goes_on(29) and session.silence > 28 and not goes_on(2), "a silent line isn't given up after 30 seconds")
+    session.close(print, seconds=0)
 
 
 def check_notes_keep_their_place(folder):
@@ -553,15 +599,13 @@ def check_notes_keep_their_place(folder):
     from terminal.line import persistent_session as line
 
     session = line.PersistentSession(["sleep", "100"], lambda name: [])
-    end, taken, refuses = session._end, [], []
+    machine, taken, refuses = session._line, [], []
 
-    class End:
-        put_count = acknowledged = 0
-
-        def put(self, data):
+    class Short:
+        def put(self, data, now):
             self.take(data)
 
-        def put_note(self, data):
+        def put_note(self, data, now):
             self.take(b"note " + data)
 
         def take(self, data):
@@ -570,15 +614,15 @@ def check_notes_keep_their_place(folder):
                 raise MemoryError
             taken.append(data)
 
-    session._end = End()
+    session._line = Short()
     refuses += [1] * 3
     session._put(b"edit 1")
     session.put_note(said("a word"))
     session._put(b"edit 2")
-    expect(not taken and not session.has_all and session.lacking > 0, f"this test is wrong: {taken}")
+    expect(not taken and not session.has_all, f"this test is wrong: {taken}")
     session._put(b"")
     expect(taken == [b"edit 1", b"note " + write_note(said("a word")), b"edit 2"], f"the order is {taken}")
-    session._end = end
+    session._line = machine
     session.close(print, seconds=0)
 
 

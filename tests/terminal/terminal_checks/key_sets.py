@@ -114,8 +114,8 @@ def check_lines_name_keys_of_the_set(folder):
         pair.press(text("x"), key(write))
         expect(not editor.is_changed(1), f"{name}: {write} doesn't write")
         pair.press(text("y"))
+        pair.failing = [replacing(1)]
         editor.take(key(write))
-        editor.hear(replacing(1))
         pair.finish()
         expect(f"{write} again replaces it" in editor.message, f"{name}: it tells {editor.message!r}")
         pair.press(key(write))

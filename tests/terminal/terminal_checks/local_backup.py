@@ -82,9 +82,10 @@ def check_begun_line_while_it_searches(folder):
 
 
 def check_cut_text(folder):
-    """What was cut is written here, unless the host has pasted it since, something else was copied, or the user leaves."""
+    """What was cut is written here, unless it was pasted since (a short text at once, also where the host says nothing), something else was
+    copied, or the user leaves."""
     for names, answered, wanted in (
-        (("^X",), True, ["ab"]), (("^X", "End", "^V"), True, []), (("^X", "End", "^V"), False, ["ab"]), (("^C",), True, []),
+        (("^X",), True, ["ab"]), (("^X", "End", "^V"), True, []), (("^X", "End", "^V"), False, []), (("^C",), True, []),
         (("^X", "Shift-Right", "^C"), True, []), (("^X", "^C"), True, ["ab"]), (("^X", "Shift-Right", "^X"), True, ["c"]),
     ):  # fmt: skip
         pair, editor, key, _ = opened("abc\n")
@@ -157,8 +158,8 @@ def check_signal_before_a_key_arrives(folder):
 def check_lost_after_a_failed_write(folder):
     """A text that the host saved when a write failed, and then could not save again, is written here."""
     pair, editor, key, text = opened("a\n")
+    pair.failing = [not_saved(1, copy="/tmp/file0.sam-saved")]
     pair.press(text("x"), key("^W"))
-    editor.hear(not_saved(1, copy="/tmp/file0.sam-saved"))
     for told, wanted in (((), []), ((lost(1),), [("file0", "xa\n")])):
         with Kept() as kept:
             for message in told:
@@ -304,6 +305,7 @@ def edited(pair, link):
     """A session that has ended but for its link."""
     from terminal.session import Session as Edited
 
+    pair.editor.way.line = link
     return Edited(pair.terminal, link, pair.editor)
 
 
@@ -379,8 +381,7 @@ def check_fault_in_one_text(folder):
         pair.press(text("x"))
     pair.press(key("^K"), key("^K"))
     editor.go_to(editor.files[1])
-    pair.press(key("Home"), key("Shift-Right"), key("^C"))
-    editor.take(key("^V"))
+    editor.take(key("^W"))
     editor.take(text("waits"))
     read = pair.terminal.read
 

@@ -9,6 +9,16 @@ def said(text):
     return Note(NoteKind.SAID, text=text)
 
 
+def hidden(tag):
+    """A file is none of the user's."""
+    return Note(NoteKind.ANEW, number=tag)
+
+
+def saved(tag):
+    """A write went to the disk."""
+    return Note(NoteKind.SAVED, tag=tag, path=b"a path")
+
+
 def not_saved(tag, code=NoteCode.NO_SPACE, copy="", why=NO_ROOM):
     """A write of a file failed; its text is in a copy, if one is named."""
     kept = f"its text is in {copy}" if copy else f"its text could not be saved: {why}"

@@ -1,7 +1,43 @@
 """An editor and a host in this process, with the bytes between them under way."""
 import random
+from types import SimpleNamespace
 
+from .messages import hidden, saved
 from .support import Failed, expect
+
+
+class Line:
+    """What the editor knows of a line to a session that stays, as a check says."""
+
+    late_after, round_trip, has_all, told, stays = 1.0, 0.0, True, "LINE LOST", True
+
+    def __init__(self):
+        self.is_broken, self.silence, self.notes = False, 0.0, []
+
+    def put_note(self, note):
+        self.notes.append(note)
+
+
+class Wire(Line):
+    """The line of a pair, whose session ends with it: it has carried all once nothing is under way to the host, and is late where that
+    takes three seconds."""
+
+    late_after, stays = 3.0, False
+
+    def __init__(self, pair):
+        self.pair, self.is_broken, self.notes, self.due_since = pair, False, [], None
+
+    @property
+    def has_all(self):
+        return not self.pair.up
+
+    @property
+    def silence(self):
+        if self.has_all:
+            self.due_since = None
+        elif self.due_since is None:
+            self.due_since = self.pair.now
+        return 0.0 if self.due_since is None else self.pair.now - max(self.due_since, self.pair.heard_at)
 
 
 class Pair:
@@ -19,18 +55,26 @@ class Pair:
         from terminal.view import screen
 
         self.random, self.keys, self.screen, self.gap = random_numbers, bindings, screen, GAP
+        self.failing, self.written = [], []  # what the host tells of the next writes that fail; and the files that it was told to write
         self.host, self.terminal, self.now = sulgrevad.Host(), CachedTerminal(), 0.0
+        self.up, self.down, self.heard_at = bytearray(), bytearray(), 0.0
         names = names or [f"file{at}" for at in range(len(texts))]
         for name, text in zip(names, texts):
             self.host.add_file(name, text)
+        self.editor = Editor(self.terminal, Wire(self), clock=lambda: self.now, asked_for=names, keys=bindings.KEY_SETS[key_set])
+        self.prefetch, self.editor.slices = self.editor.slices, SimpleNamespace(left=None, go_on=lambda: None)  # nothing loads at rest
         if has_vault:
-            self.host.add_file("~~undo~~")
-        self.editor = Editor(self.terminal, clock=lambda: self.now, asked_for=names, keys=bindings.KEY_SETS[key_set])
+            self.editor.hear(hidden(self.host.add_file("~~undo~~")))
         self.editor.begin()
         self.editor.arrange(*self.random.choice(self.SIZES))
-        self.up, self.down = bytearray(self.terminal.take_out()), bytearray()
+        self.up += self.terminal.take_out()
         self.names = [key for binding in self.editor.keys.bindings for key in binding.keys if key != "^Q"]
         self.names += [f"Shift-{name}" for name in ("Left", "Right", "Up", "Down", "Home", "End")]
+
+    def take_line(self, line):
+        """From now on the editor has this line, and loads at rest."""
+        self.editor.way.line, self.editor.slices = line, self.prefetch
+        return line
 
     def key(self):
         """One key, mouse button or command line."""
@@ -54,10 +98,23 @@ class Pair:
         data = bytes(way[:count])
         del way[:count]
         if way is self.up:
-            self.host.feed(data)
-            self.down += self.host.take_out()
+            self.serve(data)
         else:
+            self.heard_at = self.now
             self.editor.feed(data)
+
+    def serve(self, data):
+        """The host takes bytes, and tells what became of the writes among them, as samhost does: before its answers, and by marks of files
+        that it could not write."""
+        self.host.feed(data)
+        for tag in self.host.written():
+            self.written.append(tag)
+            told = next((note for note in self.failing if note.tag == tag), None)
+            self.editor.hear(told or saved(tag))
+            if told is not None:
+                self.failing.remove(told)
+                self.host.mark_dirty(tag)
+        self.down += self.host.take_out()
 
     def settle(self):
         self.editor.update()
@@ -106,15 +163,18 @@ class Pair:
     def trip(self):
         """All that waits goes up, and the answers come down."""
         self.pause()
-        self.host.feed(bytes(self.up))
+        data = bytes(self.up)
         self.up.clear()
-        self.editor.feed(self.host.take_out())
+        self.serve(data)
+        self.heard_at = self.now
+        self.editor.feed(bytes(self.down))
+        self.down.clear()
         self.pause()
 
     def check(self):
         expect(self.terminal.held == 0 and not self.editor.deferred, "an event is held for ever")
         expect(not self.editor.is_lost, self.editor.message)
-        expect(self.terminal.under_way == 0, "a message stays on the way")
+        expect(self.editor.way.has_all and self.editor.way.told == 0, "a message stays on the way")
         for window in self.editor.windows:
             if window.is_open:
                 shown = window.read(0, window.length)

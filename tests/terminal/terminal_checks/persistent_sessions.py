@@ -314,3 +314,41 @@ def check_killed_at_random(folder):
     run = Killed(folder, 4, 12)
     run.go()
     expect(run.takeovers > 0 and run.words > 10, f"this test is wrong: {run.takeovers} takeovers, {run.words} words")
+
+
+# ---- A write that failed
+
+
+def check_failed_write_through_breaks(folder):
+    """A write that failed leaves the file marked, also after a break, a kill of samhost, and for who takes the session over. One that doesn't
+    fail takes the mark away."""
+    place = folder / "gone"
+    place.mkdir()
+    with Session(folder, "gone/a.txt", stays=True, width=120) as session:
+        session.ends_staying = False
+        session.wait_for(">  gone/a.txt")
+        session.type("x")
+        session.wait_for(">* gone/a.txt")
+        place.rmdir()
+        session.keys("C-w")
+        session.wait_for("not written: gone/a.txt")
+        session.wait_for_quiet()
+        expect(session.shows(">* gone/a.txt"), "it is not marked as changed")
+        for what, act in (("break", session.break_line), ("kill", lambda: os.kill(host_of(folder), signal.SIGKILL))):
+            relay = session.relay()
+            act()
+            session.wait_for_another_line(relay)
+            session.wait_for_quiet()
+            expect(session.shows(">* gone/a.txt"), f"after a {what} it is not marked as changed")
+        os.kill(session.terminal(), signal.SIGTERM)
+        session.wait_for_end(128 + signal.SIGTERM)
+    name = re.search(r"--take .+ ([0-9a-f]{16})$", (folder / "stderr").read_text(), re.MULTILINE)
+    (folder / "status").unlink()
+    with Session(folder, take=name[1]) as session:
+        session.wait_for("it was not written before")
+        session.wait_for(">* gone/a.txt")
+        place.mkdir()
+        session.keys("C-w")
+        wait_for_text(place / "a.txt", "x")
+        session.wait_for(">  gone/a.txt")
+        session.leave()

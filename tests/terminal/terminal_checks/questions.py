@@ -175,51 +175,47 @@ def check_dropped_is_saved(folder):
         expect(texts == [text], f"{name} is saved as {texts}")
 
 
-def check_late_word_of_a_write(folder):
-    """That a write failed may be told after its answer, as over ssh: the file is changed all the same. A later write takes that back."""
+def check_failed_writes(folder):
+    """Where a write failed the file is changed; another that fails leaves it so, and one that doesn't takes that back."""
     pair, editor, key, text = opened("a\n")
+    pair.failing = [not_saved(1), not_saved(1)]
     pair.press(text("x"), key("^W"))
-    expect(not editor.is_changed(1), "this test is wrong")
-    editor.hear(not_saved(1))
     expect(editor.is_changed(1), "the file is taken for written")
     pair.press(key("^Q"))
-    pair.press(key("^Q"), seconds=0)
-    expect("not written" in editor.message, f"it doesn't ask: {editor.message}")
-    editor.take(key("^W"))
-    editor.hear(not_saved(1))
-    pair.finish()
-    expect(editor.is_changed(1), "a write that failed again takes it back")
+    expect("^Q again leaves without" in editor.message, f"it doesn't ask: {editor.message}")
+    pair.press(key("^W"))
+    expect(editor.is_changed(1) and not pair.failing, "a write that failed again takes it back")
     pair.press(key("^W"))
     expect(not editor.is_changed(1), "a write that did not fail leaves the file changed")
 
 
 def check_two_writes(folder):
-    """Where the second of two quick writes failed, too, the file is changed; where it did not, the file is written."""
-    for fails in (True, False):
+    """Of two quick writes the second says whether the file is written. An edit after it leaves the file changed."""
+    for first, second in ((True, True), (True, False), (False, True)):
         pair, editor, key, text = opened("a\n")
         pair.press(text("x"))
-        for name in ("^W", "^W"):
-            editor.take(key(name))
-        for is_told in (True, fails):
-            if is_told:
-                editor.hear(not_saved(1, copy="/tmp/file0.sam-saved"))
+        for pressed, fails in ((key("^W"), first), (key("^W"), second)):
+            editor.take(pressed)
+            pair.failing += [not_saved(1, copy="/tmp/file0.sam-saved")] if fails else []
             pair.trip()
             while editor.deferred:  # the second waits for the answer to the first
                 pair.trip()
         pair.finish()
-        expect(editor.is_changed(1) == fails, f"the second fails: {fails}, and the file is taken for {'un' * (not fails)}written")
+        expect(editor.is_changed(1) == second, f"{first}, {second}: the file is taken for {'un' * (not second)}written")
+        pair.press(text("y"))
+        expect(editor.is_changed(1), "a later edit is taken for written")
 
 
 def check_files_of_one_name(folder):
     """What the host tells of a file is known by its tag: another of the same name is not meant."""
     pair, editor, key, text = opened("a\n", "b\n")
+    pair.failing = [not_saved(2)]
     for window in editor.files:
         editor.go_to(window)
         pair.press(key("Esc"), text("f same\n"), key("Esc"), text("x"), key("^W"))
     expect([pair.host.name(tag) for tag in (1, 2)] == ["same", "same"], "this test is wrong")
-    for tag, changed in ((2, [False, True]), (1, [True, True]), (9, [True, True])):
-        editor.hear(not_saved(tag))
-        expect([editor.is_changed(tag) for tag in (1, 2)] == changed, f"{tag}: a write that failed is taken for done, or for another's")
+    changed = [editor.is_changed(tag) for tag in (1, 2)]
+    expect(changed == [False, True], f"changed are {changed}: a write that failed is taken for done, or for another's")
 
 
 def check_worst_line_first(folder):

@@ -45,14 +45,14 @@ def check_typing_at_the_menu(folder):
 
     def shown():
         lines = [(line.strip(), is_chosen) for line, is_chosen in editor.menu.lines(20)]
-        return [name for name, _ in lines if name], next((name for name, is_chosen in lines if is_chosen), None)
+        return [name for name, _ in lines if name and not name.startswith("+ ")], next((name for name, is_chosen in lines if is_chosen), None)
 
     for keys, wanted in (
         ((text("t"),), (list(names), "d/e/tab.txt")),
         ((text("a"),), (["d/e/tab.txt", "Data/a.c"], "d/e/tab.txt")),
         ((key("Down"),), (["d/e/tab.txt", "Data/a.c"], "Data/a.c")),
         ((key("Backspace"), key("Backspace"), text("d")), (["d/e/tab.txt", "Data/a.c"], "d/e/tab.txt")),
-        ((text("zz"), text("\n"), key("Down")), ([], None)),
+        ((text("zz"), key("Down")), ([], "+ dzz")),
         ((key("Backspace"),) * 3, (list(names), "notes.txt")),
         ((text("A.c"),), (["Data/a.c", "extra.c"], "Data/a.c")),
     ):  # fmt: skip
@@ -175,21 +175,22 @@ def check_rows_without_text(folder):
         wait_until(lambda: session.goes_to("~~sam~~") and "a.txt" in session.screen()[2], "the title is not above on a narrow screen")
 
 
-def check_write_and_paste_lock_their_file(folder):
-    """`^W` and `^V` hold back no key of another file, which show at once. What is typed into the same file shows again after one round
-    trip, and none of it goes elsewhere."""
-    for name in ("^W", "^V"):
+def check_write_locks_its_file(folder):
+    """`^W` locks its file, and `^V` of a short text none. They hold back no key of another file, which show at once. What is typed into the
+    same file shows again after one round trip at most, and none of it goes elsewhere."""
+    for name, is_locked in (("^W", True), ("^V", False)):
         pair, editor, key, text = opened("one\n", "two\n", has_vault=True)
         pair.press(*[key("^P")] * (1 if editor.focus.tag == 0 else 2), key("Shift-Right"), key("^C"), text("a"))
         expect(editor.focus.tag == 1, f"this test is wrong: keys go to {editor.focus.tag}")
         for pressed in (key(name), key("^P"), text("d")):
             editor.take(pressed)
-        expect(pair.terminal.locked(1) and editor.focus.tag == 2 and not editor.deferred, f"{name}: {len(editor.deferred)} keys wait")
+        expect(pair.terminal.locked(1) == is_locked, f"{name}: its file is locked: {not is_locked}")
+        expect(editor.focus.tag == 2 and not editor.deferred, f"{name}: {len(editor.deferred)} keys wait")
         shown = pair.terminal.text(2, 0, 9)
         expect("d" in shown, f"{name}: the other file has {shown!r}")
         for pressed in (key("^P"), key("^P"), text("e")):
             editor.take(pressed)
-        expect(editor.focus.tag == 1 and len(editor.deferred) == 1, f"{name}: {len(editor.deferred)} keys wait, of {editor.focus.tag}")
+        expect(editor.focus.tag == 1 and len(editor.deferred) == is_locked, f"{name}: {len(editor.deferred)} keys wait, of {editor.focus.tag}")
         pair.trip()
         expect(not editor.deferred and "e" in pair.terminal.text(1, 0, 9), f"{name}: it is not there after one round trip")
         pair.finish()
