@@ -4,15 +4,15 @@ import { Input } from "./input.js";
 import { Loading } from "./prefetch.js";
 import { runesOf } from "./shown_text.js";
 import { Undo } from "./undo.js";
-import { Unwritten } from "./unsaved_texts.js";
 import { View } from "./view.js";
 import { AGAIN, Waiting } from "./key_queue.js";
 
 const COMMAND = 0; // the tag of the command file
 const MOST_TYPED = 512; // runes of one event
-const HIDDEN = /^(~~undo~~$|~~left~~)/; // names of files that a host has for other terminals
+const ALL_TAGS = 65_536; // of a session
 const AT_REST = 1000; // milliseconds after the last key
 const RETRY = 100; // milliseconds until that for which the memory was too small is tried again
+const READ_AFTER = 500; // milliseconds for which a message stands; then the next key takes it away, since it may not be true any more
 
 const WHY = {
   [Status.REFUSAL_TOO_LONG]: "the file would have more than 1,000,000 characters",
@@ -34,6 +34,8 @@ export class Editor {
   keyAt = -Infinity; // when the last key came
   isOver = false; // nothing can be changed any more
   message = "";
+  #saidAt = 0; // when it came
+  #hidden = new Set(); // files that the host keeps for terminals
   #undos = new Map();
   #putOff = new Set(); // files that are written when the line is back
   #unfed = []; // bytes of the host
@@ -50,7 +52,6 @@ export class Editor {
     this.terminal = terminal;
     this.waiting = new Waiting(this);
     this.loading = new Loading(this);
-    this.unwritten = new Unwritten(this);
     this.keys = page.keys;
     Input.define(CodeMirror, this);
     this.input = new Input(CodeMirror, cm, this);
@@ -83,7 +84,12 @@ export class Editor {
 
   /** The user's files. */
   get tags() {
-    return this.terminal.files().filter((tag) => tag !== COMMAND && !HIDDEN.test(this.terminal.name(tag)));
+    return this.terminal.files().filter((tag) => tag !== COMMAND && !this.#hidden.has(tag));
+  }
+
+  /** The host has told that it keeps a file for terminals. */
+  hide(tag) {
+    if (tag < ALL_TAGS) this.#hidden.add(tag);
   }
 
   nameOf(tag) {
@@ -92,7 +98,7 @@ export class Editor {
 
   /** Whether a file was not written since it was changed, or its last write failed. */
   isChanged(tag) {
-    return this.terminal.isChanged(tag) || this.unwritten.has(tag);
+    return this.terminal.isChanged(tag);
   }
 
   /** Whether something that was done here may not be at the host yet. */
@@ -126,6 +132,7 @@ export class Editor {
 
   noteKey() {
     this.keyAt = performance.now();
+    if (this.keyAt - this.#saidAt >= READ_AFTER) this.message = "";
     this.#wake(0);
   }
 
@@ -152,7 +159,6 @@ export class Editor {
     for (;;) {
       const { step, kind, tag, change } = this.terminal.step();
       if (step === "idle" || step === "locked") break;
-      if (step === "received" && kind === Kind.HCLEAN) this.#meetClean(tag);
       const isGap = step === "received" && kind === Kind.HGROW;
       if (change.gone > 0 || change.came > 0) changes.set(tag, [...(changes.get(tag) ?? []), { ...change, isGap }]);
     }
@@ -175,12 +181,6 @@ export class Editor {
     const show = () => this.cm.operation(() => view.apply(changes));
     if (view === this.active) view?.keepingInPlace(show);
     else if (view) show();
-  }
-
-  /** The host has answered a write. */
-  #meetClean(tag) {
-    this.unwritten.meetClean(tag);
-    if (!this.isChanged(tag)) this.say(`${this.nameOf(tag)} is written`);
   }
 
   // ---- What the user does
@@ -272,14 +272,9 @@ export class Editor {
         this.#putOff.add(tag);
         this.say(`${this.nameOf(tag)} is written when the line is back`);
       } else {
-        this.#write(tag);
+        this.terminal.write(tag);
       }
     });
-  }
-
-  #write(tag) {
-    this.unwritten.write(tag);
-    this.terminal.write(tag);
   }
 
   /** Shows a file, which is opened before. */
@@ -364,7 +359,7 @@ export class Editor {
   #writePutOff() {
     if (this.line.isLate) return;
     for (const tag of this.#putOff) {
-      if (this.terminal.isKnown(tag)) this.#write(tag);
+      if (this.terminal.isKnown(tag)) this.terminal.write(tag);
     }
     this.#putOff.clear();
   }
@@ -389,6 +384,7 @@ export class Editor {
 
   say(message) {
     this.message = message;
+    this.#saidAt = performance.now();
     this.page.draw();
   }
 

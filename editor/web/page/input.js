@@ -51,6 +51,7 @@ function newlineAsAbove(cm) {
 
 export class Input {
   #bookmark = null; // of a mouse's selection that waits
+  #clip = null; // what was copied or cut last while keys waited: its text once it is known, and whether the clipboard has it
 
   constructor(CodeMirror, cm, editor) {
     this.CodeMirror = CodeMirror;
@@ -63,7 +64,8 @@ export class Input {
     cm.on("beforeChange", (_, change) => this.#meetChange(change));
     cm.on("change", (_, change) => change.origin !== OURS && editor.take(change));
     cm.on("beforeSelectionChange", (_, selection) => this.#meetSelection(selection));
-    for (const name of ["copy", "cut"]) cm.on(name, (_, event) => this.#meetCopy(event));
+    for (const name of ["copy", "cut"]) cm.on(name, (_, event) => this.#meetCopy(event, name === "cut"));
+    cm.on("paste", (_, event) => this.#meetPaste(event));
     cm.on("keydown", () => editor.noteKey());
     this.#hearCompositions(cm.getInputField());
   }
@@ -151,9 +153,8 @@ export class Input {
       editor.say("nothing can be changed any more");
       return;
     }
-    const isReady = () => editor.isLoaded(cm.getCursor("from"), cm.getCursor("to"));
     const act = () => cm.replaceSelection(text, "end", origin);
-    editor.waiting.press({ name: "typing", text, isReady, act });
+    editor.waiting.press({ name: "typing", text, isReady: () => this.#isSelectedLoaded, act });
   }
 
   /** What an input method composes is shown as it grows, where nothing has to wait; else it comes when it is whole. */
@@ -197,12 +198,56 @@ export class Input {
 
   // ---- The clipboard
 
-  /** A selection that isn't all loaded is loaded first. */
-  #meetCopy(event) {
+  /** What is copied or cut while keys wait is what these select: so it waits, too. A selection that isn't all loaded is loaded first. */
+  #meetCopy(event, isCut) {
     const { cm, editor } = this;
-    if (editor.isLoaded(cm.getCursor("from"), cm.getCursor("to"))) return;
+    const isBehind = editor.waiting.count > 0;
+    if (!isBehind) this.#clip = null; // the clipboard has what comes now
+    if (!isBehind && editor.isLoaded(cm.getCursor("from"), cm.getCursor("to"))) return;
     event.preventDefault();
     event.codemirrorIgnore = true;
-    editor.say("what is selected is being loaded: copy or cut it again");
+    if (isBehind) this.#copyLater(isCut);
+    else editor.say("what is selected is being loaded: copy or cut it again");
+  }
+
+  #copyLater(isCut) {
+    const { cm, editor } = this;
+    const clip = { text: null, isKept: false };
+    this.#clip = clip;
+    const act = () => {
+      const text = cm.getSelection();
+      if (text !== "") this.#copy(clip, text);
+      else clip.isKept = true;
+      if (isCut && text !== "") cm.replaceSelection("", "end", "cut");
+    };
+    editor.waiting.press({ name: isCut ? "cutting" : "copying", isReady: () => this.#isSelectedLoaded, act });
+  }
+
+  get #isSelectedLoaded() {
+    return this.editor.isLoaded(this.cm.getCursor("from"), this.cm.getCursor("to"));
+  }
+
+  /** Has the clipboard hold a text. Where the browser doesn't let it, it is pasted here all the same, until the user turns to another
+   * program, from which he may bring something. */
+  #copy(clip, text) {
+    clip.text = text;
+    const kept = navigator.clipboard?.writeText(text) ?? Promise.reject(new Error("there is no clipboard"));
+    const isKept = () => (clip.isKept = true);
+    kept.then(isKept).catch(() => {
+      this.editor.say("other programs can't paste this: the browser didn't copy it");
+      addEventListener("blur", isKept, { once: true });
+    });
+  }
+
+  /** What is pasted behind a copy that waits is what that takes. */
+  #meetPaste(event) {
+    const { cm, editor } = this;
+    const clip = this.#clip;
+    if (clip === null || clip.isKept) return;
+    const pasted = event.clipboardData?.getData("text/plain") ?? "";
+    event.preventDefault();
+    event.codemirrorIgnore = true;
+    const act = () => cm.replaceSelection(clip.text ?? pasted, "end", "paste");
+    editor.waiting.press({ name: "pasting", text: pasted, isReady: () => this.#isSelectedLoaded, act });
   }
 }

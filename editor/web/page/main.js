@@ -95,8 +95,9 @@ class Page {
 
   /** A message of the host: an answer, or what became of a text, whose words are shown unless all went well. */
   #meet(note) {
-    const { kind, code, text } = note;
-    this.editor.unwritten.meet(note);
+    const { kind, code, tag, number, text } = note;
+    if (kind === NoteKind.SAVED) this.editor.say(`${this.editor.nameOf(tag)} is written`);
+    if (kind === NoteKind.ANEW) this.editor.hide(Number(number));
     this.opening.meet(note);
     const isPlain = kind === NoteKind.REFUSED || (kind === NoteKind.SAVED && code === NoteCode.NO_CODE);
     if (text !== "" && !isPlain) this.#hear(`samhost: ${text}`);

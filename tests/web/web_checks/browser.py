@@ -79,12 +79,14 @@ def wait_until(holds, told, seconds=SECONDS):
 
 
 class Site:
-    """samweb behind a proxy, with files in a folder of its own, over a line of so many milliseconds each way; None has none."""
+    """samweb behind a proxy, with files in a folder of its own, over a line of so many milliseconds each way; None has none. `host` is
+    another command for the host, with a line of its own."""
 
-    def __init__(self, room, files, delay):
-        self.room, self.files, self.delay = room, files, delay
+    def __init__(self, room, files, delay, host=None):
+        self.room, self.files = room, files
+        self.host = host or ([str(SAMHOST)] if delay is None else [str(ROOT / "tools/delay"), str(delay), str(SAMHOST)])
         self.folder = room / "files"
-        self.folder.mkdir(parents=True)
+        self.folder.mkdir(parents=True, exist_ok=True)
         for name, text in files.items():
             (self.folder / name).write_text(text)
         self.environment = {**os.environ, "HOME": str(room), "XDG_STATE_HOME": str(room / "state")}
@@ -93,13 +95,12 @@ class Site:
 
     def start(self):
         """Begins the server, at the address that it had before."""
-        host = [str(SAMHOST)] if self.delay is None else [str(ROOT / "tools/delay"), str(self.delay), str(SAMHOST)]
         kept = self.room / "address"
         port = json.loads(kept.read_text())["port"] if kept.exists() else 0
         if self.proxy is None:
             self.proxy = Proxy(port)
         origin = f"http://127.0.0.1:{self.proxy.port}"
-        words = ["--host", shlex.join(host), "--address", str(kept), "--origin", origin]
+        words = ["--host", shlex.join(self.host), "--address", str(kept), "--origin", origin]
         with open(self.room / "server.log", "a") as log:
             self.server = subprocess.Popen(
                 [sys.executable, str(ROOT / "editor/web/server/samweb"), *words, *self.files],

@@ -6,13 +6,14 @@ import threading
 
 PIECE = 65_536
 LINE = b"/line "  # stands in the request for a WebSocket
+BINARY = b"\x82"  # begins a message of the host's bytes; samweb's own are of ASCII
 
 
 class Carried:
-    """A WebSocket's two connections, and how many bytes have gone to the browser."""
+    """A WebSocket's two connections, and whether the host has answered."""
 
     def __init__(self, near, far):
-        self.near, self.far, self.down = near, far, 0
+        self.near, self.far, self.is_answered = near, far, False
 
 
 class Proxy:
@@ -59,13 +60,13 @@ class Proxy:
                 data = ready.recv(PIECE)
                 if not data:
                     return
-                carried.down += len(data) if ready is far else 0
+                carried.is_answered |= ready is far and BINARY in data
                 other[ready].sendall(data)
 
-    def has_line(self, least):
-        """Whether a WebSocket is there over which so many bytes have come."""
+    def has_line(self, is_answered):
+        """Whether a WebSocket is there; with `is_answered` one over which the host has answered."""
         with self.lock:
-            return any(line.down >= least for line in self.lines)
+            return any(line.is_answered or not is_answered for line in self.lines)
 
     def cut(self):
         """Breaks the WebSockets that are there. Returns how many."""
