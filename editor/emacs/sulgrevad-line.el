@@ -3,8 +3,8 @@
 ;;; Commentary:
 
 ;; The terminal's side of a session that stays at the host: its stream and notes over one connection after another.  Each connection is a
-;; process that carries bytes to the session and back, as "ssh box samhost --attach NAME".  What the host has not acknowledged is kept, and
-;; goes out again over the next one, which is tried after growing pauses.
+;; process that carries bytes to the session and back, as "ssh box samhost --attach NAME".  The library's line keeps what the host has not
+;; acknowledged, and says when a connection is made, asked and given up.
 ;;
 ;; Nothing here waits.  A pipe that is full would hold Emacs up, so no more bytes go into it than it surely takes: those that the host has
 ;; not acknowledged count as being there.
@@ -17,62 +17,49 @@
 (require 'cl-lib)
 (require 'subr-x)
 
-(declare-function sulgrevad--link-acknowledge "ext:sulgrevad-module" (link))
-(declare-function sulgrevad--link-acknowledged "ext:sulgrevad-module" (link))
-(declare-function sulgrevad--link-ask "ext:sulgrevad-module" (link))
-(declare-function sulgrevad--link-broken "ext:sulgrevad-module" (link attempt))
-(declare-function sulgrevad--link-call "ext:sulgrevad-module" (link takes-over))
-(declare-function sulgrevad--link-feed "ext:sulgrevad-module" (link attempt bytes))
-(declare-function sulgrevad--link-name "ext:sulgrevad-module" (link))
-(declare-function sulgrevad--link-next-note "ext:sulgrevad-module" (link))
-(declare-function sulgrevad--link-phase "ext:sulgrevad-module" (link))
-(declare-function sulgrevad--link-put "ext:sulgrevad-module" (link bytes))
-(declare-function sulgrevad--link-put-count "ext:sulgrevad-module" (link))
-(declare-function sulgrevad--link-put-request "ext:sulgrevad-module" (link kind number path))
-(declare-function sulgrevad--link-take-in "ext:sulgrevad-module" (link))
-(declare-function sulgrevad--link-take-out "ext:sulgrevad-module" (link attempt most))
-(declare-function sulgrevad--link-unsent "ext:sulgrevad-module" (link))
-(declare-function sulgrevad--link-welcomed "ext:sulgrevad-module" (link hello))
-(declare-function sulgrevad--make-link "ext:sulgrevad-module" ())
+(declare-function sulgrevad--line-acknowledge "ext:sulgrevad-module" (line))
+(declare-function sulgrevad--line-ask "ext:sulgrevad-module" (line now))
+(declare-function sulgrevad--line-broken "ext:sulgrevad-module" (line attempt now))
+(declare-function sulgrevad--line-connected "ext:sulgrevad-module" (line now))
+(declare-function sulgrevad--line-describe "ext:sulgrevad-module" (line now))
+(declare-function sulgrevad--line-due-in "ext:sulgrevad-module" (line now))
+(declare-function sulgrevad--line-name "ext:sulgrevad-module" (line))
+(declare-function sulgrevad--line-next-note "ext:sulgrevad-module" (line))
+(declare-function sulgrevad--line-not-connected "ext:sulgrevad-module" (line now))
+(declare-function sulgrevad--line-put "ext:sulgrevad-module" (line bytes now))
+(declare-function sulgrevad--line-put-request "ext:sulgrevad-module" (line kind number path now))
+(declare-function sulgrevad--line-receive "ext:sulgrevad-module" (line attempt bytes now))
+(declare-function sulgrevad--line-take-in "ext:sulgrevad-module" (line))
+(declare-function sulgrevad--line-take-out "ext:sulgrevad-module" (line attempt most))
+(declare-function sulgrevad--line-tick "ext:sulgrevad-module" (line now))
+(declare-function sulgrevad--make-line "ext:sulgrevad-module" (takes-over now))
 
 (define-error 'sulgrevad-error "Sulgrevad")
 (define-error 'sulgrevad-not-text "Sulgrevad" 'sulgrevad-error)
 (define-error 'sulgrevad-no-memory "Sulgrevad" 'sulgrevad-error) ; the same call is to be made again
 (define-error 'sulgrevad-unfinished "Sulgrevad" 'sulgrevad-no-memory) ; it is not: the next call goes on
 
-(defvar sulgrevad-line-pauses '(1 2 4 8 16 30)
-  "Seconds until another connection is tried; the last number from then on.")
-(defvar sulgrevad-line-seconds-to-break 15
-  "After how many seconds without a byte a connection counts as broken.
-That is where an answer is due.")
-(defvar sulgrevad-line-seconds-to-connect 60
-  "After how many seconds without a host's welcome it counts as broken.
-Each time after that they are twice as many.")
-(defconst sulgrevad-line--most-to-connect 960 "The most of these seconds.")
 (defconst sulgrevad-line--late-after 1.0
   "Seconds, and two round trips, after which an answer counts as late.")
 (defconst sulgrevad-line--retry 0.1
   "Seconds until that for which memory was out is tried again.")
 (defconst sulgrevad-line--most-in-pipe 49152
   "Bytes that may be on their way to the host: fewer than a pipe takes.")
-(defconst sulgrevad-line--most-noise 65536 "Bytes that may come before a hello.")
-(defconst sulgrevad-line--mark (concat (string #x89) "samlink") "With which a hello begins.")
 (defconst sulgrevad-line--hello-bytes 42 "Bytes of a hello.")
 (defconst sulgrevad-line--most-told 4096 "Characters of a line that a program has written to standard error.")
 (defconst sulgrevad-line--name-form "\\`[0-9a-f]\\{16\\}\\'"
   "What the name of a session is like.
 The host says it, and it becomes a word of a command.")
-(defconst sulgrevad-line--open 2 "The phase in which both sides have said hello.")
-(defconst sulgrevad-line--no-session 20 "The refusal of a host that does not find the session.")
-(defvar sulgrevad-line-seconds-missing 60
-  "Seconds for which a session that the host does not find is tried.
+(defconst sulgrevad-line--seconds-missing 60
+  "Seconds for which the library tries a session that the host does not find.
 Its folder may come later, as a home that is mounted late does.")
-(defconst sulgrevad-line--refused
-  '((18 . "the host knows another version of the link")
-    (20 . "the session is not there any more")
-    (21 . "another terminal has the session")
-    (23 . "the host has begun again, and lacks some of what it said: M-x sulgrevad-take goes on with the texts that it has"))
-  "Refusals of the host after which no connection comes any more.")
+(defconst sulgrevad-line--no-session 196 "The status of a host that does not find the session.")
+(defconst sulgrevad-line--lost
+  '((194 . "the host knows another version of the link")
+    (196 . "the session is not there any more")
+    (197 . "another terminal has the session")
+    (199 . "the host has begun again, and lacks some of what it said: M-x sulgrevad-take goes on with the texts that it has"))
+  "Statuses of the host's refusals after which no connection comes any more.")
 
 (defconst sulgrevad-line--messages 1 "The version of the session's messages.")
 
@@ -87,23 +74,30 @@ Its folder may come later, as a home that is mounted late does.")
   "A line to a session that stays."
   command                  ; a function that makes a list of words of others, which stand after it: the host's command
   receive                  ; a function that is told what comes: see `sulgrevad-line-make'
-  takes-over               ; whether the session was another terminal's
-  link name                ; the end, and the session's name
+  machine name             ; the library's line, and the session's name
   (attempt 0) process errors tty ; the newest connection, its standard error, and its terminal where it has one
-  (begun "")               ; what has come of a connection before it was welcomed
   (unput "") (unfed "")    ; for which there was no memory
   unsent                   ; bytes that were taken out for a process that was stopped just then
-  (due 0) (asked 0)        ; up to which byte of ours an answer is wanted, and where the last question stands
-  (asked-at 0) (heard-at 0) (called-at 0) (again-at 0)
-  lost-at                  ; since when there is no line
-  (failures 0) (to-connect sulgrevad-line-seconds-to-connect)
-  (round-trip 0) (is-measured t) ; seconds that the last question took, and whether its answer has come
+  (out 0)                  ; up to which byte of ours the newest connection was given them
   (told "") last-told      ; of standard error: a line that has begun, and the last one
   (asks "")                ; what stands on the terminal
   ended-with is-taken      ; the status with which the session has ended; whether another terminal has it
-  is-met is-named missing-since ; whether a host has welcomed us, and has said the first message; since when none finds the session
+  is-named is-missing      ; whether the host has said the first message, and whether it was told that none finds the session
   why                      ; why no connection comes any more
   timer)
+
+(cl-defstruct (sulgrevad-line-details (:type list) (:copier nil))
+  "How the library's line is, as `sulgrevad--line-describe' has it.
+Times are in milliseconds."
+  state silence round-trip acknowledged is-known has-all)
+
+(defun sulgrevad-line--now ()
+  "The time in milliseconds.  Of an earlier one the library takes the greatest."
+  (truncate (* 1000 (float-time))))
+
+(defun sulgrevad-line--details (line)
+  "How LINE is."
+  (sulgrevad--line-describe (sulgrevad-line-machine line) (sulgrevad-line--now)))
 
 (defun sulgrevad-line-make (command receive &optional takes-over)
   "Make a line to a host of COMMAND, a list of words or a shell's line.
@@ -112,11 +106,11 @@ for each byte; `note' and a `sulgrevad-note'; `told' and a line of a
 program's standard error; `state' when the line was lost or is back; `lost' and
 why, once no connection comes any more.  With TAKES-OVER the session was
 another terminal's."
-  (let ((link (sulgrevad--make-link)))
+  (let ((machine (sulgrevad--make-line takes-over (sulgrevad-line--now))))
     (sulgrevad-line--make
      :command (if (listp command) (lambda (words) (append command words))
                 (lambda (words) (append (list "/bin/sh" "-c" (concat command " \"$@\"") "sh") words)))
-     :receive receive :takes-over takes-over :link link :name (sulgrevad--link-name link))))
+     :receive receive :machine machine :name (sulgrevad--line-name machine))))
 
 ;;; Connections
 
@@ -125,16 +119,17 @@ another terminal's."
 WORDS stand after its command.  With IN-FRONT the user waits for it, so
 that its programs may ask something."
   (sulgrevad-line--drop line)
-  (let ((attempt (sulgrevad--link-call (sulgrevad-line-link line) (sulgrevad-line-takes-over line))))
-    (setf (sulgrevad-line-attempt line) attempt
-          (sulgrevad-line-begun line) "" (sulgrevad-line-unfed line) "" (sulgrevad-line-unsent line) nil
-          (sulgrevad-line-called-at line) (float-time)
-          (sulgrevad-line-heard-at line) (float-time))
-    (condition-case why (sulgrevad-line--run line (funcall (sulgrevad-line-command line) words) in-front)
-      (error (sulgrevad-line--drop line)
-             (if (= attempt 1) (signal (car why) (cdr why)) (sulgrevad-line--pause line))))
-    (sulgrevad-line--push line)
-    (sulgrevad-line--schedule line)))
+  (setf (sulgrevad-line-unfed line) "" (sulgrevad-line-unsent line) nil)
+  (condition-case why
+      (progn (sulgrevad-line--run line (funcall (sulgrevad-line-command line) words) in-front)
+             (setf (sulgrevad-line-attempt line) (sulgrevad--line-connected (sulgrevad-line-machine line) (sulgrevad-line--now))
+                   (sulgrevad-line-out line)
+                   (- (sulgrevad-line-details-acknowledged (sulgrevad-line--details line)) sulgrevad-line--hello-bytes)))
+    (error (sulgrevad-line--drop line)
+           (sulgrevad--line-not-connected (sulgrevad-line-machine line) (sulgrevad-line--now))
+           (when (= 0 (sulgrevad-line-attempt line)) (signal (car why) (cdr why)))))
+  (sulgrevad-line--push line)
+  (sulgrevad-line--schedule line))
 
 (defun sulgrevad-line-connect-again (line &optional in-front)
   "Have LINE try another connection to its session now.
@@ -168,26 +163,14 @@ With IN-FRONT it gets a terminal."
   (let ((process (sulgrevad-line-process line)) (tty (sulgrevad-line-tty line)))
     (setf (sulgrevad-line-process line) nil (sulgrevad-line-tty line) nil)
     (when (< 0 (sulgrevad-line-attempt line))
-      (sulgrevad--link-broken (sulgrevad-line-link line) (sulgrevad-line-attempt line)))
+      (sulgrevad--line-broken (sulgrevad-line-machine line) (sulgrevad-line-attempt line) (sulgrevad-line--now)))
     (when process (delete-process process))
     (when tty (delete-process tty))))
 
 (defun sulgrevad-line--break (line)
-  "The newest connection of LINE is broken: another is tried after a pause."
-  (setf (sulgrevad-line-is-measured line) t)
-  (unless (sulgrevad-line-lost-at line)
-    (setf (sulgrevad-line-lost-at line)
-          (if (sulgrevad-line--is-answer-due line) (sulgrevad-line--quiet-since line) (float-time))))
+  "The newest connection of LINE is over: another is tried after a pause."
   (sulgrevad-line--drop line)
-  (sulgrevad-line--pause line)
-  (funcall (sulgrevad-line-receive line) 'state nil))
-
-(defun sulgrevad-line--pause (line)
-  "Have LINE try another connection after a pause."
-  (let ((failures (sulgrevad-line-failures line)))
-    (setf (sulgrevad-line-again-at line)
-          (+ (float-time) (or (nth failures sulgrevad-line-pauses) (car (last sulgrevad-line-pauses))))
-          (sulgrevad-line-failures line) (1+ failures)))
+  (funcall (sulgrevad-line-receive line) 'state nil)
   (sulgrevad-line--schedule line))
 
 (defun sulgrevad-line--lose (line why)
@@ -205,7 +188,7 @@ With IN-FRONT it gets a terminal."
 
 (defun sulgrevad-line-is-open (line)
   "Whether the newest connection of LINE carries the session."
-  (and (sulgrevad-line-process line) (= (sulgrevad--link-phase (sulgrevad-line-link line)) sulgrevad-line--open)))
+  (and (sulgrevad-line-process line) (memq (sulgrevad-line-details-state (sulgrevad-line--details line)) '(open late)) t))
 
 (defun sulgrevad-line--changed (line process)
   "The state of PROCESS has changed, which may be the newest connection of LINE."
@@ -218,31 +201,35 @@ With IN-FRONT it gets a terminal."
 
 ;;; What is due by the clock
 
+(defun sulgrevad-line--is-timed (line)
+  "Whether the times of LINE count: not where the user waits for a connection."
+  (or (null (sulgrevad-line-process line)) (null (sulgrevad-line-tty line)) (sulgrevad-line-is-open line)))
+
 (defun sulgrevad-line--go-on (line)
   "Do what is due by the clock for LINE."
-  (let ((now (float-time)))
-    (setf (sulgrevad-line-timer line) nil)
-    (unless (sulgrevad-line-why line)
-      (sulgrevad-line-put line "")
-      (cond ((null (sulgrevad-line-process line))
-             (when (<= (sulgrevad-line-again-at line) now) (sulgrevad-line-connect-again line)))
-            ((sulgrevad-line-is-open line)
-             (unless (string-empty-p (sulgrevad-line-unfed line)) (sulgrevad-line--feed line))
-             (when (and (sulgrevad-line--is-answer-due line)
-                        (<= sulgrevad-line-seconds-to-break (- now (sulgrevad-line--quiet-since line))))
-               (sulgrevad-line--break line)))
-            ((<= (sulgrevad-line-to-connect line) (- now (sulgrevad-line-called-at line)))
-             (setf (sulgrevad-line-to-connect line) (min sulgrevad-line--most-to-connect (* 2 (sulgrevad-line-to-connect line))))
-             (sulgrevad-line--break line)))
-      (when (sulgrevad-line-is-late line) (funcall (sulgrevad-line-receive line) 'state nil))
-      (sulgrevad-line--schedule line))))
+  (setf (sulgrevad-line-timer line) nil)
+  (unless (sulgrevad-line-why line)
+    (unless (string-empty-p (sulgrevad-line-unfed line)) (sulgrevad-line--feed line))
+    (sulgrevad-line-put line "")
+    (let (tick)
+      (while (and (null (sulgrevad-line-why line))
+                  (sulgrevad-line--is-timed line)
+                  (setq tick (sulgrevad--line-tick (sulgrevad-line-machine line) (sulgrevad-line--now))))
+        (pcase tick
+          ('connect (sulgrevad-line-connect-again line))
+          ('drop (sulgrevad-line--break line))
+          ('ask (sulgrevad-line-put line "")))))
+    (when (sulgrevad-line-is-late line) (funcall (sulgrevad-line-receive line) 'state nil))
+    (sulgrevad-line--schedule line)))
 
 (defun sulgrevad-line--delay (line)
   "Seconds until something is due by the clock for LINE, or nil.
 It is a second at most, since the mode line has the time."
-  (cond ((not (and (string-empty-p (sulgrevad-line-unput line)) (string-empty-p (sulgrevad-line-unfed line)))) sulgrevad-line--retry)
-        ((null (sulgrevad-line-process line)) (min 1 (- (sulgrevad-line-again-at line) (float-time))))
-        ((or (sulgrevad-line--is-answer-due line) (not (sulgrevad-line-is-open line))) 1)))
+  (if (not (and (string-empty-p (sulgrevad-line-unput line)) (string-empty-p (sulgrevad-line-unfed line))))
+      sulgrevad-line--retry
+    (let ((left (and (sulgrevad-line--is-timed line) (sulgrevad--line-due-in (sulgrevad-line-machine line) (sulgrevad-line--now)))))
+      (cond (left (min 1 (/ left 1000.0)))
+            ((not (sulgrevad-line-is-open line)) 1)))))
 
 (defun sulgrevad-line--schedule (line)
   "Have `sulgrevad-line--go-on' be called when something is due for LINE."
@@ -258,12 +245,11 @@ It is a second at most, since the mode line has the time."
   (unless (sulgrevad-line-why line)
     (setf (sulgrevad-line-unput line) (concat (sulgrevad-line-unput line) bytes))
     (condition-case nil
-        (progn
+        (let ((machine (sulgrevad-line-machine line)) (now (sulgrevad-line--now)))
           (unless (string-empty-p (sulgrevad-line-unput line))
-            (sulgrevad--link-put (sulgrevad-line-link line) (sulgrevad-line-unput line))
-            (setf (sulgrevad-line-unput line) ""
-                  (sulgrevad-line-due line) (sulgrevad--link-put-count (sulgrevad-line-link line))))
-          (sulgrevad-line--ask line))
+            (sulgrevad--line-put machine (sulgrevad-line-unput line) now)
+            (setf (sulgrevad-line-unput line) ""))
+          (sulgrevad--line-ask machine now))
       (sulgrevad-no-memory))
     (sulgrevad-line--push line)
     (sulgrevad-line--schedule line)))
@@ -272,31 +258,22 @@ It is a second at most, since the mode line has the time."
   "Have LINE send a request of KIND, in its order with the stream.
 NUMBER is repeated by its answer.  PATH is what it is about.  It may signal
 `sulgrevad-no-memory', or `sulgrevad-error' for a path that is too long."
-  (let ((link (sulgrevad-line-link line)))
-    (sulgrevad-line-put line "")
-    (unless (string-empty-p (sulgrevad-line-unput line)) (signal 'sulgrevad-no-memory '("out of memory")))
-    (sulgrevad--link-put-request link kind number (decode-coding-string (encode-coding-string path 'utf-8) 'latin-1))
-    (setf (sulgrevad-line-due line) (sulgrevad--link-put-count link))
-    (sulgrevad-line-put line "")))
-
-(defun sulgrevad-line--ask (line)
-  "Have LINE ask whether all has come, unless such a question is under way."
-  (let* ((link (sulgrevad-line-link line)) (acknowledged (sulgrevad--link-acknowledged link)))
-    (when (and (< acknowledged (sulgrevad-line-due line)) (<= (sulgrevad-line-asked line) acknowledged))
-      (sulgrevad--link-ask link)
-      (setf (sulgrevad-line-asked line) (sulgrevad--link-put-count link)
-            (sulgrevad-line-asked-at line) (float-time)
-            (sulgrevad-line-is-measured line) nil))))
+  (sulgrevad-line-put line "")
+  (unless (string-empty-p (sulgrevad-line-unput line)) (signal 'sulgrevad-no-memory '("out of memory")))
+  (sulgrevad--line-put-request (sulgrevad-line-machine line) kind number
+                               (decode-coding-string (encode-coding-string path 'utf-8) 'latin-1) (sulgrevad-line--now))
+  (sulgrevad-line-put line ""))
 
 (defun sulgrevad-line--next-out (line)
   "The next bytes for the newest connection of LINE.
 There are none where its pipe may take no more."
-  (let* ((link (sulgrevad-line-link line))
-         (under-way (- (sulgrevad--link-put-count link) (sulgrevad--link-unsent link) (sulgrevad--link-acknowledged link)))
+  (let* ((under-way (- (sulgrevad-line-out line) (sulgrevad-line-details-acknowledged (sulgrevad-line--details line))))
          (room (- sulgrevad-line--most-in-pipe under-way)))
     (cond ((sulgrevad-line-unsent line) (prog1 (sulgrevad-line-unsent line) (setf (sulgrevad-line-unsent line) nil)))
           ((< room 1) "")
-          (t (sulgrevad--link-take-out link (sulgrevad-line-attempt line) room)))))
+          (t (let ((bytes (sulgrevad--line-take-out (sulgrevad-line-machine line) (sulgrevad-line-attempt line) room)))
+               (setf (sulgrevad-line-out line) (+ (sulgrevad-line-out line) (length bytes)))
+               bytes)))))
 
 (defun sulgrevad-line--push (line)
   "Send what waits in LINE, as much as its pipe takes at once."
@@ -311,72 +288,47 @@ There are none where its pipe may take no more."
   "BYTES of PROCESS have come, which may be the newest connection of LINE."
   (when (and (eq process (sulgrevad-line-process line)) (null (sulgrevad-line-why line)))
     (let ((was-late (sulgrevad-line-is-late line)))
-      (setf (sulgrevad-line-heard-at line) (float-time))
-      (if (sulgrevad-line-is-open line)
-          (setf (sulgrevad-line-unfed line) (concat (sulgrevad-line-unfed line) bytes))
-        (sulgrevad-line--greet line bytes))
-      (when (sulgrevad-line-is-open line)
-        (sulgrevad-line--feed line)
-        (sulgrevad-line-put line ""))
+      (setf (sulgrevad-line-unfed line) (concat (sulgrevad-line-unfed line) bytes))
+      (sulgrevad-line--feed line)
+      (sulgrevad-line-put line "")
       (when (and was-late (not (sulgrevad-line-is-late line))) (funcall (sulgrevad-line-receive line) 'state nil)))))
-
-(defun sulgrevad-line--greet (line bytes)
-  "BYTES have come on a connection of LINE that no host has welcomed.
-Other programs may have written something before its hello."
-  (setf (sulgrevad-line-begun line) (concat (sulgrevad-line-begun line) bytes))
-  (let* ((begun (sulgrevad-line-begun line)) (start (string-search sulgrevad-line--mark begun))
-         (end (and start (+ start sulgrevad-line--hello-bytes))))
-    (cond ((and end (<= end (length begun)))
-           (setf (sulgrevad-line-unfed line) (substring begun end) (sulgrevad-line-begun line) "")
-           (condition-case nil
-               (let ((what (sulgrevad--link-welcomed (sulgrevad-line-link line) (substring begun start end))))
-                 (cond ((null what) (sulgrevad-line--welcomed line))
-                       ((and (eql what sulgrevad-line--no-session) (sulgrevad-line--may-come-back line)) (sulgrevad-line--break line))
-                       ((assq what sulgrevad-line--refused)
-                        (sulgrevad-line--lose line (cdr (assq what sulgrevad-line--refused))))
-                       (t (sulgrevad-line--break line))))
-             (sulgrevad-error (sulgrevad-line--break line))))
-          ((< sulgrevad-line--most-noise (or start (length begun))) (sulgrevad-line--break line)))))
-
-(defun sulgrevad-line--may-come-back (line)
-  "Whether a session that the host does not find may be found later.
-It was there, the user does not wait for LINE, and some seconds are left.
-The first time that is told."
-  (when (and (sulgrevad-line-is-met line) (not (sulgrevad-line-tty line)))
-    (unless (sulgrevad-line-missing-since line)
-      (setf (sulgrevad-line-missing-since line) (float-time))
-      (funcall (sulgrevad-line-receive line) 'told
-               (format "the host doesn't find the session. It is tried for %d s" sulgrevad-line-seconds-missing)))
-    (< (- (float-time) (sulgrevad-line-missing-since line)) sulgrevad-line-seconds-missing)))
-
-(defun sulgrevad-line--welcomed (line)
-  "The newest connection of LINE carries the session."
-  (setf (sulgrevad-line-failures line) 0
-        (sulgrevad-line-is-met line) t
-        (sulgrevad-line-missing-since line) nil
-        (sulgrevad-line-to-connect line) sulgrevad-line-seconds-to-connect
-        (sulgrevad-line-lost-at line) nil
-        (sulgrevad-line-asked-at line) (float-time))
-  (funcall (sulgrevad-line-receive line) 'state nil))
 
 (defun sulgrevad-line--feed (line)
   "Pass on what has come on the newest connection of LINE."
-  (let ((link (sulgrevad-line-link line)) (inhibit-quit t))
+  (let ((was-open (sulgrevad-line-is-open line)) (inhibit-quit t))
     (condition-case nil
-        (progn (sulgrevad--link-feed link (sulgrevad-line-attempt line) (sulgrevad-line-unfed line))
-               (setf (sulgrevad-line-unfed line) ""))
-      (sulgrevad-no-memory)
-      (sulgrevad-error (sulgrevad-line--break line))) ; the packet is wrong
-    (unless (or (sulgrevad-line-is-measured line) (< (sulgrevad--link-acknowledged link) (sulgrevad-line-asked line)))
-      (setf (sulgrevad-line-is-measured line) t
-            (sulgrevad-line-round-trip line) (- (float-time) (sulgrevad-line-asked-at line))))
+        (let ((why (sulgrevad--line-receive (sulgrevad-line-machine line) (sulgrevad-line-attempt line) (sulgrevad-line-unfed line)
+                                            (sulgrevad-line--now))))
+          (setf (sulgrevad-line-unfed line) "")
+          (cond (why (sulgrevad-line--refused line why))
+                ((and (not was-open) (sulgrevad-line-is-open line)) (sulgrevad-line--welcomed line))))
+      (sulgrevad-no-memory))
     (sulgrevad-line--pass-on line)))
+
+(defun sulgrevad-line--refused (line status)
+  "What came has ended the connection of LINE, or LINE, because of STATUS.
+Where a session is not found, a try for which the user waits is the last."
+  (let ((is-missing (= status sulgrevad-line--no-session)))
+    (cond ((or (eq (sulgrevad-line-details-state (sulgrevad-line--details line)) 'lost) (and is-missing (sulgrevad-line-tty line)))
+           (sulgrevad-line--lose line (cdr (assq status sulgrevad-line--lost))))
+          (t (when (and is-missing (not (sulgrevad-line-is-missing line)))
+               (setf (sulgrevad-line-is-missing line) t)
+               (funcall (sulgrevad-line-receive line) 'told
+                        (format "the host doesn't find the session. It is tried for %d s" sulgrevad-line--seconds-missing)))
+             (sulgrevad-line--break line)))))
+
+(defun sulgrevad-line--welcomed (line)
+  "The newest connection of LINE carries the session."
+  (setf (sulgrevad-line-is-missing line) nil)
+  (when (< 1 (sulgrevad-line-attempt line)) ; it goes on where the host's welcome says
+    (setf (sulgrevad-line-out line) (sulgrevad-line-details-acknowledged (sulgrevad-line--details line))))
+  (funcall (sulgrevad-line-receive line) 'state nil))
 
 (defun sulgrevad-line--pass-on (line)
   "Pass on the bytes and notes that LINE has, in their order."
-  (let ((link (sulgrevad-line-link line)) bytes note)
+  (let ((machine (sulgrevad-line-machine line)) bytes note)
     (while (and (null (sulgrevad-line-why line))
-                (or (not (string-empty-p (setq bytes (sulgrevad--link-take-in link)))) (setq note (sulgrevad--link-next-note link))))
+                (or (not (string-empty-p (setq bytes (sulgrevad--line-take-in machine)))) (setq note (sulgrevad--line-next-note machine))))
       (if (string-empty-p bytes)
           (sulgrevad-line--meet line note)
         (funcall (sulgrevad-line-receive line) 'bytes bytes)))))
@@ -393,7 +345,7 @@ The first time that is told."
     ('unknown)
     ('ended
      (setf (sulgrevad-line-ended-with line) (sulgrevad-note-number note))
-     (ignore-errors (sulgrevad--link-acknowledge (sulgrevad-line-link line))) ; so that the host need not wait
+     (ignore-errors (sulgrevad--line-acknowledge (sulgrevad-line-machine line))) ; so that the host need not wait
      (sulgrevad-line--push line)
      (sulgrevad-line--lose-later line "the session is over"))
     ('taken-over
@@ -423,37 +375,32 @@ The first time that is told."
 
 ;;; How the line is
 
-(defun sulgrevad-line--is-answer-due (line)
-  "Whether LINE waits for an answer to a question."
-  (< (sulgrevad--link-acknowledged (sulgrevad-line-link line)) (sulgrevad-line-asked line)))
-
-(defun sulgrevad-line--quiet-since (line)
-  "Since when nothing has come on LINE, though an answer is due."
-  (max (sulgrevad-line-asked-at line) (sulgrevad-line-heard-at line)))
-
 (defun sulgrevad-line-has-all (line)
   "Whether the host is known to have all that was put into LINE."
-  (and (string-empty-p (sulgrevad-line-unput line))
-       (<= (sulgrevad-line-due line) (sulgrevad--link-acknowledged (sulgrevad-line-link line)))))
+  (and (string-empty-p (sulgrevad-line-unput line)) (sulgrevad-line-details-has-all (sulgrevad-line--details line))))
 
 (defun sulgrevad-line-silence (line)
   "For how many seconds nothing has come on LINE.
 It is 0 where there is a line, and no answer is due."
-  (cond ((sulgrevad-line-lost-at line) (- (float-time) (sulgrevad-line-lost-at line)))
-        ((sulgrevad-line--is-answer-due line) (- (float-time) (sulgrevad-line--quiet-since line)))
-        (t 0)))
+  (/ (sulgrevad-line-details-silence (sulgrevad-line--details line)) 1000.0))
+
+(defun sulgrevad-line-is-broken (line)
+  "Whether there is no connection of LINE, though there was one."
+  (let ((details (sulgrevad-line--details line)))
+    (and (sulgrevad-line-details-is-known details) (not (memq (sulgrevad-line-details-state details) '(open late))))))
 
 (defun sulgrevad-line-is-late (line)
   "Whether there is no connection of LINE, or an answer of the host is late."
-  (or (sulgrevad-line-lost-at line)
-      (<= (+ sulgrevad-line--late-after (* 2 (sulgrevad-line-round-trip line))) (sulgrevad-line-silence line))))
+  (or (sulgrevad-line-is-broken line)
+      (let ((round-trip (/ (sulgrevad-line-details-round-trip (sulgrevad-line--details line)) 1000.0)))
+        (<= (+ sulgrevad-line--late-after (* 2 round-trip)) (sulgrevad-line-silence line)))))
 
 (defun sulgrevad-line-told-state (line)
   "How LINE is, for the mode line, or nil where it is well."
-  (cond ((sulgrevad-line-lost-at line)
-         (format "LINE LOST %d s, %s" (sulgrevad-line-silence line)
-                 (if (sulgrevad-line-process line) "connecting"
-                   (format "again in %d s" (max 0 (round (- (sulgrevad-line-again-at line) (float-time))))))))
+  (cond ((sulgrevad-line-is-broken line)
+         (let ((left (or (sulgrevad--line-due-in (sulgrevad-line-machine line) (sulgrevad-line--now)) 0)))
+           (format "LINE LOST %d s, %s" (sulgrevad-line-silence line)
+                   (if (sulgrevad-line-process line) "connecting" (format "again in %d s" (round left 1000))))))
         ((sulgrevad-line-is-late line) (format "no answer for %d s" (sulgrevad-line-silence line)))))
 
 ;;; What its programs say and ask

@@ -1,4 +1,4 @@
-/* A dynamic module for Emacs 28: terminals of sulgrevad.h, and the terminal's ends of its links, behind Lisp functions. sulgrevad.el and
+/* A dynamic module for Emacs 28: terminals of sulgrevad.h, and its lines, behind Lisp functions. sulgrevad.el and
  * sulgrevad-line.el use it.
  *
  * Bytes go to and from Lisp as strings of the characters U+0000 to U+00FF, one for each byte, since a module can't read a unibyte string:
@@ -403,35 +403,35 @@ static emacs_value part(emacs_env *env, ptrdiff_t count, emacs_value *words, voi
     return status == SAM_OK ? env->make_string(env, (char *)text, (ptrdiff_t)len) : error_of(env, status);
 }
 
-/* ---- A link ---- */
+/* ---- A line ---- */
 
-/* The terminal's end of a link, and the session's name. */
+/* The terminal's end of a link with its clock, and the session's id. Lisp hands in the time, in milliseconds. */
 struct end {
-    sam_link link;
+    sam_line line;
     uint8_t id[SAM_LINK_ID_BYTES];
 };
 
-static struct end *end_of(emacs_env *env, emacs_value word)
+static sam_line *line_of(emacs_env *env, emacs_value word)
 {
-    return env->get_user_ptr(env, word);
+    return &((struct end *)env->get_user_ptr(env, word))->line;
 }
 
-/* The number of a connection. None is -1, which the library refuses. */
-static uint64_t attempt_of(emacs_env *env, emacs_value word)
+/* The number of a connection, or a time. None is -1, which the library refuses. */
+static uint64_t u64(emacs_env *env, emacs_value word)
 {
     return (uint64_t)env->extract_integer(env, word);
 }
 
-static void finalize_link(void *pointer)
+static void finalize_line(void *pointer)
 {
-    sam_link_free(&((struct end *)pointer)->link);
+    sam_line_free(&((struct end *)pointer)->line);
     free(pointer);
 }
 
-/* Makes an end with a random id. */
-static emacs_value make_link(emacs_env *env, ptrdiff_t count, emacs_value *words, void *data)
+/* Makes a line with a random id, at a time, to take a session over where the first word is not nil. */
+static emacs_value make_line(emacs_env *env, ptrdiff_t count, emacs_value *words, void *data)
 {
-    (void)count, (void)words, (void)data;
+    (void)count, (void)data;
     struct end *end = calloc(1, sizeof *end);
     if (end == NULL)
         return no_memory(env);
@@ -439,87 +439,94 @@ static emacs_value make_link(emacs_env *env, ptrdiff_t count, emacs_value *words
         free(end);
         return fail(env, "sulgrevad-error", "the system has no random bytes");
     }
-    if (sam_link_new(&end->link, SAM_LINK_TERMINAL, end->id) != SAM_OK) {
+    if (sam_line_new(&end->line, end->id, env->is_not_nil(env, words[0]), u64(env, words[1])) != SAM_OK) {
         free(end);
         return no_memory(env);
     }
-    return env->make_user_ptr(env, finalize_link, end);
+    return env->make_user_ptr(env, finalize_line, end);
 }
 
 /* The session's name: the first half of its id, in hexadecimal digits. */
-static emacs_value link_name(emacs_env *env, ptrdiff_t count, emacs_value *words, void *data)
+static emacs_value line_name(emacs_env *env, ptrdiff_t count, emacs_value *words, void *data)
 {
     (void)count, (void)data;
     static const char digits[] = "0123456789abcdef";
     char name[SAM_LINK_ID_BYTES];
-    const uint8_t *id = end_of(env, words[0])->id;
+    const uint8_t *id = ((struct end *)env->get_user_ptr(env, words[0]))->id;
     for (size_t i = 0; i < sizeof name; i++)
         name[i] = digits[i % 2 == 0 ? id[i / 2] >> 4 : id[i / 2] & 15];
     return env->make_string(env, name, sizeof name);
 }
 
-/* Begins another connection, to take a session over where the second word is not nil. Its number. */
-static emacs_value link_call(emacs_env *env, ptrdiff_t count, emacs_value *words, void *data)
+/* What is to be done at a time: `connect', `drop', `ask' or nil. */
+static emacs_value line_tick(emacs_env *env, ptrdiff_t count, emacs_value *words, void *data)
+{
+    (void)count, (void)data;
+    static const char *const ticks[] = {"nil", "connect", "drop", "ask"};
+    uint32_t tick = SAM_TICK_NOTHING;
+    sam_status status = sam_line_tick(line_of(env, words[0]), u64(env, words[1]), &tick);
+    return status == SAM_OK ? env->intern(env, ticks[tick]) : error_of(env, status);
+}
+
+/* In how many milliseconds something is to be done, or nil. */
+static emacs_value line_due_in(emacs_env *env, ptrdiff_t count, emacs_value *words, void *data)
+{
+    (void)count, (void)data;
+    uint64_t left = 0;
+    sam_status status = sam_line_due_in(line_of(env, words[0]), u64(env, words[1]), &left);
+    return number(env, status, left);
+}
+
+/* A connection is open, of which this is the number; or none can be made; or that of this number is over. */
+static emacs_value line_connected(emacs_env *env, ptrdiff_t count, emacs_value *words, void *data)
 {
     (void)count, (void)data;
     uint64_t attempt = 0;
-    sam_status status = sam_link_call(&end_of(env, words[0])->link, env->is_not_nil(env, words[1]), &attempt);
+    sam_status status = sam_line_connected(line_of(env, words[0]), u64(env, words[1]), &attempt);
     return number(env, status, attempt);
 }
 
-/* The host's hello has come. nil where the connection is welcomed, or the number by which the host refuses it. */
-static emacs_value link_welcomed(emacs_env *env, ptrdiff_t count, emacs_value *words, void *data)
+static emacs_value line_not_connected(emacs_env *env, ptrdiff_t count, emacs_value *words, void *data)
 {
     (void)count, (void)data;
-    uint8_t id[SAM_LINK_ID_BYTES];
-    uint32_t what = 0;
-    uint64_t attempt;
-    size_t len;
-    uint8_t *hello = bytes_of(env, words[1], &len);
-    if (hello == NULL)
-        return nil(env);
-    sam_status status = sam_link_read_hello(hello, len, &what, id, &attempt);
-    if (status == SAM_OK)
-        status = sam_link_welcomed(&end_of(env, words[0])->link, hello, len);
-    free(hello);
-    return status != SAM_OK && what > SAM_LINK_WELCOME ? number(env, SAM_OK, what) : done(env, status);
+    return done(env, sam_line_not_connected(line_of(env, words[0]), u64(env, words[1])));
 }
 
-/* What is given and asked of a connection: it is over; bytes that came on it; its next bytes, so many at most. */
-static emacs_value link_broken(emacs_env *env, ptrdiff_t count, emacs_value *words, void *data)
+static emacs_value line_broken(emacs_env *env, ptrdiff_t count, emacs_value *words, void *data)
 {
     (void)count, (void)data;
-    return done(env, sam_link_broken(&end_of(env, words[0])->link, attempt_of(env, words[1])));
+    return done(env, sam_line_broken(line_of(env, words[0]), u64(env, words[1]), u64(env, words[2])));
 }
 
-static emacs_value link_feed(emacs_env *env, ptrdiff_t count, emacs_value *words, void *data)
+/* Bytes that came on a connection. nil where they are taken, else the number of why the connection, or the line, is over. */
+static emacs_value line_receive(emacs_env *env, ptrdiff_t count, emacs_value *words, void *data)
 {
     (void)count, (void)data;
     size_t len;
     uint8_t *bytes = bytes_of(env, words[2], &len);
     if (bytes == NULL)
         return nil(env);
-    sam_status status = sam_link_feed(&end_of(env, words[0])->link, attempt_of(env, words[1]), bytes, len);
+    sam_status status = sam_line_receive(line_of(env, words[0]), u64(env, words[1]), bytes, len, u64(env, words[3]));
     free(bytes);
-    return done(env, status);
+    return status == SAM_OK || status == SAM_NO_MEMORY ? done(env, status) : number(env, SAM_OK, status);
 }
 
-static emacs_value link_take_out(emacs_env *env, ptrdiff_t count, emacs_value *words, void *data)
+static emacs_value line_take_out(emacs_env *env, ptrdiff_t count, emacs_value *words, void *data)
 {
     (void)count, (void)data;
     static uint8_t bytes[PIECE];
     size_t len = 0;
-    sam_status status = sam_link_take_out(&end_of(env, words[0])->link, attempt_of(env, words[1]), bytes, u32(env, words[2], PIECE), &len);
+    sam_status status = sam_line_take_out(line_of(env, words[0]), u64(env, words[1]), bytes, u32(env, words[2], PIECE), &len);
     return status == SAM_OK ? string_of(env, bytes, len) : error_of(env, status);
 }
 
 /* What came for the program: bytes, "" where there are none; a message, or nil. */
-static emacs_value link_take_in(emacs_env *env, ptrdiff_t count, emacs_value *words, void *data)
+static emacs_value line_take_in(emacs_env *env, ptrdiff_t count, emacs_value *words, void *data)
 {
     (void)count, (void)data;
     static uint8_t bytes[PIECE];
     size_t len = 0;
-    sam_status status = sam_link_take_in(&end_of(env, words[0])->link, bytes, sizeof bytes, &len);
+    sam_status status = sam_line_take_in(line_of(env, words[0]), bytes, sizeof bytes, &len);
     return status == SAM_OK ? string_of(env, bytes, len) : error_of(env, status);
 }
 
@@ -568,17 +575,29 @@ static emacs_value message_of(emacs_env *env, const uint8_t *bytes, size_t len)
     return call(env, "list", sizeof fields / sizeof fields[0], fields);
 }
 
-static emacs_value link_next_note(emacs_env *env, ptrdiff_t count, emacs_value *words, void *data)
+static emacs_value line_next_note(emacs_env *env, ptrdiff_t count, emacs_value *words, void *data)
 {
     (void)count, (void)data;
     uint8_t note[SAM_LINK_MOST_NOTE];
     size_t len = 0;
-    sam_status status = sam_link_next_note(&end_of(env, words[0])->link, note, sizeof note, &len);
+    sam_status status = sam_line_next_note(line_of(env, words[0]), note, sizeof note, &len);
     return status == SAM_OK ? message_of(env, note, len) : number(env, status, 0);
 }
 
+static emacs_value line_put(emacs_env *env, ptrdiff_t count, emacs_value *words, void *data)
+{
+    (void)count, (void)data;
+    size_t len;
+    uint8_t *bytes = bytes_of(env, words[1], &len);
+    if (bytes == NULL)
+        return nil(env);
+    sam_status status = sam_line_put(line_of(env, words[0]), bytes, len, u64(env, words[2]));
+    free(bytes);
+    return done(env, status);
+}
+
 /* Puts a request of a kind, a number, and a path, which is a string of bytes. */
-static emacs_value link_put_request(emacs_env *env, ptrdiff_t count, emacs_value *words, void *data)
+static emacs_value line_put_request(emacs_env *env, ptrdiff_t count, emacs_value *words, void *data)
 {
     (void)count, (void)data;
     bool opens = env->eq(env, words[1], env->intern(env, kinds[SAM_NOTE_OPEN]));
@@ -589,51 +608,40 @@ static emacs_value link_put_request(emacs_env *env, ptrdiff_t count, emacs_value
         return nil(env);
     sam_status status = sam_note_write(&note, path, NULL, NULL, bytes, sizeof bytes, &len);
     free(path);
-    return done(env, status == SAM_OK ? sam_link_put_note(&end_of(env, words[0])->link, bytes, len) : status);
+    return done(env, status == SAM_OK ? sam_line_put_note(line_of(env, words[0]), bytes, len, u64(env, words[4])) : status);
 }
 
-/* Other calls of an end, by what they take and hand out: nothing, bytes, or a number. */
-struct link_call {
-    const char *name;
-    sam_status (*plain)(sam_link *link);
-    sam_status (*of_bytes)(sam_link *link, const uint8_t *bytes, size_t len);
-    sam_status (*counts)(sam_link *link, uint64_t *count);
-    sam_status (*sizes)(sam_link *link, size_t *size);
-    sam_status (*phases)(sam_link *link, uint32_t *phase);
-};
-
-static const struct link_call link_calls[] = {
-    {.name = "link-ask", .plain = sam_link_ask},
-    {.name = "link-acknowledge", .plain = sam_link_acknowledge},
-    {.name = "link-put", .of_bytes = sam_link_put},
-    {.name = "link-put-count", .counts = sam_link_put_count},
-    {.name = "link-acknowledged", .counts = sam_link_acknowledged},
-    {.name = "link-unsent", .sizes = sam_link_unsent},
-    {.name = "link-phase", .phases = sam_link_phase},
-};
-
-static emacs_value link_other(emacs_env *env, ptrdiff_t count, emacs_value *words, void *data)
+static emacs_value line_ask(emacs_env *env, ptrdiff_t count, emacs_value *words, void *data)
 {
-    (void)count;
-    const struct link_call *which = data;
-    sam_link *link = &end_of(env, words[0])->link;
-    uint64_t value = 0;
-    size_t size = 0;
-    uint32_t phase = 0;
-    if (which->plain != NULL)
-        return done(env, which->plain(link));
-    if (which->of_bytes != NULL) {
-        uint8_t *bytes = bytes_of(env, words[1], &size);
-        if (bytes == NULL)
-            return nil(env);
-        sam_status status = which->of_bytes(link, bytes, size);
-        free(bytes);
-        return done(env, status);
-    }
-    sam_status status = which->counts != NULL  ? which->counts(link, &value)
-                        : which->sizes != NULL ? which->sizes(link, &size)
-                                               : which->phases(link, &phase);
-    return number(env, status, value + size + phase);
+    (void)count, (void)data;
+    return done(env, sam_line_ask(line_of(env, words[0]), u64(env, words[1])));
+}
+
+static emacs_value line_acknowledge(emacs_env *env, ptrdiff_t count, emacs_value *words, void *data)
+{
+    (void)count, (void)data;
+    return done(env, sam_line_acknowledge(line_of(env, words[0])));
+}
+
+/* How a line is, as a list: its state, silence, round trip, the bytes that the host has acknowledged, whether a host was met, and whether
+ * it has all. */
+static emacs_value line_describe(emacs_env *env, ptrdiff_t count, emacs_value *words, void *data)
+{
+    (void)count, (void)data;
+    static const char *const states[] = {"down", "connecting", "open", "late", "lost"};
+    sam_line_details details;
+    sam_status status = sam_line_describe(line_of(env, words[0]), u64(env, words[1]), &details);
+    if (status != SAM_OK)
+        return error_of(env, status);
+    emacs_value fields[] = {
+        env->intern(env, states[details.state]),
+        env->make_integer(env, (intmax_t)details.silence),
+        env->make_integer(env, (intmax_t)details.round_trip),
+        env->make_integer(env, (intmax_t)details.acknowledged),
+        truth(env, SAM_OK, details.is_known),
+        truth(env, SAM_OK, details.has_all),
+    };
+    return call(env, "list", sizeof fields / sizeof fields[0], fields);
 }
 
 /* ---- The module ---- */
@@ -665,20 +673,30 @@ int emacs_module_init(struct emacs_runtime *runtime)
     }
     for (size_t i = 0; i < sizeof readers / sizeof readers[0]; i++)
         define(env, readers[i].name, 1, 2, reader, &readers[i]);
-    define(env, "make-link", 0, 0, make_link, NULL);
-    define(env, "link-name", 1, 1, link_name, NULL);
-    define(env, "link-call", 2, 2, link_call, NULL);
-    define(env, "link-welcomed", 2, 2, link_welcomed, NULL);
-    define(env, "link-broken", 2, 2, link_broken, NULL);
-    define(env, "link-feed", 3, 3, link_feed, NULL);
-    define(env, "link-take-out", 3, 3, link_take_out, NULL);
-    define(env, "link-take-in", 1, 1, link_take_in, NULL);
-    define(env, "link-next-note", 1, 1, link_next_note, NULL);
-    define(env, "link-put-request", 4, 4, link_put_request, NULL);
-    for (size_t i = 0; i < sizeof link_calls / sizeof link_calls[0]; i++) {
-        ptrdiff_t count = link_calls[i].of_bytes != NULL ? 2 : 1;
-        define(env, link_calls[i].name, count, count, link_other, &link_calls[i]);
-    }
+    static const struct {
+        const char *name;
+        emacs_function function;
+        ptrdiff_t count;
+    } lines[] = {
+        {"make-line", make_line, 2},
+        {"line-name", line_name, 1},
+        {"line-tick", line_tick, 2},
+        {"line-due-in", line_due_in, 2},
+        {"line-connected", line_connected, 2},
+        {"line-not-connected", line_not_connected, 2},
+        {"line-broken", line_broken, 3},
+        {"line-put", line_put, 3},
+        {"line-put-request", line_put_request, 5},
+        {"line-ask", line_ask, 2},
+        {"line-acknowledge", line_acknowledge, 1},
+        {"line-take-out", line_take_out, 3},
+        {"line-receive", line_receive, 4},
+        {"line-take-in", line_take_in, 1},
+        {"line-next-note", line_next_note, 1},
+        {"line-describe", line_describe, 2},
+    };
+    for (size_t i = 0; i < sizeof lines / sizeof lines[0]; i++)
+        define(env, lines[i].name, lines[i].count, lines[i].count, lines[i].function, NULL);
     emacs_value feature = env->intern(env, "sulgrevad-module");
     call(env, "provide", 1, &feature);
     return 0;

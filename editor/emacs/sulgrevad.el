@@ -93,6 +93,7 @@ nil is samhost's own choice."
   :type 'number)
 
 (defconst sulgrevad-version-offered 2 "The version of the protocol.")
+(defconst sulgrevad-all-tags 65536 "How many tags a session has at most.")
 (defconst sulgrevad-most-typed 512 "How many runes are typed at once.")
 (defconst sulgrevad-most-runes 1000000 "How many runes a text has at most.")
 (defconst sulgrevad-most-load 262144 "How many runes are loaded at once.")
@@ -127,10 +128,8 @@ Each is a string of bytes, or a pair: `note' and that, or `lost' and why.")
 (defvar sulgrevad--told nil "What was told last, the last first.")
 (defvar sulgrevad--writes nil "Tags of files to be written, oldest first.")
 (defvar sulgrevad--writing nil "The tag of the file that is being written.")
-(defvar sulgrevad--complaint nil "What the host told where it is not written.")
-(defvar sulgrevad--unwritten nil
-  "Files that were not written which the terminal takes for written.
-Each is a pair of a tag and what the host told.")
+(defvar sulgrevad--complaints nil "What the host told of files whose last write failed, by their tags.")
+(defvar sulgrevad--hidden nil "A table of the tags of files that the host keeps for terminals.")
 (defvar sulgrevad--number 0 "The number of the last question to the host.")
 (defvar sulgrevad--answers nil "Answers, in pairs with such numbers.")
 (defvar sulgrevad--copies nil
@@ -456,7 +455,7 @@ So they will in the buffer, once the file is free."
              (if (eq changes t) (sulgrevad--put-all) (sulgrevad--put-each (sulgrevad--places changes)))))
          (sulgrevad--take-name)
          (unless (or sulgrevad--has-drifted sulgrevad--changes)
-           (restore-buffer-modified-p (and (/= sulgrevad--tag 0) (sulgrevad--is-unwritten sulgrevad--tag))))
+           (restore-buffer-modified-p (sulgrevad--is-changed sulgrevad--term sulgrevad--tag)))
          (sulgrevad--lock (not (sulgrevad--is-free))))))
 
 (defun sulgrevad--lock (is-locked)
@@ -484,10 +483,6 @@ So they will in the buffer, once the file is free."
 (defconst sulgrevad--is-folder 5 "The code of a path that is a folder's.")
 (defconst sulgrevad--replacing '((11 . "another program changed it") (12 . "it is there already"))
   "Codes of writes that would have replaced what stands in the file.")
-
-(defun sulgrevad--is-unwritten (tag)
-  "Whether the file TAG may differ from what the host has written."
-  (or (sulgrevad--is-changed sulgrevad--term tag) (assq tag sulgrevad--unwritten)))
 
 ;;; What can't go to the host
 
@@ -575,7 +570,7 @@ Return what to say of them."
              for buffer = (sulgrevad--buffer-of tag)
              for is-shown = (and buffer (not (eq t (buffer-local-value 'sulgrevad--changes buffer))))
              when (or (and buffer (with-current-buffer buffer (sulgrevad--waits)))
-                      (and (not has-all) (sulgrevad--is-open sulgrevad--term tag) (sulgrevad--is-unwritten tag)))
+                      (and (not has-all) (sulgrevad--is-open sulgrevad--term tag) (sulgrevad--is-changed sulgrevad--term tag)))
              collect (if (and is-shown (with-current-buffer buffer (or (sulgrevad--waits) (null sulgrevad--changes))))
                          (with-current-buffer buffer (sulgrevad--keep-buffer name))
                        (sulgrevad--keep-file name tag)))))
@@ -622,7 +617,7 @@ What waits goes to the host first, or the user says so."
   (cond (noninteractive t)
         ((sulgrevad--waits)
          (yes-or-no-p (format "Edits of %s did not get to the host; kill it all the same? " (buffer-name))))
-        ((and (sulgrevad--is-ours) (/= sulgrevad--tag 0) (sulgrevad--is-unwritten sulgrevad--tag))
+        ((and (sulgrevad--is-ours) (sulgrevad--is-changed sulgrevad--term sulgrevad--tag))
          (yes-or-no-p (format "%s was not written, and the host keeps its text; kill its buffer? " (buffer-name))))
         (t)))
 
@@ -643,7 +638,7 @@ so."
          nil)                           ; what became of the texts is to be read
         ((not (sulgrevad--is-handed-over)) (yes-or-no-p "Some edits did not get to the host; leave, and keep them here? "))
         ((sulgrevad--is-late) (yes-or-no-p "The host does not answer; leave the session there, and keep here what it may not have? "))
-        ((cl-some (lambda (file) (sulgrevad--is-unwritten (cdr file))) (sulgrevad--names))
+        ((cl-some (lambda (file) (sulgrevad--is-changed sulgrevad--term (cdr file))) (sulgrevad--names))
          (yes-or-no-p "Some files were not written; leave? "))
         (t)))
 
@@ -793,6 +788,7 @@ Return whether there was any."
                     (append sulgrevad--wishes (list (cons (sulgrevad-note-tag note) (sulgrevad-note-number note)))))
               (run-with-idle-timer sulgrevad-rest nil #'sulgrevad--show-wished))
       ('not-saved (sulgrevad--meet-failure note))
+      ('anew (when (< (sulgrevad-note-number note) sulgrevad-all-tags) (puthash (sulgrevad-note-number note) t sulgrevad--hidden)))
       ('lost (display-warning 'sulgrevad (concat "samhost: " text) :error)) ; in a buffer that stays
       ((guard (not (or (string-empty-p text) (sulgrevad--is-plain-save note)))) (message "samhost: %s" text)))))
 
@@ -801,11 +797,10 @@ Return whether there was any."
   (and (eq 'saved (sulgrevad-note-kind note)) (= 0 (sulgrevad-note-code note))))
 
 (defun sulgrevad--meet-failure (note)
-  "Keep in mind that a write failed, as NOTE has it."
+  "Keep in mind why a write failed, as NOTE has it."
   (let ((tag (sulgrevad-note-tag note)))
-    (if (eql tag sulgrevad--writing) (setq sulgrevad--complaint note)
-      (push (cons tag note) sulgrevad--unwritten)
-      (message "samhost: %s" (sulgrevad-note-text note)))))
+    (push (cons tag note) sulgrevad--complaints)
+    (unless (eql tag sulgrevad--writing) (message "samhost: %s" (sulgrevad-note-text note)))))
 
 (defun sulgrevad--note-told (told)
   "Note what was TOLD, for an error that may come."
@@ -901,7 +896,7 @@ WORDS is a function of the session's name.  TAKES-OVER says that it was
 another terminal's."
   (when sulgrevad--term (user-error "There is a session already"))
   (setq sulgrevad--inbox nil sulgrevad--buffers nil sulgrevad--told nil sulgrevad--writes nil sulgrevad--writing nil
-        sulgrevad--complaint nil sulgrevad--unwritten nil sulgrevad--answers nil sulgrevad--wishes nil sulgrevad--copies nil
+        sulgrevad--complaints nil sulgrevad--hidden (make-hash-table) sulgrevad--answers nil sulgrevad--wishes nil sulgrevad--copies nil
         sulgrevad--folder default-directory)
   (let (line)
     (setq line (sulgrevad-line-make
@@ -991,11 +986,11 @@ files were not written; undo doesn't."
 
 (defun sulgrevad--names ()
   "The names of the user's files in the session, with their tags.
-A name that begins with `~~' is of a file that a terminal keeps for
-itself, as undo of samterm: saved, it would be written nowhere."
+The host tells which others it keeps for terminals, as for samterm's
+undo: saved, they would be written nowhere."
   (cl-loop for tag from 1 below (sulgrevad--tags sulgrevad--term)
            for name = (sulgrevad--name sulgrevad--term tag)
-           when (and name (not (string-prefix-p "~~" name))) collect (cons name tag)))
+           when (and name (not (gethash tag sulgrevad--hidden))) collect (cons name tag)))
 
 (defun sulgrevad--left-buffer (name)
   "The buffer of the file NAME that is left of an earlier session, or nil.
@@ -1123,7 +1118,7 @@ argument, read a file name of this machine."
 \"samhost --open --wait\" waits for that.  With KILLS don't ask."
   (interactive)
   (sulgrevad--settle "That")
-  (when (or kills (not (sulgrevad--is-unwritten sulgrevad--tag))
+  (when (or kills (not (sulgrevad--is-changed sulgrevad--term sulgrevad--tag))
             (yes-or-no-p (format "%s was not written; close it all the same? " (buffer-name))))
     (sulgrevad--close sulgrevad--term sulgrevad--tag)
     (sulgrevad--let-go)
@@ -1255,7 +1250,7 @@ One is written after the other, so that what the host tells is of that."
                     (sulgrevad--locked sulgrevad--term tag)
                     (< 0 (sulgrevad--held sulgrevad--term))
                     (and buffer (with-current-buffer buffer (sulgrevad--waits)))))
-           (setq sulgrevad--complaint nil)
+           (setq sulgrevad--complaints (assq-delete-all tag sulgrevad--complaints))
            (condition-case why (sulgrevad--write sulgrevad--term tag)
              (sulgrevad-unfinished (setq sulgrevad--writing (pop sulgrevad--writes))
                                    (signal (car why) (cdr why))))
@@ -1263,11 +1258,9 @@ One is written after the other, so that what the host tells is of that."
 
 (defun sulgrevad--note-written ()
   "Say what became of the file that was written last."
-  (let* ((tag sulgrevad--writing) (told sulgrevad--complaint) (buffer (sulgrevad--buffer-of tag))
+  (let* ((tag sulgrevad--writing) (told (cdr (assq tag sulgrevad--complaints))) (buffer (sulgrevad--buffer-of tag))
          (name (or (sulgrevad--name sulgrevad--term tag) "the file")))
-    (setq sulgrevad--writing nil
-          sulgrevad--unwritten (assq-delete-all tag sulgrevad--unwritten))
-    (when told (push (cons tag told) sulgrevad--unwritten))
+    (setq sulgrevad--writing nil)
     (when buffer (with-current-buffer buffer (sulgrevad--take-over)))
     (message "%s" (if told (sulgrevad-note-text told) (format "The host has written %s" name)))))
 
@@ -1287,7 +1280,7 @@ Where it does not answer, the file is written once it does."
 
 (defun sulgrevad--offer-again (tag)
   "Where another program has changed the file TAG, ask, and write it."
-  (let* ((told (cdr (assq tag sulgrevad--unwritten))) (why (and told (cdr (assq (sulgrevad-note-code told) sulgrevad--replacing)))))
+  (let* ((told (cdr (assq tag sulgrevad--complaints))) (why (and told (cdr (assq (sulgrevad-note-code told) sulgrevad--replacing)))))
     (when (and why (not noninteractive) (yes-or-no-p (format "%s: %s; replace it? " (buffer-name) why)))
       (sulgrevad-save))))
 

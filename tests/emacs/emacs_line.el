@@ -32,7 +32,7 @@
   "Have the line break; with STAYS none comes after it."
   (when stays (made "down" ""))
   (wait-for (lambda () (signal-line 'KILL)))
-  (wait-for (lambda () (sulgrevad-line-lost-at sulgrevad--line))))
+  (wait-for (lambda () (sulgrevad-line-is-broken sulgrevad--line))))
 
 (defun mend-line ()
   "Have a line come again, and wait for it."
@@ -45,10 +45,10 @@
 
 (defun check-breaks ()
   "A broken line is told and comes again; what is typed meanwhile gets to the host, and what needs that says so."
-  (let* ((file (made "b.txt" "text\n")) (sulgrevad-line-pauses '(0.1 0.2 0.4)) (pauses nil)
-         (note (lambda (line) (push (/ (round (* 10 (- (sulgrevad-line-again-at line) (float-time)))) 10.0) pauses))))
+  (let* ((file (made "b.txt" "text\n")) (pauses nil)
+         (note (lambda (line) (push (round (sulgrevad--line-due-in (sulgrevad-line-machine line) (sulgrevad-line--now)) 1000.0) pauses))))
     (sulgrevad-start (relayed) file)
-    (advice-add 'sulgrevad-line--pause :after note)
+    (advice-add 'sulgrevad-line--break :after note)
     (check "a line that is there is not told of" (equal (sulgrevad--lighter) " Sam") (sulgrevad--lighter))
     (insert "before ")
     (cut-line t)
@@ -58,8 +58,8 @@
     (check "what is typed stands" (string-prefix-p "before dead text" (sulgrevad--text)) (sulgrevad--text))
     (same "and the terminal has it")
     (wait-for (lambda () (nthcdr 3 pauses)))
-    (advice-remove 'sulgrevad-line--pause note)
-    (check "pauses grow up to the last" (equal (seq-take (reverse pauses) 4) '(0.1 0.2 0.4 0.4)) pauses)
+    (advice-remove 'sulgrevad-line--break note)
+    (check "pauses grow" (equal (seq-take (reverse pauses) 4) '(0 1 2 4)) pauses)
     (let ((sulgrevad-patience 0.1))
       (check "a write waits" (string-search "once it answers" (or (car (said #'save-buffer)) "")))
       (check "the buffer stays writable then" (not buffer-read-only))
@@ -85,7 +85,7 @@
 
 (defun check-many-breaks ()
   "A line that breaks again and again loses nothing."
-  (let ((file (made "m.txt" "")) (sulgrevad-line-pauses '(0.02)) (long (make-string 3000 ?m)))
+  (let ((file (made "m.txt" "")) (long (make-string 3000 ?m)))
     (sulgrevad-start (relayed) file)
     (dotimes (number 20)
       (goto-char (point-max))
@@ -123,7 +123,7 @@
 
 (defun check-random ()
   "Whatever is done while the line breaks, buffer, terminal and file have the same in the end."
-  (let ((names '("r.txt" "q.txt")) (sulgrevad-line-pauses '(0.05 0.1)) (sulgrevad-patience 1))
+  (let ((names '("r.txt" "q.txt")) (sulgrevad-patience 1))
     (apply #'sulgrevad-start (relayed) (mapcar (lambda (name) (made name "a line of text\nand one more, é日\n")) names))
     (sulgrevad-find (path "q.txt"))
     (dotimes (number 150)
@@ -157,9 +157,8 @@
       (insert "typed ")
       (sulgrevad--pump t)
       (same "another buffer goes on"))
-    (let ((sulgrevad-line-seconds-to-break 0.5) (sulgrevad-line-pauses '(0.1)))
-      (check "the line is given up" (wait-for (lambda () (< 1 (sulgrevad-line-attempt sulgrevad--line)))))
-      (check "another comes" (mend-line)))
+    (check "the line is given up" (wait-for (lambda () (skip 5000) (< 1 (sulgrevad-line-attempt sulgrevad--line)))))
+    (check "another comes" (mend-line))
     (check "the host gets all" (sulgrevad--wait (lambda () (sulgrevad-line-has-all sulgrevad--line)) 30))
     (save-some-buffers t)
     (check "all of both is written" (and (equal (disk file) (concat long "s\n")) (equal (disk other) "typed o\n"))
@@ -220,9 +219,48 @@
     (check "and what was done there is in the file" (string-search "once" (disk file)) (disk file))
     (kill-buffer)))
 
+(defun check-failed-write ()
+  "A write that failed leaves the buffer changed, over a break and a kill of the host, and for who takes the session over."
+  (let ((file (path "gone/f.txt")) (text nil))
+    (make-directory (path "gone"))
+    (sulgrevad-start (relayed) file)
+    (insert "typed ")
+    (delete-directory (path "gone"))
+    (check "that it failed is said" (cl-some (lambda (one) (string-search "not written: " one)) (said #'sulgrevad-save)))
+    (check "the buffer is changed" (buffer-modified-p))
+    (check "so it is where its second write failed" (progn (sulgrevad-save) (buffer-modified-p)))
+    (cut-line)
+    (mend-line)
+    (sulgrevad--wait (lambda () (not (sulgrevad--is-late))))
+    (check "it is changed after a break" (buffer-modified-p))
+    (signal-host)
+    (cut-line)
+    (mend-line)
+    (sulgrevad--wait (lambda () (not (sulgrevad--is-late))))
+    (check "it is changed after a kill of the host" (buffer-modified-p))
+    (sulgrevad--lose "the user has left")
+    (sulgrevad-take (list samhost))
+    (check "it is changed for who takes it over" (buffer-modified-p))
+    (make-directory (path "gone"))
+    (setq text (sulgrevad--text))
+    (sulgrevad-save)
+    (check "once it is written it isn't" (and (not (buffer-modified-p)) (equal (disk file) text)) (disk file))
+    (insert "more ")
+    (sulgrevad--pump t)
+    (check "a later edit changes it" (buffer-modified-p))
+    (asked t (sulgrevad-quit))))
+
+(defun check-hidden ()
+  "Of a session that samterm had the files which it keeps for itself are not the user's, but one of the same name is."
+  (made "~~undo~~" "text\n")
+  (sulgrevad--begin (list samhost) (lambda (name) (list "--serve" name "--undo" "--" "~~undo~~")) nil)
+  (check "one file is the user's" (equal (sulgrevad--names) '(("~~undo~~" . 1))) (sulgrevad--names))
+  (check "though there are two of its name" (equal (sulgrevad--name sulgrevad--term 2) "~~undo~~"))
+  (sulgrevad-quit))
+
 (defun check-one-buffer ()
   "After a session that was lost its buffer shows the file again, and the text that the host may not have is in one file."
-  (let ((file (made "k.txt" "text\n")) (sulgrevad-line-pauses '(0.1)) (shown nil))
+  (let ((file (made "k.txt" "text\n")) (shown nil))
     (sulgrevad-start (relayed) file)
     (cut-line t)
     (insert "typed ")
@@ -239,20 +277,20 @@
 
 (defun check-missing ()
   "A session that the host does not find is told of, and tried on: its folder may come a little later."
-  (let ((file (made "n.txt" "text\n")) (sulgrevad-line-pauses '(0.1)) (sulgrevad-line-seconds-missing 60) (away (path "away")))
+  (let ((file (made "n.txt" "text\n")) (skips-pauses nil) (away (path "away")))
     (sulgrevad-start (list samhost) file)
     (sulgrevad--wait (lambda () (sulgrevad-line-has-all sulgrevad--line)))
     (let* ((home (home))
            (words (said (lambda ()
                           (signal-host)
                           (rename-file home away)
-                          (wait-for (lambda () (sulgrevad-line-missing-since sulgrevad--line)))))))
+                          (wait-for (lambda () (sulgrevad-line-is-missing sulgrevad--line)))))))
       (check "a session that is missing is told of"
              (cl-some (lambda (word) (string-search "doesn't find the session" word)) words) words)
       (keys "t y p e d SPC")
       (rename-file away home)
       (check "the line comes back" (wait-for (lambda () (sulgrevad-line-is-open sulgrevad--line))))
-      (check "then nothing is missing" (null (sulgrevad-line-missing-since sulgrevad--line)))
+      (check "then nothing is missing" (null (sulgrevad-line-is-missing sulgrevad--line)))
       (sulgrevad-save)
       (check "what was typed meanwhile is in the file" (wait-for (lambda () (equal (disk file) "typed text\n"))) (disk file)))
     (sulgrevad-quit)))
@@ -420,7 +458,7 @@
 
 (defun check-passwords ()
   "What asks on its terminal asks the user, but only where he waits for it."
-  (let* ((file (made "p.txt" "p\n")) (sulgrevad-line-pauses '(0.1)) (asked nil)
+  (let* ((file (made "p.txt" "p\n")) (asked nil)
          (asks (append (list "/bin/sh" "-c" "\
 { stty -echo; printf 'me@box password: '; read -r word; stty echo; echo; } <>/dev/tty >&0 || exit 1
 [ \"$word\" = secret ] || { echo wrong >&2; exit 1; }
@@ -430,7 +468,7 @@ exec \"$@\"" "sh") (relayed))))
       (check "the user is asked" (equal asked '("me@box password: ")) asked)
       (check "and let in" (equal (sulgrevad--text) "p\n"))
       (signal-line 'KILL)
-      (wait-for (lambda () (< 1 (sulgrevad-line-failures sulgrevad--line))))
+      (wait-for (lambda () (< 2 (sulgrevad-line-attempt sulgrevad--line))))
       (check "nothing asks by itself" (= 1 (length asked)) asked)
       (insert "typed ")
       (sulgrevad-reconnect)
@@ -495,8 +533,9 @@ exec \"$@\"" "sh") (relayed))))
     (setq command-line-args-left nil)
     (if (equal what "long")
         (dolist (one '(check-long check-places)) (funcall one (append words (list samhost))))
-      (dolist (one '(check-breaks check-many-breaks check-random check-stalled check-take check-one-buffer check-missing check-paths check-wishes
-                                  check-keys check-steps check-other-versions check-hostile check-passwords check-sources))
+      (dolist (one '(check-breaks check-many-breaks check-random check-stalled check-take check-failed-write check-hidden check-one-buffer
+                                  check-missing check-paths check-wishes check-keys check-steps check-other-versions check-hostile
+                                  check-passwords check-sources))
         (when (memq one (or (bound-and-true-p only) (list one)))
           (funcall one))))
     (princ (format "%d passed, %d failed\n" passed failed))))

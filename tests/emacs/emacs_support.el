@@ -72,9 +72,24 @@
 
 (defun lose-host ()
   "Kill the host, and wait until that is known."
-  (let ((sulgrevad-line-pauses '(0.1)))
-    (kill-host)
-    (wait-for (lambda () (null sulgrevad--term)))))
+  (kill-host)
+  (wait-for (lambda () (null sulgrevad--term))))
+
+;; The library's times are seconds and more: the checks skip them.
+
+(defvar skipped 0 "Milliseconds that were skipped.")
+(defvar skips-pauses t "Whether a pause between two connections is skipped.")
+
+(defun skip (milliseconds)
+  "Have so many MILLISECONDS be over for the line."
+  (setq skipped (+ skipped milliseconds))
+  (sulgrevad-line--go-on sulgrevad--line))
+
+(defun skip-pause ()
+  "Skip the pause of a line that waits for its next connection."
+  (let ((line sulgrevad--line))
+    (when (and skips-pauses line (null (sulgrevad-line-why line)) (null (sulgrevad-line-process line)))
+      (skip (or (sulgrevad--line-due-in (sulgrevad-line-machine line) (sulgrevad-line--now)) 0)))))
 
 (defun process ()
   "The process that carries the session's bytes."
@@ -83,6 +98,7 @@
 (defun begin (folder)
   "Have FOLDER be where the sessions begin and temporary files are.  A session of a killed Emacs stays but for a minute."
   (random "sulgrevad")
-  (setq sulgrevad-line-seconds-missing 0) ; no session of `kill-host' comes back
+  (advice-add 'sulgrevad-line--now :filter-return (lambda (now) (+ now skipped)))
+  (run-with-timer 0.1 0.1 #'skip-pause)
   (setq room (file-name-as-directory folder) temporary-file-directory room sulgrevad-stay-hours 0.02 sulgrevad-patience 30)
   (dolist (buffer (buffer-list)) (with-current-buffer buffer (setq default-directory room))))
