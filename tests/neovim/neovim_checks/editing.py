@@ -1,0 +1,157 @@
+"""Files that open, edits of all sorts, and writes: beside a plain Neovim that gets the same keys."""
+import random
+from pathlib import Path
+
+from checks import expect, expect_equal
+
+from .support import TERMINAL, Place
+
+TEXT = "one\ntwo é日\n\tthree words here\n"
+
+# Keys, each of which edits in another way. What they leave is what a plain Neovim leaves.
+WAYS = (
+    "ihello <Esc>", "Gonew line<Esc>", "ggOabove\n<Esc>", "ggdd", "Gdd", "u", "<C-r>", "g-", "g+", "ggyyGp", "ggyy3P", "gg/three\ndw",
+    "ggxp", "ggJ", "gg>>", "G$a日本é<Esc>", "ggqqAx<Esc>jq3@q", ":%s/o/0/ge\n", ":%s/$/ end/e\n", ":g/x/m0\n", ":%!sort\n", "gg<C-v>jjIQ<Esc>",
+    "ggVGgU", "ggVGgu", "gg0D", "Go1<CR>2<CR>3<Esc>", "ggcwchanged<Esc>", "gg0r日", ":sil! 2,$d\n", "u", ":1t$\n", "ggdG", "u", "Gi\t<Esc>",
+    ":undo 2\n", ":redo\n", "G5o=<Esc>", "ggv$y:put\n", ":s/\\n//e\n", "gg~",
+)  # fmt: skip
+
+
+def check_open(folder):
+    """A file opens with its text, its name and its filetype, unmodified, and undo takes nothing of it away."""
+    with Place(folder) as place:
+        neovim = place.opened("notes.lua", TEXT)
+        expect_equal(neovim.text, TEXT)
+        name = neovim.lua("return vim.api.nvim_buf_get_name(0)")
+        expect(name.startswith("sulgrevad://") and name.endswith("/notes.lua"), name)
+        expect_equal(neovim.lua("return {vim.bo.buftype, vim.bo.filetype, vim.bo.modified}"), ["acwrite", "lua", False])
+        neovim.keys("u")
+        expect_equal(neovim.text, TEXT)
+
+
+def check_ways(folder):
+    """Each way of editing, undo and redo leaves what it leaves in a plain Neovim; the terminal has it at once, the disk after :w."""
+    with Place(folder) as place:
+        (folder / "plain.txt").write_text(TEXT)
+        plain = place.neovim(str(folder / "plain.txt"), has_plugin=False)
+        neovim = place.opened("notes.txt", TEXT)
+        for keys in WAYS:
+            for one in (plain, neovim):
+                one.keys(keys)
+            expect_equal((keys, neovim.text), (keys, plain.text))
+            neovim.wait_settled()
+        plain.command("write")
+        expect_equal(place.expect_same(neovim, "notes.txt"), (folder / "plain.txt").read_text())
+
+
+def check_random(folder):
+    """Random keys leave what they leave in a plain Neovim, over a slow line that is cut now and then."""
+    chance = random.Random(7)
+    with Place(folder, 40) as place:
+        (folder / "plain.txt").write_text(TEXT)
+        plain = place.neovim(str(folder / "plain.txt"), has_plugin=False)
+        neovim = place.opened("notes.txt", TEXT)
+        for turn in range(200):
+            keys = chance.choice(WAYS)
+            for one in (plain, neovim):
+                one.keys(keys)
+            if turn % 20 == 10:
+                neovim.command("write")
+            if turn % 50 == 25:
+                place.cut(neovim)
+        expect_equal(neovim.text, plain.text)
+        neovim.wait_settled()
+        plain.command("write")
+        expect_equal(place.expect_same(neovim, "notes.txt"), (folder / "plain.txt").read_text())
+
+
+def check_exact(folder):
+    """Texts of all forms are written as they are, and :w adds a last newline only where 'fixendofline' says so."""
+    texts = ["", "\n", "\n\n", "one", "one\n", "one\n\n", "one\r\ntwo\r\n", "\r", "\ufeffone\n", "é日😀e\u0301", "\u2028\u0085\n", "\t\n x"]
+    with Place(folder) as place:
+        neovim = place.neovim()
+        neovim.command("set nofixendofline fileformats=dos,unix")
+        for number, text in enumerate(texts):
+            name = f"text {number}"
+            place.host.write(name, text)
+            place.open(neovim, name)
+            expect_equal((number, neovim.text), (number, text))
+            neovim.keys("Ox<Esc>")
+            place.expect_same(neovim, name)
+            neovim.keys("u")
+            expect_equal((number, place.expect_same(neovim, name)), (number, text))
+        neovim.command("set fixendofline")
+        place.open(neovim, "text 3")
+        neovim.command("set fixendofline")
+        neovim.keys("ix<Esc>")
+        expect_equal(place.expect_same(neovim, "text 3"), "xone\n")
+
+
+def check_no_text(folder):
+    """What is typed and is no Unicode becomes U+FFFD, in the buffer, too."""
+    with Place(folder) as place:
+        neovim = place.opened("notes.txt", "one\n")
+        neovim.lua("vim.api.nvim_buf_set_lines(0, 0, 1, true, {'a\\255b\\237\\160\\128c\\0d'})")
+        neovim.wait_settled()
+        expect_equal(neovim.text, "a\ufffdb\ufffd\ufffd\ufffdc\0d\n")
+
+
+def check_texts(folder):
+    """Random texts and edits through the plugin's modules that know no host."""
+    with Place(folder) as place:
+        expect_equal(place.neovim().lua(Path(__file__).with_name("texts.lua").read_text()), [])
+
+
+def check_drift(folder):
+    """A change of the buffer that no event has told of goes to the terminal with the next one, or if the length stays, by :w."""
+    with Place(folder) as place:
+        neovim = place.opened("notes.txt", "one\ntwo\nthree\n")
+        neovim.lua(UNTOLD, "first")
+        neovim.keys("GAx<Esc>")
+        neovim.wait_settled()
+        expect_equal((neovim.text, neovim.lua("return " + TERMINAL)), ("first\ntwo\nthreex\n", neovim.text))
+        neovim.lua(UNTOLD, "FIRST")
+        neovim.keys("GAy<Esc>")
+        expect_equal(place.expect_same(neovim, "notes.txt"), "FIRST\ntwo\nthreexy\n")
+
+
+# Changes the first line, and has the plugin pass the event over.
+UNTOLD = """
+local file = require("sulgrevad").files[vim.api.nvim_get_current_buf()]
+file.is_showing = true
+vim.api.nvim_buf_set_lines(0, 0, 1, true, { ... })
+file.is_showing = false
+"""
+
+
+def check_two_buffers(folder):
+    """An edit of one buffer leaves cursor, undo and text of the other."""
+    with Place(folder) as place:
+        neovim = place.opened("one.txt", "1\n2\n3\n")
+        neovim.keys("jAx<Esc>")
+        before = neovim.lua("return {vim.fn.undotree().seq_last, vim.fn.getcurpos()}")
+        place.host.write("other.txt", "4\n5\n")
+        place.open(neovim, "other.txt")
+        neovim.keys("Gox<Esc>")
+        neovim.command("SulgrevadRun ,x/5/c/five/")
+        neovim.wait_settled()
+        expect_equal(place.expect_same(neovim, "other.txt"), "4\nfive\nx\n")
+        neovim.command("buffer one.txt")
+        expect_equal(neovim.lua("return {vim.fn.undotree().seq_last, vim.fn.getcurpos()}"), before)
+        expect_equal(place.expect_same(neovim, "one.txt"), "1\n2x\n3\n")
+        expect_equal(len(place.host.sessions()), 1)
+
+
+def check_too_long(folder):
+    """A text that is too long for the host stays in the buffer, which is told, and is not written; one that is short enough is."""
+    with Place(folder) as place:
+        neovim = place.opened("notes.txt", "one\n")
+        neovim.lua("vim.api.nvim_buf_set_lines(0, 0, 0, true, {('x'):rep(1000000)})")
+        neovim.wait_told("is not at the host as it is here")
+        neovim.command("write")
+        neovim.wait_told("is not written")
+        expect_equal(len(neovim.text), 1_000_005)
+        expect(neovim.lua("return vim.bo.modified"), "the buffer counts as written")
+        expect_equal(place.host.read("notes.txt"), "one\n")
+        neovim.keys("ggdd")
+        expect_equal(place.expect_same(neovim, "notes.txt"), "one\n")

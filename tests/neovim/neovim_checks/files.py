@@ -1,0 +1,225 @@
+"""Opening, writing, reading anew and leaving; what fails is told, and nothing is lost."""
+import shlex
+import shutil
+
+from checks import expect, expect_equal, wait_until
+
+from .support import PLUGIN, Place
+
+
+def check_names(folder):
+    """A file that is there by another path is shown in its buffer; names of buffers open files, also by absolute paths; blanks are theirs."""
+    with Place(folder) as place:
+        neovim = place.opened("my notes.txt", "one\n")
+        first = neovim.lua("return vim.api.nvim_get_current_buf()")
+        neovim.command(f"Sulgrevad {place.host.command} ./my notes.txt")
+        neovim.wait("vim.api.nvim_get_current_buf()", first)
+        for name in ("other.txt", f"{place.host.folder}/third.txt"):
+            (place.host.folder / name).write_text(name)
+            neovim.lua(EDIT_BESIDE, name)
+            expect_equal(neovim.text, name)
+        neovim.command(f"buffer {first}")
+        expect_equal(neovim.text, "one\n")
+        expect_equal(len(place.host.sessions()), 1)
+
+
+def check_own_command(folder):
+    """The name of a buffer alone begins a session, by g:sulgrevad_command; a name that is no machine's runs nothing."""
+    with Place(folder) as place:
+        place.host.write("notes.txt", "one\n")
+        neovim = place.neovim()
+        neovim.lua("vim.g.sulgrevad_command = ...", f"{shlex.quote(str(folder))}/%s/samhost")
+        neovim.command("edit sulgrevad://bin/notes.txt")
+        expect_equal(neovim.text, "one\n")
+        for label in ("bin;touch wrong", "-bin", "$(touch wrong)"):
+            neovim.lua("vim.cmd('silent! edit ' .. vim.fn.fnameescape(...))", f"sulgrevad://{label}/notes.txt")
+            expect("no file is named by" in neovim.lua("return vim.v.errmsg"), f"{label}: {neovim.told}")
+        expect(not [*folder.rglob("wrong")], "a word of a name was run")
+
+
+EDIT_BESIDE = """
+local label = vim.api.nvim_buf_get_name(0):match "^sulgrevad://([^/]*)/"
+vim.cmd("edit " .. vim.fn.fnameescape(("sulgrevad://%s/%s"):format(label, ...)))
+"""
+
+
+def check_failed_write(folder):
+    """A write that fails is told, and the buffer stays modified until one succeeds; :wq stays."""
+    with Place(folder) as place:
+        (place.host.folder / "gone").mkdir()
+        neovim = place.opened("gone/notes.txt", "one\n")
+        neovim.keys("Ax<Esc>")
+        shutil.rmtree(place.host.folder / "gone")
+        neovim.command("write")
+        neovim.wait_told("notes.txt")
+        neovim.wait(ANSWERED, True)
+        neovim.wait("vim.bo.modified", True)
+        neovim.keys(":wq\n")
+        neovim.wait_told("gone/notes.txt is not written")
+        expect_equal(neovim.text, "onex\n")
+        (place.host.folder / "gone").mkdir()
+        place.expect_same(neovim, "gone/notes.txt")
+        expect_equal(place.host.read("gone/notes.txt"), "onex\n")
+
+
+# Whether each write is answered.
+ANSWERED = "(function() for _, file in pairs(require('sulgrevad').files) do if file.writing then return false end end return true end)()"
+
+
+def check_reload(folder):
+    """:e! shows what another program has written, unmodified, and undo goes back to what was there; a change of another is told."""
+    with Place(folder) as place:
+        neovim = place.opened("notes.txt", "one\ntwo\n")
+        neovim.keys("Gomine<Esc>")
+        neovim.wait_settled()
+        place.host.write("notes.txt", "one\nother\n")
+        neovim.wait_told("notes.txt")
+        neovim.command("edit!")
+        expect_equal(neovim.text, "one\nother\n")
+        expect_equal(neovim.lua("return vim.bo.modified"), False)
+        neovim.keys("Gox<Esc>")
+        expect_equal(place.expect_same(neovim, "notes.txt"), "one\nother\nx\n")
+        neovim.keys("uu")
+        expect_equal(neovim.text, "one\ntwo\nmine\n")
+
+
+def check_replacing(folder):
+    """A write over another program's text is refused once and told; the next one replaces that text."""
+    with Place(folder) as place:
+        neovim = place.opened("notes.txt", "one\n")
+        neovim.keys("Ax<Esc>")
+        neovim.wait_settled()
+        place.host.write("notes.txt", "other text\n")
+        neovim.command("write")
+        neovim.wait(ANSWERED, True)
+        expect_equal(place.host.read("notes.txt"), "other text\n")
+        neovim.wait("vim.bo.modified", True)
+        expect_equal(place.expect_same(neovim, "notes.txt"), "onex\n")
+
+
+def check_leave(folder):
+    """:wq writes and ends the session; after :bd the file can be opened again; :w NAME writes here."""
+    with Place(folder) as place:
+        neovim = place.opened("notes.txt", "one\n")
+        neovim.keys("Ax<Esc>")
+        place.expect_same(neovim, "notes.txt")
+        neovim.lua("vim.cmd('write! ' .. vim.fn.fnameescape(...))", str(folder / "copy.txt"))
+        neovim.command("bdelete")
+        place.open(neovim, "notes.txt")
+        expect_equal((neovim.text, (folder / "copy.txt").read_text()), ("onex\n", "onex\n"))
+        neovim.keys("Ay<Esc>")
+        neovim.ask("nvim_input", ":wq<CR>")
+        wait_until(lambda: neovim.process.poll() is not None, "Neovim does not end")
+        expect_equal((place.host.read("notes.txt"), place.host.sessions()), ("onexy\n", []))
+
+
+def check_leave_all(folder):
+    """:wqa writes all files before Neovim ends, and where one can't be written it doesn't end."""
+    with Place(folder) as place:
+        (place.host.folder / "gone").mkdir()
+        neovim = place.opened("gone/notes.txt", "one\n")
+        neovim.keys("Ax<Esc>")
+        place.host.write("other.txt", "other\n")
+        place.open(neovim, "other.txt")
+        neovim.keys("Ay<Esc>")
+        shutil.rmtree(place.host.folder / "gone")
+        neovim.keys(":wqa\n")
+        place.host.wait_written("other.txt", "othery\n")
+        neovim.wait_told("gone/notes.txt is not written")
+        (place.host.folder / "gone").mkdir()
+        neovim.ask("nvim_input", ":wqa<CR>")
+        wait_until(lambda: neovim.process.poll() is not None, "Neovim does not end")
+        expect_equal(place.host.read("gone/notes.txt"), "onex\n")
+
+
+def check_refused(folder):
+    """Unknown hosts, folders, files that are no text, and wrong words are told, and no buffer can be edited for them."""
+    with Place(folder) as place:
+        neovim = place.neovim()
+        for command, told in (
+            ("no-such-program samhost notes.txt", "no-such-program"),
+            ("true samhost notes.txt", "the host is gone"),
+            ("echo hello", "usage"),
+            (f"{place.host.command}", "usage"),
+        ):
+            neovim.command(f"silent! Sulgrevad {command}")
+            error = neovim.lua("return vim.v.errmsg")
+            expect(told in error + neovim.told, f"{command}: {error!r}, {neovim.told!r}")
+        place.host.write("wrong.txt", "")
+        (place.host.folder / "wrong.txt").write_bytes(b"\xff\xfe")
+        (place.host.folder / "folder").mkdir()
+        for name, told in (("wrong.txt", "UTF-8"), ("folder", "folder"), ("none/new.txt", "new.txt")):
+            neovim.command(f"silent! Sulgrevad {place.host.command} {name}")
+            expect(told in neovim.lua("return vim.v.errmsg"), f"{name}: {neovim.told!r}")
+            expect(not neovim.lua("return vim.bo.modifiable"), f"{name} can be edited")
+        place.open(neovim, "new.txt")
+        neovim.keys("ihello<Esc>")
+        expect_equal(place.expect_same(neovim, "new.txt"), "hello\n")
+
+
+def check_completion(folder):
+    """Paths at the host are completed, also those with blanks and in folders; before samhost commands are."""
+    with Place(folder) as place:
+        (place.host.folder / "some folder").mkdir()
+        for name in ("notes.txt", "notes two.txt", "some folder/inside.txt"):
+            place.host.write(name, "")
+        neovim = place.neovim()
+        for typed, wanted in (
+            ("no", ["notes two.txt", "notes.txt"]),
+            ("notes t", ["two.txt"]),
+            ("some", ["some folder/"]),
+            ("some folder/in", ["folder/inside.txt"]),
+            ("none", []),
+        ):
+            expect_equal((typed, neovim.lua(COMPLETE, f"Sulgrevad {place.host.command} {typed}")), (typed, wanted))
+        expect("true" in neovim.lua(COMPLETE, "Sulgrevad tru"), "commands are not completed")
+
+
+COMPLETE = "return vim.fn.getcompletion(..., 'cmdline')"
+
+
+def check_takeover(folder):
+    """A second Neovim takes a session over, with what was not written; the first is told, and keeps its text."""
+    with Place(folder) as place:
+        first = place.opened("notes.txt", "one\n")
+        first.keys("Ax<Esc>")
+        first.wait_settled()
+        second = place.neovim()
+        second.command(f"Sulgrevad {place.host.command} --take")
+        second.wait("vim.bo.modifiable and vim.bo.buftype == 'acwrite'")
+        expect_equal((second.text, second.lua("return vim.bo.modified")), ("onex\n", True))
+        first.wait_told("another terminal has taken the session over")
+        first.keys("Ay<Esc>")
+        expect_equal((first.text, first.lua("return vim.bo.modified")), ("onexy\n", True))
+        first.command("silent! write")
+        expect("not written" in first.lua("return vim.v.errmsg"), first.told)
+        second.keys("Az<Esc>")
+        expect_equal(place.expect_same(second, "notes.txt"), "onexz\n")
+        first.command("edit!")
+        expect_equal((first.text, first.lua("return vim.bo.modified"), len(place.host.sessions())), ("onexz\n", False, 2))
+
+
+def check_health(folder):
+    """:checkhealth has the library and the session, and says what is missing."""
+    with Place(folder) as place:
+        neovim = place.opened("notes.txt", "one\n")
+        neovim.command("checkhealth sulgrevad")
+        shown = neovim.text
+        expect("OK: library: " in shown and "the line is well" in shown and "ERROR" not in shown, shown)
+        other = place.neovim("--cmd", "let g:sulgrevad_library = '/none.so'")
+        other.command("checkhealth sulgrevad")
+        expect("ERROR: the library is not there" in other.text, other.text)
+
+
+def check_help(folder):
+    """:help has the page, and its tags are those of the page."""
+    with Place(folder) as place:
+        neovim = place.neovim()
+        neovim.command("help sulgrevad")
+        expect("sulgrevad.txt" in neovim.lua("return vim.fn.expand('%')"), "there is no page")
+        for command in ("Sulgrevad", "SulgrevadRun", "SulgrevadReconnect"):
+            neovim.command(f"help :{command}")
+        copy = folder / "doc"
+        shutil.copytree(PLUGIN / "doc", copy)
+        neovim.command(f"helptags {str(copy).replace(' ', chr(92) + ' ')}")
+        expect_equal((copy / "tags").read_text(), (PLUGIN / "doc/tags").read_text())

@@ -1,0 +1,185 @@
+"""Command lines, and lines that are slow, break or are dead, while the user types."""
+import os
+import signal
+
+from checks import GIVEN_UP, expect, expect_equal, wait_until
+
+from .support import Place
+
+
+def check_run(folder):
+    """A command line changes the buffer as one step of undo, and leaves the cursor at its text; an address alone moves it; output shows."""
+    with Place(folder) as place:
+        neovim = place.opened("notes.txt", "a b\nb a\nc\n")
+        neovim.keys("2l:split\nj3l")  # two windows, with the cursors behind what changes
+        neovim.command("SulgrevadRun ,x/a/c/long/")
+        neovim.wait_settled()
+        expect_equal((neovim.text, neovim.lua(CURSORS)), ("long b\nb long\nc\n", [[2, 5], [1, 5]]))
+        neovim.command("only")
+        neovim.keys("u")
+        expect_equal(neovim.text, "a b\nb a\nc\n")
+        neovim.keys("<C-r>")
+        expect_equal(neovim.text, "long b\nb long\nc\n")
+        neovim.command("SulgrevadRun /c/")
+        neovim.wait_settled()
+        expect_equal(neovim.lua("return vim.api.nvim_win_get_cursor(0)"), [3, 0])
+        neovim.command("SulgrevadRun 2p")
+        neovim.wait_told("b long")
+        neovim.command("SulgrevadRun ,z")
+        neovim.wait_told("? command")
+        neovim.command("SulgrevadRun #0,#1p")  # that ends in no newline
+        neovim.command("1SulgrevadRun x/b/c/B/")
+        neovim.wait_settled()
+        expect_equal(place.expect_same(neovim, "notes.txt"), "long B\nb long\nc\n")
+        neovim.command("SulgrevadRun ,p")
+        neovim.command("SulgrevadRun $a/日%s/" % ("é" * 700))
+        neovim.wait_settled()
+        expect_equal(place.expect_same(neovim, "notes.txt"), "long B\nb long\nc\n日%s" % ("é" * 700) + "\n")
+
+
+CURSORS = "return vim.tbl_map(vim.api.nvim_win_get_cursor, vim.api.nvim_list_wins())"
+
+
+def check_typing(folder):
+    """What is typed while the host changes the text is in it once, and so are the host's changes."""
+    with Place(folder, 150) as place:
+        neovim = place.opened("notes.txt", "ink one\nink two\nink three\n" + "ink\n" * 40)
+        for turn in range(5):
+            neovim.command(f"SulgrevadRun ,x/ink/c/<{turn}>ink/")
+            neovim.keys("jA (typed")
+            neovim.keys(f" {turn})<Esc>ggOline {turn}<Esc>")
+            neovim.command("write")
+        neovim.wait_settled()
+        text = place.expect_same(neovim, "notes.txt")
+        for turn in range(5):
+            expect_equal((turn, text.count(f"(typed {turn})"), text.count(f"line {turn}"), text.count(f"<{turn}>")), (turn, 1, 1, 43))
+            expect(f"\nline {turn}" in "\n" + text, f"line {turn} is torn")
+
+
+def check_insertion(folder):
+    """Undo of an insertion into which the host's change came takes back what was typed, and the host's change by another step."""
+    with Place(folder, 100) as place:
+        neovim = place.opened("notes.txt", "one\ntwo\n")
+        neovim.command("SulgrevadRun ,x/two/c/2/")
+        neovim.ask("nvim_input", "Ax")
+        neovim.wait_settled()
+        neovim.ask("nvim_input", "y<Esc>")
+        neovim.wait_settled()
+        expect_equal(place.expect_same(neovim, "notes.txt"), "onexy\n2\n")
+        for wanted in ("onexy\ntwo\n", "one\ntwo\n"):
+            neovim.keys("u")
+            expect_equal(neovim.text, wanted)
+        neovim.keys("2<C-r>")
+        expect_equal(neovim.text, "onexy\n2\n")
+
+
+def check_breaks(folder):
+    """Typing goes on while the line breaks and the host is killed; each word is in the text once, in order."""
+    with Place(folder, 30) as place:
+        neovim = place.opened("notes.txt", "")
+        words = [f"word{number}" for number in range(120)]
+        for number, word in enumerate(words):
+            neovim.ask("nvim_input", f"A{word} <Esc>")
+            if number % 30 == 10:
+                place.cut(neovim)
+            elif number % 60 == 40:
+                place.host.kill()
+            elif number % 20 == 5:
+                neovim.command("write")
+        neovim.wait_settled()
+        expect_equal(place.expect_same(neovim, "notes.txt"), "".join(f"{word} " for word in words) + "\n")
+
+
+def check_dead(folder):
+    """While the line is dead all can be edited, the statusline has it, and :w is done when the line is back; so is :SulgrevadReconnect."""
+    with Place(folder, 10) as place:
+        neovim = place.opened("notes.txt", "one\n")
+        place.host.dead.touch()
+        place.cut(neovim)
+        neovim.wait("require('sulgrevad').status():find('LINE LOST') ~= nil")
+        neovim.keys("Ax<Esc>")
+        neovim.command("write")
+        neovim.keys("Gonext<Esc>ddp")
+        expect_equal((neovim.text, neovim.lua("return vim.bo.modified")), ("onex\nnext\n", True))
+        neovim.command("silent! edit!")
+        expect("onex\n" in neovim.text, neovim.text)
+        place.host.dead.unlink()
+        neovim.command("SulgrevadReconnect")
+        neovim.wait_settled()
+        expect_equal(neovim.lua("return require('sulgrevad').status()"), "")
+        place.host.wait_written("notes.txt", "onex\n")
+        expect_equal(place.expect_same(neovim, "notes.txt"), "onex\nnext\n")
+
+
+def check_silent(folder):
+    """A line that takes bytes and brings none is told, all can be edited, and what was done comes when it goes on, or by another one."""
+    with Place(folder, 10) as place:
+        neovim = place.opened("notes.txt", "one\n")
+        process = place.line(neovim)
+        os.kill(process, signal.SIGSTOP)
+        neovim.keys("Ax<Esc>")
+        neovim.command("write")
+        neovim.keys("Ay<Esc>")
+        neovim.wait("require('sulgrevad').status():find('no answer for') ~= nil")
+        expect_equal(neovim.text, "onexy\n")
+        os.kill(process, signal.SIGCONT)
+        place.host.wait_written("notes.txt", "onex\n")
+        expect_equal(place.expect_same(neovim, "notes.txt"), "onexy\n")
+        os.kill(process, signal.SIGSTOP)
+        neovim.keys("Az<Esc>")
+        neovim.wait("require('sulgrevad').status():find('no answer for') ~= nil")
+        neovim.command("SulgrevadReconnect")
+        neovim.wait_settled()
+        expect_equal(place.expect_same(neovim, "notes.txt"), "onexyz\n")
+        expect(place.line(neovim) != process, "the line is the same")
+
+
+def check_copies(folder):
+    """While the line is lost a changed text is kept here, also if Neovim is killed; once the host has all the copy goes."""
+    with Place(folder, 10) as place:
+        neovim = place.opened("notes.txt", "one\n")
+        copy = neovim.folder / "notes.txt.sam-here"
+        place.host.dead.touch()
+        place.cut(neovim)
+        neovim.keys("Ax<Esc>")
+        wait_until(copy.exists, "there is no copy")
+        neovim.keys("Ay<Esc>")
+        wait_until(lambda: copy.read_text() == "onexy\n", lambda: f"the copy has {copy.read_text()!r}")
+        place.host.dead.unlink()
+        neovim.command("SulgrevadReconnect")
+        neovim.wait_settled()
+        wait_until(lambda: not [*neovim.folder.glob("*.sam-here*")], "the copy stays")
+
+
+def check_left(folder):
+    """Where Neovim ends while the line is dead, its text is kept here, and the session can be taken up with what the host has."""
+    with Place(folder, 10) as place:
+        neovim = place.opened("notes.txt", "one\n")
+        place.host.dead.touch()
+        place.cut(neovim)
+        neovim.wait("require('sulgrevad').status():find('LINE LOST') ~= nil")
+        neovim.keys("Ax<Esc>")
+        neovim.ask("nvim_input", ":qa!<CR>")
+        wait_until(lambda: neovim.process.poll() is not None, "Neovim does not end")
+        expect_equal((neovim.folder / "notes.txt.sam-here").read_text(), "onex\n")
+        place.host.dead.unlink()
+        expect_equal(len(place.host.sessions()), 1)
+        second = place.neovim()
+        second.command(f"Sulgrevad {place.host.command} --take")
+        second.wait("vim.bo.modifiable and vim.bo.buftype == 'acwrite'")
+        expect_equal(second.text, "one\n")
+
+
+def check_shown(folder):
+    """samhost --open --wait has Neovim show a file, at its line, and waits until :bd."""
+    with Place(folder) as place:
+        neovim = place.opened("notes.txt", "one\n")
+        place.host.write("other.txt", "1\n2\n3\n")
+        with place.host.opening("other.txt", "+2") as waiting:
+            neovim.wait("vim.api.nvim_buf_get_name(0):find('other.txt') ~= nil and vim.api.nvim_win_get_cursor(0)[1]", 2)
+            expect_equal(neovim.text, "1\n2\n3\n")
+            neovim.keys("Ax<Esc>")
+            place.expect_same(neovim, "other.txt")
+            expect(waiting.poll() is None, "it does not wait")
+            neovim.command("bdelete")
+            expect_equal(waiting.wait(GIVEN_UP), 0)
