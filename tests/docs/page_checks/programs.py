@@ -10,7 +10,7 @@ PAGES = sorted([*(ROOT / "docs/tutorials").glob("*.md"), *(ROOT / "docs/howto").
 PROGRAM = re.compile(r"^```python\n(# (\w+\.py)\n.*?)^```$.*?^```text\n(.*?)^```$", re.MULTILINE | re.DOTALL)
 WITH_PROGRAMS = {"SPLIT_EDITOR": 5, "SAVING": 1, "UNDO": 1, "CLIPBOARD": 1}  # pages, and how many programs each has
 SPLIT = ROOT / "examples/split"
-MOST_LINES = 100
+MOST_LINES = 70
 
 
 def run(folder, name, text):
@@ -40,7 +40,7 @@ def lines_of_code(text):
 
 
 def check_split_editor_is_shown(_folder):
-    """The tutorial shows both programs of examples/split as they are, and they have 100 lines of code at most."""
+    """The tutorial shows both programs of examples/split as they are, and they have 70 lines of code at most."""
     page = (ROOT / "docs/tutorials/SPLIT_EDITOR.md").read_text()
     programs = sorted(path.name for path in SPLIT.iterdir() if path.is_file())
     expect(programs == ["host.py", "terminal.py"], f"examples/split has {programs}")
