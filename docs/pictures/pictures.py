@@ -72,6 +72,7 @@ FURTHEST = BOX_WIDTH / 2 - 12
 PLACES = {
     "sam_play": (670, 0, "the program"),
     "sam_session": (722, 1, "scripts on threads, modes"),
+    "sam_served": (890, 1, "a crash is a break"),
     "sam_spawn": (264, 2, "begins and joins five"),
     "sam_settle": (524, 2, "five ends, one run"),
     "sam_modes": (684, 2, "words, inputs, faults"),
@@ -84,13 +85,15 @@ PLACES = {
     "sam_rest": (618, 5, "no session is stuck"),
     "sam_script": (914, 5, "scripts, read and shown"),
     "sam_world": (518, 6, "both sides as one state"),
-    "sam_queue": (178, 5, "lines between threads"),
+    "sam_queue": (152, 5, "lines between threads"),
     "sam_local": (480, 7, "as if no network"),
     "sam_crossing": (444, 8, "crossing messages agree"),
+    "sam_line": (86, 6, "when to connect again"),
     "sam_link": (86, 7, "over lines that break"),
     "sam_journal": (1010, 4, "records after a crash"),
     "sam_sides": (354, 9, "what each side did"),
     "sam_endpoint": (720, 9, "a side with its bytes"),
+    "sam_overlay": (890, 8, "typed under locks"),
     "sam_frame": (120, 10, "streams of messages"),
     "sam_host": (280, 10, "the host"),
     "sam_term": (460, 10, "the terminal"),
@@ -101,8 +104,10 @@ PLACES = {
     "sam_runes": (370, 12, "texts as lists of runes"),
 }
 LEFT_OUT = {
-    *("sam_tests", "sam_tests_journal", "sam_tests_pending", "sam_tests_threads", "sam_test_support", "sam_examples"),
-    "sam_note",  # its two arrows would cross the whole picture
+    *("sam_tests", "sam_tests_journal", "sam_tests_line", "sam_tests_overlay", "sam_tests_pending"),
+    *("sam_tests_server", "sam_tests_threads"),
+    *("sam_test_support", "sam_examples"),
+    *("sam_note", "sam_server"),  # their arrows would cross the whole picture
 }
 
 
