@@ -104,9 +104,7 @@ PLACES = {
     "sam_runes": (370, 12, "texts as lists of runes"),
 }
 LEFT_OUT = {
-    *("sam_tests", "sam_tests_journal", "sam_tests_line", "sam_tests_overlay", "sam_tests_pending"),
-    *("sam_tests_server", "sam_tests_threads"),
-    *("sam_test_support", "sam_examples"),
+    *("sam_tests", "sam_tests_threads", "sam_test_support", "sam_examples"),
     *("sam_note", "sam_server"),  # their arrows would cross the whole picture
 }
 

@@ -1,14 +1,22 @@
-//! Tests of what neither a script nor a caller of the C library sees, without threads: the limits of runes, messages, frames and links, the
-//! sections of a rasp, and how a world rests and stops, and how its schedule is put together. `tests/library/rows` has all others.
+//! Tests, without threads, of what neither a script nor a caller of the C library sees. Each module has the crate, or the part of one, that
+//! it is named after. `tests/library/rows` has all others.
 #![tactic(auto)]
 
 #[cfg(test)]
-mod limits;
+mod journal;
 #[cfg(test)]
-mod resting;
+mod line;
+#[cfg(test)]
+mod link;
+#[cfg(test)]
+mod messages;
+#[cfg(test)]
+mod pending;
+#[cfg(test)]
+mod rest;
 #[cfg(test)]
 mod sections;
 #[cfg(test)]
-mod unseen;
+mod server;
 #[cfg(test)]
 mod world;
