@@ -54,11 +54,12 @@ but nothing that a link hands out.
 """
 from sulgrevad.carrier import MOST_NOTE
 from sulgrevad.edits import Edit, Edits, Pieces
+from sulgrevad.host import Host
 from sulgrevad.line import Line, LineDetails, Tick
 from sulgrevad.link import HELLO_BYTES, Hello, Link, What, read_hello, write_refusal
 from sulgrevad.note import Note, NoteCode, NoteKind, read_note, write_note
+from sulgrevad.results import Change, FileState, HostDid, NextFrame, Refusal, TerminalDid, TerminalState
 from sulgrevad.scripts import replay
-from sulgrevad.sides import Change, FileState, Host, HostDid, NextFrame, Refusal, Terminal, TerminalDid, TerminalState
 from sulgrevad.status import (
     AddRefused,
     CountFull,
@@ -83,6 +84,7 @@ from sulgrevad.status import (
     library_version,
     status_text,
 )
+from sulgrevad.terminal import Terminal
 
 __version__ = "0.1.0"
 

@@ -4,7 +4,7 @@ from typing import TYPE_CHECKING, Any, Callable, Optional, Tuple
 
 from sulgrevad._library import Text, bytes_of
 from sulgrevad.note import Note
-from sulgrevad.sides import Change
+from sulgrevad.results import Change
 from sulgrevad.status import NotText, Status
 
 if TYPE_CHECKING:

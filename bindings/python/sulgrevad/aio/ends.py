@@ -5,9 +5,10 @@ from collections import deque
 from typing import Any, Awaitable, Callable, Deque, Optional, Tuple, TypeVar, Union
 
 from sulgrevad.carrier import Carrier
+from sulgrevad.host import Host
 from sulgrevad.note import Note, read_note, write_note
-from sulgrevad.sides import Host, Terminal
 from sulgrevad.status import LinkFault, NoteFault, SamError, Status
+from sulgrevad.terminal import Terminal
 
 MILLISECONDS = 1000  # in a second
 MOST_PIECE = 65_536  # bytes that are read together

@@ -8,9 +8,9 @@ from typing import Callable, Dict, List, Mapping, Optional, Sequence, Set, Tuple
 
 from sulgrevad.aio.ends import MESSAGES_VERSION, End, within
 from sulgrevad.carrier import ID_BYTES
+from sulgrevad.host import Host
 from sulgrevad.link import HELLO_BYTES, Hello, Link, What, read_hello, write_refusal
 from sulgrevad.note import Note, NoteCode, NoteKind
-from sulgrevad.sides import Host
 from sulgrevad.status import LinkFault, MarkRefused, Missing, Status, Step
 
 GREETING = 30.0  # seconds that a hello may take

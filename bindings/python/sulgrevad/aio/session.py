@@ -11,8 +11,9 @@ from sulgrevad.aio.ends import End, RequestRefused, SessionLost, SessionOver, no
 from sulgrevad.carrier import ID_BYTES
 from sulgrevad.line import Line, LineDetails, Tick
 from sulgrevad.note import Note, NoteKind
-from sulgrevad.sides import Change, Terminal
+from sulgrevad.results import Change
 from sulgrevad.status import SamError, Status, Step, Unfinished, error_of
+from sulgrevad.terminal import Terminal
 
 VERSION = 2  # of the protocol
 MOST_RUNES = 1_000_000  # of a text
