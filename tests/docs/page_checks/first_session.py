@@ -7,7 +7,7 @@ import signal
 import subprocess
 import sys
 
-from checks import ROOT, SAMHOST, Skipped, expect, expect_equal, wait_until
+from checks import ROOT, SAMHOST, Skipped, expect_equal, wait_until
 
 sys.path.append(str(ROOT / "tests/terminal"))
 

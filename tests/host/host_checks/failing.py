@@ -40,7 +40,7 @@ def check_failed_then_written(folder):
         (folder / "c").mkdir()
         session.write()
         copy = folder / "c.sam-saved"
-        expect_line(session.told(), rf"not written: c: Is a directory; its text is in c.sam-saved")
+        expect_line(session.told(), r"not written: c: Is a directory; its text is in c.sam-saved")
         expect_equal(text_of(copy), "one\ntwo\n", "the copy")
         session.type("three\n")
         session.rename("c.txt")

@@ -10,7 +10,7 @@ from pathlib import Path
 
 import sulgrevad
 from checks import GIVEN_UP, SECONDS, Skipped, expect, times_longer, wait_until
-from link_model import HELLO_BYTES, MARK, Link, LinkFault, read_whole
+from link_model import HELLO_BYTES, MARK, Link, read_whole
 
 from .support import SAMHOST, expect_equal, said_in
 

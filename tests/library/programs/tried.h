@@ -162,7 +162,7 @@ static sam_status do_event(const void *what)
 }
 
 /* The user does this. */
-static void user(enum doing doing, uint16_t tag, uint32_t p, uint32_t q, const char *text)
+static inline void user(enum doing doing, uint16_t tag, uint32_t p, uint32_t q, const char *text)
 {
     struct event event = {doing, tag, p, q, text};
     want("an event", tried(TERM, do_event, &event, 1));
@@ -196,7 +196,7 @@ static void want_text(uint16_t tag, const char *text)
 }
 
 /* What the terminal has of a file, `_` for each gap. */
-static void want_rasp(uint16_t tag, const char *text)
+static inline void want_rasp(uint16_t tag, const char *text)
 {
     char bytes[256];
     uint32_t runes[sizeof bytes - 1], count = 0;

@@ -8,7 +8,7 @@ import time
 
 from .breaks import BrokenRun, host_of
 from .model import Model
-from .support import STATE, Failed, Session, expect, stat_of, wait_for_text, wait_until
+from .support import STATE, Failed, Session, expect, wait_for_text, wait_until
 
 # ---- One session, many breaks
 

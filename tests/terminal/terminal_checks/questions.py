@@ -4,12 +4,11 @@ import os
 import random
 import re
 import signal
-import time
 
 from .hostile import hostile
 from .messages import Note, NoteCode, NoteKind, aside, first_message, lost, not_saved, said, write_note
 from .pairs import Pair, opened
-from .support import READ_AFTER, SAMHOST, SAMHOST_WORD, Session, change_two, expect, host_that, made, wait_for_text, wait_until
+from .support import SAMHOST, SAMHOST_WORD, Session, change_two, expect, host_that, made, wait_for_text, wait_until
 
 
 def check_quit_by_selection(folder):

@@ -108,7 +108,7 @@ def check_rows_begin_with_their_lines(folder):
     for names in ((), ("Left", "x", "y")):
         pair.press(*(text(name) if name.islower() else key(name) for name in names))
         window = editor.focus
-        whole, (row, column) = pair.host.text(1), window.layout().position_of(window.caret)
+        whole, (_, column) = pair.host.text(1), window.layout().position_of(window.caret)
         start = whole.rfind("\n", 0, window.caret) + 1
         expect(column == (window.caret - start) % 80, f"the caret is drawn in column {column}, wanted {(window.caret - start) % 80}")
         expect((window.top - start) % 80 == 0 or window.top <= start, f"the window begins at {window.top}, the line at {start}")

@@ -235,7 +235,7 @@ def check_received_changes(folder):
     def pieces(texts):
         return Pieces("".join(texts), [sum(map(len, texts[:at])) for at in range(len(texts))], [*map(len, texts)])
 
-    numbers, (pair, editor, *_) = random.Random(2), opened("")
+    numbers, (_, editor, *_) = random.Random(2), opened("")
     expect(received([]) is None, "no edits are a change")
     for _ in range(500):
         each, edits, length = [], [], 40
