@@ -266,7 +266,7 @@
          (process (make-process
                    :name "child" :noquery t :filter (lambda (_ text) (setq told (concat told text)))
                    :command (list (expand-file-name invocation-name invocation-directory) "-Q" "--batch"
-                                  "-l" (symbol-file 'sulgrevad-line-make) "-l" (symbol-file 'sulgrevad-start)
+                                  "-L" (file-name-directory (symbol-file 'sulgrevad-start)) "-l" "sulgrevad"
                                   "--eval" (prin1-to-string `(progn (setq sulgrevad-stay-hours 0.02 sulgrevad-patience 30)
                                                                     (sulgrevad-start ',host ,file)
                                                                     ,@forms))))))

@@ -182,8 +182,8 @@
 (defun other-emacs (form)
   "What another Emacs prints that does FORM."
   (with-temp-buffer
-    (call-process (expand-file-name invocation-name invocation-directory) nil t nil "-Q" "--batch" "-l" (symbol-file 'sulgrevad-line-make)
-                  "-l" (symbol-file 'sulgrevad-start) "--eval" (prin1-to-string form))
+    (call-process (expand-file-name invocation-name invocation-directory) nil t nil "-Q" "--batch"
+                  "-L" (file-name-directory (symbol-file 'sulgrevad-start)) "-l" "sulgrevad" "--eval" (prin1-to-string form))
     (buffer-string)))
 
 (defun check-take ()
@@ -483,7 +483,7 @@ exec \"$@\"" "sh") (relayed))))
 (defun check-sources ()
   "The files compile without a warning, and their docstrings are as they should be."
   (let ((warnings nil))
-    (dolist (file (list (symbol-file 'sulgrevad-line-make) (symbol-file 'sulgrevad-start)))
+    (dolist (file (directory-files (file-name-directory (symbol-file 'sulgrevad-start)) t "\\`sulgrevad.*\\.el\\'"))
       (let ((byte-compile-dest-file-function (lambda (_) (path "compiled.elc")))
             (byte-compile-log-warning-function (lambda (text &rest _) (push text warnings))))
         (byte-compile-file file))
