@@ -3,19 +3,11 @@
  * at each side is what was put at the other, each byte and note once and in order. A call that finds no memory is made again, and has
  * changed nothing that the readers say. It prints what it met, the same whether memory is refused or not.
  */
-#include "sulgrevad.h"
+#include "carried.h"
 
-#include <stdio.h>
-#include <stdlib.h>
 #include <string.h>
 
-enum { SIDES = 2, MOST_PUT = 9000, LOG = 4000000, FLIGHT = 4000000, LINES = 2, ROOM = 5000, PLACES = 4, ROUNDS = 12 };
-
-/* What was put at a side, or what came of it: for each byte a 0 and the byte, for each note a 1, its length in two bytes, and its bytes. */
-struct log {
-    uint8_t bytes[LOG];
-    size_t len;
-};
+enum { SIDES = 2, MOST_PUT = 9000, FLIGHT = 4000000, LINES = 2, ROOM = 5000, PLACES = 4, ROUNDS = 12 };
 
 /* A connection: what each side wrote and the other didn't read yet; whether what it writes is lost, whether it has the other's hello, and
  * whether it has given the connection up. */
@@ -36,27 +28,6 @@ static struct log put[SIDES], came[SIDES];
 static struct line lines[LINES]; /* the newest is that of number `newest` */
 static unsigned newest, calls, breaks, refused;
 static size_t placed;
-static uint64_t seed;
-
-static void fail(const char *what, unsigned long why)
-{
-    printf("%s: %lu\n", what, why);
-    fflush(stdout);
-    _Exit(1);
-}
-
-static void want(const char *call, sam_status status)
-{
-    if (status != SAM_OK)
-        fail(call, status);
-}
-#define MUST(call) want(#call, call)
-
-static uint32_t pick(uint32_t below)
-{
-    seed = seed * 6364136223846793005U + 1442695040888963407U;
-    return (uint32_t)(seed >> 33) % below;
-}
 
 static struct state state_of(sam_link *link)
 {
@@ -84,30 +55,6 @@ static void want_same(struct state is, struct state should)
             want_same(state_of(link), before);                                                                                             \
     } while (0)
 
-static void log_byte(struct log *log, uint8_t byte)
-{
-    if (log->len == LOG)
-        fail("the log is full", LOG);
-    log->bytes[log->len++] = byte;
-}
-
-static void log_data(struct log *log, const uint8_t *bytes, size_t len)
-{
-    for (size_t i = 0; i < len; i++) {
-        log_byte(log, 0);
-        log_byte(log, bytes[i]);
-    }
-}
-
-static void log_note(struct log *log, const uint8_t *bytes, size_t len)
-{
-    log_byte(log, 1);
-    log_byte(log, (uint8_t)(len / 256));
-    log_byte(log, (uint8_t)(len % 256));
-    for (size_t i = 0; i < len; i++)
-        log_byte(log, bytes[i]);
-}
-
 static void puts_some(unsigned side)
 {
     static const size_t sizes[] = {0, 1, 3, 50, 4095, 4096, 4097, MOST_PUT};
@@ -123,7 +70,7 @@ static void puts_some(unsigned side)
         TRIED(status, &ends[side], sam_link_put(&ends[side], bytes, len));
         log_data(&put[side], bytes, len);
     }
-    want("put", status);
+    must(status, "put");
 }
 
 static void asks(unsigned side)
@@ -133,7 +80,7 @@ static void asks(unsigned side)
         TRIED(status, &ends[side], sam_link_ask(&ends[side]));
     else
         TRIED(status, &ends[side], sam_link_acknowledge(&ends[side]));
-    want("ask", status);
+    must(status, "ask");
 }
 
 /* The terminal makes another connection: the one before may still bring bytes. */
@@ -257,7 +204,7 @@ static void drains(unsigned side, size_t room)
         sam_status status = sam_link_next_note(&ends[side], bytes, ROOM, &count);
         if (status == SAM_NONE)
             return;
-        want("next_note", status);
+        must(status, "next_note");
         log_note(&came[!side], bytes, count);
     }
 }
@@ -305,7 +252,7 @@ static void ends_well(void)
             fail("not all has come, side", side);
     }
     for (unsigned side = 0; side < SIDES; side++)
-        want("free", sam_link_free(&ends[side]));
+        must(sam_link_free(&ends[side]), "free");
 }
 
 int main(int argc, char **argv)
@@ -318,7 +265,7 @@ int main(int argc, char **argv)
         sam_status status;
         while ((status = sam_link_new(&ends[side], side, id)) == SAM_NO_MEMORY)
             ;
-        want("new", status);
+        must(status, "new");
     }
     call();
     for (long left = strtol(argv[2], NULL, 10); left > 0; left--)

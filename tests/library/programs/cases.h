@@ -1,7 +1,7 @@
 /*
- * cases.h: what refusing_host.c and refusing_term.c share. In each of their cases memory may be refused at any request (tried.h). It makes its
- * own start, and calls; what the call does is worked out there, and not by the library. The program prints the case and `right`, whichever
- * request was refused. Without a name it prints those of all cases.
+ * cases.h: what refusing_host.c and refusing_term.c share. In each of their cases memory may be refused at any request (tried.h). It makes
+ * its own start, and calls; what the call does is worked out there, and not by the library. The program prints the case and `right`,
+ * whichever request was refused. Without a name it prints those of all cases.
  */
 #ifndef CASES_H
 #define CASES_H

@@ -253,7 +253,7 @@ static void at_once(sam_term *term)
     WANT(none.len + none.dot_start + none.dot_end + none.view_start + none.view_end, 0);
 }
 
-/* Edits of file 1, from "abc": each Hcut or Hgrowdata is received at once with those before it, as long as it is above them and in bounds. */
+/* Edits of file 1, from "abc": each Hcut or Hgrowdata is received at once with those before it, if it is above them and in bounds. */
 static void term_edits(void)
 {
     sam_term term = SAM_TERM_INIT;

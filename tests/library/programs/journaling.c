@@ -1,22 +1,10 @@
 /*
  * journaling: each call of a journal where it does its work, and each status that it can return. The bytes of the file were worked out
- * apart, with sums that were made bit by bit. No call asks for memory (counted.h). It ends with status 0, or 1 and the line that failed.
+ * apart, with sums that were made bit by bit. No call asks for memory (reading.h). It ends with status 0, or 1 and the line that failed.
  */
-#include "counted.h"
+#include "reading.h"
 
 #include "wanting.h"
-
-static unsigned long before;
-
-static sam_status status_of(const char *call, sam_status status)
-{
-    if (asked != before) {
-        printf("%s asks for memory\n", call);
-        exit(1);
-    }
-    return status;
-}
-#define READ(call) (before = asked, status_of(#call, call))
 
 #define RANDOM UINT64_C(0x0123456789abcdef)
 

@@ -1,37 +1,16 @@
 /*
  * lines: each call of a line where it does its work, and each status that it can return but for full counts and SAM_NO_MEMORY, which
  * outages.c meets. The bytes stand in docs/reference/LINK.md, the times in sulgrevad.h. Calls that are said to take no memory ask for none
- * (counted.h). It ends with status 0, or 1 and the line that failed.
+ * (reading.h). It ends with status 0, or 1 and the line that failed.
  */
-#include "counted.h"
+#include "reading.h"
 
+#include "link_bytes.h"
 #include "wanting.h"
 
-static unsigned long before;
-
-static sam_status status_of(const char *call, sam_status status)
-{
-    if (asked != before) {
-        printf("%s asks for memory\n", call);
-        exit(1);
-    }
-    return status;
-}
-#define READ(call) (before = asked, status_of(#call, call))
-
-#define MARK "\x89samlink\1"
-#define ID "a session's name"
-#define EIGHT(byte) "\0\0\0\0\0\0\0" byte
-#define HELLO(what, attempt, received) MARK what ID EIGHT(attempt) EIGHT(received)
 #define WORDS "\x89sam: a login\n" /* which begin as a hello does */
-#define DATA "\1"
-#define NOTE "\2"
-#define ACKNOWLEDGEMENT "\3"
-#define ASK "\4"
 
 enum { MOST_WORDS = 65536, MOST_ANSWERS = 65536, ANSWER = 11 };
-
-static const uint8_t *const id = (const uint8_t *)ID;
 
 static void no_handles(sam_line *line)
 {

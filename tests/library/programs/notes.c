@@ -1,22 +1,10 @@
 /*
  * notes: each kind of message of a session, written as the bytes that docs/reference/SESSION.md says and read from them, and each refusal
- * in its order. No call asks for memory (counted.h). It ends with status 0, or 1 and the line that failed.
+ * in its order. No call asks for memory (reading.h). It ends with status 0, or 1 and the line that failed.
  */
-#include "counted.h"
+#include "reading.h"
 
 #include "wanting.h"
-
-static unsigned long before;
-
-static sam_status status_of(const char *call, sam_status status)
-{
-    if (asked != before) {
-        printf("%s asks for memory\n", call);
-        exit(1);
-    }
-    return status;
-}
-#define READ(call) (before = asked, status_of(#call, call))
 
 /* What each field is, and its bytes. */
 #define REQUEST "\1\2\3\4"

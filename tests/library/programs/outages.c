@@ -4,19 +4,11 @@
  * the other, each byte and note once and in order. A call that finds no memory is made again, and has changed nothing that the readers
  * say. It prints what it met, the same whether memory is refused or not.
  */
-#include "sulgrevad.h"
+#include "carried.h"
 
-#include <stdio.h>
-#include <stdlib.h>
 #include <string.h>
 
-enum { LOG = 2000000, FLIGHT = 400000, MOST_PUT = 3000, ROUNDS = 200 };
-
-/* What was put at a side, or what came of it: for each byte a 0 and the byte, for each note a 1, its length in two bytes, and its bytes. */
-struct log {
-    uint8_t bytes[LOG];
-    size_t len;
-};
+enum { FLIGHT = 400000, MOST_PUT = 3000, ROUNDS = 200 };
 
 static sam_line line;
 static sam_link host;
@@ -24,22 +16,8 @@ static struct log put_up, put_down, came_up, came_down;
 static uint8_t up[FLIGHT], down[FLIGHT]; /* what the connection has on its way */
 static size_t up_len, down_len;
 static bool is_open, is_met, is_dead; /* the connection stands; the host has the line's hello; nothing arrives any more */
-static uint64_t attempt, now, seed;
+static uint64_t attempt, now;
 static unsigned connections, breaks, drops, asks;
-
-static void fail(const char *what, unsigned long why)
-{
-    printf("%s: %lu\n", what, why);
-    fflush(stdout);
-    _Exit(1);
-}
-
-static void want(const char *call, sam_status status)
-{
-    if (status != SAM_OK)
-        fail(call, status);
-}
-#define MUST(call) want(#call, call)
 
 /* Whether the line says the same of itself. Where a piece has the host's welcome, that may have been taken. */
 static bool is_as_before(const sam_line_details *was, sam_line_details is)
@@ -60,14 +38,8 @@ static bool is_as_before(const sam_line_details *was, sam_line_details is)
         while ((status = (call)) == SAM_NO_MEMORY)                                                                                         \
             if (!is_as_before(&was, details()))                                                                                            \
                 fail("no memory changes something: " #call, 1);                                                                            \
-        want(#call, status);                                                                                                               \
+        must(status, #call);                                                                                                               \
     } while (0)
-
-static uint32_t pick(uint32_t below)
-{
-    seed = seed * 6364136223846793005U + 1442695040888963407U;
-    return (uint32_t)(seed >> 33) % below;
-}
 
 static sam_line_details details(void)
 {
@@ -75,27 +47,6 @@ static sam_line_details details(void)
     memset(&told, 0, sizeof told); /* what fills it up, too */
     MUST(sam_line_describe(&line, now, &told));
     return told;
-}
-
-static void log_bytes(struct log *log, const uint8_t *bytes, size_t len)
-{
-    if (log->len + 2 * len > LOG)
-        fail("the log is full", log->len);
-    for (size_t i = 0; i < len; i++) {
-        log->bytes[log->len++] = 0;
-        log->bytes[log->len++] = bytes[i];
-    }
-}
-
-static void log_note(struct log *log, const uint8_t *note, size_t len)
-{
-    if (log->len + len + 3 > LOG)
-        fail("the log is full", log->len);
-    log->bytes[log->len++] = 1;
-    log->bytes[log->len++] = (uint8_t)(len >> 8);
-    log->bytes[log->len++] = (uint8_t)len;
-    memcpy(log->bytes + log->len, note, len);
-    log->len += len;
 }
 
 /* The line and the host put what they like. */
@@ -112,7 +63,7 @@ static void put(void)
     else
         MEMORY(is_note ? sam_link_put_note(&host, bytes, len) : sam_link_put(&host, bytes, len));
     struct log *log = is_up ? &put_up : &put_down;
-    is_note ? log_note(log, bytes, len) : log_bytes(log, bytes, len);
+    is_note ? log_note(log, bytes, len) : log_data(log, bytes, len);
 }
 
 /* What came at a side goes to its program. */
@@ -123,11 +74,11 @@ static void take_in(void)
     for (bool is_more = true; is_more;) {
         is_more = false;
         while (MUST(sam_line_take_in(&line, bytes, 1 + pick(sizeof bytes), &len)), len > 0)
-            log_bytes(&came_down, bytes, len);
+            log_data(&came_down, bytes, len);
         while (sam_line_next_note(&line, bytes, sizeof bytes, &len) == SAM_OK)
             log_note(&came_down, bytes, len), is_more = true;
         while (MUST(sam_link_take_in(&host, bytes, 1 + pick(sizeof bytes), &len)), len > 0)
-            log_bytes(&came_up, bytes, len);
+            log_data(&came_up, bytes, len);
         while (sam_link_next_note(&host, bytes, sizeof bytes, &len) == SAM_OK)
             log_note(&came_up, bytes, len), is_more = true;
     }
@@ -271,10 +222,10 @@ int main(int argc, char **argv)
     seed = strtoull(argv[1], NULL, 10);
     while ((status = sam_line_new(&line, id, false, now)) == SAM_NO_MEMORY)
         ;
-    want("new", status);
+    must(status, "new");
     while ((status = sam_link_new(&host, SAM_LINK_HOST, id)) == SAM_NO_MEMORY)
         ;
-    want("new", status);
+    must(status, "new");
     for (long left = strtol(argv[2], NULL, 10); left > 0; left--)
         step();
     end_well();

@@ -3,7 +3,7 @@
  * _take_out, asks for memory (counted.h). Some sessions end in the midst, some stop at a wrong byte, the last is carried to its end. After
  * each, what was freed is given back. It prints what it counted.
  */
-#include "counted.h"
+#include "reading.h"
 
 #include "pair.h"
 
@@ -33,7 +33,6 @@ static const char *const mark_names[MARKS] = {"no file",         "not open",    
                                               "a refused event", "a written file", "a saved text",  "a pattern", "a snarfed text"};
 
 static bool is_met[MARKS];
-static unsigned long calls, before;
 
 static void note(enum mark mark, bool is)
 {
@@ -41,17 +40,6 @@ static void note(enum mark mark, bool is)
 }
 
 /* The status of a reader, once it has asked for no memory. */
-static sam_status status_of(const char *call, sam_status status)
-{
-    if (asked != before) {
-        printf("%s asks for memory\n", call);
-        exit(1);
-    }
-    calls++;
-    return status;
-}
-#define READ(call) (before = asked, status_of(#call, call))
-
 static void read_finish(sam_status status)
 {
     note(IN_HALF, status == SAM_TRUNCATED);
@@ -330,6 +318,6 @@ int main(void)
             return 1;
         }
     }
-    printf("%lu calls of readers, none asks for memory\n", calls);
+    printf("%lu calls of readers, none asks for memory\n", reader_calls);
     return 0;
 }

@@ -90,14 +90,20 @@ def check_breaks(folder):
         expect_equal(place.expect_same(neovim, "notes.txt"), "".join(f"{word} " for word in words) + "\n")
 
 
+def lost_and_edited(place):
+    """A Neovim whose line is lost, with an x that was typed since at the end of its line "one"."""
+    neovim = place.opened("notes.txt", "one\n")
+    place.host.dead.touch()
+    place.cut(neovim)
+    neovim.wait("require('sulgrevad').status():find('LINE LOST') ~= nil")
+    neovim.keys("Ax<Esc>")
+    return neovim
+
+
 def check_dead(folder):
     """While the line is dead all can be edited, the statusline has it, and :w is done when the line is back; so is :SulgrevadReconnect."""
     with Place(folder, 10) as place:
-        neovim = place.opened("notes.txt", "one\n")
-        place.host.dead.touch()
-        place.cut(neovim)
-        neovim.wait("require('sulgrevad').status():find('LINE LOST') ~= nil")
-        neovim.keys("Ax<Esc>")
+        neovim = lost_and_edited(place)
         neovim.command("write")
         neovim.keys("Gonext<Esc>ddp")
         expect_equal((neovim.text, neovim.lua("return vim.bo.modified")), ("onex\nnext\n", True))
@@ -154,11 +160,7 @@ def check_copies(folder):
 def check_left(folder):
     """Where Neovim ends while the line is dead, its text is kept here, and the session can be taken up with what the host has."""
     with Place(folder, 10) as place:
-        neovim = place.opened("notes.txt", "one\n")
-        place.host.dead.touch()
-        place.cut(neovim)
-        neovim.wait("require('sulgrevad').status():find('LINE LOST') ~= nil")
-        neovim.keys("Ax<Esc>")
+        neovim = lost_and_edited(place)
         neovim.ask("nvim_input", ":qa!<CR>")
         wait_until(lambda: neovim.process.poll() is not None, "Neovim does not end")
         expect_equal((neovim.folder / "notes.txt.sam-here").read_text(), "onex\n")

@@ -1,14 +1,12 @@
 """Random keys in a session, against the model: what the text, the caret and the screen are at the end."""
 import contextlib
-import os
 import random
 import re
-import signal
 import time
 import unicodedata
 
 from .model import Model, rows_of
-from .support import Failed, Session, expect, stat_of, wait_until
+from .support import Failed, Session, expect, wait_until
 
 SIZES = ((80, 24), (80, 40), (101, 18))  # the status line has room for what is looked for
 WORDS = ("a", "to", "line", "x1_2", "über", "日本", "e\u0301te\u0301", "3.5", "{", "=>")
@@ -156,17 +154,6 @@ class Run:
         for at in range(0, len(codes), 500):
             session.tmux("send-keys", "-H", *(f"{code:x}" for code in codes[at : at + 500]))
 
-    @contextlib.contextmanager
-    def stopped(self, session):
-        """samterm stands still, and finds all that came meanwhile at once."""
-        process = session.terminal()
-        os.kill(process, signal.SIGSTOP)
-        try:
-            wait_until(lambda: stat_of(process)[0] == "T", "samterm doesn't stop")
-            yield
-        finally:
-            os.kill(process, signal.SIGCONT)
-
     def arrive(self, session, keys):
         way = self.numbers.choice(("one by one", "at once", "at once", "stopped", "host stopped"))
         self.told.append(way)
@@ -175,7 +162,7 @@ class Run:
                 self.send(session, key)
             self.send(session, "".join(keys[10:]))
         else:
-            stop = {"at once": contextlib.nullcontext, "stopped": lambda: self.stopped(session), "host stopped": session.stopped_host}
+            stop = {"at once": contextlib.nullcontext, "stopped": session.stopped_terminal, "host stopped": session.stopped_host}
             with stop[way]():
                 self.send(session, "".join(keys))
 

@@ -1,12 +1,9 @@
 """Keys mean the same however they arrive, and go where they say over text that is not loaded."""
-import contextlib
-import os
 import random
-import signal
 
 from .model import Model
 from .pairs import opened
-from .support import COMMAND_WINDOW, Session, expect, made, stat_of, wait_until
+from .support import COMMAND_WINDOW, Session, expect, made, wait_until
 
 ENDS = ((2_700, (24, 80)), (10_000, (50, 80)), (20_000, (24, 80)))  # of long lines, and the screen
 SELECTING = ("left", "right", "up", "down", "home", "end", "word_left", "word_right")
@@ -164,29 +161,18 @@ def check_lines_at_once(folder):
     expect(ends[0] == ends[1] == ends[2], f"at once it is {ends[1]}, or {ends[2]}, one by one {ends[0]}")
 
 
-@contextlib.contextmanager
-def held_up(session):
-    process = session.terminal()
-    os.kill(process, signal.SIGSTOP)
-    try:
-        wait_until(lambda: stat_of(process)[0] == "T", "samterm doesn't stop")
-        yield
-    finally:
-        os.kill(process, signal.SIGCONT)
-
-
 def check_esc_while_held_up(folder):
     """An Esc and a command line that samterm finds at once, since it was held up, are that."""
     made(folder, a="one\ntwo\nthree\nfour\n")
     with Session(folder, "a.txt") as session:
         session.wait_for("four")
-        with held_up(session):
+        with session.stopped_terminal():
             session.keys("Escape")
             session.type("2,3d")
             session.keys("Enter", "Escape")
         wait_until(lambda: session.rows("a.txt")[:3] == ["one", "four", ""], lambda: f"the text is {session.rows('a.txt')}")
         session.wait_to_go_to("a.txt")
-        with held_up(session):
+        with session.stopped_terminal():
             session.keys("End", "Enter")
             session.type("\tone()")
             session.keys("Enter")

@@ -65,6 +65,18 @@ def expect_sleep(session):
     expect(cost < 0.05, f"two quiet seconds cost {cost:.2f} s of processor time")
 
 
+@contextlib.contextmanager
+def stopped(process, what):
+    """A process stands still meanwhile."""
+    os.kill(process, signal.SIGSTOP)
+    try:
+        wait_until(lambda: stat_of(process)[0] == "T", f"{what} doesn't stop")
+        yield process
+    finally:
+        with contextlib.suppress(ProcessLookupError):  # a check has killed it
+            os.kill(process, signal.SIGCONT)
+
+
 class Session:
     """A terminal in a tmux of its own."""
 
@@ -155,17 +167,9 @@ class Session:
         self.keys("Enter")
         self.switch()
 
-    @contextlib.contextmanager
     def stopped_host(self):
         """The host stands still meanwhile, as behind a line that is as slow as a check needs: it takes nothing, and answers nothing."""
-        host = self.processes()[SAMHOST.name]
-        os.kill(host, signal.SIGSTOP)
-        try:
-            wait_until(lambda: stat_of(host)[0] == "T", "the host doesn't stop")
-            yield host
-        finally:
-            with contextlib.suppress(ProcessLookupError):  # a check has killed it
-                os.kill(host, signal.SIGCONT)
+        return stopped(self.processes()[SAMHOST.name], "the host")
 
     def rename(self, name):
         """Names the file that was used last."""
@@ -273,16 +277,13 @@ class Session:
         """Waits until another process carries the bytes than this one."""
         wait_until(lambda: self.relay() not in (None, relay), "the line is not tried again")
 
-    @contextlib.contextmanager
     def stopped_line(self):
         """The line stands still meanwhile: nothing goes over it, and nobody says so."""
-        relay = wait_until(self.relay, "there is no line to stop")
-        os.kill(relay, signal.SIGSTOP)
-        try:
-            yield
-        finally:
-            with contextlib.suppress(ProcessLookupError):
-                os.kill(relay, signal.SIGCONT)
+        return stopped(wait_until(self.relay, "there is no line to stop"), "the line")
+
+    def stopped_terminal(self):
+        """samterm stands still meanwhile, and then finds all that came at once."""
+        return stopped(self.terminal(), "samterm")
 
     def terminal(self):
         """The process of samterm."""
