@@ -18,7 +18,7 @@ from .model import Model
 from .pairs import LONG as MANY_LINES
 from .pairs import Line, in_a_small_window, loads_of, opened
 from .slow_line import QUIET_LOOP, least_loop
-from .stopped import MOST_FOR_A_KEY
+from .stalled_line import MOST_FOR_A_KEY
 from .support import COMMAND_WINDOW, READ_AFTER, SAMHOST, SAMHOST_WORD, STATE, Session, expect, host_that, made, wait_for_text, wait_until
 
 MOST_LOADED = 30_000  # runes at once
@@ -275,7 +275,7 @@ def check_address_gone(folder):
         raise Skipped("unshare or ip is missing, or may not be used here") from why
     (folder / "a.txt").write_text("text\n")
     own = {**os.environ, "TMPDIR": str(folder), "XDG_STATE_HOME": str(folder / STATE)}
-    words = [*apart, sys.executable, str(Path(__file__).with_name("elsewhere.py")), SAMHOST]
+    words = [*apart, sys.executable, str(Path(__file__).with_name("network_change.py")), SAMHOST]
     ran = subprocess.run(words, cwd=folder, env=own, capture_output=True, text=True, timeout=60)
     seconds = float(ran.stdout.split()[-1]) if ran.returncode == 0 else ran.stderr
     expect(isinstance(seconds, float) and 2 <= seconds < 9, f"another line is there after {seconds} seconds")

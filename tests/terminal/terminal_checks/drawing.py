@@ -4,7 +4,7 @@ import time
 from types import SimpleNamespace
 
 from .pairs import opened
-from .stopped import OnTerminal
+from .stalled_line import OnTerminal
 from .support import Session, expect, expect_sleep, made, wait_for_text, wait_until
 
 

@@ -20,7 +20,7 @@ from .colours import expect_pygments
 from .messages import Note, NoteKind, aside, first_message, not_saved, said, wrong_messages, write_note
 from .pairs import Pair, opened
 from .slow_line import QUIET_LOOP, least_loop
-from .stopped import OnTerminal, cost_of
+from .stalled_line import OnTerminal, cost_of
 from .support import SAMHOST_WORD, STATE, Session, expect, host_that, made, wait_until
 
 HOST = Path(__file__).with_name("hostile_host.py")

@@ -1,7 +1,7 @@
 """How soon keys show in a file that has just been opened, while the rest of it is loaded."""
 import time
 
-from .stopped import RUNES, OnTerminal, share_of
+from .stalled_line import RUNES, OnTerminal, share_of
 
 LINES = 12_000
 LINE = "{:05} the quick brown fox jumps over the lazy dog and runs away from it\n"

@@ -6,7 +6,7 @@ import time
 from types import SimpleNamespace
 
 from .pairs import Pair, is_loaded_beside, loads_of, opened
-from .redrawn import Paper, screen_on
+from .redraw import Paper, screen_on
 from .support import Session, expect, made, stat_of
 
 

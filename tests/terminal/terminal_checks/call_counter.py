@@ -1,5 +1,5 @@
 #!/usr/bin/env python3
-"""samterm that counts its calls of the library: counting.py COUNT [WORD ..]. Their number stands in the file COUNT, as eight bytes."""
+"""samterm that counts its calls of the library: call_counter.py COUNT [WORD ..]. Their number stands in the file COUNT, as eight bytes."""
 import mmap
 import runpy
 import struct

@@ -1,4 +1,4 @@
-"""elsewhere.py SAMHOST: begins a session over a line, stops the line, and takes an address from this machine: prints after how many seconds
+"""network_change.py SAMHOST: begins a session over a line, stops the line, and takes an address from this machine: prints after how many seconds
 another line is there. It is run where it has a network of its own (`unshare -n`).
 """
 import os

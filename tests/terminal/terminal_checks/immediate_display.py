@@ -10,7 +10,7 @@ from checks import Skipped, expect_equal, times_longer
 
 from .key_times import LINE, LINES, PACE, ROW, WORDS, after_the_start, of_words, until_all_is_loaded
 from .pairs import LONG, Line, Pair, loads_of, opened
-from .stopped import RUNES, OnTerminal, share_of
+from .stalled_line import RUNES, OnTerminal, share_of
 from .support import expect
 
 TEXTS = (
@@ -257,7 +257,7 @@ def check_loaded_over_a_line(folder):
     expect(took < 3 * times_longer(), f"it takes {took:.1f} s")
 
 
-COUNTING = Path(__file__).with_name("counting.py")
+COUNTING = Path(__file__).with_name("call_counter.py")
 KEYS_COUNTED = 20
 MOST_SYSTEM_CALLS, MOST_LIBRARY_CALLS = 12, 15  # for a key
 
