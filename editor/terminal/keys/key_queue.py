@@ -5,9 +5,9 @@ from collections import deque
 from itertools import chain, islice, takewhile
 from typing import Callable, Deque, Dict, NamedTuple, Optional, Set
 
-from .ahead import text_ahead
 from .bindings import ALL, ANSWERS, FILE, LINE, NOTHING, PATTERN, PLACE, ROWS, SCREEN, WINDOW, WINDOWS
 from .bindings import PROMPT, Binding, Input, Key, KeySet, Mouse, Paste, Text
+from .local_echo import text_ahead
 from ..view.layout import line_end, line_start
 from ..view.status_line import REPEAT
 from sulgrevad import SamError
