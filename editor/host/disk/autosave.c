@@ -308,7 +308,7 @@ void save_closing(struct session *session, uint16_t tag)
 {
     if (is_done_already(session, DOING_CLOSE, tag))
         return;
-    note_closing(session, tag);
+    report_closing(session, tag);
     char *name = name_of(session, tag);
     const char *known = name == NULL ? "a file" : name;
     int error = save_for_good(session, tag, known);
@@ -319,7 +319,7 @@ void save_closing(struct session *session, uint16_t tag)
         hold_closed(session, tag, known);
     }
     free(name);
-    note_done(session, DOING_CLOSE, tag, NULL, error != 0);
+    record_done(session, DOING_CLOSE, tag, NULL, error != 0);
 }
 
 void free_document(struct document *document)

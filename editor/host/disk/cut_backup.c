@@ -69,7 +69,7 @@ static const struct text *take_snarf(struct session *session)
     return text;
 }
 
-void note_paste(struct session *session, uint16_t tag)
+void track_paste(struct session *session, uint16_t tag)
 {
     struct cut *cut = &session->cut;
     uint32_t len = 0;
@@ -84,7 +84,7 @@ void note_paste(struct session *session, uint16_t tag)
     cut->is_moved = true;
 }
 
-void note_snarf(struct session *session, uint8_t kind, uint16_t tag)
+void track_snarf(struct session *session, uint8_t kind, uint16_t tag)
 {
     struct cut *cut = &session->cut;
 

@@ -27,13 +27,12 @@ struct cut {
 bool make_cut(struct cut *cut);
 void free_cut(struct cut *cut);
 
-/* Before the host pastes into this file: if it is the one for undo, and has room, the snarf buffer's text goes to its end. The first is
- * what
+/* Before the host pastes into this file: if it is that for undo, and has room, the snarf buffer's text goes to its end. The first is what
  * the user has cut or copied, and another comes into the snarf buffer then. Cutting that text out again follows its way back. */
-void note_paste(struct session *session, uint16_t tag);
+void track_paste(struct session *session, uint16_t tag);
 
 /* After the host took a message of this kind, which names this file: notes what the snarf buffer has, and where what the user cut is. */
-void note_snarf(struct session *session, uint8_t kind, uint16_t tag);
+void track_snarf(struct session *session, uint8_t kind, uint16_t tag);
 
 /* Saves what was cut last, unless it stands in a file. Says once that it can't be saved. Returns whether it is. */
 bool keep_cut(struct session *session);

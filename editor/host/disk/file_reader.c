@@ -85,7 +85,7 @@ int add_text(struct session *session, const char *path, const struct text *text,
     if (error == 0)
         document.shown = shown_name(document.path);
     if (error == 0)
-        error = document.shown == NULL ? ENOMEM : note_known(&document, end, content);
+        error = document.shown == NULL ? ENOMEM : remember_content(&document, end, content);
     if (error == 0) /* from here on nothing takes memory */
         error = error_of_status(
             sam_host_add_file(&session->host, (const uint8_t *)document.shown, strlen(document.shown), text->bytes, text->len, tag));

@@ -118,7 +118,7 @@ void watch_files(struct session *session)
         session->watched_at = now();
 }
 
-void note_opened(struct session *session, uint16_t tag)
+void begin_watching(struct session *session, uint16_t tag)
 {
     session->documents[tag].is_open = session->has_open = true;
 }
@@ -140,7 +140,7 @@ static int add_anew(struct session *session, uint16_t tag, const char *end, cons
     char *name = formatted(NAME_READ_ANEW "%u", (unsigned)tag);
     uint32_t code = SAM_NO_MEMORY;
 
-    if (name != NULL && note_known(&document, end, content_of(text)) == 0)
+    if (name != NULL && remember_content(&document, end, content_of(text)) == 0)
         code = sam_host_add_file(&session->host, (const uint8_t *)name, strlen(name), text->bytes, text->len, anew);
     if (code == SAM_OK)
         session->documents[*anew] = document;
@@ -179,11 +179,11 @@ bool reload_file(struct session *session, uint32_t request, uint16_t tag)
         return false;
     if (error != 0)
         return refuse(session, request, error);
-    note_file(session, anew);
+    record_file(session, anew);
     return put_message(session, &(struct event){.kind = SAM_NOTE_ANEW, .request = request, .number = anew}, NULL);
 }
 
-bool note_reloaded(struct session *session, uint16_t tag, uint64_t anew)
+bool accept_reload(struct session *session, uint16_t tag, uint64_t anew)
 {
     const struct known *known = is_tag(session, tag) && is_tag(session, anew) ? session->documents[anew].known : NULL;
 
@@ -192,9 +192,9 @@ bool note_reloaded(struct session *session, uint16_t tag, uint64_t anew)
     int error = take_text(session, tag);
     if (error != 0 || !is_same(content_of(&session->text), known->content)) /* something else stands there: its next write asks */
         return error != ENOMEM;
-    if (note_known(&session->documents[tag], known->path, known->content) != 0)
+    if (remember_content(&session->documents[tag], known->path, known->content) != 0)
         return false;
     session->documents[tag].is_reloaded = true;
-    note_document(session, tag);
+    record_document(session, tag);
     return true;
 }

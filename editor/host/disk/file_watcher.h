@@ -23,8 +23,8 @@ struct watch {
     int gone; /* at how many looks the file was gone since it was there last: the second is told */
 };
 
-/* Notes that the terminal has opened a file: it is watched from then on. */
-void note_opened(struct session *session, uint16_t tag);
+/* The terminal has opened a file: it is watched from now on. */
+void begin_watching(struct session *session, uint16_t tag);
 
 /* In how many milliseconds files are to be looked at; -1 where none is watched, or nobody is there to be told. */
 int64_t watch_is_due_in(const struct session *session);
@@ -36,6 +36,6 @@ void watch_files(struct session *session);
 bool reload_file(struct session *session, uint32_t request, uint16_t tag);
 
 /* The terminal has put such a file, `anew`, in the place of the text of `tag`. Returns whether there was memory for it. */
-bool note_reloaded(struct session *session, uint16_t tag, uint64_t anew);
+bool accept_reload(struct session *session, uint16_t tag, uint64_t anew);
 
 #endif

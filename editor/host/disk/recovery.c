@@ -132,7 +132,7 @@ static void offer(struct search *search, size_t tag, const struct left *left)
         sam_host_add_file(&session->host, (const uint8_t *)name, strlen(name), text->bytes, text->len, &own) == SAM_OK) {
         search->offered++;
         session->documents[own] = (struct document){.path = path, .shown = name, .purpose = LEFT_OVER};
-        (void)note_known(&session->documents[own], path, content_of(text)); /* where memory is out it can't be dropped */
+        (void)remember_content(&session->documents[own], path, content_of(text)); /* where memory is out it can't be dropped */
         path = name = NULL;
     }
     free(path);
@@ -140,7 +140,7 @@ static void offer(struct search *search, size_t tag, const struct left *left)
 }
 
 /* Notes that a copy is another user's, and whose. */
-static void note_foreign(struct search *search, const char *path, uid_t owner)
+static void add_foreign(struct search *search, const char *path, uid_t owner)
 {
     const struct passwd *user = search->foreign++ == 0 ? getpwuid(owner) : NULL;
 
@@ -170,7 +170,7 @@ static bool look_at(struct search *search, const char *place, const char *entry,
     if (is_users(&left->status, of))
         left->is_read = read_unlinked(left->path, &left->text, &left->status) == 0;
     if (!is_users(&left->status, of)) { /* as it is, or as it was opened */
-        note_foreign(search, left->path, left->status.st_uid);
+        add_foreign(search, left->path, left->status.st_uid);
         return false;
     }
     const struct timespec *saved = &left->status.st_mtim, *written = &file.st_mtim;

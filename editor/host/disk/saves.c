@@ -62,7 +62,7 @@ struct known *find_known(const struct document *document, const char *path)
     return known;
 }
 
-int note_known(struct document *document, const char *path, struct content content)
+int remember_content(struct document *document, const char *path, struct content content)
 {
     struct known *known = find_known(document, path);
 
@@ -82,9 +82,9 @@ int note_known(struct document *document, const char *path, struct content conte
 }
 
 /* Notes what another program has put into a file. */
-static void note_theirs(struct document *document, const char *path, struct content content)
+static void remember_theirs(struct document *document, const char *path, struct content content)
 {
-    if (note_known(document, path, content) == 0)
+    if (remember_content(document, path, content) == 0)
         find_known(document, path)->is_theirs = true;
 }
 
@@ -104,14 +104,14 @@ static struct content expected_at(const struct document *document, const struct 
 
 /* After an attempt to write: notes what the file has, and lets go of the copy of a text that is written. Where memory is
  * out, a file is not noted, and is taken for another program's at the next write. */
-static void note_put(struct document *document, const struct request *request, int error, bool is_copy)
+static void remember_put(struct document *document, const struct request *request, int error, bool is_copy)
 {
     if (error == 0)
-        (void)note_known(document, request->path, content_of(request->text));
+        (void)remember_content(document, request->path, content_of(request->text));
     else if (error == IS_CHANGED && is_same(request->found, request->known)) /* another file with the same text */
-        (void)note_known(document, request->path, request->found);
+        (void)remember_content(document, request->path, request->found);
     else if (error == IS_CHANGED)
-        note_theirs(document, request->path, request->found);
+        remember_theirs(document, request->path, request->found);
     if (error == 0 && is_copy) /* the copy is the file by now */
         forget_copy(&document->aside);
     else if (error == 0)
@@ -152,7 +152,7 @@ static struct attempt put_text(struct session *session, uint16_t tag, const char
         error = take_text(session, tag);
     if (error == 0) {
         error = put_file(&request);
-        note_put(document, &request, error, owner == document);
+        remember_put(document, &request, error, owner == document);
     }
     tell_broken(tag, path, request.old);
     free(request.old);
@@ -283,7 +283,7 @@ static void write_file(struct session *session, uint16_t tag)
         return;
     }
     struct message *answer = write_text(session, tag);
-    note_done(session, DOING_WRITE, tag, answer, false);
+    record_done(session, DOING_WRITE, tag, answer, false);
     put_answer(session, answer);
 }
 

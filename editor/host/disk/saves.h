@@ -16,8 +16,8 @@ void write_files(struct session *session);
 /* Saves the texts aside that an earlier terminal has not written, and reports them. */
 void report_taken(struct session *session);
 
-/* Notes what a document has read from a path or written to it. */
-int note_known(struct document *document, const char *path, struct content content);
+/* Remembers what a document has read from a path or written to it. */
+int remember_content(struct document *document, const char *path, struct content content);
 
 /* A path that is seen from the folder in which the session began, in memory of its own; where that folder is gone, a whole path that leads
  * nowhere. NULL where memory is out. */

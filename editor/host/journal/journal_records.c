@@ -145,32 +145,32 @@ static bool is_noted(const struct copy *copy, const struct copy_mark *mark)
                                     copy->written.tv_sec == mark->written.tv_sec && copy->written.tv_nsec == mark->written.tv_nsec;
 }
 
-static void note_mark(const struct copy *copy, struct copy_mark *mark)
+static void set_mark(const struct copy *copy, struct copy_mark *mark)
 {
     *mark = copy->path == NULL ? (struct copy_mark){0} : (struct copy_mark){copy->device, copy->inode, copy->written};
 }
 
-void note_document(struct session *session, uint16_t tag)
+void record_document(struct session *session, uint16_t tag)
 {
     struct body body = {0};
 
-    note_mark(&session->documents[tag].aside, &session->documents[tag].noted);
+    set_mark(&session->documents[tag].aside, &session->documents[tag].noted);
     add_document(&body, tag, &session->documents[tag]);
     add_body(session, STEP_KEPT, &body);
 }
 
-void note_copies(struct session *session)
+void record_copies(struct session *session)
 {
     struct cut *cut = &session->cut;
     size_t tags = count_tags(session);
 
     for (size_t tag = 1; tag < tags; tag++) {
         if (!is_noted(&session->documents[tag].aside, &session->documents[tag].noted))
-            note_document(session, (uint16_t)tag);
+            record_document(session, (uint16_t)tag);
     }
     if (!is_noted(&cut->aside, &cut->noted)) {
         struct body body = {0};
-        note_mark(&cut->aside, &cut->noted);
+        set_mark(&cut->aside, &cut->noted);
         add_copy(&body, &cut->aside);
         add_body(session, STEP_KEPT_CUT, &body);
     }
@@ -179,10 +179,10 @@ void note_copies(struct session *session)
 void take_cut_copy(struct session *session, struct record *record)
 {
     take_copy(record, &session->cut.aside);
-    note_mark(&session->cut.aside, &session->cut.noted);
+    set_mark(&session->cut.aside, &session->cut.noted);
 }
 
-void note_done(struct session *session, enum doing doing, uint16_t tag, const struct message *answer, bool is_held)
+void record_done(struct session *session, enum doing doing, uint16_t tag, const struct message *answer, bool is_held)
 {
     struct body body = {0};
 
@@ -190,9 +190,9 @@ void note_done(struct session *session, enum doing doing, uint16_t tag, const st
     add_number(&body, is_held);
     add_data(&body, answer == NULL ? NULL : answer->bytes, answer == NULL ? 0 : answer->len);
     add_document(&body, tag, &session->documents[tag]);
-    note_mark(&session->documents[tag].aside, &session->documents[tag].noted);
+    set_mark(&session->documents[tag].aside, &session->documents[tag].noted);
     add_body(session, STEP_DONE, &body);
-    note_copies(session);
+    record_copies(session);
 }
 
 /* Takes the whole text of a file for a body, behind its length in bytes. */
@@ -204,7 +204,7 @@ static void add_text_of(struct session *session, uint16_t tag, struct body *body
         body->is_short = true;
 }
 
-void note_file(struct session *session, uint16_t tag)
+void record_file(struct session *session, uint16_t tag)
 {
     struct body body = {0};
     char name[NAME_ROOM];
@@ -224,7 +224,7 @@ uint64_t form_and_version(uint32_t form, uint32_t version)
     return (uint64_t)form << 32 | version;
 }
 
-void note_start(struct session *session)
+void record_start(struct session *session)
 {
     struct stay *stay = session->stay;
     size_t tags = count_tags(session);
@@ -240,7 +240,7 @@ void note_start(struct session *session)
     free(folder);
     add_body(session, STEP_START, &body);
     for (size_t tag = 1; tag < tags; tag++)
-        note_file(session, (uint16_t)tag);
+        record_file(session, (uint16_t)tag);
     add_record(session, STEP_BEGUN, NULL, 0);
     sync_journal(session);
 }

@@ -17,20 +17,20 @@ struct session;
 /* What the first record says that the others are of: the form, and the library's version. */
 uint64_t form_and_version(uint32_t form, uint32_t version);
 
-/* Notes how a session began, and its files. */
-void note_start(struct session *session);
+/* Records how a session began, and its files. */
+void record_start(struct session *session);
 
-/* Notes a file that the host was given. */
-void note_file(struct session *session, uint16_t tag);
+/* Records a file that the host was given. */
+void record_file(struct session *session, uint16_t tag);
 
-/* Notes what is known of a file. */
-void note_document(struct session *session, uint16_t tag);
+/* Records what is known of a file. */
+void record_document(struct session *session, uint16_t tag);
 
-/* Notes what was done to a file, and how that is answered (NULL: not at all); or that a text which could not be saved is held in memory. */
-void note_done(struct session *session, enum doing doing, uint16_t tag, const struct message *answer, bool is_held);
+/* Records what was done to a file, and how that is answered (NULL: not at all); or that a text that can't be saved is held in memory. */
+void record_done(struct session *session, enum doing doing, uint16_t tag, const struct message *answer, bool is_held);
 
-/* Notes the copies of texts that are new. */
-void note_copies(struct session *session);
+/* Records the copies of texts that are new. */
+void record_copies(struct session *session);
 
 /* Takes what a record says of a document, and of the copy of what was cut last. */
 void take_document(struct session *session, struct record *record);

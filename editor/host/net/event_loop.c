@@ -40,7 +40,7 @@ int64_t now(void)
 }
 
 /* Notes that a message has come, which may have changed a text. */
-static void note_input(struct due *due)
+static void delay_save(struct due *due)
 {
     due->last = now();
     if (!due->is_waiting)
@@ -114,7 +114,7 @@ static void prepare_step(struct session *session)
     if (kind == KIND_CLOSE)
         save_closing(session, tag);
     else if (kind == KIND_PASTE)
-        note_paste(session, tag);
+        track_paste(session, tag);
 }
 
 /* Does what messages ask that the host has taken. */
@@ -126,14 +126,14 @@ static void follow_step(struct session *session, const sam_did *did)
         return;
     session->wire.is_prepared = false;
     session->is_met |= did->kind != KIND_VERSION && did->kind != KIND_OPEN_COMMANDS; /* an edit has no kind */
-    note_snarf(session, is_edit ? KIND_CUT : did->kind, did->tag);
+    track_snarf(session, is_edit ? KIND_CUT : did->kind, did->tag);
     write_files(session);
     if (did->kind == KIND_VERSION && !is_edit)
-        note_names_told(session);
+        allow_marks(session);
     if (did->kind == KIND_CLOSE)
         forget_closed(session, did->tag);
     else if (did->kind == KIND_OPEN && !is_edit)
-        note_opened(session, did->tag);
+        begin_watching(session, did->tag);
 }
 
 /* Has the host take what it was brought, step by step, up to the last message that is whole or to where memory is out. Returns SAM_OK, or
@@ -179,7 +179,7 @@ enum ending take_input(struct session *session)
     if (wire->is_short && !was_short)
         say("out of memory; it is tried again");
     if (had_more)
-        note_input(&session->due);
+        delay_save(&session->due);
     send_pending(session);
     if (code != SAM_OK && !wire->is_short) {
         say("the terminal's stream is wrong (status %u)", (unsigned)code);

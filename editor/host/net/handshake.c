@@ -353,7 +353,7 @@ static void answer_open(struct session *session, struct caller *caller, const ch
     }
 }
 
-void note_closing(struct session *session, uint16_t tag)
+void report_closing(struct session *session, uint16_t tag)
 {
     bool is_written = !is_changed(session, tag);
 

@@ -57,7 +57,7 @@ void hear_caller(struct session *session, struct caller *caller);
 int hear_streams(struct session *session, const sigset_t *mask);
 
 /* Before a file is closed: says to those who wait for it whether it was written. */
-void note_closing(struct session *session, uint16_t tag);
+void report_closing(struct session *session, uint16_t tag);
 
 /* Ends connections that have said too little for too long. Returns in how many milliseconds the next one is due; -1 where there is none. */
 int64_t drop_callers(struct stay *stay);

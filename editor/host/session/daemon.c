@@ -115,7 +115,7 @@ static int serve_alone(struct session *session, int begun)
     int status = STATUS_BROKEN;
 
     go_alone();
-    note_owner(&stay->home);
+    write_owner(&stay->home);
     if (listen_at(stay->listener) == 0 && write(begun, "", 1) == 1) {
         close(begun);
         status = stay_and_serve(session);
@@ -192,11 +192,11 @@ static int begin_in(struct home *home, char **paths, int count, const struct opt
     if (status == STATUS_OK) {
         int error = make_journal(session->stay, JOURNAL);
         if (error == 0) {
-            note_start(session);
+            record_start(session);
             sync_home(&session->stay->home);
         } else /* one that is not whole is none */
             tell_no_journal(error);
-        note_about(session);
+        write_about(session);
         report_others(session);
         return part(session);
     }
@@ -402,7 +402,7 @@ static int refuse_name(const char *name)
 
 /* ---- Sessions that nobody came back to ---- */
 
-static int note_left(struct home *home, void *at)
+static int find_left(struct home *home, void *at)
 {
     bool *has_some = at;
 
@@ -426,7 +426,7 @@ static int end_left(struct home *home, void *at)
 static void end_those_left(void)
 {
     bool has_some = false;
-    pid_t process = each_home(note_left, &has_some) == 0 && has_some ? fork() : -1;
+    pid_t process = each_home(find_left, &has_some) == 0 && has_some ? fork() : -1;
 
     if (process > 0)
         (void)waitpid(process, NULL, 0);
@@ -487,7 +487,7 @@ static bool is_left_of_one(const struct home *home)
 }
 
 /* Notes the name of a session, if it is the first. */
-static int note_only(struct home *home, void *at)
+static int find_only(struct home *home, void *at)
 {
     char *name = at;
 
@@ -502,7 +502,7 @@ static int note_only(struct home *home, void *at)
 int take(const char *name)
 {
     char only[NAME_DIGITS + 1] = "", heir[NAME_DIGITS + 1];
-    int error = name != NULL ? 0 : each_home(note_only, only);
+    int error = name != NULL ? 0 : each_home(find_only, only);
 
     if (error == EEXIST) {
         say("there are several sessions, so one has to be named; --list lists them");

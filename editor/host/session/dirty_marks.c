@@ -18,7 +18,7 @@ void mark_dirty(struct session *session, uint16_t tag)
     session->has_unmarked = true;
 }
 
-void note_names_told(struct session *session)
+void allow_marks(struct session *session)
 {
     session->has_unmarked = true;
 }

@@ -59,7 +59,7 @@ static int add_joined(struct session *session, const char *path, uint16_t *tag)
         error = add_text(session, path, &text, tag);
     free(text.bytes);
     if (error == 0)
-        note_file(session, *tag);
+        record_file(session, *tag);
     return error;
 }
 
@@ -160,7 +160,7 @@ bool do_message(struct session *session, const uint8_t *bytes, size_t len)
     case SAM_NOTE_RELOAD:
         return reload_file(session, note.request, note.tag);
     case SAM_NOTE_RELOADED:
-        return note_reloaded(session, note.tag, note.number);
+        return accept_reload(session, note.tag, note.number);
     case SAM_NOTE_WRITE:
         return expect_write(&session->stay->messages, note.tag, note.request);
     default:

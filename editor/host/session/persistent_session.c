@@ -364,7 +364,7 @@ static enum ending serve_line(struct session *session, const sigset_t *mask)
         write_line(session);
         watch_files(session);
         if (save_due(session)) {
-            note_copies(session);
+            record_copies(session);
             sync_journal(session);
         }
     }
@@ -428,7 +428,7 @@ static bool keep_session(struct session *session)
     struct stay *stay = session->stay;
 
     (void)save_changed(session); /* what can't be saved is in the journal */
-    note_copies(session);
+    record_copies(session);
     sync_journal(session);
     stay->is_kept = stay->journal.file >= 0;
     if (stay->is_kept) {
@@ -469,12 +469,12 @@ int stay_and_serve(struct session *session)
         if (stay->heir != NULL)
             return STATUS_OK;
         for (size_t tag = 1, tags = count_tags(session); tag < tags; tag++)
-            note_closing(session, (uint16_t)tag);
+            report_closing(session, (uint16_t)tag);
         if (is_kept_at(stay, stay->ending) && keep_session(session))
             return STATUS_OK;
         status = end_for_good(session);
     }
-    note_copies(session);
+    record_copies(session);
     say_the_end(session, &mask, status, stay->ending != INPUT_ENDED);
     drop_line(stay);
     return status;

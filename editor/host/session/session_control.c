@@ -40,7 +40,7 @@ enum {
 
 /* ---- What is kept for the list ---- */
 
-void note_about(const struct session *session)
+void write_about(const struct session *session)
 {
     const struct home *home = &session->stay->home;
     char *folder = getcwd(NULL, 0), *line;

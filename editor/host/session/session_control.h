@@ -19,6 +19,6 @@ int open_in_session(const char *name, const char *path, const char *line, bool w
 void report_others(struct session *session);
 
 /* Writes into the folder of a session what the list says of it. */
-void note_about(const struct session *session);
+void write_about(const struct session *session);
 
 #endif

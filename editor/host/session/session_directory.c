@@ -219,7 +219,7 @@ int lock_home(struct home *home)
     return error;
 }
 
-void note_owner(const struct home *home)
+void write_owner(const struct home *home)
 {
     char words[32];
     int len = snprintf(words, sizeof words, "%ld\n", (long)getpid());
@@ -323,7 +323,7 @@ struct search {
     bool is_last;
 };
 
-void note_names(const struct home *home, const char before[NAME_DIGITS + 1], const char after[NAME_DIGITS + 1])
+void write_names(const struct home *home, const char before[NAME_DIGITS + 1], const char after[NAME_DIGITS + 1])
 {
     char lines[2 * NAME_DIGITS + 3];
     int file, len = snprintf(lines, sizeof lines, "%s\n%s\n", before, after);

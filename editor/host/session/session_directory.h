@@ -57,8 +57,8 @@ char *find_wrong_journal(const struct home *home);
 /* Takes the lock, which is kept until the file of it is closed. EWOULDBLOCK where a living samhost has it. */
 int lock_home(struct home *home);
 
-/* Notes in the lock which process has it. */
-void note_owner(const struct home *home);
+/* Writes into the lock which process has it. */
+void write_owner(const struct home *home);
 
 /* Makes the socket, which nobody but the user may connect to. Connections come once it listens; who has it listen is who is found at its
  * other end. */
@@ -74,8 +74,8 @@ bool is_ours(int socket, pid_t *process);
 /* Visits the folder of each session, until a visit returns an error number. */
 int each_home(int (*visit)(struct home *home, void *at), void *at);
 
-/* Before a terminal takes the session over: notes the name that it has, and the one that it is to have; that goes with the folder. */
-void note_names(const struct home *home, const char before[NAME_DIGITS + 1], const char after[NAME_DIGITS + 1]);
+/* Before a terminal takes the session over: writes the name that it has, and the one that it is to have; that goes with the folder. */
+void write_names(const struct home *home, const char before[NAME_DIGITS + 1], const char after[NAME_DIGITS + 1]);
 
 /* Finds the session that had a name before another terminal took it over, and hands out how its folder is named. Returns whether there is
  * one. */

@@ -128,7 +128,7 @@ static void put_journal(struct session *session, struct session *heir, const str
     session->stay->journal.file = -1;
     int error = make_journal(heir->stay, NEW_JOURNAL);
     if (error == 0) {
-        note_start(heir);
+        record_start(heir);
         add_record(heir, STEP_HELLO, caller->bytes, caller->len);
         sync_journal(heir);
         is_told = journal->file < 0; /* it was lost meanwhile */
@@ -153,14 +153,14 @@ static void name_anew(struct session *session, struct session *heir, const struc
     char name[NAME_DIGITS + 1];
 
     name_of_id(heir->stay->id, name);
-    note_names(home, home->name, name);
+    write_names(home, home->name, name);
     sync_home(home);
     put_journal(session, heir, caller);
     int error = rename_home(home, name);
     if (error != 0)
         say("the folder of session %s can't be named anew: %s; it is found all the same", home->name, cause(error));
     sync_home(home);
-    note_about(heir);
+    write_about(heir);
 }
 
 /* ---- All of it ---- */
@@ -206,6 +206,6 @@ uint32_t take_over(struct session *session, struct caller *caller, const uint8_t
     name_anew(session, heir, caller);
     (void)save_cut(session, false);
     report_taken(heir);
-    note_copies(heir);
+    record_copies(heir);
     return SAM_OK;
 }

@@ -20,7 +20,7 @@ from .support import SAMHOST, expect_equal, made, names_in, text_of
 
 HEAD = 24  # bytes of a journal before its first record
 FRONT, BACK = 24, 4  # bytes of a record before its body, and behind it
-FORM_AND_SUM = (2, "4968d69b17d91ee7")  # of the records, and of the code that makes and reads them
+FORM_AND_SUM = (2, "aadcf3e582a1caef")  # of the records, and of the code that makes and reads them
 HELLO, UP, DOWN, DONE = 4, 5, 6, 9  # kinds of records: a connection, bytes that came, bytes that the host said, a file that was written
 
 
@@ -268,7 +268,7 @@ def check_form_of_records(folder):
     """The code that decides what records say is that of the form whose number they have. Where it changes so that another samhost would read
     them otherwise, RECORDS_FORM grows; and FORM_AND_SUM in each case."""
     code = (ROOT / "editor/host/journal/journal_records.c").read_text()
-    functions = re.findall(r"^(?:static )?[^\n;{}]*\b(?:add|take|note)_\w+\([^;{}]*\)\n\{.*?^\}", code, re.MULTILINE | re.DOTALL)
+    functions = re.findall(r"^(?:static )?[^\n;{}]*\b(?:add|take|record|set)_\w+\([^;{}]*\)\n\{.*?^\}", code, re.MULTILINE | re.DOTALL)
     expect(len(functions) > 10, f"there are {len(functions)} functions")
     form = int(re.search(r"#define RECORDS_FORM (\d+)", (ROOT / "editor/host/journal/journal_records.h").read_text())[1])
     expect_equal((form, hashlib.sha256("\n".join(functions).encode()).hexdigest()[:16]), FORM_AND_SUM, "form and sum")
