@@ -33,7 +33,7 @@ come-typed : (b : ℕ) (d : Option ℕ) (s : List ℕ) → map come (map (typed_
 come-typed b d [] = refl
 come-typed b d (c ∷ s) = ap (λ z. held d (Some c) ∷ z) (come-typed b d s)
 
-members-typed : (b : ℕ) (d : Option ℕ) (s : List ℕ) → map Some s ≡ map (λ (c : Cell). c.member) (map (typed_by b d) s)
+pub members-typed : (b : ℕ) (d : Option ℕ) (s : List ℕ) → map Some s ≡ map (λ (c : Cell). c.member) (map (typed_by b d) s)
 members-typed b d [] = refl
 members-typed b d (c ∷ s) = ap (λ z. Some c ∷ z) (members-typed b d s)
 

@@ -8,4 +8,5 @@ pub mod SendLaws
 pub mod FillLaws
 pub mod SpotLaws
 pub mod DueLaws
+pub mod DropLaws
 pub mod LayerLaws

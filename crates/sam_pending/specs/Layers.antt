@@ -2,10 +2,11 @@
 use Rattle.std.specs.Prelude.{◌≡◌, ◌≤◌, ℕ, List, [], ◌∷◌, length, take, drop, map, reverse, Option, Some, option_map}
 use Rattle.sam_runes.specs.Texts.{max_runes, most_in_message}
 use Rattle.sam_runes.specs.declared.edit.Edit.{Edit}
-use Rattle.sam_pending.specs.Cells.{PartialText, Cell, all_put}
-use Rattle.sam_pending.specs.Runs.{runes_of, cells_of, rooms, waits, above, newest_of, Within, sent_runs, removal_changes, edit_changes, first_due, edit_at, made_first, next_deed}
+use Rattle.sam_pending.specs.Cells.{PartialText, Cell, IsTakenBack, all_put}
+use Rattle.sam_pending.specs.Runs.{runes_of, cells_of, rooms, waits, above, newest_of, Within, sent_runs, removal_changes, edit_changes, first_due, edit_at, made_first, next_deed, without_typed}
 use Rattle.sam_pending.specs.declared.run.Run.{Run}
 use Rattle.sam_pending.specs.declared.run.Run.TheVariants.{Held, Typed}
+use Rattle.sam_pending.specs.declared.told.Dropped.{Dropped}
 use Rattle.sam_pending.specs.declared.told.Sent.{Sent}
 use Rattle.sam_pending.specs.declared.told.Shown.{Shown}
 use Rattle.sam_pending.specs.declared.told.Shown.TheVariants.{Rasp, Waiting}
@@ -76,6 +77,16 @@ next_edit l = option_map (λ x. edit_at l.text x.1 x.0) (first_due (next_deed l.
 -- the layer once that edit is made
 abbrev pub next_made : Layer → Layer
 next_made l = record l { runs = made_first (next_deed l.runs) l.runs }
+
+-- the layer once the first runes that wait are taken back
+abbrev pub first_dropped : Layer → Layer
+first_dropped l = record l { runs = without_typed l.runs }
+
+-- over whatever rasp, so the runes of the layer's next edit are taken back
+pub record DropsNext (l : Layer) (d : Dropped) : Type 0 where
+  pub next : option_map (λ (e : Edit). e.text) (next_edit l) ≡ Some d.text
+  pub cells : (r : PartialText) → IsOver r l → IsTakenBack (cells_over r l) d.place d.count d.text (cells_over r (first_dropped l))
+  pub over : (r : PartialText) → IsOver r l → IsOver r (first_dropped l)
 
 -- the layer with those runs
 abbrev pub with_runs : Layer → List Run → Layer

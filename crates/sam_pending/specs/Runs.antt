@@ -288,6 +288,16 @@ abbrev pub has_due : Deed → List Run → Bool
 has_due w [] = false
 has_due w (x ∷ xs) = is_due w x || has_due w xs
 
+-- the first run whose runes wait, and how many shown cells stand before it, where n stand before these runs
+abbrev pub first_typed : ℕ → List Run → Option (Run × ℕ)
+first_typed n [] = None
+first_typed n (x ∷ xs) = if is_due Inserts x then Some (x, n) else first_typed (n + above (x ∷ [])) xs
+
+-- the runs without it
+abbrev pub without_typed : List Run → List Run
+without_typed [] = []
+without_typed (x ∷ xs) = if is_due Inserts x then xs else x ∷ without_typed xs
+
 -- all removals come before the first insertion
 abbrev pub next_deed : List Run → Deed
 next_deed xs = if has_due Removes xs then Removes else Inserts

@@ -1,7 +1,7 @@
 //! The next edit by which what waits comes to the rasp.
 
 ghost use Rattle.std.specs.Prelude.{◌≡◌, ◌≤◌, ◌<◌, ◌+◌, ◌^◌, length, IfOk};
-ghost use Rattle.sam_pending.specs.Runs.{rooms, room, waits, reach, first_due, next_deed, edit_at, made_first};
+ghost use Rattle.sam_pending.specs.Runs.{rooms, room, waits, reach, above, first_due, first_typed, next_deed, edit_at, made_first, without_typed};
 
 use crate::run::{Deed, Run};
 use sam_runes::{Edit, Runes};
@@ -72,6 +72,39 @@ pub(crate) fn edit_at(alloc: Global, text: &[char], run: Run, at: u32) -> Result
             Ok(Edit { p: at, q: at, text })
         }
     }
+}
+
+/// Returns the first run whose runes wait, and how many shown cells stand before it; `None` if none wait.
+#[tactic(auto, using(crate::proofs::DropLaws::above_one))]
+pub(crate) fn first_typed(runs: &[Run]) -> Option<(Run, u32)>
+    requires { above runs.now < 2 ^ 32 }
+    ensures { result ≡ first_typed 0 runs.now }
+{
+    let mut at = 0;
+    for run in runs {
+        if run.is_due(Deed::Inserts) {
+            return Some((*run, at));
+        }
+        at += run.shown();
+    }
+    None
+}
+
+/// Returns the runs without the first one whose runes wait. The only error is out of memory.
+#[tactic(auto, using(crate::proofs::RunLaws::gone_facts))]
+pub(crate) fn without_typed(alloc: Global, runs: &[Run]) -> Result<Vec<Run>, AllocError>
+    ensures { IfOk result (λ left. left.items ≡ without_typed runs.now) }
+{
+    let mut left = Vec::with_capacity(alloc, runs.len())?;
+    let mut is_taken = false;
+    for run in runs {
+        if !is_taken && run.is_due(Deed::Inserts) {
+            is_taken = true;
+        } else {
+            left.push(*run)?;
+        }
+    }
+    Ok(left)
 }
 
 /// Makes the edit at the first run at which such an edit is due; all stays if it is due at none.

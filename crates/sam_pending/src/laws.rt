@@ -1,7 +1,7 @@
 //! Laws of the definitions in specs/. Each is the contract of a function that does nothing; a caller's proof may use what it says.
 
 ghost use Rattle.std.specs.Prelude.{◌≡◌, ◌<◌, ◌≤◌, ◌+◌, ◌-◌, ◌++◌, ℕ, List, length, map, take, drop, reverse, Some, All};
-ghost use Rattle.sam_pending.specs.Cells.{Cell, PartialText, Change, put, all_put, members, in_rasp, is_shown, rasp_of, shown_of, waiting_of, resting, part_by, take_by, drop_by, shown_place, replaced, inserted, removed, filled, sent, changes_of, gone_from, IsOf, text_at, place_at, IsOldest, IsNewest, IsMade};
+ghost use Rattle.sam_pending.specs.Cells.{Cell, PartialText, Change, put, all_put, members, in_rasp, is_shown, rasp_of, shown_of, waiting_of, resting, part_by, take_by, drop_by, shown_place, replaced, inserted, removed, filled, sent, changes_of, gone_from, IsOf, text_at, place_at, IsOldest, IsNewest, IsMade, IsTakenBack};
 
 /// States that what is typed is what is seen: `s` in place of what was shown from `p` to `q`. While the edit waits the rasp stays.
 pub fn typed_is_shown()
@@ -79,6 +79,13 @@ pub fn requests_come_to_what_was_shown()
 pub fn one_path_serves()
     ensures { (r : PartialText) (g p q : ℕ) (s : List ℕ) → p ≤ q →
         sent g (replaced g p q s (resting r)) ≡ resting (take p r ++ map Some s ++ drop q r) }
+{}
+
+/// States that as runes are taken back what is shown changes by one removal, and the rasp stays.
+pub fn runes_are_taken_back()
+    ensures shown { (cs ds : List Cell) (p n : ℕ) (s : List ℕ) → IsTakenBack cs p n s ds →
+        shown_of ds ≡ take p (shown_of cs) ++ drop (p + n) (shown_of cs) }
+    ensures rasp { (cs ds : List Cell) (p n : ℕ) (s : List ℕ) → IsTakenBack cs p n s ds → rasp_of ds ≡ rasp_of cs }
 {}
 
 /// States that as an edit of what waits comes to the rasp what is shown stays.

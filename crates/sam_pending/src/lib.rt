@@ -12,4 +12,4 @@ mod told;
 
 pub use fault::PendingFault;
 pub use pending::Pending;
-pub use told::{Filling, Prepared, Removal, Sent, Shown};
+pub use told::{Dropped, Filling, Prepared, Removal, Sent, Shown};

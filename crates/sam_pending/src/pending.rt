@@ -1,15 +1,15 @@
 //! `Pending`: edits of one file that wait, over its rasp.
 
-ghost use Rattle.std.specs.Prelude.{◌≡◌, ◌⊎◌, ◌<◌, ◌≤◌, ◌+◌, ◌-◌, ◌++◌, ◌↔◌, IsTrue, ℕ, List, [], ◌∷◌, length, take, drop, map, reverse, Some, None, Err, IfOk, OnOk, OnErr, MatchOption, All};
+ghost use Rattle.std.specs.Prelude.{◌≡◌, ◌⊎◌, ◌<◌, ◌≤◌, ◌+◌, ◌-◌, ◌++◌, ◌↔◌, IsTrue, ℕ, List, [], ◌∷◌, length, take, drop, map, reverse, Some, None, Ok, Err, IfOk, IfSome, OnOk, OnErr, MatchOption, All};
 ghost use Rattle.sam_runes.specs.Texts.{max_runes};
 ghost use Rattle.sam_pending.specs.Cells.{PartialText, IsMade, all_put, put, rasp_of, shown_of, shown_place, waiting_of, IsNewest, resting, replaced, inserted, removed, filled, sent};
 ghost use Rattle.sam_pending.specs.Runs.{rests, edit_change, removal_changes, filling_changes};
-ghost use Rattle.sam_pending.specs.Layers.{cells_over, rasp_length, waiting_length, shown_length, newest_group, sent_length, sent_text, shown_members, next_edit, next_made, with_runs, IsLayer, IsOver, IsTidied, AreShort, most_kept};
+ghost use Rattle.sam_pending.specs.Layers.{cells_over, rasp_length, waiting_length, shown_length, newest_group, sent_length, sent_text, shown_members, next_edit, next_made, DropsNext, first_dropped, with_runs, IsLayer, IsOver, IsTidied, AreShort, most_kept};
 ghost use Rattle.sam_runes.specs.declared.edit.Edit.{Edit};
 
 use crate::fault::PendingFault;
 use crate::run::{Run, Stretch};
-use crate::told::{Filling, Prepared, Removal, Sent, Shown};
+use crate::told::{Dropped, Filling, Prepared, Removal, Sent, Shown};
 use crate::{due, runs};
 use sam_runes::{Edit, MAX_RUNES};
 use std::alloc::Global;
@@ -414,6 +414,35 @@ impl Pending {
     {
         let deed = due::next_deed(self.runs.as_slice());
         due::make_first(&mut self.runs, deed);
+    }
+
+    /// Takes back the runes of the next edit, for which the host left no room in the rasp: they are in no cell any more. Returns them, and
+    /// where they stood in what is shown; `None` if the next edit has room, or if nothing waits.
+    ///
+    /// The only error is `OutOfMemory`; after it all is unchanged.
+    #[tactic(auto, using(crate::proofs::DropLaws::drop_facts))]
+    pub fn drop_next(&mut self) -> Result<Option<Dropped>, PendingFault>
+        ensures none { (result ≡ Ok None) ↔ (rasp_length (next_made self.old) ≤ max_runes) }
+        ensures same { result ≡ Ok None → self.new ≡ self.old }
+        ensures dropped { IfOk result (λ x. IfSome x (λ d. (self.new ≡ first_dropped self.old) × DropsNext self.old d)) }
+        ensures err { OnErr result ((self.new ≡ self.old) × (result ≡ Err PendingFault.OutOfMemory)) }
+    {
+        let runs = self.runs.as_slice();
+        let deed = due::next_deed(runs);
+        if due::made_len(runs, deed) <= MAX_RUNES {
+            return Ok(None);
+        }
+        let Some((run, place)) = due::first_typed(runs) else {
+            unreachable!()
+        };
+        let edit = due::edit_at(self.alloc, self.text.as_slice(), run, 0)?;
+        let left = due::without_typed(self.alloc, runs)?;
+        self.runs = left;
+        Ok(Some(Dropped {
+            place,
+            count: run.shown(),
+            text: edit.text,
+        }))
     }
 
     /// Returns what stands from that place of what is shown on: so many members of the rasp, or runes that wait; `None` from the end on.

@@ -1,7 +1,7 @@
 //! Stretches of cells of one sort.
 
 ghost use Rattle.std.specs.Prelude.{◌≡◌, ◌≤◌, ◌<◌, ◌^◌, ◌∷◌, [], IfSome};
-ghost use Rattle.sam_pending.specs.Runs.{run_counts, size, head_of, tail_of, room, wait, newest_run, run_rests, reach, IsSame, is_due, made_run};
+ghost use Rattle.sam_pending.specs.Runs.{above, run_counts, size, head_of, tail_of, room, wait, newest_run, run_rests, reach, IsSame, is_due, made_run};
 ghost use Rattle.sam_pending.specs.declared.run.Run.TheVariants.{Held, Typed};
 
 /// Where runes stand in the text of those that wait.
@@ -64,6 +64,17 @@ impl Run {
         match self {
             Run::Held(count, _) => count,
             Run::Typed(runes, _, _) => runes.count,
+        }
+    }
+
+    /// Returns how many of its cells are shown.
+    pub fn shown(self) -> u32
+        ensures { result ≡ above (self ∷ []) }
+    {
+        if self.counts(Side::Above) {
+            self.size()
+        } else {
+            0
         }
     }
 

@@ -1,7 +1,7 @@
 //! What calls of `Pending` tell their caller.
 
 use crate::run::Run;
-use sam_runes::Edit;
+use sam_runes::{Edit, Runes};
 use std::marker::Model;
 
 /// A change of the host's to the rasp, prepared: `Pending::take_on` makes it, and can't fail. It fits the layer that prepared it, as it was
@@ -39,6 +39,17 @@ pub struct Filling {
     pub from: u32,
     /// How many runes it has.
     pub count: u32,
+}
+
+/// Runes that were taken back, since the rasp has no room for them.
+#[derive(Drop)]
+pub struct Dropped {
+    /// The place of the shown text where they stood.
+    pub place: u32,
+    /// How many members of the shown text went there: one for each rune, or none if a later edit had removed the runes.
+    pub count: u32,
+    /// The runes.
+    pub text: Runes,
 }
 
 /// What stands from a place of the shown text on.

@@ -1,0 +1,236 @@
+-- Runes that wait are taken back.
+use Rattle.std.proofs.Common.{◌≡◌, refl, sym, ap, ◌∙◌, subst, ℕ, suc, ◌+◌, ◌≤◌, ◌<◌, Bool, true, false, not, cond, List, [], ◌∷◌, ◌++◌, map, length, take, drop, Option, Some, None, arith, append_assoc, append-nil, length-append, length-drop, IsTrue}
+use Rattle.std.specs.Prelude.{option_map}
+use Rattle.std.specs.List.{All, filter}
+use Rattle.std.proofs.lemmas.List.{length-map}
+use Rattle.std.proofs.lemmas.List.Elements.{All-map}
+use Rattle.sam_runes.specs.Texts.{max_runes}
+use Rattle.sam_runes.specs.declared.edit.Edit.{Edit}
+use Rattle.sam_pending.specs.Cells.{PartialText, Cell, IsTakenBack, rasp_of, shown_of, in_rasp, is_shown}
+use Rattle.sam_pending.specs.Runs.{held, typed_by, runes_of, room, rooms, wait, waits, above, cells, cells_of, reach, Within, is_due, first_due, first_typed, without_typed, edit_at, made_run, made_first, next_deed}
+use Rattle.sam_pending.specs.Layers.{Layer, IsLayer, IsOver, DropsNext, cells_over, first_dropped, next_edit, next_made, rasp_length, waiting_length}
+use Rattle.sam_pending.specs.declared.told.Dropped.{Dropped}
+use Rattle.sam_pending.specs.declared.run.Stretch.{Stretch}
+use Rattle.sam_pending.specs.declared.run.Run.{Run}
+use Rattle.sam_pending.specs.declared.run.Run.TheVariants.{Held, Typed}
+use Rattle.sam_pending.specs.declared.run.Deed.{Deed}
+use Rattle.sam_pending.specs.declared.run.Deed.TheVariants.{Removes, Inserts}
+use Rattle.sam_pending.proofs.CellLaws.{members-append, members-three}
+use Rattle.sam_pending.proofs.RunLaws.{runes-size, take-front, drop-front}
+use Rattle.sam_pending.proofs.SendLaws.{above_shown, shown-typed}
+use Rattle.sam_pending.proofs.DueLaws.{members-typed}
+
+-- ## What it does to the two texts
+
+none-in_rasp : (h : List Cell) → All (λ c. IsTrue (not (in_rasp c))) h → rasp_of h ≡ []
+none-in_rasp [] all = refl
+none-in_rasp (c ∷ h) all =
+    let first : not (in_rasp c) ≡ true = all 0 c (omega arith) in
+    let rest : rasp_of h ≡ [] = none-in_rasp h (λ k d i. all (suc k) d (omega (arith, i))) in
+    grind (arith, first, rest)
+
+pub taken_back : (cs ds : List Cell) (p n : ℕ) (s : List ℕ) → IsTakenBack cs p n s ds
+    → (shown_of ds ≡ take p (shown_of cs) ++ drop (p + n) (shown_of cs)) × (rasp_of ds ≡ rasp_of cs)
+taken_back cs ds p n s t =
+    let a = shown_of t.before in
+    let h = shown_of t.stretch in
+    let z = shown_of t.behind in
+    let whole : shown_of cs ≡ a ++ h ++ z = ap shown_of t.old ∙ members-three is_shown t.before t.stretch t.behind in
+    let front : take p (shown_of cs) ≡ a = ap (λ k. take k (shown_of cs)) t.place ∙ (ap (take (length a)) (whole ∙ append_assoc a h z) ∙ take-front a (h ++ z)) in
+    let end : p + n ≡ length (a ++ h) = omega (arith, t.place, t.count, length-append a h) in
+    let back : drop (p + n) (shown_of cs) ≡ z = ap (λ k. drop k (shown_of cs)) end ∙ (ap (drop (length (a ++ h))) whole ∙ drop-front (a ++ h) z) in
+    let none = none-in_rasp t.stretch t.all in (
+      ap shown_of t.new ∙ (members-append is_shown t.before t.behind ∙ (ap (λ y. y ++ z) (sym front) ∙ ap (λ y. take p (shown_of cs) ++ y) (sym back))),
+      ap rasp_of t.new ∙ (members-append in_rasp t.before t.behind ∙ sym (ap rasp_of t.old ∙ (members-three in_rasp t.before t.stretch t.behind
+          ∙ (ap (λ y. rasp_of t.before ++ y ++ rasp_of t.behind) none ∙ ap (λ y. y ++ rasp_of t.behind) (append-nil (rasp_of t.before)))))),
+    )
+
+-- ## The runs
+
+pub above_one : (x : Run) (xs : List Run) → above (x ∷ xs) ≡ above (x ∷ []) + above xs
+above_one (Held n None) xs = omega arith
+above_one (Held n (Some g)) xs = omega arith
+above_one (Typed s b None) xs = omega arith
+above_one (Typed s b (Some g)) xs = omega arith
+
+shown-one : (x : Run) (text : List ℕ) (r : PartialText) → reach x ≤ length text → room x ≤ length r → length (shown_of (cells text r x)) ≡ above (x ∷ [])
+shown-one x text r w l =
+    ap (λ y. length (shown_of y)) (sym (append-nil (cells text r x))) ∙ above_shown (x ∷ []) text r (w, tt) (omega (arith, l))
+
+takes-here : (x : Run) (xs : List Run) (text : List ℕ) (r : PartialText) (n : ℕ) (a : List Cell) → is_due Inserts x ≡ true → reach x ≤ length text
+    → n ≡ length (shown_of a)
+    → IsTakenBack (a ++ cells_of text r (x ∷ xs)) n (above (x ∷ [])) (edit_at text 0 x).text (a ++ cells_of text r xs)
+takes-here (Held k d) xs text r n a due w len = absurd cc
+takes-here (Typed s b d) xs text r n a due w len =
+    let m = runes_of text s in
+    let h = map (typed_by b d) m in
+    record {
+      before = a;
+      stretch = h;
+      behind = cells_of text r xs;
+      old = sym (append_assoc a h (cells_of text r xs));
+      new = refl;
+      all = All-map (λ c. IsTrue (not (in_rasp c))) (typed_by b d) m (λ j y i. refl);
+      runes = sym (members-typed b d m);
+      place = len;
+      count = sym (shown-one (Typed s b d) text r w (omega arith));
+    }
+
+pub takes_back : (xs : List Run) (text : List ℕ) (r : PartialText) (n : ℕ) (x : Run) (at : ℕ) (a : List Cell) → Within (length text) xs → rooms xs ≤ length r
+    → n ≡ length (shown_of a) → first_typed n xs ≡ Some (x, at)
+    → IsTakenBack (a ++ cells_of text r xs) at (above (x ∷ [])) (edit_at text 0 x).text (a ++ cells_of text r (without_typed xs))
+takes_back [] text r n x at a w l len f = absurd cc
+takes_back (y ∷ xs) text r n x at a w l len f =
+    step (is_due Inserts y) refl f
+    (λ g. takes_back xs text (drop (room y) r) (n + above (y ∷ [])) x at (a ++ cells text r y) w.1 (omega (arith, l, length-drop (room y) r)) further g)
+  where
+    further : n + above (y ∷ []) ≡ length (shown_of (a ++ cells text r y))
+    further =
+        omega (
+          arith,
+          len,
+          ap length (members-append is_shown a (cells text r y)),
+          length-append (shown_of a) (shown_of (cells text r y)),
+          shown-one y text r w.0 (omega (arith, l)),
+        )
+
+    step : (t : Bool) → is_due Inserts y ≡ t → cond t (Some (y, n)) (first_typed (n + above (y ∷ [])) xs) ≡ Some (x, at)
+        → (first_typed (n + above (y ∷ [])) xs ≡ Some (x, at)
+        → IsTakenBack (a ++ cells text r y ++ cells_of text (drop (room y) r) xs) at (above (x ∷ [])) (edit_at text 0 x).text (a ++ cells text r y ++ cells_of text (drop (room y) r) (without_typed xs)))
+        → IsTakenBack (a ++ cells_of text r (y ∷ xs)) at (above (x ∷ [])) (edit_at text 0 x).text (a ++ cells_of text r (cond t xs (y ∷ without_typed xs)))
+    step true t g next =
+        let both : (y, n) ≡ (x, at) = cc in
+        let one : y ≡ x = ap (λ (p : Run × ℕ). p.0) both in
+        let two : n ≡ at = ap (λ (p : Run × ℕ). p.1) both in
+        subst (λ z. IsTakenBack (a ++ cells_of text r (y ∷ xs)) at (above (z ∷ [])) (edit_at text 0 z).text (a ++ cells_of text r xs)) one
+        (subst (λ z. IsTakenBack (a ++ cells_of text r (y ∷ xs)) z (above (y ∷ [])) (edit_at text 0 y).text (a ++ cells_of text r xs)) two (takes-here y xs text r n a t w.0 len))
+    step false t g next =
+        subst (λ z. IsTakenBack z at (above (x ∷ [])) (edit_at text 0 x).text (a ++ cells_of text r (y ∷ without_typed xs))) (append_assoc a (cells text r y) (cells_of text (drop (room y) r) xs))
+        (subst (λ z. IsTakenBack (a ++ cells text r y ++ cells_of text (drop (room y) r) xs) at (above (x ∷ [])) (edit_at text 0 x).text z) (append_assoc a (cells text r y) (cells_of text (drop (room y) r) (without_typed xs))) (next g))
+
+pub typed_reach : (xs : List Run) (n k : ℕ) (x : Run) (at : ℕ) → Within n xs → first_typed k xs ≡ Some (x, at) → reach x ≤ n
+typed_reach [] n k x at w f = absurd cc
+typed_reach (y ∷ xs) n k x at w f = step (is_due Inserts y) f (λ g. typed_reach xs n (k + above (y ∷ [])) x at w.1 g)
+  where
+    step : (t : Bool) → cond t (Some (y, k)) (first_typed (k + above (y ∷ [])) xs) ≡ Some (x, at)
+        → (first_typed (k + above (y ∷ [])) xs ≡ Some (x, at) → reach x ≤ n) → reach x ≤ n
+    step true g next =
+        let both : (y, k) ≡ (x, at) = cc in
+        let one : y ≡ x = ap (λ (p : Run × ℕ). p.0) both in
+        subst (λ z. reach z ≤ n) one w.0
+    step false g next = next g
+
+without-rooms : (xs : List Run) → rooms (without_typed xs) ≡ rooms xs
+without-rooms [] = refl
+without-rooms (x ∷ xs) = step (is_due Inserts x) refl (without-rooms xs)
+  where
+    none : (y : Run) → is_due Inserts y ≡ true → room y ≡ 0
+    none (Held k d) due = absurd cc
+    none (Typed s b d) due = refl
+
+    step : (t : Bool) → is_due Inserts x ≡ t → rooms (without_typed xs) ≡ rooms xs → rooms (cond t xs (x ∷ without_typed xs)) ≡ room x + rooms xs
+    step true due h = omega (arith, none x due)
+    step false due h = omega (arith, h)
+
+without-waits : (xs : List Run) → waits (without_typed xs) ≤ waits xs
+without-waits [] = omega arith
+without-waits (x ∷ xs) = step (is_due Inserts x) (without-waits xs)
+  where
+    step : (t : Bool) → waits (without_typed xs) ≤ waits xs → waits (cond t xs (x ∷ without_typed xs)) ≤ wait x + waits xs
+    step true h = omega arith
+    step false h = omega (arith, h)
+
+without-within : (n : ℕ) (xs : List Run) → Within n xs → Within n (without_typed xs)
+without-within n [] w = tt
+without-within n (x ∷ xs) w = step (is_due Inserts x) (without-within n xs w.1)
+  where
+    step : (t : Bool) → Within n (without_typed xs) → Within n (cond t xs (x ∷ without_typed xs))
+    step true h = w.1
+    step false h = (w.0, h)
+
+pub dropped_layer : (l : Layer) → IsLayer l → IsLayer (first_dropped l)
+dropped_layer l h = record {
+  text = h.text;
+  within = without-within (length l.text) l.runs h.within;
+  rasp = omega (arith, without-rooms l.runs, h.rasp);
+  waiting = omega (arith, without-waits l.runs, h.waiting);
+}
+
+-- ## The next edit, where it has no room
+
+removes-less : (xs : List Run) → rooms (made_first Removes xs) ≤ rooms xs
+removes-less [] = omega arith
+removes-less (x ∷ xs) = step (is_due Removes x) refl (removes-less xs)
+  where
+    none : (y : Run) → is_due Removes y ≡ true → room (made_run y) ≡ 0
+    none (Held k d) due = refl
+    none (Typed s b d) due = absurd cc
+
+    step : (t : Bool) → is_due Removes x ≡ t → rooms (made_first Removes xs) ≤ rooms xs → rooms (cond t (made_run x ∷ xs) (x ∷ made_first Removes xs)) ≤ room x + rooms xs
+    step true due h = omega (arith, none x due)
+    step false due h = omega (arith, h)
+
+none-typed : (xs : List Run) (n : ℕ) → first_typed n xs ≡ None → rooms (made_first Inserts xs) ≡ rooms xs
+none-typed [] n f = refl
+none-typed (x ∷ xs) n f = step (is_due Inserts x) f (λ g. none-typed xs (n + above (x ∷ [])) g)
+  where
+    step : (t : Bool) → cond t (Some (x, n)) (first_typed (n + above (x ∷ [])) xs) ≡ None
+        → (first_typed (n + above (x ∷ [])) xs ≡ None → rooms (made_first Inserts xs) ≡ rooms xs)
+        → rooms (cond t (made_run x ∷ xs) (x ∷ made_first Inserts xs)) ≡ room x + rooms xs
+    step true g next = absurd cc
+    step false g next = omega (arith, next g)
+
+full-inserts : (xs : List Run) → rooms xs < rooms (made_first (next_deed xs) xs) → next_deed xs ≡ Inserts
+full-inserts xs more = go (next_deed xs) refl
+  where
+    go : (w : Deed) → next_deed xs ≡ w → w ≡ Inserts
+    go Inserts is = refl
+    go Removes is = absurd (omega (arith, more, ap (λ w. rooms (made_first w xs)) is, removes-less xs))
+
+-- some runes wait
+pub full_waits : (xs : List Run) → rooms xs < rooms (made_first (next_deed xs) xs) → first_typed 0 xs ≡ None → ⊥
+full_waits xs more none = omega (arith, more, ap (λ w. rooms (made_first w xs)) (full-inserts xs more), none-typed xs 0 none)
+
+due-same : (xs : List Run) (n m : ℕ) → option_map (λ (z : Run × ℕ). z.0) (first_due Inserts m xs) ≡ option_map (λ (z : Run × ℕ). z.0) (first_typed n xs)
+due-same [] n m = refl
+due-same (y ∷ xs) n m = step (is_due Inserts y) (due-same xs (n + above (y ∷ [])) (m + room y))
+  where
+    step : (t : Bool) → option_map (λ (z : Run × ℕ). z.0) (first_due Inserts (m + room y) xs) ≡ option_map (λ (z : Run × ℕ). z.0) (first_typed (n + above (y ∷ [])) xs)
+        → option_map (λ (z : Run × ℕ). z.0) (cond t (Some (y, m)) (first_due Inserts (m + room y) xs)) ≡ option_map (λ (z : Run × ℕ). z.0) (cond t (Some (y, n)) (first_typed (n + above (y ∷ [])) xs))
+    step true h = refl
+    step false h = h
+
+edit-text : (t : List ℕ) (n : ℕ) (x : Run) → (edit_at t n x).text ≡ (edit_at t 0 x).text
+edit-text t n (Held k d) = refl
+edit-text t n (Typed s b d) = refl
+
+next-text : (l : Layer) (x : Run) (at : ℕ) → next_deed l.runs ≡ Inserts → first_typed 0 l.runs ≡ Some (x, at)
+    → option_map (λ (e : Edit). e.text) (next_edit l) ≡ Some (edit_at l.text 0 x).text
+next-text l x at deed f = go (first_due (next_deed l.runs) 0 l.runs) refl
+  where
+    first : option_map (λ (z : Run × ℕ). z.0) (first_due (next_deed l.runs) 0 l.runs) ≡ Some x
+    first =
+        ap (λ w. option_map (λ (z : Run × ℕ). z.0) (first_due w 0 l.runs)) deed
+        ∙ (due-same l.runs 0 0 ∙ ap (option_map (λ (z : Run × ℕ). z.0)) f)
+
+    go : (o : Option (Run × ℕ)) → first_due (next_deed l.runs) 0 l.runs ≡ o
+        → option_map (λ (e : Edit). e.text) (option_map (λ (z : Run × ℕ). edit_at l.text z.1 z.0) o) ≡ Some (edit_at l.text 0 x).text
+    go None is =
+        let wrong : None ≡ Some x = ap (option_map (λ (z : Run × ℕ). z.0)) (sym is) ∙ first in
+        absurd cc
+    go (Some z) is =
+        let same : Some z.0 ≡ Some x = ap (option_map (λ (z : Run × ℕ). z.0)) (sym is) ∙ first in
+        let here : z.0 ≡ x = cc in
+        ap Some (edit-text l.text z.1 z.0 ∙ ap (λ y. (edit_at l.text 0 y).text) here)
+
+pub drops_next : (l : Layer) (x : Run) (at : ℕ) (d : Dropped) → IsLayer l → rooms l.runs < rooms (made_first (next_deed l.runs) l.runs)
+    → first_typed 0 l.runs ≡ Some (x, at) → d.place ≡ at → d.count ≡ above (x ∷ []) → d.text ≡ (edit_at l.text 0 x).text
+    → DropsNext l d
+drops_next l x at d h more f place count text = record {
+  next = next-text l x at (full-inserts l.runs more) f ∙ ap Some (sym text);
+  cells = λ r o.
+      rw (place, count, text) (takes_back l.runs l.text r 0 x at [] h.within (omega (arith, o)) refl f);
+  over = λ r o. without-rooms l.runs ∙ o;
+}
+
+pub ruleset drop_facts = (dropped_layer, full_waits, drops_next)

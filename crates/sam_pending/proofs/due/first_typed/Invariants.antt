@@ -1,0 +1,8 @@
+use Rattle.std.proofs.Common.{◌≡◌, ◌+◌, drop}
+use Rattle.sam_pending.specs.Runs.{above, first_typed}
+use Rattle.sam_pending.proofs.due.first_typed.Given as goal
+
+abbrev pub invariant-loop-run : goal.invariant-loop-run
+invariant-loop-run l =
+    (first_typed l.at (drop l.run-index l.runs) ≡ first_typed 0 l.runs)
+    × (l.at + above (drop l.run-index l.runs) ≡ above l.runs)
