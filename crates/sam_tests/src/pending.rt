@@ -19,6 +19,10 @@ enum Step<'a> {
     Send(u32, usize, usize),
     /// The next edit is between these places of the rasp and has so many runes, and it is made.
     Make(u32, u32, usize),
+    /// The rasp has no room for the next edit.
+    Full,
+    /// So many runes are taken back, which stood at this place of what is shown; none are if there are 0.
+    Drop(u32, usize),
     /// How many pieces what is shown has, and how many members.
     Pieces(u32, u32),
     /// How many runes wait, and how many members the rasp has.
@@ -83,6 +87,15 @@ fn is_right(pending: &mut Pending, step: Step<'_>) -> Result<bool, PendingFault>
             pending.make_next();
             Ok(edit.p == p && edit.q == q && edit.text.len() == count)
         }
+        Step::Full => Ok(pending.next_edit().err() == Some(PendingFault::TooLong)),
+        Step::Drop(place, count) => match pending.drop_next()? {
+            Some(dropped) => Ok(
+                dropped.place == place
+                    && dropped.text.len() == count
+                    && dropped.count as usize == count,
+            ),
+            None => Ok(count == 0),
+        },
         Step::Pieces(count, len) => Ok(pieces(pending) == count && pending.shown_len() == len),
         Step::Waits(count, len) => Ok(pending.waiting() == count && pending.rasp_len() == len),
         Step::Rests => Ok(pending.is_resting()),
@@ -132,12 +145,25 @@ const ONE_BY_ONE: [Step<'_>; 6] = [
     Step::Waits(0, 3),
 ];
 
+/// Two runes are typed, and then the host makes the text full: they are taken back, and nothing is before or after.
+const NO_ROOM: [Step<'_>; 8] = [
+    Step::Replace(1, 5, 5, &['!', '?']),
+    Step::Drop(0, 0),
+    Step::Insert(5, 999_995, 5),
+    Step::Full,
+    Step::Drop(1_000_000, 2),
+    Step::Pieces(1, 1_000_000),
+    Step::Drop(0, 0),
+    Step::Rests,
+];
+
 #[test]
 fn edits_wait_and_are_sent(rt: HostRuntime) {
     for steps in [
         STORY.as_slice(),
         MANY_KEYS.as_slice(),
         ONE_BY_ONE.as_slice(),
+        NO_ROOM.as_slice(),
     ] {
         let wrong = match Pending::new(rt.alloc(), 5) {
             Ok(pending) => lent(pending, |pending| first_wrong(pending, steps)),
