@@ -1,20 +1,22 @@
 -- What the calls of an overlay rest on.
-use Rattle.std.proofs.Common.{Option, Result, ◌≡◌, ◌≢◌, refl, sym, ap, ◌∙◌, subst, ℕ, ◌+◌, ◌-◌, ◌≤◌, ◌<◌, ◌⊎◌, inl, inr, Bool, true, false, nat_eq, if◌then◌else◌, List, [], ◌∷◌, ◌++◌, length, map, take, drop, Some, None, Ok, Err, arith, option_map, is_some, length-take, length-take-le, length-drop, take-append-drop}
+use Rattle.std.proofs.Common.{Option, Result, ◌≡◌, ◌≢◌, refl, sym, ap, ◌∙◌, subst, ℕ, ◌+◌, ◌-◌, ◌≤◌, ◌<◌, ◌⊎◌, inl, inr, Bool, true, false, not, nat_eq, if◌then◌else◌, List, [], ◌∷◌, ◌++◌, length, map, take, drop, Some, None, Ok, Err, arith, option_map, is_some, length-take, length-take-le, length-drop, take-append-drop}
 use Rattle.std.specs.Prelude.{All, MatchOption, OnOk, set}
 use Rattle.std.proofs.lemmas.Bool.Decides.{eqb_tells}
 use Rattle.sam_runes.specs.Checks.{first_of_checks}
 use Rattle.sam_runes.specs.Slots.{Slots, slot}
 use Rattle.sam_runes.specs.Texts.{max_runes}
 use Rattle.sam_runes.specs.declared.edit.Edit.{Edit}
-use Rattle.sam_pending.specs.Cells.{PartialText, IsNewest, in_rasp, rasp_of, replaced, resting, shown_of}
-use Rattle.sam_pending.specs.Layers.{Layer, IsOver, cells_over, next_edit, next_made, rasp_length, shown_length, shown_members}
-use Rattle.sam_pending.specs.Runs.{cells_of, edit_at, held, runes_of, typed_by, first_due, is_due, made_first, made_run, next_deed, room, rooms}
+use Rattle.sam_pending.specs.Cells.{PartialText, IsNewest, IsTakenBack, in_rasp, rasp_of, replaced, resting, shown_of}
+use Rattle.sam_pending.specs.Layers.{Layer, IsOver, cells_over, first_dropped, next_edit, next_made, rasp_length, shown_length, shown_members}
+use Rattle.sam_pending.specs.Runs.{cells_of, edit_at, held, runes_of, typed_by, first_due, is_due, made_first, made_run, next_deed, rests, room, rooms}
 use Rattle.sam_pending.specs.declared.run.Deed.{Deed}
 use Rattle.sam_pending.specs.declared.run.Run.{Run}
 use Rattle.sam_pending.specs.declared.run.Run.TheVariants.{Held, Typed}
+use Rattle.sam_pending.specs.declared.told.Dropped.{Dropped}
 use Rattle.sam_pending.specs.declared.told.Shown.{Shown}
 use Rattle.sam_pending.proofs.CellLaws.{members-append, rasp_resting, shown_resting, shown_replaced, rasp_replaced}
 use Rattle.sam_pending.proofs.DueLaws.{made_texts}
+use Rattle.sam_pending.proofs.LayerLaws.{all-rest}
 use Rattle.sam_term.specs.Term.{PlainTerminal, event_checks, is_open, rasp_at, window_of}
 use Rattle.sam_term.specs.declared.event.UserEvent.{UserEvent}
 use Rattle.sam_term.specs.declared.records.Window.{Window}
@@ -25,8 +27,9 @@ use Rattle.sam_endpoint.specs.declared.step.BringFault.{BringFault}
 use Rattle.sam_endpoint.specs.declared.step.BringFault.TheVariants as bring
 use Rattle.sam_endpoint.specs.declared.step.TermStep.{TermStep}
 use Rattle.sam_overlay.specs.Calls.{HoldsOnly, IsFree, IsShownFrom, IsSound, RestsShow, is_free}
-use Rattle.sam_overlay.specs.Outcomes.{IsOverRasp, LayerReplaces, Leads, Replaces, TypedShows, cells_in}
+use Rattle.sam_overlay.specs.Outcomes.{IsOverRasp, LayerDrops, LayerReplaces, Leads, Replaces, TypedShows, cells_in, has_edit}
 use Rattle.sam_overlay.specs.Overlays.{AreOver, AreRequests, Brought, cells_of_file, edit_event, is_request, told_at}
+use Rattle.sam_overlay.specs.Setting.{Sets}
 use Rattle.sam_overlay.specs.declared.shown_change.OverlayStep.{OverlayStep}
 use Rattle.sam_overlay.specs.declared.shown_change.Told.TheVariants as told
 use Rattle.sam_overlay.proofs.SlotSteps.{slot-set_same}
@@ -53,9 +56,9 @@ more-requests [] x all is = (is, tt)
 more-requests (e ∷ es) x all is = (all.0, more-requests es x all.1 is)
 
 pub asked_sound : (e g : PlainTermEndpoint) (ls : Slots Layer) (p : Option ℕ) (x : UserEvent) (result : Result (Unit {0}) (BringFault TermStop))
-    → p ≡ None → HoldsOnly e ls p → AreOver e.term ls → is_request x ≡ true → BringsEvent e x result g
+    → p ≡ None → slot ls 0 ≡ None → HoldsOnly e ls p → AreOver e.term ls → is_request x ≡ true → BringsEvent e x result g
     → IsSound (record { end = g; layers = ls; putting = p })
-asked_sound e g ls p x result none holds over is brings =
+asked_sound e g ls p x result none command holds over is brings =
     subst (λ o. IsSound (record { end = g; layers = ls; putting = o })) (sym none) (go result brings)
   where
     all : AreRequests e.term.held
@@ -63,12 +66,12 @@ asked_sound e g ls p x result none holds over is brings =
 
     as_before : g ≡ e → IsSound (record { end = g; layers = ls; putting = None })
     as_before same =
-        subst (λ (h : PlainTermEndpoint). IsSound (record { end = h; layers = ls; putting = None })) (sym same) (record { over = over; holds = all })
+        subst (λ (h : PlainTermEndpoint). IsSound (record { end = h; layers = ls; putting = None })) (sym same) (record { over = over; command = command; holds = all })
 
     go : (result : Result (Unit {0}) (BringFault TermStop)) → BringsEvent e x result g → IsSound (record { end = g; layers = ls; putting = None })
     go (Ok done) b =
         subst (λ (h : PlainTermEndpoint). IsSound (record { end = h; layers = ls; putting = None })) (sym b.1)
-        (record { over = over; holds = more-requests e.term.held x all is })
+        (record { over = over; command = command; holds = more-requests e.term.held x all is })
     go (Err (bring.Stopped why)) b = as_before b.1
     go (Err bring.Waiting) b = absurd b
     go (Err bring.CountFull) b = as_before b.2
@@ -161,13 +164,14 @@ free-takes t f l x free over fits most =
     let size : length (rasp_at t f) - (x.q - x.p) + length x.text ≤ max_runes = omega (arith, over, fits.room, most) in
     grind (arith, free, up, within, size)
 
-pub put_sound : (e g : PlainTermEndpoint) (ls : Slots Layer) (f : ℕ) (l : Layer) (x : Edit) → IsFree e f → AreOver e.term ls → slot ls f ≡ Some l
+pub put_sound : (e g : PlainTermEndpoint) (ls : Slots Layer) (f : ℕ) (l : Layer) (x : Edit) → IsFree e f → slot ls 0 ≡ None → AreOver e.term ls → slot ls f ≡ Some l
     → next_edit l ≡ Some x → rasp_length (next_made l) ≤ max_runes → g ≡ with_event e (edit_event f x)
     → IsSound (record { end = g; layers = ls; putting = Some f })
-put_sound e g ls f l x free over waits next room is =
+put_sound e g ls f l x free command over waits next room is =
     subst (λ (h : PlainTermEndpoint). IsSound (record { end = h; layers = ls; putting = Some f })) (sym is)
     (record {
       over = over;
+      command = command;
       holds = record {
         layer = l;
         edit = x;
@@ -258,8 +262,79 @@ replaced_at ss f n p q s o k (Ok done) l is h =
     subst (λ z. LayerReplaces n z p q s (slot (set ss f k) f)) (sym is) (subst (λ z. LayerReplaces n o p q s z) (sym (slot-set_same ss f k l)) (h n))
 replaced_at ss f n p q s o k (Err why) l is h = tt
 
-pub ruleset replace_facts = (open-rasp)
+pub command_rests : (t : PlainTerminal) (ls : Slots Layer) → slot ls 0 ≡ None → cells_of_file t ls 0 ≡ resting (rasp_at t 0)
+command_rests t ls none = ap (cells_in (rasp_at t 0)) none
+
+-- nothing waits over the command file as another file is set, or this one is freed
+pub command_stays : (ls ks : Slots Layer) (f : ℕ) → slot ls 0 ≡ None → f ≢ 0 → ((g : ℕ) → g ≢ f → slot ks g ≡ slot ls g) → slot ks 0 ≡ None
+command_stays ls ks f none other others = others 0 (λ is. other (sym is)) ∙ none
+
+pub command_freed : (ls ks : Slots Layer) (f : ℕ) → slot ls 0 ≡ None → Sets ls f None ks → slot ks 0 ≡ None
+command_freed ls ks f none sets = go (eqb_tells f 0)
+  where
+    go : ((nat_eq f 0 ≡ true) × (f ≡ 0)) ⊎ ((nat_eq f 0 ≡ false) × (f ≢ 0)) → slot ks 0 ≡ None
+    go (inl (b, is)) = subst (λ g. slot ks g ≡ None) is sets.0
+    go (inr (b, other)) = command_stays ls ks f none other sets.1
+
+pub ruleset replace_facts = (open-rasp, command_stays)
 
 pub ruleset refusal_facts = (open-rasp)
 
-pub ruleset put_facts = (put_sound)
+-- ## What waits
+
+at-rest : (b : Bool) → not b ≡ false → b ≡ true
+at-rest true is = refl
+at-rest false is = absurd cc
+
+pub rests_cells : (t : PlainTerminal) (ls : Slots Layer) (f : ℕ) → AreOver t ls → has_edit (slot ls f) ≡ false → cells_of_file t ls f ≡ resting (rasp_at t f)
+rests_cells t ls f over none = go (slot ls f) (over f) none
+  where
+    go : (o : Option Layer) → IsOverRasp (rasp_at t f) o → has_edit o ≡ false → cells_in (rasp_at t f) o ≡ resting (rasp_at t f)
+    go None h is = refl
+    go (Some l) h is = all-rest l.runs l.text (rasp_at t f) (at-rest (rests l.runs) is) h
+
+-- ## Runes that are taken back
+
+pub dropped_sound : (e : PlainTermEndpoint) (ls ks : Slots Layer) (f : ℕ) (d : Dropped) → HoldsOnly e ls None → slot ls 0 ≡ None → AreOver e.term ls
+    → LayerDrops (slot ls f) (Ok (Some d)) (slot ks f) → ((g : ℕ) → g ≢ f → slot ks g ≡ slot ls g)
+    → IsSound (record { end = e; layers = ks; putting = None })
+dropped_sound e ls ks f d holds command over drops others = record { over = over_all; command = first; holds = holds }
+  where
+    first : slot ks 0 ≡ None
+    first = go (eqb_tells 0 f)
+      where
+        go : ((nat_eq 0 f ≡ true) × (0 ≡ f)) ⊎ ((nat_eq 0 f ≡ false) × (0 ≢ f)) → slot ks 0 ≡ None
+        go (inl (b, is)) =
+            let wrong : Some drops.1.0 ≡ None = sym drops.1.1 ∙ (ap (slot ls) (sym is) ∙ command) in
+            absurd cc
+        go (inr (b, other)) = others 0 other ∙ command
+
+    r : PartialText
+    r = rasp_at e.term f
+
+    l : Layer
+    l = drops.1.0
+
+    there : IsOver r (first_dropped l)
+    there = drops.1.2.over r (subst (IsOverRasp r) drops.1.1 (over f))
+
+    over_all : AreOver e.term ks
+    over_all g = go (eqb_tells g f)
+      where
+        go : ((nat_eq g f ≡ true) × (g ≡ f)) ⊎ ((nat_eq g f ≡ false) × (g ≢ f)) → IsOverRasp (rasp_at e.term g) (slot ks g)
+        go (inl (b, is)) =
+            subst (λ h. IsOverRasp (rasp_at e.term h) (slot ks h)) (sym is) (subst (IsOverRasp r) (sym drops.1.3) there)
+        go (inr (b, other)) = subst (IsOverRasp (rasp_at e.term g)) (sym (others g other)) (over g)
+
+pub dropped_cells : (t : PlainTerminal) (ls ks : Slots Layer) (f : ℕ) (d : Dropped) → AreOver t ls → LayerDrops (slot ls f) (Ok (Some d)) (slot ks f)
+    → IsTakenBack (cells_of_file t ls f) d.place d.count d.text (cells_of_file t ks f)
+dropped_cells t ls ks f d over drops =
+    let r : PartialText = rasp_at t f in
+    let l : Layer = drops.1.0 in
+    subst (λ o. IsTakenBack (cells_in r o) d.place d.count d.text (cells_of_file t ks f)) (sym drops.1.1)
+    (subst (λ o. IsTakenBack (cells_over r l) d.place d.count d.text (cells_in r o)) (sym drops.1.3)
+    (drops.1.2.cells r (subst (IsOverRasp r) drops.1.1 (over f))))
+
+pub ruleset drop_facts = (dropped_sound, dropped_cells)
+
+pub ruleset put_facts = (put_sound, command_freed)

@@ -1,6 +1,10 @@
 -- Slots as the code reads and writes them.
-use Rattle.std.proofs.Common.{◌≡◌, ap, ℕ, suc, ◌<◌, ◌≢◌, [], ◌∷◌, ◌++◌, set, length, replicate, Option, None, arith}
+use Rattle.std.proofs.Common.{◌≡◌, ◌⊎◌, inl, inr, refl, sym, subst, ap, ℕ, suc, ◌+◌, ◌<◌, ◌≤◌, ◌≢◌, Bool, true, false, nat_eq, nat_le, min, [], ◌∷◌, ◌++◌, set, length, replicate, Option, None, arith}
+use Rattle.std.proofs.lemmas.Bool.{leb-true}
+use Rattle.std.proofs.lemmas.Bool.Decides.{eqb_tells, leb_tells}
 use Rattle.sam_runes.specs.Slots.{Slots, slot}
+use Rattle.sam_pending.specs.Layers.{Layer}
+use Rattle.sam_overlay.specs.Outcomes.{NoneWaits, has_edit}
 use Rattle.sam_runes.proofs.SlotLaws.{slot-read, slot_given, slot_past}
 
 pub slot-more : {X : Type 0} (ss : Slots X) (n f : ℕ) → slot (ss ++ replicate n None) f ≡ slot ss f
@@ -15,6 +19,24 @@ slot-set_same ss f o l = grind arith
 pub slot-set_other : {X : Type 0} (ss : Slots X) (f g : ℕ) (o : Option X) → g ≢ f → slot (set ss f o) g ≡ slot ss g
 slot-set_other (s ∷ ss) (suc f) (suc g) o n = slot-set_other ss f g o (λ e. n (ap suc e))
 slot-set_other ss f g o n = grind arith
+
+pub none_more : (ls : Slots Layer) (from n : ℕ) → NoneWaits ls from n → has_edit (slot ls n) ≡ false → NoneWaits ls from (n + 1)
+none_more ls from n none here f a b = go (eqb_tells f n)
+  where
+    go : ((nat_eq f n ≡ true) × (f ≡ n)) ⊎ ((nat_eq f n ≡ false) × (f ≢ n)) → has_edit (slot ls f) ≡ false
+    go (inl (t, is)) = subst (λ g. has_edit (slot ls g) ≡ false) (sym is) here
+    go (inr (t, other)) = none f a (omega (arith, b, other))
+
+pub none_past : (ls : Slots Layer) (from n most : ℕ) → NoneWaits ls from n → min (length ls) most ≤ n → NoneWaits ls from most
+none_past ls from n most none past f a b = go (nat_le (length ls) f) refl
+  where
+    go : (t : Bool) → nat_le (length ls) f ≡ t → has_edit (slot ls f) ≡ false
+    go true is = ap has_edit (slot_past ls f (leb-true (length ls) f is))
+    go false is =
+        let within : f < length ls = grind (arith, is, leb_tells) in
+        none f a (omega (arith, within, b, past))
+
+pub ruleset waiting_facts = (none_more, none_past)
 
 pub ruleset slot_facts = (slot-read, slot_given, slot_past)
 

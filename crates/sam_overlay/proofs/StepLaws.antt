@@ -1,28 +1,34 @@
 -- Steps of a terminal end under edits that wait.
-use Rattle.std.proofs.Common.{Option, Result, ◌≡◌, ◌≢◌, refl, sym, ap, ◌∙◌, subst, ℕ, ◌≤◌, ◌<◌, ◌⊎◌, inl, inr, Bool, true, false, nat_eq, if◌then◌else◌, List, [], ◌∷◌, length, Some, None, Ok, Err, arith, option_map, slice_get}
-use Rattle.std.specs.Prelude.{◌==◌, IfOk}
-use Rattle.std.proofs.lemmas.Bool.Decides.{eqb_tells}
+use Rattle.std.proofs.Common.{Option, Result, ◌≡◌, ◌≢◌, refl, sym, ap, ◌∙◌, subst, ℕ, ◌+◌, ◌-◌, ◌≤◌, ◌<◌, ◌⊎◌, inl, inr, Bool, true, false, nat_eq, ◌&&◌, if◌then◌else◌, List, [], ◌∷◌, ◌++◌, map, take, drop, set, length, Some, None, Ok, Err, arith, option_map, slice_get, take-append-drop, length-take-le, length-drop, drop-drop, append_assoc, append-nil}
+use Rattle.std.specs.Prelude.{◌==◌, IfOk, option_and_then}
+use Rattle.std.proofs.lemmas.Bool.Decides.{eqb_tells, nat_tests}
 use Rattle.sam_runes.specs.Checks.{first_of_checks}
 use Rattle.sam_runes.specs.Slots.{Slots, slot}
 use Rattle.sam_runes.specs.declared.edit.Edit.{Edit}
 use Rattle.sam_mesg.specs.declared.hmesg.HFrame.{HFrame}
 use Rattle.sam_mesg.specs.declared.tmesg.Tmesg.{Tmesg}
+use Rattle.sam_rasp.specs.Rasp.{del_cells, ins_cells}
 use Rattle.sam_pending.specs.Cells.{PartialText, IsMade, put, shown_of}
 use Rattle.sam_pending.specs.Layers.{Layer, IsOver, cells_over, next_made}
 use Rattle.sam_pending.specs.Runs.{edit_change}
+use Rattle.sam_pending.proofs.CellLaws.{shown_resting}
 use Rattle.sam_term.specs.Effect.{changed_by}
 use Rattle.sam_term.specs.Sound.{IsSound}
-use Rattle.sam_term.specs.Term.{Made, PlainTerminal, act_on, decided, event_checks, event_outcome, has_bad_place, if_countable, rasp_at}
+use Rattle.sam_term.specs.Term.{Made, PlainTerminal, act_on, decided, event_checks, event_outcome, has_bad_place, if_countable, rasp_at, window_at}
 unfoldable use Rattle.sam_term.specs.Term.{act_of, take_of}
 use Rattle.sam_term.specs.declared.event.Acted.{Acted}
 use Rattle.sam_term.specs.declared.event.Acted.TheVariants as become
 use Rattle.sam_term.specs.declared.event.UserEvent.{UserEvent}
 use Rattle.sam_term.specs.declared.event.UserEvent.TheVariants as event
 use Rattle.sam_term.specs.declared.event.Verdict.{Verdict}
+use Rattle.sam_term.specs.declared.fault.TermFault.{TermFault}
 use Rattle.sam_term.specs.declared.event.Verdict.TheVariants.{Waits, Refuses}
 use Rattle.sam_term.proofs.Acts.{none_holds, test_at}
 use Rattle.sam_term.proofs.TermLaws.{edit_text, event_changes}
-use Rattle.sam_endpoint.specs.Changes.{left_by}
+use Rattle.sam_endpoint.specs.Changes.{IsChange, IsKept, all_kept, change_between, change_of, edit_touch, event_touch, kept_after, kept_at, left_by, narrowed, oldest_touch}
+use Rattle.sam_endpoint.specs.declared.changes.Change.{Change}
+use Rattle.sam_endpoint.specs.declared.changes.Kept.{Kept}
+use Rattle.sam_endpoint.specs.declared.changes.Touch.{Touch}
 use Rattle.sam_endpoint.specs.TermEndpoints.{PlainTermEndpoint}
 use Rattle.sam_endpoint.specs.TermStepping.{Steps}
 use Rattle.sam_endpoint.specs.TermSteps.{ActsFirst}
@@ -32,14 +38,18 @@ use Rattle.sam_endpoint.specs.declared.fault.TermStop.{TermStop}
 use Rattle.sam_endpoint.specs.declared.fault.TermStop.TheVariants as stop
 use Rattle.sam_endpoint.specs.declared.step.TermStep.{TermStep}
 use Rattle.sam_endpoint.specs.declared.step.TermStep.TheVariants as did
+use Rattle.sam_endpoint.proofs.ChangeLaws.{kept_tells_change}
+use Rattle.sam_endpoint.proofs.TermChanges.{acts_keep}
 use Rattle.sam_endpoint.proofs.TermEndpointHeld.{event_keeps, take_held}
 use Rattle.sam_overlay.specs.Effects.{Effect, FitsIn, Stays, cells_after, effect, members_after, plan_at, plan_of}
-use Rattle.sam_overlay.specs.Outcomes.{Follows, IsNextMade, IsOverRasp, Leads, Meets, cells_in, layer_after}
-use Rattle.sam_overlay.specs.Overlays.{AreOver, AreRequests, Brought, IsPutting, Stepped, StopsOnly, cells_of_file, edit_event, end_step, first_effect, is_received, is_request, told_at}
+use Rattle.sam_overlay.specs.Outcomes.{Follows, IsNextMade, IsOverRasp, Leads, Meets, cells_in, change_told, event_told, layer_after}
+use Rattle.sam_overlay.specs.Overlays.{AreOver, AreRequests, Brought, IsPutting, Stepped, StopsOnly, cells_of_file, edit_event, end_step, first_effect, is_received, is_request, step_effect, told_at}
 use Rattle.sam_overlay.specs.Setting.{Sets}
 use Rattle.sam_overlay.specs.declared.frame_plan.FilePlan.{FilePlan}
 use Rattle.sam_overlay.specs.declared.frame_plan.Plan.{Plan}
 use Rattle.sam_overlay.specs.declared.frame_plan.Plan.TheVariants as plan
+use Rattle.sam_overlay.specs.declared.outcome.LayerChange.{LayerChange}
+use Rattle.sam_overlay.specs.declared.outcome.LayerChange.TheVariants as change
 use Rattle.sam_overlay.specs.declared.outcome.Outcome.{Outcome}
 use Rattle.sam_overlay.specs.declared.shown_change.OverlayStep.{OverlayStep}
 use Rattle.sam_overlay.specs.declared.shown_change.Told.{Told}
@@ -49,20 +59,30 @@ use Rattle.sam_overlay.proofs.OutcomeLaws.{stays-at}
 
 -- ## Events that leave each text
 
-request-stays : (t : PlainTerminal) (e : UserEvent) (f : ℕ) (r : PartialText) → is_request e ≡ true → changed_by t e f r ≡ r
-request-stays t (event.Typed g s) f r is = absurd cc
-request-stays t (event.Cut g) f r is = absurd cc
-request-stays t (event.Paste g) f r is = absurd cc
-request-stays t (event.Edit g p q s) f r is = absurd cc
-request-stays t e f r is = refl
+other-file : {X : Type 0} (g f : ℕ) (x y : X) → (g == 0) ≡ true → f ≢ 0 → (if g == f then x else y) ≡ y
+other-file g f x y is other = go (eqb_tells g f)
+  where
+    zero_is : g ≡ 0
+    zero_is = grind (arith, is, nat_tests)
 
--- every rasp is as it was, and requests alone are held
+    go : ((nat_eq g f ≡ true) × (g ≡ f)) ⊎ ((nat_eq g f ≡ false) × (g ≢ f)) → (if g == f then x else y) ≡ y
+    go (inl (b, here)) = absurd (other (sym here ∙ zero_is))
+    go (inr (b, apart)) = ap (λ t. if t then x else y) b
+
+request-stays : (t : PlainTerminal) (e : UserEvent) (f : ℕ) (r : PartialText) → is_request e ≡ true → f ≢ 0 → changed_by t e f r ≡ r
+request-stays t (event.Typed g s) f r is other = other-file g f _ r is other
+request-stays t (event.Cut g) f r is other = other-file g f _ r is other
+request-stays t (event.Paste g) f r is other = other-file g f _ r is other
+request-stays t (event.Edit g p q s) f r is other = absurd cc
+request-stays t e f r is other = refl
+
+-- every rasp but that of the command file is as it was, and requests alone are held
 record Quiet (t u : PlainTerminal) : Type 0 where
-  rasps : (f : ℕ) → rasp_at u f ≡ rasp_at t f
+  rasps : (f : ℕ) → f ≢ 0 → rasp_at u f ≡ rasp_at t f
   requests : AreRequests u.held
 
 same-quiet : (t u : PlainTerminal) → u ≡ t → AreRequests t.held → Quiet t u
-same-quiet t u e all = record { rasps = λ f. ap (λ v. rasp_at v f) e; requests = subst (λ (v : PlainTerminal). AreRequests v.held) (sym e) all }
+same-quiet t u e all = record { rasps = λ f other. ap (λ v. rasp_at v f) e; requests = subst (λ (v : PlainTerminal). AreRequests v.held) (sym e) all }
 
 done-is : (n : ℕ) (made : Made) (u : PlainTerminal) (acted : Acted) → if_countable {A = PlainTerminal × Acted} n (made.0, become.Done made.1) ≡ Ok (u, acted)
     → (u ≡ made.0) × (acted ≡ become.Done made.1)
@@ -80,7 +100,7 @@ acts-quietly t u acted act all = go t.held refl act
         let is : u ≡ made.0 = (done-is made.0.sent made u acted q).0 in
         let parts : AreRequests (e ∷ es) = subst AreRequests held all in
         record {
-          rasps = λ f. ap (λ v. rasp_at v f) is ∙ (event_changes after e f ∙ request-stays after e f (rasp_at t f) parts.0);
+          rasps = λ f other. ap (λ v. rasp_at v f) is ∙ (event_changes after e f ∙ request-stays after e f (rasp_at t f) parts.0 other);
           requests = subst (λ (v : PlainTerminal). AreRequests v.held) (sym is) (subst AreRequests (sym (event_keeps after e)) parts.1);
         }
     decides e es (Some Waits) held q = same-quiet t u (sym (ap (left_by t) q)) all
@@ -88,7 +108,7 @@ acts-quietly t u acted act all = go t.held refl act
         let parts : AreRequests (e ∷ es) = subst AreRequests held all in
         let is : u ≡ record t { held = es } = sym (ap (left_by t) q) in
         record {
-          rasps = λ f. ap (λ v. rasp_at v f) is;
+          rasps = λ f other. ap (λ v. rasp_at v f) is;
           requests = subst (λ (v : PlainTerminal). AreRequests v.held) (sym is) parts.1;
         }
 
@@ -99,6 +119,190 @@ acts-quietly t u acted act all = go t.held refl act
 acts-first : (e g : PlainTermEndpoint) → ActsFirst e g → AreRequests e.term.held → Quiet e.term g.term
 acts-first e g a all =
     subst (λ (x : PlainTermEndpoint). Quiet e.term x.term) (sym a.after) (acts-quietly e.term a.term a.acted a.acts all)
+
+-- ## Events of the command file
+
+leads-change : (old new : PartialText) (c : Change) → IsChange old new c → Leads (change_told c) old new
+leads-change old new c is = go (c.gone == 0 && c.came == 0) refl
+  where
+    go : (b : Bool) → (c.gone == 0 && c.came == 0) ≡ b → Leads (if b then told.Nothing else told.Changed c.start c.gone c.came) old new
+    go true none =
+        let gone : c.gone ≡ 0 = grind (arith, none, nat_tests) in
+        let came : c.came ≡ 0 = grind (arith, none, nat_tests) in
+        let rest : drop c.start new ≡ drop c.start old =
+        ap (λ n. drop n new) (omega (arith, came)) ∙ (is.rest ∙ ap (λ n. drop n old) (omega (arith, gone))) in
+        sym (take-append-drop c.start new)
+        ∙ (ap (λ x. x ++ drop c.start new) is.front ∙ (ap (λ x. take c.start old ++ x) rest ∙ take-append-drop c.start old))
+    go false some =
+        let cells : PartialText = take c.came (drop c.start new) in (
+          cells,
+          length-take-le c.came (drop c.start new) (omega (arith, is.new_end, length-drop c.start new)),
+          sym (take-append-drop c.start new)
+              ∙ (ap (λ x. x ++ drop c.start new) is.front
+              ∙ (ap (λ x. take c.start old ++ x) (sym (take-append-drop c.came (drop c.start new)))
+              ∙ (sym (append_assoc (take c.start old) cells (drop c.came (drop c.start new)))
+              ∙ ap (λ x. take c.start old ++ cells ++ x) (drop-drop c.came c.start new ∙ (ap (λ n. drop n new) (omega arith) ∙ is.rest))))),
+        )
+
+edit-tag : (tag n p gone came : ℕ) (x : Touch) → (tag == 0) ≡ true → edit_touch tag n p gone came ≡ Some x → x.tag ≡ 0
+edit-tag tag n p gone came x is touched = go (gone == 0 && came == 0) touched
+  where
+    go : (b : Bool) → (if b then None else Some (record { tag = tag; front = p; back = n - (p + gone) })) ≡ Some x → x.tag ≡ 0
+    go true e = absurd cc
+    go false e =
+        let one : Touch = record { tag = tag; front = p; back = n - (p + gone) } in
+        let same : one ≡ x = cc in
+        let zero_is : tag ≡ 0 = grind (arith, is, nat_tests) in
+        sym (ap (λ (y : Touch). y.tag) same) ∙ zero_is
+
+-- an event of the command file touches that file
+touches-command : (t : PlainTerminal) (e : UserEvent) (x : Touch) → is_request e ≡ true → event_touch t e ≡ Some x → x.tag ≡ 0
+touches-command t (event.Typed g s) x is touched =
+    let d = (window_at t g).dot in edit-tag g (length (rasp_at t g)) d.0 (d.1 - d.0) (length s) x is touched
+touches-command t (event.Cut g) x is touched =
+    let d = (window_at t g).dot in edit-tag g (length (rasp_at t g)) d.0 (d.1 - d.0) 0 x is touched
+touches-command t (event.Paste g) x is touched =
+    let d = (window_at t g).dot in edit-tag g (length (rasp_at t g)) d.0 (d.1 - d.0) 0 x is touched
+touches-command t (event.Edit g p q s) x is touched = absurd cc
+touches-command t e x is touched = absurd cc
+
+if-same : {X : Type 0} (b : Bool) (x y : X) → x ≡ y → (if b then x else y) ≡ y
+if-same true x y e = e
+if-same false x y e = refl
+
+-- an edit that touches nothing
+record Touchless (p q : ℕ) (s : List ℕ) : Type 0 where
+  place : q ≡ p
+  empty : s ≡ []
+
+no-runes : (s : List ℕ) → length s ≡ 0 → s ≡ []
+no-runes [] e = refl
+no-runes (c ∷ s) e = absurd (omega (arith, e))
+
+touchless : (tag n p q : ℕ) (s : List ℕ) → p ≤ q → edit_touch tag n p (q - p) (length s) ≡ None → Touchless p q s
+touchless tag n p q s up touched = go ((q - p) == 0 && length s == 0) refl touched
+  where
+    touch : Touch
+    touch = record { tag = tag; front = p; back = n - (p + (q - p)) }
+
+    go : (b : Bool) → ((q - p) == 0 && length s == 0) ≡ b → (if b then None else Some touch) ≡ None → Touchless p q s
+    go true both e =
+        let gone : q - p ≡ 0 = grind (arith, both, nat_tests) in
+        let came : length s ≡ 0 = grind (arith, both, nat_tests) in
+        record { place = omega (arith, gone, up); empty = no-runes s came }
+    go false both e = absurd cc
+
+cut-nothing : (r : PartialText) (p q : ℕ) → q ≡ p → del_cells r p q ≡ r
+cut-nothing r p q at = ap (λ n. take p r ++ drop n r) at ∙ take-append-drop p r
+
+put-nothing : (r : PartialText) (p q : ℕ) (s : List ℕ) → Touchless p q s → ins_cells (del_cells r p q) p (map Some s) ≡ r
+put-nothing r p q s h =
+    ap (λ x. ins_cells x p (map Some s)) (cut-nothing r p q h.place)
+    ∙ (ap (λ x. ins_cells r p (map Some x)) h.empty ∙ (ap (λ x. x ++ drop p r) (append-nil (take p r)) ∙ take-append-drop p r))
+
+-- what touches nothing changes nothing
+untouched : (t : PlainTerminal) (es : List UserEvent) (e : UserEvent) (f : ℕ) (r : PartialText) → IsSound t → is_request e ≡ true → event_touch t e ≡ None
+    → changed_by (record t { held = es }) e f r ≡ r
+untouched t es (event.Typed g s) f r sound is touched =
+    let d = (window_at t g).dot in
+    if-same (g == f) (ins_cells (del_cells r d.0 d.1) d.0 (map Some s)) r
+    (put-nothing r d.0 d.1 s (touchless g (length (rasp_at t g)) d.0 d.1 s (sound.windows g).dot_start touched))
+untouched t es (event.Cut g) f r sound is touched =
+    let d = (window_at t g).dot in
+    if-same (g == f) (del_cells r d.0 d.1) r (cut-nothing r d.0 d.1 (touchless g (length (rasp_at t g)) d.0 d.1 [] (sound.windows g).dot_start touched).place)
+untouched t es (event.Paste g) f r sound is touched =
+    let d = (window_at t g).dot in
+    if-same (g == f) (del_cells r d.0 d.1) r (cut-nothing r d.0 d.1 (touchless g (length (rasp_at t g)) d.0 d.1 [] (sound.windows g).dot_start touched).place)
+untouched t es (event.Edit g p q s) f r sound is touched = absurd cc
+untouched t es e f r sound is touched = refl
+
+-- what an event that was decided does to each rasp
+abbrev ActRasps : PlainTerminal → PlainTerminal → Acted → Type 0
+ActRasps t u (become.Done ms) =
+    (e : UserEvent) × (es : List UserEvent) × (t.held ≡ e ∷ es) × ((f : ℕ) → rasp_at u f ≡ changed_by (record t { held = es }) e f (rasp_at t f))
+ActRasps t u become.Idle = (f : ℕ) → rasp_at u f ≡ rasp_at t f
+ActRasps t u become.Locked = (f : ℕ) → rasp_at u f ≡ rasp_at t f
+ActRasps t u (become.Refused why) = (f : ℕ) → rasp_at u f ≡ rasp_at t f
+
+abbrev acted-of : Result (PlainTerminal × Acted) TermFault → Acted
+acted-of (Ok x) = x.1
+acted-of (Err why) = become.Idle
+
+act-rasps : (t u : PlainTerminal) (acted : Acted) → act_of t ≡ Ok (u, acted) → ActRasps t u acted
+unfolding act_of
+act-rasps t u acted act = go t.held refl act
+  where
+    to : (v : PlainTerminal) (a : Acted) → u ≡ v → acted ≡ a → ActRasps t v a → ActRasps t u acted
+    to v a same become_is h = subst (λ x. ActRasps t x acted) (sym same) (subst (λ x. ActRasps t v x) (sym become_is) h)
+
+    decides : (e : UserEvent) (es : List UserEvent) (o : Option Verdict) → t.held ≡ e ∷ es
+        → decided o t es (event_outcome (record t { held = es }) e) ≡ Ok (u, acted) → ActRasps t u acted
+    decides e es None held q =
+        let after : PlainTerminal = record t { held = es } in
+        let made : Made = event_outcome after e in
+        let is = done-is made.0.sent made u acted q in
+        to made.0 (become.Done made.1) is.0 is.1 (e, es, held, λ f. event_changes after e f)
+    decides e es (Some Waits) held q = to t become.Locked (sym (ap (left_by t) q)) (sym (ap acted-of q)) (λ f. refl)
+    decides e es (Some (Refuses r)) held q = to (record t { held = es }) (become.Refused r) (sym (ap (left_by t) q)) (sym (ap acted-of q)) (λ f. refl)
+
+    go : (es : List UserEvent) → t.held ≡ es → act_on t es ≡ Ok (u, acted) → ActRasps t u acted
+    go [] held q = to t become.Idle (sym (ap (left_by t) q)) (sym (ap acted-of q)) (λ f. refl)
+    go (e ∷ es) held q = decides e es (first_of_checks (event_checks t e)) held q
+
+command-leads : (t u : PlainTerminal) (ms : List Tmesg) → IsSound t → act_of t ≡ Ok (u, become.Done ms) → AreRequests t.held
+    → Leads (change_told (change_between t (oldest_touch t) u)) (rasp_at t 0) (rasp_at u 0)
+command-leads t u ms sound act all = go (oldest_touch t) refl
+  where
+    x : ActRasps t u (become.Done ms)
+    x = act-rasps t u (become.Done ms) act
+
+    old : PartialText
+    old = rasp_at t 0
+
+    new : PartialText
+    new = rasp_at u 0
+
+    is : is_request x.0 ≡ true
+    is = (subst AreRequests x.2 all).0
+
+    oldest : oldest_touch t ≡ event_touch t x.0
+    oldest = ap (λ hs. option_and_then (event_touch t) (slice_get hs 0)) x.2
+
+    whole : IsKept old old (all_kept (length old))
+    whole = record { len = refl; front = refl; back = refl; apart = inr (refl, refl, refl) }
+
+    kept : IsKept old new (kept_at (kept_after (all_kept (length old) ∷ []) (oldest_touch t)) 0)
+    kept = acts_keep old t u (become.Done ms) (all_kept (length old) ∷ []) 0 sound act whole
+
+    go : (o : Option Touch) → oldest_touch t ≡ o → Leads (change_told (change_between t o u)) old new
+    go None none = x.3 0 ∙ untouched t x.1 x.0 0 old sound is (sym oldest ∙ none)
+    go (Some touch) some =
+        let tag : touch.tag ≡ 0 = touches-command t x.0 touch is (sym oldest ∙ some) in
+        let ks : List Kept = all_kept (length old) ∷ [] in
+        let here : IsKept old new (kept_at (kept_after ks (Some touch)) 0) = subst (λ o. IsKept old new (kept_at (kept_after ks o) 0)) some kept in
+        let k : IsKept old new (narrowed (all_kept (length old)) touch.front touch.back) =
+        subst (λ i. IsKept old new (kept_at (set ks i (narrowed (kept_at ks i) touch.front touch.back)) 0)) tag here in
+        subst (λ i. Leads (change_told (change_of (narrowed (all_kept (length (rasp_at t i))) touch.front touch.back) (length (rasp_at u i)))) old new) (sym tag)
+        (leads-change old new (change_of (narrowed (all_kept (length old)) touch.front touch.back) (length new)) (kept_tells_change old new (narrowed (all_kept (length old)) touch.front touch.back) k))
+
+-- what is told of a step that receives no frame leads to what stands in the command file then
+event_leads : (e g : PlainTermEndpoint) (step : TermStep) → Steps e (Ok step) g → is_received step ≡ false → IsSound e.term → AreRequests e.term.held
+    → Leads (event_told step) (rasp_at e.term 0) (rasp_at g.term 0)
+event_leads e g did.Idle s not sound all = ap (λ (x : PlainTermEndpoint). rasp_at x.term 0) s.2
+event_leads e g did.Locked s not sound all = ap (λ (x : PlainTermEndpoint). rasp_at x.term 0) s.2
+event_leads e g did.Wrote s not sound all = ap (λ (x : PlainTermEndpoint). rasp_at x.term 0) s.2
+event_leads e g (did.Received kind tag change) s not sound all = absurd cc
+event_leads e g (did.Acted number tag change) s not sound all =
+    let first = s.1.first in
+    let here : g.term ≡ first.term = ap (λ (x : PlainTermEndpoint). x.term) first.after in
+    let acts : act_of e.term ≡ Ok (first.term, become.Done s.1.composed) = first.acts ∙ ap (λ x. Ok (first.term, x)) s.1.acted in
+    subst (λ c. Leads (change_told c) (rasp_at e.term 0) (rasp_at g.term 0)) (sym s.1.changed)
+    (subst (λ v. Leads (change_told (change_between e.term (oldest_touch e.term) v)) (rasp_at e.term 0) (rasp_at v 0)) (sym here)
+    (command-leads e.term first.term s.1.composed sound acts all))
+event_leads e g (did.Refused number why) s not sound all =
+    let first = s.1.first in
+    let acts : act_of e.term ≡ Ok (first.term, become.Refused why) = first.acts ∙ ap (λ x. Ok (first.term, x)) s.1.refused in
+    ap (λ (x : PlainTermEndpoint). rasp_at x.term 0) first.after ∙ act-rasps e.term first.term (become.Refused why) acts 0
 
 -- a step that receives no frame
 steps-quietly : (e g : PlainTermEndpoint) (step : TermStep) → Steps e (Ok step) g → is_received step ≡ false → AreRequests e.term.held → Quiet e.term g.term
@@ -135,18 +339,51 @@ told-nothing step tag f = go (tag == f)
 still-over : (r v : PartialText) (o : Option Layer) → v ≡ r → IsOverRasp r o → IsOverRasp v o
 still-over r v o e h = subst (λ x. IsOverRasp x o) (sym e) h
 
+-- what is shown of the command file, over which nothing waits
+command-shown : (t : PlainTerminal) (ls : Slots Layer) → slot ls 0 ≡ None → shown_of (cells_of_file t ls 0) ≡ rasp_at t 0
+command-shown t ls none = ap (λ o. shown_of (cells_in (rasp_at t 0) o)) none ∙ shown_resting (rasp_at t 0)
+
 pub quiet_stepped : (e g : PlainTermEndpoint) (ls : Slots Layer) (step : TermStep) → Steps e (Ok step) g → is_received step ≡ false
-    → AreOver e.term ls → AreRequests e.term.held → Stepped e ls (record { step = step; tag = 0; told = told.Nothing }) g ls
-quiet_stepped e g ls step s not over all =
-    let q = steps-quietly e g step s not all in
-    let x : OverlayStep = record { step = step; tag = 0; told = told.Nothing } in
-    let cells : (f : ℕ) → cells_of_file g.term ls f ≡ cells_of_file e.term ls f = λ f. ap (λ r. cells_in r (slot ls f)) (q.rasps f) in
-    record {
-      over = λ f. still-over (rasp_at e.term f) (rasp_at g.term f) (slot ls f) (q.rasps f) (over f);
-      requests = q.requests;
-      cells = λ f. cells f ∙ sym (ap (λ b. cells_after (if b then first_effect e.waiting f else Stays) (cells_of_file e.term ls f)) not);
-      told = λ f. subst (λ y. Leads y (shown_of (cells_of_file e.term ls f)) (shown_of (cells_of_file g.term ls f))) (sym (told-nothing step 0 f)) (ap shown_of (cells f));
-    }
+    → IsSound e.term → AreOver e.term ls → slot ls 0 ≡ None → AreRequests e.term.held
+    → Stepped e ls (record { step = step; tag = 0; told = event_told step }) g ls
+quiet_stepped e g ls step s not sound over none all = record {
+  over = λ f. over-at f (eqb_tells f 0);
+  command = none;
+  requests = q.requests;
+  cells = λ f frame. at-cells f frame (eqb_tells f 0);
+  told = λ f. at-told f (eqb_tells 0 f);
+}
+  where
+    q : Quiet e.term g.term
+    q = steps-quietly e g step s not all
+
+    same : (f : ℕ) → f ≢ 0 → cells_of_file g.term ls f ≡ cells_of_file e.term ls f
+    same f other = ap (λ r. cells_in r (slot ls f)) (q.rasps f other)
+
+    over-at : (f : ℕ) → ((nat_eq f 0 ≡ true) × (f ≡ 0)) ⊎ ((nat_eq f 0 ≡ false) × (f ≢ 0)) → IsOverRasp (rasp_at g.term f) (slot ls f)
+    over-at f (inl (b, is)) =
+        subst (λ h. IsOverRasp (rasp_at g.term h) (slot ls h)) (sym is) (subst (IsOverRasp (rasp_at g.term 0)) (sym none) tt)
+    over-at f (inr (b, other)) = still-over (rasp_at e.term f) (rasp_at g.term f) (slot ls f) (q.rasps f other) (over f)
+
+    at-cells : (f : ℕ) → (f ≡ 0 → is_received step ≡ true) → ((nat_eq f 0 ≡ true) × (f ≡ 0)) ⊎ ((nat_eq f 0 ≡ false) × (f ≢ 0))
+        → cells_of_file g.term ls f ≡ cells_after (step_effect e step f) (cells_of_file e.term ls f)
+    at-cells f frame (inl (b, is)) =
+        let wrong : true ≡ false = sym (frame is) ∙ not in
+        absurd cc
+    at-cells f frame (inr (b, other)) =
+        same f other ∙ sym (ap (λ b. cells_after (if b then first_effect e.waiting f else Stays) (cells_of_file e.term ls f)) not)
+
+    there : Leads (event_told step) (shown_of (cells_of_file e.term ls 0)) (shown_of (cells_of_file g.term ls 0))
+    there =
+        subst (λ old. Leads (event_told step) old (shown_of (cells_of_file g.term ls 0))) (sym (command-shown e.term ls none))
+        (subst (λ new. Leads (event_told step) (rasp_at e.term 0) new) (sym (command-shown g.term ls none)) (event_leads e g step s not sound all))
+
+    Goal : ℕ → Bool → Type 0
+    Goal f b = Leads (if b then event_told step else told.Nothing) (shown_of (cells_of_file e.term ls f)) (shown_of (cells_of_file g.term ls f))
+
+    at-told : (f : ℕ) → ((nat_eq 0 f ≡ true) × (0 ≡ f)) ⊎ ((nat_eq 0 f ≡ false) × (0 ≢ f)) → Goal f (0 == f)
+    at-told f (inl (b, is)) = subst (λ t. Goal f t) (sym b) (subst (λ h. Goal h true) is there)
+    at-told f (inr (b, other)) = subst (λ t. Goal f t) (sym b) (ap shown_of (same f (λ is. other (sym is))))
 
 -- ## A step that receives a frame
 
@@ -205,16 +442,30 @@ file-stays r v o n x is over e d =
     subst (λ y. FileGoes r o y told.Nothing v n) (sym is)
     (subst (λ a. FileGoes r o Stays told.Nothing a n) (sym same) (subst (λ b. FileGoes r o Stays told.Nothing r b) (sym d) there))
 
+-- nothing waits over the command file after a change of what waits over some file
+still-none : (tag : ℕ) (x : LayerChange) (ls ks : Slots Layer) → slot ls 0 ≡ None → Sets ls tag (layer_after x (slot ls tag)) ks → slot ks 0 ≡ None
+still-none tag x ls ks none sets = go (eqb_tells tag 0)
+  where
+    no-layer : (c : LayerChange) → layer_after c None ≡ None
+    no-layer change.Stays = refl
+    no-layer (change.Runs runs) = refl
+    no-layer change.Ends = refl
+
+    go : ((nat_eq tag 0 ≡ true) × (tag ≡ 0)) ⊎ ((nat_eq tag 0 ≡ false) × (tag ≢ 0)) → slot ks 0 ≡ None
+    go (inl (b, is)) = subst (λ g. slot ks g ≡ None) is (sets.0 ∙ (ap (λ g. layer_after x (slot ls g)) is ∙ (ap (layer_after x) none ∙ no-layer x)))
+    go (inr (b, other)) = sets.1 0 (λ q. other (sym q)) ∙ none
+
 pub received_stepped : (e g : PlainTermEndpoint) (ls ks : Slots Layer) (step : TermStep) (p : FilePlan) (y : Outcome) → Steps e (Ok step) g
-    → is_received step ≡ true → IsSound e.term → AreOver e.term ls → AreRequests e.term.held
+    → is_received step ≡ true → IsSound e.term → AreOver e.term ls → slot ls 0 ≡ None → AreRequests e.term.held
     → ((f : ℕ) → plan_at f p ≡ plan_of (first_effect e.waiting f)) → Follows (slot ls p.tag) p.plan y
     → Sets ls p.tag (layer_after y.change (slot ls p.tag)) ks
     → Stepped e ls (record { step = step; tag = p.tag; told = y.told }) g ks
-received_stepped e g ls ks step p y s is sound over all planned follows sets =
+received_stepped e g ls ks step p y s is sound over none all planned follows sets =
     record {
       over = λ f. (file f).0;
+      command = still-none p.tag y.change ls ks none sets;
       requests = subst AreRequests (sym (take_held e.term g.term x.frame x.composed x.taken)) all;
-      cells = λ f. (file f).1 ∙ sym (ap (λ b. cells_after (if b then first_effect e.waiting f else Stays) (cells_of_file e.term ls f)) is);
+      cells = λ f frame. (file f).1 ∙ sym (ap (λ b. cells_after (if b then first_effect e.waiting f else Stays) (cells_of_file e.term ls f)) is);
       told = λ f. (file f).2;
     }
   where
@@ -304,10 +555,11 @@ other-stays t f h x r n = go (eqb_tells f h)
     go (inr (b, other)) = grind (arith, b)
 
 pub edit_brought : (e g : PlainTermEndpoint) (ls ks : Slots Layer) (f : ℕ) (step : TermStep) → IsPutting e ls f → Steps e (Ok step) g
-    → AreOver e.term ls → ((l : Layer) → slot ls f ≡ Some l → IsNextMade l) → Sets ls f (option_map next_made (slot ls f)) ks
-    → Brought e ls f g ks
-edit_brought e g ls ks f step h s over made sets =
+    → AreOver e.term ls → slot ls 0 ≡ None → ((l : Layer) → slot ls f ≡ Some l → IsNextMade l)
+    → Sets ls f (option_map next_made (slot ls f)) ks → Brought e ls f g ks
+edit_brought e g ls ks f step h s over none made sets =
     record {
+      command = go-command (eqb_tells f 0);
       change = edit_change h.edit;
       made = subst (λ (z : PartialText × Option Layer). IsMade (cells_of_file e.term ls f) (edit_change h.edit) (cells_in z.0 z.1)) (sym (pair-is here now))
           (subst (λ o. IsMade (cells_in r o) (edit_change h.edit) (cells_over (put r (edit_change h.edit)) (next_made h.layer))) (sym h.waits) comes.0);
@@ -316,6 +568,10 @@ edit_brought e g ls ks f step h s over made sets =
       requests = subst (λ (v : PlainTerminal). AreRequests v.held) (sym acts) (subst AreRequests (sym (event_keeps after (edit_event f h.edit))) tt);
     }
   where
+    go-command : ((nat_eq f 0 ≡ true) × (f ≡ 0)) ⊎ ((nat_eq f 0 ≡ false) × (f ≢ 0)) → slot ks 0 ≡ None
+    go-command (inl (b, is)) = subst (λ g. slot ks g ≡ None) is (sets.0 ∙ (ap (λ g. option_map next_made (slot ls g)) is ∙ ap (option_map next_made) none))
+    go-command (inr (b, other)) = sets.1 0 (λ q. other (sym q)) ∙ none
+
     r : PartialText
     r = rasp_at e.term f
 
@@ -364,11 +620,17 @@ no-frame [] is = refl
 no-frame (frame ∷ frames) is = absurd cc
 
 pub quiet_told : (e g : PlainTermEndpoint) (ls : Slots Layer) (result : Result OverlayStep (EndpointFault TermStop)) → Steps e (end_step result) g
-    → IfOk result (λ x. x ≡ record { step = x.step; tag = 0; told = told.Nothing }) → e.waiting ≡ [] → AreOver e.term ls → AreRequests e.term.held
-    → IfOk result (λ x. Stepped e ls x g ls)
-quiet_told e g ls (Ok x) s is none over all =
-    subst (λ (y : OverlayStep). Stepped e ls y g ls) (sym is) (quiet_stepped e g ls x.step s (none-received e g x.step s none) over all)
-quiet_told e g ls (Err why) s is none over all = tt
+    → IfOk result (λ x. x ≡ record { step = x.step; tag = 0; told = event_told x.step }) → e.waiting ≡ [] → IsSound e.term → AreOver e.term ls
+    → slot ls 0 ≡ None → AreRequests e.term.held → IfOk result (λ x. Stepped e ls x g ls)
+quiet_told e g ls (Ok x) s is none sound over command all =
+    subst (λ (y : OverlayStep). Stepped e ls y g ls) (sym is) (quiet_stepped e g ls x.step s (none-received e g x.step s none) sound over command all)
+quiet_told e g ls (Err why) s is none sound over command all = tt
+
+pub first_is : (frames : List HFrame) (frame : HFrame) (f : ℕ) → slice_get frames 0 ≡ Some frame → first_effect frames f ≡ effect f frame.msg
+first_is [] frame f is = absurd cc
+first_is (x ∷ frames) frame f is =
+    let same : x ≡ frame = cc in
+    ap (λ (y : HFrame). effect f y.msg) same
 
 pub ruleset step_facts = (quiet_stepped, quiet_told, received_stepped, err_kept, no-frame)
 

@@ -1,11 +1,15 @@
 -- An overlay, and what its calls do.
-use Rattle.std.specs.Prelude.{◌≡◌, ◌≢◌, ℕ, ◌+◌, ◌-◌, ◌^◌, ◌<◌, Bool, true, not, ◌&&◌, ◌||◌, ◌==◌, nat_lt, List, [], ◌∷◌, length, take, drop, Option, Some, None, is_some, Result, Ok, Err}
+use Rattle.std.specs.Prelude.{◌≡◌, ◌≢◌, ℕ, ◌+◌, ◌-◌, ◌^◌, ◌<◌, Bool, true, false, not, ◌&&◌, ◌||◌, ◌==◌, nat_lt, List, [], ◌∷◌, length, take, drop, Option, Some, None, is_some, option_map, Result, Ok, Err}
 use Rattle.sam_runes.specs.Checks.{Checks}
 use Rattle.sam_runes.specs.Slots.{Slots, slot}
 use Rattle.sam_runes.specs.Texts.{is_empty, max_runes}
 use Rattle.sam_runes.specs.declared.edit.Edit.{Edit}
+use Rattle.sam_rasp.specs.Rasp.{first_gaps}
 use Rattle.sam_pending.specs.Cells.{PartialText, Cell, Change, IsMade, shown_of}
 use Rattle.sam_pending.specs.Layers.{Layer, next_edit, next_made, rasp_length, waiting_length}
+use Rattle.sam_pending.specs.declared.fault.PendingFault.{PendingFault}
+use Rattle.sam_pending.specs.declared.fault.PendingFault.TheVariants as failed
+use Rattle.sam_pending.specs.declared.told.Dropped.{Dropped}
 use Rattle.sam_term.specs.Term.{PlainTerminal, is_known, is_open, rasp_at, window_at}
 use Rattle.sam_term.specs.declared.event.UserEvent.{UserEvent}
 use Rattle.sam_endpoint.specs.TermEndpoints.{PlainTermEndpoint, IsDone, new_term_endpoint}
@@ -14,7 +18,8 @@ use Rattle.sam_endpoint.specs.declared.fault.TermStop.{TermStop}
 use Rattle.sam_endpoint.specs.declared.step.BringFault.{BringFault}
 use Rattle.sam_endpoint.specs.declared.step.BringFault.TheVariants as bring
 use Rattle.sam_overlay.specs.Effects.{cells_after}
-use Rattle.sam_overlay.specs.Overlays.{AreOver, AreRequests, IsPutting, cells_of_file, edit_event, step_effect}
+use Rattle.sam_overlay.specs.Outcomes.{LacksRoom, LayerDrops, has_edit}
+use Rattle.sam_overlay.specs.Overlays.{AreOver, AreRequests, IsPutting, cells_of_file, edit_event, is_received, step_effect}
 use Rattle.sam_overlay.specs.declared.fault.ReplaceFault.{ReplaceFault}
 use Rattle.sam_overlay.specs.declared.fault.ReplaceFault.TheVariants as refuses
 use Rattle.sam_overlay.specs.declared.fault.PutFault.{PutFault}
@@ -48,6 +53,18 @@ shown_at o f = shown_of (cells_at o f)
 abbrev pub IsShownFrom : ℕ → PartialText → PartialText → Type 0
 IsShownFrom place text found = (0 < length found) × (take (length found) (drop place text) ≡ found)
 
+-- how many members stand before the first gap
+abbrev pub gap_in : PartialText → Option ℕ
+gap_in text = option_map (λ gaps. gaps.0) (first_gaps text)
+
+-- the first place from that one on whose rune is not loaded
+abbrev pub gap_from : ℕ → PartialText → Option ℕ
+gap_from place text = option_map (λ n. place + n) (gap_in (drop place text))
+
+-- an edit waits over the file
+abbrev pub has_edit_at : PlainOverlay → ℕ → Bool
+has_edit_at o f = has_edit (slot o.layers f)
+
 -- requests alone are held, or the edit that was put
 abbrev pub HoldsOnly : PlainTermEndpoint → Slots Layer → Option ℕ → Type 0
 HoldsOnly e ls None = AreRequests e.term.held
@@ -56,6 +73,7 @@ HoldsOnly e ls (Some f) = IsPutting e ls f
 -- what is true of each overlay
 pub record IsSound (o : PlainOverlay) : Type 0 where
   pub over : AreOver o.end.term o.layers
+  pub command : slot o.layers 0 ≡ None
   pub holds : HoldsOnly o.end o.layers o.putting
 
 -- ## The host's stream, and requests
@@ -93,13 +111,14 @@ Asks o event result n = When o.putting
 
 -- ## Steps
 
--- the cells of each file go as the frame says that was received; or one edit of what waits came to the rasp of the file for which it was
+-- the cells of each file go as the frame says that was received (those of the command file, over which nothing waits, also as its events
+-- say); or one edit of what waits came to the rasp of the file for which it was
 -- put, and by it nothing that is shown moves
 abbrev pub CellsGo : PlainOverlay → OverlayStep → PlainOverlay → Type 0
 CellsGo o x n = When o.putting
   where
     When : Option ℕ → Type 0
-    When None = (f : ℕ) → cells_at n f ≡ cells_after (step_effect o.end x.step f) (cells_at o f)
+    When None = (f : ℕ) → (f ≡ 0 → is_received x.step ≡ true) → cells_at n f ≡ cells_after (step_effect o.end x.step f) (cells_at o f)
     When (Some g) =
         (e : Change) × IsMade (cells_at o g) e (cells_at n g) × ((f : ℕ) → f ≢ g → cells_at n f ≡ cells_at o f)
 
@@ -141,7 +160,7 @@ pub record IsFree (e : PlainTermEndpoint) (f : ℕ) : Type 0 where
 -- alone, and the next step has it act; or why it isn't, and all is as before
 abbrev pub Puts : PlainOverlay → ℕ → Result Put PutFault → PlainOverlay → Type 0
 Puts o f (Ok put.Nothing) n =
-    (n.end ≡ o.end) × (n.putting ≡ o.putting) × (slot n.layers f ≡ None) × ((g : ℕ) → cells_at n g ≡ cells_at o g)
+    (has_edit_at o f ≡ false) × (n.end ≡ o.end) × (n.putting ≡ o.putting) × (slot n.layers f ≡ None) × ((g : ℕ) → cells_at n g ≡ cells_at o g)
 Puts o f (Ok put.NotFree) n = (n ≡ o) × ((o.putting ≡ None) → IsFree o.end f → ⊥)
 Puts o f (Ok put.Edit) n =
     (l : Layer) × (e : Edit) × (slot o.layers f ≡ Some l) × (next_edit l ≡ Some e) × BringsEvent o.end (edit_event f e) (Ok tt) n.end
@@ -150,6 +169,15 @@ Puts o f (Err (unput.Stopped why)) n = (o.end.stop ≡ Some why) × (n ≡ o)
 Puts o f (Err unput.TooLong) n = (l : Layer) × (slot o.layers f ≡ Some l) × (max_runes < rasp_length (next_made l)) × (n ≡ o)
 Puts o f (Err unput.CountFull) n = (o.end.events ≡ 2 ^ 64 - 1) × (n ≡ o)
 Puts o f (Err unput.OutOfMemory) n = n ≡ o
+
+-- what to take back the next runes that wait over file f leads to: they went, since an edit could act at once and they have no room; or
+-- all is as before, since one can't or they have
+abbrev pub Drops : PlainOverlay → ℕ → Result (Option Dropped) PendingFault → PlainOverlay → Type 0
+Drops o f (Ok None) n = (n ≡ o) × ((o.putting ≡ None) → IsFree o.end f → LacksRoom (slot o.layers f) → ⊥)
+Drops o f (Ok (Some d)) n =
+    (o.putting ≡ None) × IsFree o.end f × LayerDrops (slot o.layers f) (Ok (Some d)) (slot n.layers f)
+    × ((g : ℕ) → g ≢ f → slot n.layers g ≡ slot o.layers g) × (n.end ≡ o.end) × (n.putting ≡ o.putting)
+Drops o f (Err why) n = (why ≡ failed.OutOfMemory) × (n ≡ o)
 
 -- ## Laws
 

@@ -1,11 +1,18 @@
 -- What a change of the host's does to what waits over one rasp, and to what is shown.
-use Rattle.std.specs.Prelude.{◌≡◌, ◌≤◌, ℕ, List, ◌++◌, map, take, drop, length, reverse, Option, Some, None, option_map, All}
+use Rattle.std.specs.Prelude.{◌≡◌, ◌≤◌, ◌<◌, ◌^◌, ◌+◌, ◌==◌, ◌&&◌, if◌then◌else◌, ℕ, Bool, true, false, not, List, ◌++◌, map, take, drop, length, reverse, Option, Some, None, option_map, Result, Ok, Err, All}
+use Rattle.sam_runes.specs.Slots.{Slots, slot}
 use Rattle.sam_runes.specs.Texts.{max_runes}
 use Rattle.sam_runes.specs.declared.edit.Edit.{Edit}
 use Rattle.sam_pending.specs.Cells.{PartialText, Cell, IsMade, IsNewest, all_put, put, rasp_of, replaced, resting, shown_of}
-use Rattle.sam_pending.specs.Layers.{Layer, IsLayer, IsOver, cells_over, next_edit, next_made, with_runs}
-use Rattle.sam_pending.specs.Runs.{edit_change, filling_changes, removal_changes}
+use Rattle.sam_pending.specs.Layers.{Layer, DropsNext, IsLayer, IsOver, cells_over, first_dropped, next_edit, next_made, rasp_length, with_runs}
+use Rattle.sam_pending.specs.Runs.{edit_change, filling_changes, removal_changes, rests}
+use Rattle.sam_pending.specs.declared.fault.PendingFault.{PendingFault}
+use Rattle.sam_pending.specs.declared.fault.PendingFault.TheVariants as failed
 use Rattle.sam_pending.specs.declared.run.Run.{Run}
+use Rattle.sam_pending.specs.declared.told.Dropped.{Dropped}
+use Rattle.sam_endpoint.specs.declared.changes.Change.{Change}
+use Rattle.sam_endpoint.specs.declared.step.TermStep.{TermStep}
+use Rattle.sam_endpoint.specs.declared.step.TermStep.TheVariants as did
 use Rattle.sam_overlay.specs.Effects.{Effect, FitsIn, cells_after, members_after, plan_of}
 use Rattle.sam_overlay.specs.declared.frame_plan.Plan.{Plan}
 use Rattle.sam_overlay.specs.declared.outcome.LayerChange.{LayerChange}
@@ -31,13 +38,28 @@ layer_after (change.Runs runs) o = option_map (λ l. with_runs l runs) o
 layer_after change.Ends o = None
 
 -- what is told leads from the old shown text to the new one: some members came in at a place; some went, the last removal first; runes
--- were stored, and nothing moved; or the text is empty
+-- were stored, and nothing moved; some gave way to others; or the text is empty
 abbrev pub Leads : Told → PartialText → PartialText → Type 0
 Leads told.Nothing old new = new ≡ old
 Leads (told.Came p n) old new = (cells : PartialText) × (length cells ≡ n) × (new ≡ take p old ++ cells ++ drop p old)
 Leads (told.Went removals) old new = new ≡ all_put old (reverse (removal_changes removals.items))
 Leads (told.Filled fillings) old new = (s : List ℕ) × (new ≡ all_put old (reverse (filling_changes s fillings.items)))
+Leads (told.Changed p gone came) old new =
+    (cells : PartialText) × (length cells ≡ came) × (new ≡ take p old ++ cells ++ drop (p + gone) old)
 Leads told.Emptied old new = length new ≡ 0
+
+-- what is told of a change to the command file: so many members gave way to so many others
+abbrev pub change_told : Change → Told
+change_told c = if c.gone == 0 && c.came == 0 then told.Nothing else told.Changed c.start c.gone c.came
+
+-- what is told of a step that received no frame: an event may have changed the command file
+abbrev pub event_told : TermStep → Told
+event_told (did.Acted number tag change) = change_told change
+event_told did.Idle = told.Nothing
+event_told did.Locked = told.Nothing
+event_told did.Wrote = told.Nothing
+event_told (did.Received kind tag change) = told.Nothing
+event_told (did.Refused number why) = told.Nothing
 
 -- the change by that plan fits a rasp that the layer is over
 pub record Meets (o : Option Layer) (plan : Plan) (r : PartialText) (e : Effect) : Type 0 where
@@ -66,6 +88,33 @@ IsNextMade l =
     (r : PartialText) (e : Edit) → IsOver r l → next_edit l ≡ Some e
     → IsMade (cells_over r l) (edit_change e) (cells_over (put r (edit_change e)) (next_made l))
     × IsOver (put r (edit_change e)) (next_made l)
+
+-- ## What waits
+
+-- an edit waits: some cell is not in the rasp yet, or is to go
+abbrev pub has_edit : Option Layer → Bool
+has_edit None = false
+has_edit (Some l) = not (rests l.runs)
+
+-- none waits over the files from one tag on up to another
+abbrev pub NoneWaits : Slots Layer → ℕ → ℕ → Type 0
+NoneWaits ls from to = (f : ℕ) → from ≤ f → f < to → has_edit (slot ls f) ≡ false
+
+-- the first file from that tag on over which one waits, or none does
+abbrev pub IsNextWaiting : Slots Layer → ℕ → Option ℕ → Type 0
+IsNextWaiting ls from None = NoneWaits ls from (2 ^ 16)
+IsNextWaiting ls from (Some f) = (from ≤ f) × (has_edit (slot ls f) ≡ true) × NoneWaits ls from f
+
+-- the rasp has no room for the next edit
+abbrev pub LacksRoom : Option Layer → Type 0
+LacksRoom None = ⊥
+LacksRoom (Some l) = max_runes < rasp_length (next_made l)
+
+-- where it has none the runes of that edit are taken back; else all stays
+abbrev pub LayerDrops : Option Layer → Result (Option Dropped) PendingFault → Option Layer → Type 0
+LayerDrops o (Ok None) k = (k ≡ o) × (LacksRoom o → ⊥)
+LayerDrops o (Ok (Some d)) k = LacksRoom o × ((l : Layer) × (o ≡ Some l) × DropsNext l d × (k ≡ Some (first_dropped l)))
+LayerDrops o (Err why) k = (k ≡ o) × (why ≡ failed.OutOfMemory)
 
 -- ## What the user does
 

@@ -35,11 +35,11 @@ AreOver t ls = (f : ℕ) → IsOverRasp (rasp_at t f) (slot ls f)
 
 -- ## Events
 
--- the event leaves each text as it is
+-- the event leaves each text as it is, but for that of the command file, over which nothing waits
 abbrev pub is_request : UserEvent → Bool
-is_request (event.Typed f s) = false
-is_request (event.Cut f) = false
-is_request (event.Paste f) = false
+is_request (event.Typed f s) = f == 0
+is_request (event.Cut f) = f == 0
+is_request (event.Paste f) = f == 0
 is_request (event.Edit f p q s) = false
 is_request (event.Select f p q) = true
 is_request (event.Snarf f) = true
@@ -108,7 +108,7 @@ abbrev pub first_effect : List HFrame → ℕ → Effect
 first_effect [] f = Stays
 first_effect (frame ∷ frames) f = effect f frame.msg
 
--- what a step does to file f that is not of an edit which waited: only a frame changes a text
+-- what a step does to file f that is not of an edit which waited: only a frame changes a text but that of the command file
 abbrev pub step_effect : PlainTermEndpoint → TermStep → ℕ → Effect
 step_effect e step f = if is_received step then first_effect e.waiting f else Stays
 
@@ -121,8 +121,9 @@ pub record IsNext (frames : List HFrame) (ls : Slots Layer) (x : FilePlan × Out
 -- to what is shown
 pub record Stepped (e : PlainTermEndpoint) (ls : Slots Layer) (x : OverlayStep) (g : PlainTermEndpoint) (ks : Slots Layer) : Type 0 where
   pub over : AreOver g.term ks
+  pub command : slot ks 0 ≡ None
   pub requests : AreRequests g.term.held
-  pub cells : (f : ℕ) → cells_of_file g.term ks f ≡ cells_after (step_effect e x.step f) (cells_of_file e.term ls f)
+  pub cells : (f : ℕ) → (f ≡ 0 → is_received x.step ≡ true) → cells_of_file g.term ks f ≡ cells_after (step_effect e x.step f) (cells_of_file e.term ls f)
   pub told : (f : ℕ) → Leads (told_at x f) (shown_of (cells_of_file e.term ls f)) (shown_of (cells_of_file g.term ks f))
 
 -- by a step the edit that was put came to the rasp of file f; nothing that is shown moved
@@ -131,6 +132,7 @@ pub record Brought (e : PlainTermEndpoint) (ls : Slots Layer) (f : ℕ) (g : Pla
   pub made : IsMade (cells_of_file e.term ls f) change (cells_of_file g.term ks f)
   pub others : (h : ℕ) → h ≢ f → cells_of_file g.term ks h ≡ cells_of_file e.term ls h
   pub over : AreOver g.term ks
+  pub command : slot ks 0 ≡ None
   pub requests : AreRequests g.term.held
 
 -- the end is as it was, but that it may have stopped

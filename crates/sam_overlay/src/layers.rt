@@ -1,17 +1,20 @@
 //! What waits over the rasps of files, by tag.
 
-ghost use Rattle.std.specs.Prelude.{◌≡◌, ◌++◌, ◌+◌, ◌-◌, ◌<◌, ◌≤◌, ◌^◌, ℕ, [], length, OnErr, OnOk, IfOk, Some, None, IsTrue, ◌≢◌, is_some, option_copied, option_map, List, replicate, vec_len, vec_capacity};
+ghost use Rattle.std.specs.Prelude.{◌≡◌, ◌++◌, ◌+◌, ◌-◌, ◌<◌, ◌≤◌, ◌^◌, ℕ, [], length, OnErr, OnOk, IfOk, Ok, Some, None, IsTrue, ◌≢◌, is_some, option_copied, option_map, List, replicate, vec_len, vec_capacity};
 ghost use Rattle.sam_runes.specs.Slots.{slot};
 ghost use Rattle.sam_pending.specs.Layers.{Layer, IsLayer, with_runs, next_made, rasp_length};
-ghost use Rattle.sam_overlay.specs.Outcomes.{IsNextMade, LayerReplaces, layer_after};
+ghost use Rattle.sam_overlay.specs.Outcomes.{IsNextMade, IsNextWaiting, LayerDrops, LayerReplaces, NoneWaits, has_edit, layer_after};
 ghost use Rattle.sam_overlay.specs.Setting.{Sets};
 ghost use Rattle.sam_pending.specs.declared.run.Run.{Run};
 ghost use Rattle.sam_runes.specs.Texts.{max_runes};
 
 use crate::outcome::LayerChange;
-use sam_pending::{Pending, PendingFault, Prepared};
+use sam_pending::{Dropped, Pending, PendingFault, Prepared};
 use std::alloc::{AllocError, Global};
 use std::marker::Model;
+
+/// How many tags there are.
+const TAGS: usize = 65_536;
 
 /// What waits over the rasps of files, by tag: nothing over most. Contracts see a list of slots, whose index is the tag.
 #[derive(Drop)]
@@ -53,6 +56,31 @@ impl Layers {
         } else {
             None
         }
+    }
+
+    /// Returns whether an edit waits over a file.
+    pub fn is_waiting(&self, tag: u16) -> bool
+        ensures { result ≡ has_edit (slot self.now tag) }
+    {
+        match self.at(tag) {
+            Some(pending) => !pending.is_resting(),
+            None => false,
+        }
+    }
+
+    /// Returns the first file from that tag on over which an edit waits; `None` if there is none.
+    #[tactic(auto, using(crate::proofs::SlotSteps::waiting_facts))]
+    pub fn next_waiting(&self, from: u16) -> Option<u16>
+        ensures { IsNextWaiting self.now from result }
+    {
+        let end = self.slots.len().min(TAGS);
+        for index in from as usize..end {
+            let tag = index as u16;
+            if self.is_waiting(tag) {
+                return Some(tag);
+            }
+        }
+        None
     }
 
     /// Puts `runes` in the place of what is shown of a file from place `p` to place `q`, where its rasp has `len` members. Errors are those
@@ -142,6 +170,23 @@ impl Layers {
         }
     }
 
+    /// Takes back the runes of the next edit of what waits over a file, if its rasp has no room for them. The only error is `OutOfMemory`;
+    /// after it all is unchanged.
+    #[tactic(auto, using(crate::proofs::SlotSteps::set_facts))]
+    pub fn drop_next(&mut self, tag: u16) -> Result<Option<Dropped>, PendingFault>
+        ensures dropped { LayerDrops (slot self.old tag) result (slot self.new tag) }
+        ensures others { (f : ℕ) → f ≢ tag → slot self.new f ≡ slot self.old f }
+        ensures none { result ≡ Ok None → self.new ≡ self.old }
+        ensures err { OnErr result (self.new ≡ self.old) }
+    {
+        let index = tag as usize;
+        if index < self.slots.len() {
+            drop_next(&mut self.slots[index])
+        } else {
+            Ok(None)
+        }
+    }
+
     /// Takes on that the next edit of what waits over a file was made in its rasp. Nothing is done if nothing waits.
     #[tactic(auto, using(crate::proofs::SlotSteps::set_facts))]
     pub fn make_next(&mut self, tag: u16)
@@ -223,6 +268,18 @@ fn take_on(layer: &mut Option<Pending>, change: Prepared)
 {
     if let Some(pending) = layer {
         pending.take_on(change);
+    }
+}
+
+/// Takes back the runes of the next edit, if something waits and the rasp has no room for them.
+fn drop_next(layer: &mut Option<Pending>) -> Result<Option<Dropped>, PendingFault>
+    ensures dropped { LayerDrops layer.old result layer.new }
+    ensures none { result ≡ Ok None → layer.new ≡ layer.old }
+    ensures err { OnErr result (layer.new ≡ layer.old) }
+{
+    match layer {
+        Some(pending) => pending.drop_next(),
+        None => Ok(None),
     }
 }
 

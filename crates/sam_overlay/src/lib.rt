@@ -11,5 +11,5 @@ mod shown_change;
 mod steps;
 
 pub use fault::{PutFault, ReplaceFault};
-pub use overlay::Overlay;
+pub use overlay::{Overlay, is_request};
 pub use shown_change::{OverlayStep, Put, Told};

@@ -1,15 +1,15 @@
 //! `Overlay`: a terminal end, and edits of the user that wait over its rasps.
 
-ghost use Rattle.std.specs.Prelude.{◌≡◌, ◌≢◌, ◌⊎◌, ◌↔◌, ◌<◌, ◌≤◌, ℕ, OnErr, OnOk, IfOk, IfErr, IsTrue, MatchOption, Some, None, Err, if◌then◌else◌, is_some, length, false, drop, slice_get};
+ghost use Rattle.std.specs.Prelude.{◌≡◌, ◌≢◌, ◌⊎◌, ◌↔◌, ◌<◌, ◌≤◌, ℕ, OnErr, OnOk, IfOk, IfErr, IsTrue, MatchOption, Some, None, Err, if◌then◌else◌, is_some, length, false, drop, take, slice_get, ◌^◌, IfSome};
 ghost use Rattle.sam_runes.specs.Checks.{first_of_checks};
 ghost use Rattle.sam_runes.specs.Texts.{max_runes};
 ghost use Rattle.sam_pending.specs.Layers.{IsOver, cells_over, next_edit, next_made, rasp_length, shown_members};
-ghost use Rattle.sam_pending.specs.Cells.{PartialText, rasp_of, shown_of};
+ghost use Rattle.sam_pending.specs.Cells.{IsTakenBack, PartialText, rasp_of, resting, shown_of};
 ghost use Rattle.sam_pending.specs.Runs.{rests};
 ghost use Rattle.sam_endpoint.specs.TermEndpoints.{IsDone};
 ghost use Rattle.sam_endpoint.specs.TermStepping.{Steps};
-ghost use Rattle.sam_overlay.specs.Calls.{Asks, Brings, CellsGo, IsFree, IsNotNow, Keeps, is_free, Puts, IsShownFrom, cells_at, new_overlay, replace_checks, shown_at, waiting_at};
-ghost use Rattle.sam_overlay.specs.Outcomes.{Leads, Replaces};
+ghost use Rattle.sam_overlay.specs.Calls.{Asks, Brings, CellsGo, Drops, IsFree, IsNotNow, Keeps, is_free, Puts, IsShownFrom, cells_at, gap_from, gap_in, has_edit_at, new_overlay, replace_checks, shown_at, waiting_at};
+ghost use Rattle.sam_overlay.specs.Outcomes.{IsNextWaiting, Leads, Replaces};
 ghost use Rattle.sam_overlay.specs.Overlays.{StopsOnly, end_step, is_request, told_at};
 ghost use Rattle.sam_term.specs.Term.{is_known, is_open, rasp_at};
 
@@ -18,7 +18,7 @@ use crate::layers::Layers;
 use crate::shown_change::{OverlayStep, Put};
 use crate::steps::{quiet, step_edit, step_over};
 use sam_endpoint::{BringFault, EndpointFault, FinishFault, TermEndpoint, TermStop};
-use sam_pending::{Pending, PendingFault, Shown};
+use sam_pending::{Dropped, Pending, PendingFault, Shown};
 use sam_rasp::Rasp;
 use sam_runes::{Edit, MAX_RUNES};
 use sam_term::{Refusal, Terminal, UserEvent};
@@ -27,7 +27,7 @@ use std::marker::Model;
 
 /// A terminal end, and edits of the user that wait over its rasps. What the user does is shown at once, also while a file is locked; the
 /// host's changes go through it; and once a file is free it is put as events, one edit at a time. Of the other events those are taken that
-/// leave each text. Typing into the command file is not, so far.
+/// leave each text but that of the command file, over which nothing waits.
 ///
 /// ```rust
 /// overlay.replace(1, 5, 5, &['!'])?; // `hello!` is shown, though a paste has locked file 1
@@ -115,6 +115,35 @@ impl Overlay {
         }
     }
 
+    /// Returns the first place of the shown text of a file, at or after `place`, whose rune is not loaded; `None` if the file is not open,
+    /// or if all runes are loaded from there on. Runes that wait are loaded.
+    #[tactic(auto, using(crate::proofs::GapLaws::gap_facts))]
+    pub fn first_gap(&self, tag: u16, place: u32) -> Option<u32>
+        ensures { result ≡ (if is_open self.now.end.term tag then gap_from place (shown_at self.now tag) else None) }
+    {
+        let rasp = self.end.term().rasp(tag)?;
+        match self.layers.at(tag) {
+            Some(pending) => pending_gap(pending, rasp, place),
+            None => rasp_gap(rasp, place),
+        }
+    }
+
+    /// Returns whether an edit waits over a file: one that only removes has no runes that `waiting` counts.
+    #[tactic(auto, using(crate::proofs::CallLaws::rests_cells))]
+    pub fn is_waiting(&self, tag: u16) -> bool
+        ensures value { result ≡ has_edit_at self.now tag }
+        ensures rests { result ≡ false → cells_at self.now tag ≡ resting (rasp_at self.now.end.term tag) }
+    {
+        self.layers.is_waiting(tag)
+    }
+
+    /// Returns the first file from tag `from` on over which an edit waits; `None` if there is none. To find all, go on behind each.
+    pub fn next_waiting(&self, from: u16) -> Option<u16>
+        ensures { IsNextWaiting self.now.layers from result }
+    {
+        self.layers.next_waiting(from)
+    }
+
     /// Takes out the first `count` bytes for the host, or all if there are fewer, as `TermEndpoint::consume` does. All else stays.
     pub fn consume(&mut self, count: usize)
         ensures { self.new ≡ record self.old { end = record self.old.end { pending_bytes = drop count self.old.end.pending_bytes } } }
@@ -131,11 +160,12 @@ impl Overlay {
         self.end.next_refusal()
     }
 
-    /// States what is true of every overlay: the cells of a file that no edit which waits put in are its rasp. It does nothing when the
-    /// program runs.
-    #[tactic(auto, using(crate::proofs::CallLaws::rasp_of_file))]
+    /// States what is true of every overlay: the cells of a file that no edit which waits put in are its rasp, and nothing waits over the
+    /// command file. It does nothing when the program runs.
+    #[tactic(auto, using(crate::proofs::CallLaws::rasp_of_file, crate::proofs::CallLaws::command_rests))]
     pub fn facts(&self)
-        ensures { (f : ℕ) → rasp_of (cells_at self.now f) ≡ rasp_at self.now.end.term f }
+        ensures command { cells_at self.now 0 ≡ resting (rasp_at self.now.end.term 0) }
+        ensures rasp { (f : ℕ) → rasp_of (cells_at self.now f) ≡ rasp_at self.now.end.term f }
     {
         let _ = &self.alloc;
     }
@@ -162,7 +192,8 @@ impl Overlay {
         self.end.bring(piece)
     }
 
-    /// Takes an event of the user that leaves each text, and goes no further, as `TermEndpoint::bring_event` does. Edits come by `replace`.
+    /// Takes an event of the user that leaves each text but that of the command file (see `is_request`), and goes no further, as
+    /// `TermEndpoint::bring_event` does. Edits of other files come by `replace`. What is typed into the command file is shown once it acts.
     ///
     /// Errors are those of that call, in its order. `Waiting` is also returned while an edit that was put has not acted: go on by steps.
     #[tactic(auto, using(crate::proofs::CallLaws::asked_sound))]
@@ -293,6 +324,36 @@ impl Overlay {
             Err(why) => Err(PutFault::of(why)),
         }
     }
+
+    /// Takes back runes for which the host left no room: the next insertion that waits over a file, where `put_next` answers `TooLong`.
+    /// Returns the runes, and which part of the shown text went. `None` wherever `put_next` answers otherwise; then all is as before.
+    ///
+    /// The only error is `OutOfMemory`; after it all is as before.
+    #[tactic(auto, using(crate::proofs::CallLaws::drop_facts))]
+    pub fn drop_next(&mut self, tag: u16) -> Result<Option<Dropped>, PendingFault>
+        ensures drops { Drops self.old tag result self.new }
+        ensures cells { IfOk result (λ x. IfSome x (λ d.
+            IsTakenBack (cells_at self.old tag) d.place d.count d.text (cells_at self.new tag))) }
+    {
+        if self.putting.is_some() || !is_free(&self.end, tag) {
+            return Ok(None);
+        }
+        self.layers.drop_next(tag)
+    }
+}
+
+/// Returns whether `Overlay::bring_event` takes an event: it leaves each text as it is, but for that of the command file. So typing, cutting
+/// and pasting are taken there alone, and no `Edit` is, since the command file takes none.
+pub fn is_request(event: &UserEvent) -> bool
+    ensures { result ≡ is_request event.now }
+{
+    match event {
+        UserEvent::Typed(tag, _) => *tag == 0,
+        UserEvent::Cut(tag) => *tag == 0,
+        UserEvent::Paste(tag) => *tag == 0,
+        UserEvent::Edit(_, _, _, _) => false,
+        _ => true,
+    }
 }
 
 /// Returns why nothing is brought while an edit that was put has not acted.
@@ -347,6 +408,82 @@ fn rasp_from(rasp: &Rasp, place: u32) -> Option<Shown<'static>>
         return None;
     }
     Some(Shown::Rasp(place, len - place))
+}
+
+/// Returns the first place of a rasp, at or after a place, whose rune is not loaded.
+#[tactic(auto, using(crate::proofs::GapLaws::rasp_gap_facts))]
+fn rasp_gap(rasp: &Rasp, place: u32) -> Option<u32>
+    ensures { result ≡ gap_from place rasp.now }
+{
+    let len = rasp.len();
+    if place > len {
+        return None;
+    }
+    let (gap, _) = rasp.first_hole(place, len)?;
+    Some(gap)
+}
+
+/// Returns the first place of the shown text, at or after a place, whose rune is not loaded, where something waits.
+#[tactic(auto, using(crate::proofs::GapLaws::pending_gap_facts))]
+fn pending_gap(pending: &Pending, rasp: &Rasp, place: u32) -> Option<u32>
+    requires { IsOver rasp.now pending.now }
+    ensures { result ≡ gap_from place (shown_of (cells_over rasp.now pending.now)) }
+{
+    let len = pending.shown_len();
+    let mut at = place;
+    while at < len {
+        let piece = pending.shown_at(at)?;
+        if let Some(gap) = piece_gap(rasp, &piece) {
+            return Some(at + gap);
+        }
+        at += piece_len(rasp, &piece);
+    }
+    None
+}
+
+/// Returns how many members stand in a piece of the shown text before the first that is not loaded; `None` if all are.
+#[tactic(auto, using(crate::proofs::GapLaws::piece_facts))]
+fn piece_gap(rasp: &Rasp, piece: &Shown<'_>) -> Option<u32>
+    ensures { result ≡ gap_in (shown_members rasp.now piece.now) }
+{
+    match piece {
+        Shown::Rasp(place, count) => gap_within(rasp, *place, *count),
+        Shown::Waiting(_) => None,
+    }
+}
+
+/// Returns how many members a piece of the shown text has.
+#[tactic(auto, using(crate::proofs::GapLaws::piece_facts))]
+fn piece_len(rasp: &Rasp, piece: &Shown<'_>) -> u32
+    requires { length (shown_members rasp.now piece.now) < 2 ^ 32 }
+    ensures { result ≡ length (shown_members rasp.now piece.now) }
+{
+    match piece {
+        Shown::Rasp(place, count) => count_within(rasp, *place, *count),
+        Shown::Waiting(runes) => runes.len() as u32,
+    }
+}
+
+/// Returns how many members a rasp has from a place on, `most` at most.
+#[tactic(auto, using(crate::proofs::GapLaws::piece_facts))]
+fn count_within(rasp: &Rasp, place: u32, most: u32) -> u32
+    ensures { result ≡ length (take most (drop place rasp.now)) }
+{
+    rasp.len().saturating_sub(place).min(most)
+}
+
+/// Returns how many members stand before the first gap among `most` members of a rasp from a place on; `None` if there is no gap.
+#[tactic(auto, using(crate::proofs::GapLaws::piece_facts))]
+fn gap_within(rasp: &Rasp, place: u32, most: u32) -> Option<u32>
+    ensures { result ≡ gap_in (take most (drop place rasp.now)) }
+{
+    let len = rasp.len();
+    if place > len {
+        return None;
+    }
+    let end = place + (len - place).min(most);
+    let (gap, _) = rasp.first_hole(place, end)?;
+    Some(gap - place)
 }
 
 /// Returns whether an edit of a file can act at once.

@@ -15,6 +15,9 @@ pub enum Told {
     Went(Vec<Removal>),
     /// The runes of these stretches came in the place of what stood there, in ascending places. Nothing moved.
     Filled(Vec<Filling>),
+    /// `(place, gone, came)`: so many runes or gaps from the place on gave way to so many others. An event did this to the command file, over
+    /// which nothing waits.
+    Changed(u32, u32, u32),
     /// It is empty now, since the file was opened or closed, and with a file that is closed goes what waited.
     Emptied,
 }

@@ -2,15 +2,17 @@
 //! it can't fail.
 
 ghost use Rattle.std.specs.Prelude.{◌≡◌, ◌≤◌, ℕ, [], None, OnErr, OnOk, IfOk, length};
+ghost use Rattle.sam_runes.specs.Slots.{slot};
 ghost use Rattle.sam_runes.specs.Texts.{max_runes};
 ghost use Rattle.sam_endpoint.specs.TermStepping.{Steps};
+ghost use Rattle.sam_overlay.specs.Outcomes.{change_told, event_told};
 ghost use Rattle.sam_overlay.specs.Overlays.{AreOver, AreRequests, Brought, IsPutting, Stepped, StopsOnly, end_step, is_received};
 
 use crate::frame_plan::FilePlan;
 use crate::layers::Layers;
 use crate::outcome::outcome_of;
 use crate::shown_change::{OverlayStep, Told};
-use sam_endpoint::{EndpointFault, TermEndpoint, TermStep, TermStop};
+use sam_endpoint::{Change, EndpointFault, TermEndpoint, TermStep, TermStop};
 use std::alloc::Global;
 
 /// Returns whether a step received a frame.
@@ -32,6 +34,7 @@ pub(crate) fn step_over(
 ) -> Result<OverlayStep, EndpointFault<TermStop>>
     requires going { end.old.stop ≡ None }
     requires over { AreOver end.old.term layers.old }
+    requires command { slot layers.old 0 ≡ None }
     requires requests { AreRequests end.old.term.held }
     ensures step { Steps end.old (end_step result) end.new }
     ensures stepped { IfOk result (λ x. Stepped end.old layers.old x end.new layers.new) }
@@ -47,7 +50,7 @@ pub(crate) fn step_over(
     };
     let step = end.step()?;
     if !is_received(step) {
-        return Ok(quiet(step));
+        return Ok(by_event(step));
     }
     layers.follow(plan.tag, outcome.change);
     Ok(OverlayStep {
@@ -61,10 +64,31 @@ pub(crate) fn step_over(
 fn quiet_step(end: &mut TermEndpoint) -> Result<OverlayStep, EndpointFault<TermStop>>
     requires { end.old.waiting ≡ [] }
     ensures step { Steps end.old (end_step result) end.new }
-    ensures quiet { IfOk result (λ x. x ≡ record { step = x.step; tag = 0; told = Told.Nothing }) }
+    ensures told { IfOk result (λ x. x ≡ record { step = x.step; tag = 0; told = event_told x.step }) }
 {
     let step = end.step()?;
-    Ok(quiet(step))
+    Ok(by_event(step))
+}
+
+/// Returns the step, which received no frame: an event may have changed the command file.
+fn by_event(step: TermStep) -> OverlayStep
+    ensures { result ≡ record { step = step; tag = 0; told = event_told step } }
+{
+    let told = match step {
+        TermStep::Acted { change, .. } => change_told(change),
+        _ => Told::Nothing,
+    };
+    OverlayStep { step, tag: 0, told }
+}
+
+/// Returns what is told of a change to the command file.
+fn change_told(change: Change) -> Told
+    ensures { result ≡ change_told change }
+{
+    if change.gone == 0 && change.came == 0 {
+        return Told::Nothing;
+    }
+    Told::Changed(change.start, change.gone, change.came)
 }
 
 /// Returns the step, of which nothing is told.
@@ -87,6 +111,7 @@ pub(crate) fn step_edit(
 ) -> Result<TermStep, EndpointFault<TermStop>>
     requires going { end.old.stop ≡ None }
     requires over { AreOver end.old.term layers.old }
+    requires command { slot layers.old 0 ≡ None }
     requires putting { IsPutting end.old layers.old tag }
     ensures step { Steps end.old result end.new }
     ensures brought { OnOk result (Brought end.old layers.old tag end.new layers.new) }

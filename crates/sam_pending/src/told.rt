@@ -53,6 +53,7 @@ pub struct Dropped {
 }
 
 /// What stands from a place of the shown text on.
+#[derive(Clone, Copy, Debug)]
 pub enum Shown<'a> {
     /// Members of the rasp: from this place of the rasp on, so many of them.
     Rasp(u32, u32),
