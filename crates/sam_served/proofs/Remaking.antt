@@ -1,68 +1,27 @@
 -- What is made of the records is like the server that took them.
-use Rattle.std.proofs.Common.{◌≡◌, ◌⊎◌, inl, inr, ℕ, zero, suc, List, [], ◌∷◌, ◌++◌, map, take, Ok, refl, sym, ap, ◌∙◌, subst}
+use Rattle.std.proofs.Common.{◌≡◌, ◌⊎◌, inl, inr, ℕ, zero, suc, List, [], ◌∷◌, ◌++◌, map, take, Option, None, Some, Ok, refl, sym, ap, ◌∙◌, subst}
 use Rattle.sam_link.specs.Calls.{Call, Does, DoesAll}
 use Rattle.sam_link.specs.Calls.Call.{Acknowledge, Answer, Ask, Feed, Put, PutNote}
 use Rattle.sam_link.specs.End.{End}
 use Rattle.sam_link.specs.Keeping.{HasRoom, Keeps, put}
 use Rattle.sam_link.specs.Packets.{Packet}
-use Rattle.sam_link.specs.Packets.{Packet as packet}
 use Rattle.sam_link.specs.Putting.{data_stream}
 use Rattle.std.proofs.Common.{length}
 use Rattle.sam_endpoint.specs.HostEndpoints.{Adds, Marks, PlainHostEndpoint}
-use Rattle.sam_endpoint.specs.HostEndpoints.{Feeds as FeedsHost}
 use Rattle.sam_served.specs.Crashes.{Repeats, all_given, over, went_out}
-use Rattle.sam_server.specs.Servers.{Acknowledged, Asked, Called, Came, Done, Effect, Hands, Hear, Joined, Makes, Marked, PlainRecord, PutsAnswers, Said, Server, Takes, Write, emptied, given}
+use Rattle.sam_server.specs.Servers.{Acknowledged, Asked, Called, Came, Done, Effect, Handles, Joined, Makes, Marked, Pauses, PlainRecord, Said, Server, Takes, given, waits_for}
 use Rattle.sam_served.specs.Serving.{records_in}
 use Rattle.sam_served.proofs.Counting.{does_parts}
 use Rattle.sam_served.proofs.Entries.{Alt, DidIs, Logged, Turned, Went, all_calls, alt_left, did_out, log_of}
 use Rattle.sam_served.proofs.Gates.{Fine, all_fine, still_fine}
 use Rattle.sam_served.proofs.Lefts.{TookNone, TookOut, either}
 use Rattle.sam_server.proofs.One.{one_does, one_end}
-use Rattle.sam_served.proofs.Repeating.{Back, again, role_back}
+use Rattle.sam_served.proofs.Repeating.{Back, again, given_back, role_back}
 
 pub record Same (s t : Server) : Type 0 where
   pub back : Back s.link t.link
   pub host : s.host ≡ t.host
-  pub effects : s.effects ≡ t.effects
-
--- ## What came is handed to the endpoint
-
-pub record HandsToo (ps : List Packet) (s t z : Server) : Type 0 where
-  pub to : Server
-  pub hands : Hands t ps to
-  pub link_z : z.link ≡ s.link
-  pub link_to : to.link ≡ t.link
-  pub host : z.host ≡ to.host
-  pub effects : z.effects ≡ to.effects
-
-hands_again : (ps : List Packet) (s t z : Server) → s.host ≡ t.host → s.effects ≡ t.effects → Hands s ps z → HandsToo ps s t z
-hands_again [] s t z host effects is = record {
-  to = t;
-  hands = refl;
-  link_z = ap (λ (k : Server). k.link) is;
-  link_to = refl;
-  host = ap (λ (k : Server). k.host) is ∙ host;
-  effects = ap (λ (k : Server). k.effects) is ∙ effects;
-}
-hands_again (packet.Data bytes ∷ ps) s t z host effects (k, fed, rest) =
-    let next = hands_again ps (record s { host = record k { writes = [] }; effects = s.effects ++ map Write k.writes })
-    (record t { host = record k { writes = [] }; effects = t.effects ++ map Write k.writes }) z refl
-    (ap (λ (l : List Effect). l ++ map Write k.writes) effects) rest in
-    record {
-      to = next.to;
-      hands = (k, subst (λ h. FeedsHost h bytes (Ok tt) k) host fed, next.hands);
-      link_z = next.link_z;
-      link_to = next.link_to;
-      host = next.host;
-      effects = next.effects;
-    }
-hands_again (packet.Note bytes ∷ ps) s t z host effects rest =
-    let next = hands_again ps (record s { effects = s.effects ++ Hear bytes ∷ [] }) (record t { effects = t.effects ++ Hear bytes ∷ [] }) z
-    host
-    (ap (λ (l : List Effect). l ++ Hear bytes ∷ []) effects) rest in
-    record { to = next.to; hands = next.hands; link_z = next.link_z; link_to = next.link_to; host = next.host; effects = next.effects }
-hands_again (packet.Acknowledge count ∷ ps) s t z host effects rest = absurd rest
-hands_again (packet.Ask ∷ ps) s t z host effects rest = absurd rest
+  pub effect : s.effect ≡ t.effect
 
 -- ## A record
 
@@ -76,7 +35,7 @@ once c r to (k, does, is) = subst (λ x. Does (all_given r) c x) (sym is) does
 
 by_link : (s t z : Server) (l k : End) → Same s t → Back l k → z ≡ record s { link = l } → Same z (record (given t) { link = k })
 by_link s t z l k same back is =
-    subst (λ x. Same x (record (given t) { link = k })) (sym is) (record { back = back; host = same.host; effects = same.effects })
+    subst (λ x. Same x (record (given t) { link = k })) (sym is) (record { back = back; host = same.host; effect = same.effect })
 
 put_after : (e n r : End) (bytes : List ℕ) → Back e r → Does e (Put bytes (Ok tt)) n → (k : End) × Does r (Put bytes (Ok tt)) k × Back n k
 put_after e n r bytes b x =
@@ -88,36 +47,56 @@ put_after e n r bytes b x =
           (record { same = ap (λ (m : End). over (record m { keeps = put m.keeps (data_stream bytes) })) b.same; open_too = b.open_too }),
     )
 
-came_again : (attempt : ℕ) (piece : List ℕ) (s t z : Server) (l : End) (m : Server) → Fine s.link → Same s t
-    → Does s.link (Feed attempt piece (Ok tt)) l
-    → Hands (record s { link = emptied l }) l.waiting.packets m → PutsAnswers m z → TakesToo (Came attempt piece) t z
-came_again attempt piece s t z l m fine same does hands (n, puts, is) =
-    let g = again (Feed attempt piece (Ok tt)) s.link l t.link fine (role_back s.link t.link fine same.back) same.back does in
-    let packets : l.waiting.packets ≡ g.to.waiting.packets = ap (λ (k : End). k.waiting.packets) g.back.same in
-    let h =
-    hands_again l.waiting.packets (record s { link = emptied l }) (record (given t) { link = emptied g.to }) m same.host same.effects
-    hands in
-    let empty : Back (emptied l) (emptied g.to) =
-    record { same = ap (λ (k : End). over (emptied k)) g.back.same; open_too = g.back.open_too } in
-    let back : Back m.link h.to.link =
-    subst (λ k. Back k h.to.link) (sym h.link_z) (subst (λ k. Back (emptied l) k) (sym h.link_to) empty) in
-    let p = put_after m.link n h.to.link m.host.pending_bytes back puts in
-    let puts_too : Does h.to.link (Put h.to.host.pending_bytes (Ok tt)) p.0 =
-    subst (λ (e : PlainHostEndpoint). Does h.to.link (Put e.pending_bytes (Ok tt)) p.0) h.host p.1 in
+-- the same is handled behind another end that is so far back
+record HandlesToo (k : End) (host : PlainHostEndpoint) (effect : Option Effect) (z : Server) : Type 0 where
+  to : Server
+  handles : Handles k host effect to
+  same : Same z to
+
+handles_again : (l k : End) (host : PlainHostEndpoint) (effect : Option Effect) (z : Server) → Back l k → Handles l host effect z
+    → HandlesToo k host effect z
+handles_again l k host effect z b (m, pauses, (n, puts, is)) =
+    let packets : l.waiting.packets ≡ k.waiting.packets = ap (λ (e : End). e.waiting.packets) b.same in
+    let back : Back (waits_for l m.packets) (waits_for k m.packets) =
+    record { same = ap (λ (e : End). over (waits_for e m.packets)) b.same; open_too = b.open_too } in
+    let p = put_after (waits_for l m.packets) n (waits_for k m.packets) m.host.pending_bytes back puts in
     record {
-      to = record h.to { link = p.0; host = record h.to.host { pending_bytes = [] } };
+      to = record { link = p.0; host = record m.host { pending_bytes = [] }; effect = m.effect };
+      handles = (
+        m,
+        subst (λ (ps : List Packet). Pauses (record { packets = ps; host = host; effect = effect }) m) packets pauses,
+        (p.0, p.1, refl),
+      );
+      same = subst (λ x. Same x (record { link = p.0; host = record m.host { pending_bytes = [] }; effect = m.effect })) (sym is)
+          (record { back = p.2; host = refl; effect = refl });
+    }
+
+came_again : (attempt : ℕ) (piece : List ℕ) (s t z : Server) (l : End) → Fine s.link → Same s t
+    → Does s.link (Feed attempt piece (Ok tt)) l → Handles l s.host s.effect z → TakesToo (Came attempt piece) t z
+came_again attempt piece s t z l fine same does handles =
+    let g = again (Feed attempt piece (Ok tt)) s.link l t.link fine (role_back s.link t.link fine same.back) same.back does in
+    let h = handles_again l g.to s.host s.effect z g.back handles in
+    record {
+      to = h.to;
       takes = (
         g.to,
-        h.to,
         once (Feed attempt piece (Ok tt)) t.link g.to g.repeats,
-        subst (λ (ps : List Packet). Hands (record (given t) { link = emptied g.to }) ps h.to) packets h.hands,
-        (p.0, puts_too, refl),
+        subst (λ (x : Option Effect). Handles g.to t.host x h.to) same.effect
+            (subst (λ (e : PlainHostEndpoint). Handles g.to e s.effect h.to) same.host h.handles),
       );
-      same = subst (λ x. Same x (record h.to { link = p.0; host = record h.to.host { pending_bytes = [] } })) (sym is) (record {
-        back = p.2;
-        host = ap (λ (e : PlainHostEndpoint). record e { pending_bytes = [] }) h.host;
-        effects = h.effects;
-      });
+      same = h.same;
+    }
+
+done_again : (ending : ℕ) (s t z : Server) (e : Effect) → Same s t → s.effect ≡ Some e → Handles s.link s.host None z
+    → TakesToo (Done ending) t z
+done_again ending s t z e same was handles =
+    let h =
+    handles_again s.link (all_given t.link) s.host None z (given_back s.link t.link same.back) handles in
+    record {
+      to = h.to;
+      takes =
+          (e, sym same.effect ∙ was, subst (λ (x : PlainHostEndpoint). Handles (all_given t.link) x None h.to) same.host h.handles);
+      same = h.same;
     }
 
 pub takes_again : (r : PlainRecord) (s t z : Server) → Fine s.link → Same s t → Takes s r z → TakesToo r t z
@@ -125,15 +104,15 @@ takes_again (Joined name text) s t z fine same (tag, k, adds, is) = record {
   to = record (given t) { host = k };
   takes = (tag, k, subst (λ h. Adds h name text (Ok tag) k) same.host adds, refl);
   same = subst (λ x. Same x (record (given t) { host = k })) (sym is)
-      (record { back = record { same = same.back.same; open_too = same.back.open_too }; host = refl; effects = same.effects });
+      (record { back = given_back s.link t.link same.back; host = refl; effect = same.effect });
 }
 takes_again (Marked f) s t z fine same (k, marks, (n, puts, is)) =
-    let p = put_after s.link n (all_given t.link) k.pending_bytes (record { same = same.back.same; open_too = same.back.open_too }) puts in
+    let p = put_after s.link n (all_given t.link) k.pending_bytes (given_back s.link t.link same.back) puts in
     record {
       to = record (given t) { link = p.0; host = record k { pending_bytes = [] } };
       takes = (k, subst (λ h. Marks h f (Ok tt) k) same.host marks, (p.0, p.1, refl));
       same = subst (λ x. Same x (record (given t) { link = p.0; host = record k { pending_bytes = [] } })) (sym is)
-          (record { back = p.2; host = refl; effects = same.effects });
+          (record { back = p.2; host = refl; effect = same.effect });
     }
 takes_again (Called hello) s t z fine same (l, does, is) =
     let g = again (Answer hello (Ok tt)) s.link l t.link fine (role_back s.link t.link fine same.back) same.back does in
@@ -142,8 +121,7 @@ takes_again (Called hello) s t z fine same (l, does, is) =
       takes = (g.to, once (Answer hello (Ok tt)) t.link g.to g.repeats, refl);
       same = by_link s t z l g.to same g.back is;
     }
-takes_again (Came attempt piece) s t z fine same (l, m, does, hands, answers) =
-    came_again attempt piece s t z l m fine same does hands answers
+takes_again (Came attempt piece) s t z fine same (l, does, handles) = came_again attempt piece s t z l fine same does handles
 takes_again (Said bytes) s t z fine same (l, does, is) =
     let g = again (PutNote bytes (Ok tt)) s.link l t.link fine (role_back s.link t.link fine same.back) same.back does in
     record {
@@ -165,12 +143,7 @@ takes_again Asked s t z fine same (l, does, is) =
       takes = (g.to, once (Ask (Ok tt)) t.link g.to g.repeats, refl);
       same = by_link s t z l g.to same g.back is;
     }
-takes_again (Done ending) s t z fine same (e, rest, p, is) = record {
-  to = record (given t) { effects = rest };
-  takes = (e, rest, sym same.effects ∙ p, refl);
-  same = subst (λ x. Same x (record (given t) { effects = rest })) (sym is)
-      (record { back = record { same = same.back.same; open_too = same.back.open_too }; host = same.host; effects = refl });
-}
+takes_again (Done ending) s t z fine same (e, was, handles) = done_again ending s t z e same was handles
 
 -- ## A front of the records
 
@@ -226,7 +199,7 @@ front zero xs s t z e fine same logged all =
       alt = record s { link = e };
       logged = o.logged;
       link_is = refl;
-      same = record { back = o.back; host = same.host; effects = same.effects };
+      same = record { back = o.back; host = same.host; effect = same.effect };
     }
 front (suc n) [] s t z e fine same logged all = record {
   made = t;
@@ -254,7 +227,7 @@ front (suc n) (Turned r cs hs ∷ xs) s t z e fine same (m, turn, rest) all =
 front (suc n) (Went c ∷ xs) s t z e fine same (l, does, did, rest) (k, does_too, all) =
     let here : k ≡ l = one_does c s.link k l does_too does in
     let f = front (suc n) xs (record s { link = l }) t z e (still_fine c s.link l fine does)
-    (record { back = back_did c s.link l t.link fine did same.back does; host = same.host; effects = same.effects }) rest
+    (record { back = back_did c s.link l t.link fine did same.back does; host = same.host; effect = same.effect }) rest
     (subst (λ x. DoesAll x (all_calls (alt_left (suc n) xs)) e) here all) in
     record {
       made = f.made;

@@ -1,5 +1,5 @@
 -- A session whose host is a server that crashes is a session without crashes.
-use Rattle.std.proofs.Common.{◌≡◌, inl, inr, ℕ, ◌+◌, ◌-◌, ◌<◌, ◌≤◌, suc, length, List, [], ◌∷◌, ◌++◌, take, take_all, drop, Bool, true, false, true≢false, Ok, Err, refl, sym, ap, ◌∙◌, subst, append-nil, append_assoc, arith}
+use Rattle.std.proofs.Common.{◌≡◌, inl, inr, ℕ, ◌+◌, ◌-◌, ◌<◌, ◌≤◌, suc, length, List, [], ◌∷◌, ◌++◌, take, take_all, drop, Bool, true, false, true≢false, None, Some, Ok, Err, refl, sym, ap, ◌∙◌, subst, append-nil, append_assoc, arith}
 use Rattle.std.proofs.lemmas.Bool.Decides.{eqb_tells}
 use Rattle.std.proofs.lemmas.Grind.{flat_map-append}
 use Rattle.std.proofs.lemmas.List.{map-append}
@@ -7,16 +7,19 @@ use Rattle.std.specs.Prelude.{◌==◌, if◌then◌else◌}
 use Rattle.sam_link.specs.Calls.{Call, Does, DoesAll, fed, out}
 use Rattle.sam_link.specs.Calls.Call.{Acknowledge, Answer, Ask, Break, Dial, Feed, NextNote, Put, PutNote, TakeIn, TakeOut, Welcome}
 use Rattle.sam_link.specs.End.{End, broken, ended, fresh, is_up}
+use Rattle.sam_link.specs.Inbox.{Waiting}
+use Rattle.sam_link.specs.Packets.{Packet}
 use Rattle.sam_link.specs.Sessions.{IsFrom, StartsWith, WasCarried, host_did, is_taken}
 use Rattle.sam_link.specs.declared.hello.Id.{Id}
+use Rattle.sam_link.specs.declared.phase.Phase.TheVariants.{Down}
 use Rattle.sam_link.specs.declared.phase.Role.TheVariants.{Host}
-use Rattle.sam_endpoint.specs.HostEndpoints.{Adds, Marks}
+use Rattle.sam_endpoint.specs.HostEndpoints.{Adds, Marks, PlainHostEndpoint}
 use Rattle.sam_endpoint.specs.HostRuns.{Runs, begun_with}
 use Rattle.sam_host.specs.Host.{new_host}
 use Rattle.sam_server.specs.Gates.{PlainGate}
 use Rattle.sam_served.specs.Crashes.{AreLike, LedTo, MayGoOut, DurableSession, left, over}
 use Rattle.sam_served.specs.Gates.{gone_count, put_count}
-use Rattle.sam_server.specs.Servers.{Acknowledged, Asked, Called, Came, Done, Joined, Makes, Marked, PlainRecord, Said, Server, Takes, new_server}
+use Rattle.sam_server.specs.Servers.{Acknowledged, Asked, Called, Came, Done, Effect, Handles, Joined, Makes, Marked, Pauses, PlainRecord, Said, Server, Takes, new_server, waits_for}
 use Rattle.sam_served.specs.Serving.{ByTerminal, Crash, Did, Do, Entry, Event, LeadsServed, MadeOf, MayDo, Served, ServedAreMade, ServedAreSessions, Sync, Take, Took, WasBrought, calls_in, came, left_of, new_served, records_in, asides_by_records}
 use Rattle.sam_served.specs.Marks.{GatesKeepTheRule, MarksAreRight, StandsAt}
 use Rattle.sam_served.specs.Turns.{IsSettled}
@@ -39,29 +42,56 @@ record TakesAlike (r : PlainRecord) (t z : Server) : Type 0 where
   takes : Takes t r to
   like : AreLike z.link to.link
   host : z.host ≡ to.host
-  effects : z.effects ≡ to.effects
+  effect : z.effect ≡ to.effect
 
-linked_alike : (r : PlainRecord) (s t z : Server) (l k : End) → s.host ≡ t.host → s.effects ≡ t.effects → Takes t r (record t { link = k })
+linked_alike : (r : PlainRecord) (s t z : Server) (l k : End) → s.host ≡ t.host → s.effect ≡ t.effect → Takes t r (record t { link = k })
     → AreLike l k → z ≡ record s { link = l } → TakesAlike r t z
-linked_alike r s t z l k host effects takes like is =
+linked_alike r s t z l k host effect takes like is =
     subst (λ x. TakesAlike r t x) (sym is)
-    (record { to = record t { link = k }; takes = takes; like = like; host = host; effects = effects })
+    (record { to = record t { link = k }; takes = takes; like = like; host = host; effect = effect })
 
-takes_alike : (r : PlainRecord) (s t z : Server) → s.link.role ≡ Host → AreLike s.link t.link → s.host ≡ t.host → s.effects ≡ t.effects
+-- what waits behind an effect is handled alike
+done_alike : (ending : ℕ) (s t z : Server) (e : Effect) → s.link.role ≡ Host
+    → (over s.link ≡ over t.link) × (s.link.phase ≡ Down) × (t.link.phase ≡ Down) → s.host ≡ t.host → s.effect ≡ t.effect
+    → s.effect ≡ Some e → Handles s.link s.host None z → TakesAlike (Done ending) t z
+done_alike ending s t z e role o host effect was (m, pauses, (n, puts, is)) =
+    let packets : s.link.waiting.packets ≡ t.link.waiting.packets = ap (λ (k : End). k.waiting.packets) o.0 in
+    let like : AreLike (waits_for s.link m.packets) (waits_for t.link m.packets) =
+    inr (ap (λ (k : End). over (waits_for k m.packets)) o.0, o.1, o.2) in
+    let f = like_follows (Put m.host.pending_bytes (Ok tt)) (waits_for s.link m.packets) (waits_for t.link m.packets) n role like puts in
+    subst (λ x. TakesAlike (Done ending) t x) (sym is)
+    (record {
+      to = record { link = f.to; host = record m.host { pending_bytes = [] }; effect = m.effect };
+      takes = (
+        e,
+        sym effect ∙ was,
+        (
+          m,
+          subst (λ (ps : List Packet). Pauses (record { packets = ps; host = t.host; effect = None }) m) packets
+              (subst (λ (h : PlainHostEndpoint). Pauses (record { packets = s.link.waiting.packets; host = h; effect = None }) m) host pauses),
+          (f.to, f.does, refl),
+        ),
+      );
+      like = f.like;
+      host = refl;
+      effect = refl;
+    })
+
+takes_alike : (r : PlainRecord) (s t z : Server) → s.link.role ≡ Host → AreLike s.link t.link → s.host ≡ t.host → s.effect ≡ t.effect
     → Takes s r z → TakesAlike r t z
-takes_alike r s t z role (inl same) host effects takes =
-    let all : s ≡ t = λ i. record { link = same i; host = host i; effects = effects i } in
-    record { to = z; takes = subst (λ k. Takes k r z) all takes; like = inl refl; host = refl; effects = refl }
-takes_alike (Joined name text) s t z role (inr o) host effects (tag, k, adds, is) =
+takes_alike r s t z role (inl same) host effect takes =
+    let all : s ≡ t = λ i. record { link = same i; host = host i; effect = effect i } in
+    record { to = z; takes = subst (λ k. Takes k r z) all takes; like = inl refl; host = refl; effect = refl }
+takes_alike (Joined name text) s t z role (inr o) host effect (tag, k, adds, is) =
     subst (λ x. TakesAlike (Joined name text) t x) (sym is)
     (record {
       to = record t { host = k };
       takes = (tag, k, subst (λ h. Adds h name text (Ok tag) k) host adds, refl);
       like = inr o;
       host = refl;
-      effects = effects;
+      effect = effect;
     })
-takes_alike (Marked f) s t z role (inr o) host effects (k, marks, (l, does, is)) =
+takes_alike (Marked f) s t z role (inr o) host effect (k, marks, (l, does, is)) =
     let g = like_follows (Put k.pending_bytes (Ok tt)) s.link t.link l role (inr o) does in
     subst (λ x. TakesAlike (Marked f) t x) (sym is)
     (record {
@@ -69,24 +99,22 @@ takes_alike (Marked f) s t z role (inr o) host effects (k, marks, (l, does, is))
       takes = (k, subst (λ h. Marks h f (Ok tt) k) host marks, (g.to, g.does, refl));
       like = g.like;
       host = refl;
-      effects = effects;
+      effect = effect;
     })
-takes_alike (Called hello) s t z role (inr o) host effects (l, does, is) =
+takes_alike (Called hello) s t z role (inr o) host effect (l, does, is) =
     let f = like_follows (Answer hello (Ok tt)) s.link t.link l role (inr o) does in
-    linked_alike (Called hello) s t z l f.to host effects (f.to, f.does, refl) f.like is
-takes_alike (Came attempt piece) s t z role (inr o) host effects (l, m, does, hands, answers) = absurd (may_not s.link attempt o.1 does.2.0)
-takes_alike (Said bytes) s t z role (inr o) host effects (l, does, is) =
+    linked_alike (Called hello) s t z l f.to host effect (f.to, f.does, refl) f.like is
+takes_alike (Came attempt piece) s t z role (inr o) host effect (l, does, handles) = absurd (may_not s.link attempt o.1 does.2.0)
+takes_alike (Said bytes) s t z role (inr o) host effect (l, does, is) =
     let f = like_follows (PutNote bytes (Ok tt)) s.link t.link l role (inr o) does in
-    linked_alike (Said bytes) s t z l f.to host effects (f.to, f.does, refl) f.like is
-takes_alike Acknowledged s t z role (inr o) host effects (l, does, is) =
+    linked_alike (Said bytes) s t z l f.to host effect (f.to, f.does, refl) f.like is
+takes_alike Acknowledged s t z role (inr o) host effect (l, does, is) =
     let f = like_follows (Acknowledge (Ok tt)) s.link t.link l role (inr o) does in
-    linked_alike Acknowledged s t z l f.to host effects (f.to, f.does, refl) f.like is
-takes_alike Asked s t z role (inr o) host effects (l, does, is) =
+    linked_alike Acknowledged s t z l f.to host effect (f.to, f.does, refl) f.like is
+takes_alike Asked s t z role (inr o) host effect (l, does, is) =
     let f = like_follows (Ask (Ok tt)) s.link t.link l role (inr o) does in
-    linked_alike Asked s t z l f.to host effects (f.to, f.does, refl) f.like is
-takes_alike (Done ending) s t z role (inr o) host effects (e, rest, p, is) =
-    subst (λ x. TakesAlike (Done ending) t x) (sym is)
-    (record { to = record t { effects = rest }; takes = (e, rest, sym effects ∙ p, refl); like = inr o; host = host; effects = refl })
+    linked_alike Asked s t z l f.to host effect (f.to, f.does, refl) f.like is
+takes_alike (Done ending) s t z role (inr o) host effect (e, was, handles) = done_alike ending s t z e role o host effect was handles
 
 -- ## Calls of a turn
 
@@ -186,7 +214,7 @@ record Holds (id : Id) (w : Served) : Type 0 where
   logged : Logged (new_server id) xs alt
   like : AreLike w.server.link alt.link
   host : w.server.host ≡ alt.host
-  effects : w.server.effects ≡ alt.effects
+  effect : w.server.effect ≡ alt.effect
   settled : IsSettled alt
   stands : Stands id (durable_session_of w xs alt)
 
@@ -195,13 +223,17 @@ settled_all [] s z settled is = subst IsSettled (sym is) settled
 settled_all (Turned r cs hs ∷ xs) s z settled (m, turn, rest) = settled_all xs m z (turns s m r settled turn.takes).1 rest
 settled_all (Went c ∷ xs) s z settled (l, does, did, rest) =
     settled_all xs (record s { link = l }) z
-    (record { link = did.waits s.link l does ∙ settled.link; answers = settled.answers; writes = settled.writes }) rest
+    (record {
+      part = ap (λ (v : Waiting). v.part) (did.waits s.link l does) ∙ settled.part;
+      answers = settled.answers;
+      writes = settled.writes;
+    }) rest
 
 new_settled : (id : Id) → IsSettled (new_server id)
-new_settled id = record { link = refl; answers = refl; writes = refl }
+new_settled id = record { part = refl; answers = refl; writes = refl }
 
 new_same : (id : Id) → Same (new_server id) (new_server id)
-new_same id = record { back = record { same = refl; open_too = λ up. up }; host = refl; effects = refl }
+new_same id = record { back = record { same = refl; open_too = λ up. up }; host = refl; effect = refl }
 
 one_more : (xs : List Alt) (x : Alt) → all_calls (xs ++ x ∷ []) ≡ all_calls xs ++ calls_of x
 one_more xs x = flat_map-append calls_of xs (x ∷ []) ∙ ap (λ (l : List Call). all_calls xs ++ l) (append-nil (calls_of x))
@@ -228,7 +260,7 @@ module _ (id : Id) (w : Served) (x : Holds id w) where
     logged = x.logged;
     like = x.like;
     host = x.host;
-    effects = x.effects;
+    effect = x.effect;
     settled = x.settled;
     stands = by_terminal id ours x.stands c t does (λ taken. carried_left w.terminal_calls (calls_in w.log) (all_calls x.xs) c
         (λ m. ap (λ (l : List Entry). out m (calls_in l)) (sym x.log_is) ∙ sym (logged_out m x.xs (new_server id) x.alt x.logged))
@@ -238,7 +270,7 @@ module _ (id : Id) (w : Served) (x : Holds id w) where
   take_holds : (r : PlainRecord) (z : Server) → Takes w.server r z → WasBrought (records_in w.log) w.terminal_calls r
       → Holds id (record w { server = z; log = w.log ++ Took r ∷ [] })
   take_holds r z takes brought =
-      let a = takes_alike r w.server x.alt z role x.like x.host x.effects takes in
+      let a = takes_alike r w.server x.alt z role x.like x.host x.effect takes in
       let t = turns x.alt a.to r x.settled a.takes in
       let b = t.0 in
       let cs = b.first ++ b.rest.calls in
@@ -261,7 +293,7 @@ module _ (id : Id) (w : Served) (x : Holds id w) where
             x.logged (a.to, turn_is r x.alt a.to b a.takes, refl);
         like = a.like;
         host = a.host;
-        effects = a.effects;
+        effect = a.effect;
         settled = t.1;
         stands = by_sync id _ here (size w.durable (x.xs ++ Turned r (b.first ++ b.rest.calls) (b.first_hosts ++ b.rest.host_calls) ∷ []))
             (size_more w.durable x.xs (Turned r (b.first ++ b.rest.calls) (b.first_hosts ++ b.rest.host_calls) ∷ []));
@@ -357,9 +389,13 @@ module _ (id : Id) (w : Served) (x : Holds id w) where
         logged = logged_on x.xs (Went c ∷ []) (new_server id) x.alt (record x.alt { link = f.to }) x.logged (f.to, f.does, did, refl);
         like = f.like;
         host = x.host;
-        effects = x.effects;
+        effect = x.effect;
         settled =
-            record { link = did.waits x.alt.link f.to f.does ∙ x.settled.link; answers = x.settled.answers; writes = x.settled.writes };
+            record {
+              part = ap (λ (v : Waiting). v.part) (did.waits x.alt.link f.to f.does) ∙ x.settled.part;
+              answers = x.settled.answers;
+              writes = x.settled.writes;
+            };
         stands = by_sync id _ here (size w.durable (x.xs ++ Went c ∷ [])) (size_more w.durable x.xs (Went c ∷ []));
       }
 
@@ -371,7 +407,7 @@ module _ (id : Id) (w : Served) (x : Holds id w) where
     logged = x.logged;
     like = x.like;
     host = x.host;
-    effects = x.effects;
+    effect = x.effect;
     settled = x.settled;
     stands = by_sync id ours x.stands (size n x.xs) (size_grows w.durable n x.xs less);
   }
@@ -410,10 +446,10 @@ module _ (id : Id) (w : Served) (x : Holds id w) where
             (ended r.alt.link, breaks, did_break m.link.attempt, refl);
         like = inr (sym same, refl, refl);
         host = sym (r.same.host ∙ ap (λ (s : Server). s.host) one);
-        effects = sym (r.same.effects ∙ ap (λ (s : Server). s.effects) one);
+        effect = sym (r.same.effect ∙ ap (λ (s : Server). s.effect) one);
         settled =
             let s = settled_all (alt_left n x.xs) (new_server id) r.alt (new_settled id) r.logged in
-            record { link = s.link; answers = s.answers; writes = s.writes };
+            record { part = s.part; answers = s.answers; writes = s.writes };
         stands =
             by_sync id _ here (size w.durable (alt_left n x.xs ++ Went (Break m.link.attempt) ∷ []))
             (size_left w.durable n x.xs (Went (Break m.link.attempt) ∷ []) less);
@@ -437,7 +473,7 @@ first_holds id = record {
   logged = refl;
   like = inl refl;
   host = refl;
-  effects = refl;
+  effect = refl;
   settled = new_settled id;
   stands = record { steps = []; leads = refl; fronts = λ n less. record { steps = []; host = fresh Host id; leads = refl } };
 }

@@ -1,5 +1,5 @@
 -- What a server does with a record is calls of its link and of its endpoint.
-use Rattle.std.proofs.Common.{◌≡◌, ℕ, length, List, [], ◌∷◌, ◌++◌, map, take, drop, flat_map, Some, Ok, refl, sym, ap, ◌∙◌, subst, append-nil, arith}
+use Rattle.std.proofs.Common.{◌≡◌, ◌⊎◌, inl, inr, ℕ, zero, suc, length, List, [], ◌∷◌, ◌++◌, map, take, drop, flat_map, Option, None, Some, Ok, refl, sym, ap, ◌∙◌, subst, append-nil, arith}
 use Rattle.std.proofs.lemmas.Grind.{flat_map-append}
 use Rattle.std.proofs.Math.Seq.{drop-length}
 use Rattle.std.specs.Prelude.{slice_get}
@@ -7,7 +7,7 @@ use Rattle.sam_link.specs.Calls.{Byte, Call, Does, DoesAll, byte_of, bytes_of, h
 use Rattle.sam_link.specs.Calls.{Call as link}
 use Rattle.sam_link.specs.End.{AnswersBy, End}
 use Rattle.sam_link.specs.Feeding.{Feeds as FeedsLink}
-use Rattle.sam_link.specs.Inbox.{Waiting, nothing}
+use Rattle.sam_link.specs.Inbox.{Waiting}
 use Rattle.sam_link.specs.declared.hello.Hello.{Hello}
 use Rattle.sam_link.specs.declared.phase.Role.{Role}
 use Rattle.sam_link.specs.declared.phase.Role.TheVariants.{Terminal, Host}
@@ -15,10 +15,12 @@ use Rattle.sam_link.specs.Packets.{Packet}
 use Rattle.sam_link.specs.Packets.{Packet as packet}
 use Rattle.sam_host.specs.Asides.{Aside}
 use Rattle.sam_endpoint.specs.HostEndpoints.{Adds, Marks, PlainHostEndpoint}
-use Rattle.sam_endpoint.specs.HostEndpoints.{Feeds as FeedsHost}
+use Rattle.sam_endpoint.specs.HostStepping.{BringsIn, Steps}
+use Rattle.sam_endpoint.specs.declared.step.HostStep.{HostStep}
 use Rattle.sam_endpoint.specs.HostRuns.{AddFile, Bring, Feed, MakeStep, MarkDirty, NextWritten, Runs, TakeOut, came_in, went_out, asides_by}
 use Rattle.sam_endpoint.specs.HostRuns.{Call as HostCall}
-use Rattle.sam_server.specs.Servers.{Acknowledged, Asked, Called, Came, Done, Effect, Hands, Hear, Joined, Marked, PlainRecord, PutsAnswers, Said, Server, Takes, Write, emptied}
+use Rattle.sam_server.specs.Servers.{Acknowledged, Asked, Called, Came, Done, Effect, Handles, HandsOn, Hear, Joined, Marked, PausesBy, PlainRecord, PutsAnswers, Said, Server, StepsOn, Takes, Work, to_write, with_work}
+use Rattle.sam_server.proofs.Pauses.{pause_quiet}
 use Rattle.sam_link.specs.Calls.{fed_by}
 use Rattle.sam_link.specs.Sessions.{WasCarried}
 use Rattle.sam_served.proofs.Lefts.{TookNone}
@@ -152,8 +154,8 @@ answers_turn s z (l, does, is) = subst (λ k. Turn s k) (sym is) (record {
 })
 
 -- what is to be done is no matter of link and endpoint
-effects_turn : (s z : Server) (xs ys : List Effect) → Turn s z → Turn (record s { effects = xs }) (record z { effects = ys })
-effects_turn s z xs ys t =
+effect_turn : (s z : Server) (x y : Option Effect) → Turn s z → Turn (record s { effect = x }) (record z { effect = y })
+effect_turn s z x y t =
     record {
       calls = t.calls;
       host_calls = t.host_calls;
@@ -165,30 +167,33 @@ effects_turn s z xs ys t =
       none_aside = t.none_aside;
     }
 
--- these packets wait
-abbrev waits_for : End → List Packet → End
-waits_for l ps = record l { waiting = record { part = []; packets = ps } }
+-- ## What waits is handled
+
+-- a server of which this is left of a packet
+abbrev pub left_at : End → List ℕ → List Packet → PlainHostEndpoint → Option Effect → Server
+left_at l part ps h effect =
+    record { link = record l { waiting = record { part = part; packets = ps } }; host = h; effect = effect }
 
 all_taken : (bytes : List ℕ) → take (length bytes) bytes ≡ bytes
 all_taken [] = refl
 all_taken (b ∷ bytes) = ap (λ (l : List ℕ). b ∷ l) (all_taken bytes)
 
-data_turn : (s : Server) (k : PlainHostEndpoint) (bytes : List ℕ) (ps : List Packet) → FeedsHost s.host bytes (Ok tt) k
-    → Turn (record s { link = waits_for s.link (packet.Data bytes ∷ ps) }) (record s { link = waits_for s.link ps; host = k })
-data_turn s k bytes ps fed = record {
+data_turn : (l : End) (h k : PlainHostEndpoint) (effect : Option Effect) (bytes : List ℕ) (ps : List Packet)
+    → BringsIn h bytes (Ok tt) k → Turn (left_at l [] (packet.Data bytes ∷ ps) h effect) (left_at l [] ps k None)
+data_turn l h k effect bytes ps brings = record {
   calls = link.TakeIn bytes (length bytes) bytes ∷ [];
-  host_calls = Feed bytes (Ok tt) ∷ [];
+  host_calls = Bring bytes (Ok tt) ∷ [];
   does = (
-    waits_for s.link ps,
+    record l { waiting = record { part = []; packets = ps } },
     (
       omega arith,
       sym (ap (λ (l : List ℕ). l ++ drop (length bytes) bytes) (all_taken bytes) ∙ ap (λ (l : List ℕ). bytes ++ l) (drop-length bytes)
           ∙ append-nil bytes),
-      ap (λ (l : List ℕ). record s.link { waiting = record { part = l; packets = ps } }) (sym (drop-length bytes)),
+      ap (λ (p : List ℕ). record l { waiting = record { part = p; packets = ps } }) (sym (drop-length bytes)),
     ),
     refl,
   );
-  runs = (k, fed, tt, refl);
+  runs = (k, brings, refl);
   took =
       append-nil bytes
       ∙ sym (ap bytes_of (append-nil (map Byte (take (length bytes) bytes))) ∙ are_bytes (take (length bytes) bytes) ∙ all_taken bytes);
@@ -197,12 +202,12 @@ data_turn s k bytes ps fed = record {
   none_aside = refl;
 }
 
-note_turn : (s : Server) (bytes : List ℕ) (ps : List Packet)
-    → Turn (record s { link = waits_for s.link (packet.Note bytes ∷ ps) }) (record s { link = waits_for s.link ps })
-note_turn s bytes ps = record {
+note_turn : (l : End) (h : PlainHostEndpoint) (effect : Option Effect) (bytes : List ℕ) (ps : List Packet)
+    → Turn (left_at l [] (packet.Note bytes ∷ ps) h effect) (left_at l [] ps h (Some (Hear bytes)))
+note_turn l h effect bytes ps = record {
   calls = link.NextNote (Some bytes) ∷ [];
   host_calls = [];
-  does = (waits_for s.link ps, ((refl, refl), refl), refl);
+  does = (record l { waiting = record { part = []; packets = ps } }, ((refl, refl), refl), refl);
   runs = refl;
   took = refl;
   put_all = refl;
@@ -210,38 +215,65 @@ note_turn s bytes ps = record {
   none_aside = refl;
 }
 
-hands_turn : (ps : List Packet) (s z : Server) → s.link ≡ emptied s.link → Hands s ps z → Turn (record s { link = waits_for s.link ps }) z
-hands_turn [] s z none is =
-    no_turn (record s { link = waits_for s.link [] }) z (ap (λ (k : Server). k.link) is ∙ none) (ap (λ (k : Server). k.host) is)
-hands_turn (packet.Data bytes ∷ ps) s z none (k, fed, rest) =
-    let next = s.effects ++ map Write k.writes in
-    let one = data_turn s k bytes ps fed in
-    let two = written_turn k.writes (record s { link = waits_for s.link ps; host = k }) refl in
-    let both = turn_on (record s { link = waits_for s.link (packet.Data bytes ∷ ps) }) (record s { link = waits_for s.link ps; host = k })
-    (record s { link = waits_for s.link ps; host = record k { writes = [] } }) one two in
-    turn_on (record s { link = waits_for s.link (packet.Data bytes ∷ ps) })
-    (record s { link = waits_for s.link ps; host = record k { writes = [] }; effects = next }) z
-    (effects_turn (record s { link = waits_for s.link (packet.Data bytes ∷ ps) })
-    (record s { link = waits_for s.link ps; host = record k { writes = [] } }) s.effects next both)
-    (hands_turn ps (record s { host = record k { writes = [] }; effects = next }) z none rest)
-hands_turn (packet.Note bytes ∷ ps) s z none rest =
-    let next = s.effects ++ Hear bytes ∷ [] in
-    turn_on (record s { link = waits_for s.link (packet.Note bytes ∷ ps) }) (record s { link = waits_for s.link ps; effects = next }) z
-    (effects_turn (record s { link = waits_for s.link (packet.Note bytes ∷ ps) }) (record s { link = waits_for s.link ps }) s.effects next
-    (note_turn s bytes ps))
-    (hands_turn ps (record s { effects = next }) z none rest)
-hands_turn (packet.Acknowledge count ∷ ps) s z none rest = absurd rest
-hands_turn (packet.Ask ∷ ps) s z none rest = absurd rest
+step_turn : (l : End) (ps : List Packet) (h k : PlainHostEndpoint) (effect : Option Effect) (step : HostStep) → Steps h (Ok step) k
+    → Turn (left_at l [] ps h effect) (left_at l [] ps (record k { writes = [] }) (to_write k.writes))
+step_turn l ps h k effect step does =
+    effect_turn (left_at l [] ps h effect) (left_at l [] ps (record k { writes = [] }) effect) effect (to_write k.writes)
+    (turn_on (left_at l [] ps h effect) (left_at l [] ps k effect) (left_at l [] ps (record k { writes = [] }) effect)
+    (record {
+      calls = [];
+      host_calls = MakeStep (Ok step) ∷ [];
+      does = refl;
+      runs = (k, does, tt, refl);
+      took = refl;
+      put_all = refl;
+      quiet = tt;
+      none_aside = refl;
+    })
+    (written_turn k.writes (left_at l [] ps k effect) refl))
 
-hands_settled : (ps : List Packet) (s z : Server) → s.link.waiting ≡ nothing.waiting → s.host.writes ≡ [] → Hands s ps z
-    → (z.link.waiting ≡ nothing.waiting) × (z.host.writes ≡ [])
-hands_settled [] s z none quiet is = (ap (λ (k : Server). k.link.waiting) is ∙ none, ap (λ (k : Server). k.host.writes) is ∙ quiet)
-hands_settled (packet.Data bytes ∷ ps) s z none quiet (k, fed, rest) =
-    hands_settled ps (record s { host = record k { writes = [] }; effects = s.effects ++ map Write k.writes }) z none refl rest
-hands_settled (packet.Note bytes ∷ ps) s z none quiet rest =
-    hands_settled ps (record s { effects = s.effects ++ Hear bytes ∷ [] }) z none quiet rest
-hands_settled (packet.Acknowledge count ∷ ps) s z none quiet rest = absurd rest
-hands_settled (packet.Ask ∷ ps) s z none quiet rest = absurd rest
+move_turn : (l : End) (ps : List Packet) (h : PlainHostEndpoint) (effect : Option Effect) (v : Work)
+    → StepsOn (record { packets = ps; host = h; effect = effect }) v ⊎ HandsOn (record { packets = ps; host = h; effect = effect }) ps v
+    → Turn (left_at l [] ps h effect) (left_at l [] v.packets v.host v.effect)
+move_turn l ps h effect v (inl (step, k, some, does, is)) =
+    subst (λ (x : Work). Turn (left_at l [] ps h effect) (left_at l [] x.packets x.host x.effect)) (sym is)
+    (step_turn l ps h k effect step does)
+move_turn l [] h effect v (inr hands) = absurd hands
+move_turn l (packet.Data bytes ∷ ps) h effect v (inr (k, brings, is)) =
+    subst (λ (x : Work). Turn (left_at l [] (packet.Data bytes ∷ ps) h effect) (left_at l [] x.packets x.host x.effect)) (sym is)
+    (data_turn l h k effect bytes ps brings)
+move_turn l (packet.Note bytes ∷ ps) h effect v (inr (ready, is)) =
+    subst (λ (x : Work). Turn (left_at l [] (packet.Note bytes ∷ ps) h effect) (left_at l [] x.packets x.host x.effect)) (sym is)
+    (note_turn l h effect bytes ps)
+move_turn l (packet.Acknowledge count ∷ ps) h effect v (inr hands) = absurd hands
+move_turn l (packet.Ask ∷ ps) h effect v (inr hands) = absurd hands
+
+pauses_turn : (n : ℕ) (l : End) (w v : Work) → PausesBy n w v
+    → Turn (left_at l [] w.packets w.host w.effect) (left_at l [] v.packets v.host v.effect)
+pauses_turn zero l w v (paused, is) =
+    no_turn (left_at l [] w.packets w.host w.effect) (left_at l [] v.packets v.host v.effect)
+    (ap (λ (x : Work). record l { waiting = record { part = []; packets = x.packets } }) is) (ap (λ (x : Work). x.host) is)
+pauses_turn (suc n) l w v (none, m, move, more) =
+    turn_on (left_at l [] w.packets w.host w.effect) (left_at l [] m.packets m.host m.effect) (left_at l [] v.packets v.host v.effect)
+    (move_turn l w.packets w.host w.effect m move) (pauses_turn n l m v more)
+
+handles_turn : (l : End) (host : PlainHostEndpoint) (effect : Option Effect) (z : Server) → l.waiting.part ≡ []
+    → Handles l host effect z → Turn (record { link = l; host = host; effect = effect }) z
+handles_turn l host effect z none (m, (n, pauses), answers) =
+    turn_on (record { link = l; host = host; effect = effect }) (with_work l m) z
+    (subst (λ (p : List ℕ). Turn (left_at l p l.waiting.packets host effect) (left_at l p m.packets m.host m.effect)) (sym none)
+    (pauses_turn n l (record { packets = l.waiting.packets; host = host; effect = effect }) m pauses))
+    (answers_turn (with_work l m) z answers)
+
+handles_settled : (l : End) (host : PlainHostEndpoint) (effect : Option Effect) (z : Server) → l.waiting.part ≡ [] → host.writes ≡ []
+    → Handles l host effect z → IsSettled z
+handles_settled l host effect z none quiet (m, (n, pauses), (k, does, is)) = record {
+  part = ap (λ (x : Server). x.link.waiting.part) is ∙ ap (λ (e : End). e.waiting.part) does.1 ∙ none;
+  answers = ap (λ (x : Server). x.host.pending_bytes) is;
+  writes =
+      ap (λ (x : Server). x.host.writes) is
+      ∙ pause_quiet n (record { packets = l.waiting.packets; host = host; effect = effect }) m quiet pauses;
+}
 
 -- ## Any record
 
@@ -252,16 +284,10 @@ answer_waits Terminal e n h x = absurd x
 feed_part : (e n : End) (attempt : ℕ) (piece : List ℕ) → FeedsLink e attempt piece (Ok tt) n → n.waiting.part ≡ e.waiting.part
 feed_part e n attempt piece x = ap (λ (k : End). k.waiting.part) x.6
 
-came_turn : (s z : Server) (attempt : ℕ) (piece : List ℕ) (l : End) (m : Server) → IsSettled s
-    → Does s.link (link.Feed attempt piece (Ok tt)) l
-    → Hands (record s { link = emptied l }) l.waiting.packets m → PutsAnswers m z → TurnBy (Came attempt piece) s z × IsSettled z
-came_turn s z attempt piece l m settled does hands answers =
-    let part : l.waiting.part ≡ [] = feed_part s.link l attempt piece does ∙ ap (λ (w : Waiting). w.part) settled.link in
-    let shape : waits_for l l.waiting.packets ≡ l =
-    ap (λ (p : List ℕ). record l { waiting = record { part = p; packets = l.waiting.packets } }) (sym part) in
-    let two : Turn (record s { link = l }) m =
-    subst (λ k. Turn (record s { link = k }) m) shape (hands_turn l.waiting.packets (record s { link = emptied l }) m refl hands) in
-    let still = hands_settled l.waiting.packets (record s { link = emptied l }) m refl settled.writes hands in (
+came_turn : (s z : Server) (attempt : ℕ) (piece : List ℕ) (l : End) → IsSettled s
+    → Does s.link (link.Feed attempt piece (Ok tt)) l → Handles l s.host s.effect z → TurnBy (Came attempt piece) s z × IsSettled z
+came_turn s z attempt piece l settled does handles =
+    let part : l.waiting.part ≡ [] = feed_part s.link l attempt piece does ∙ settled.part in (
       record {
         middle = record s { link = l };
         first = link.Feed attempt piece (Ok tt) ∷ [];
@@ -274,18 +300,15 @@ came_turn s z attempt piece l m settled does hands answers =
         asides = refl;
         none_handed = refl;
         none_put = refl;
-        rest = turn_on (record s { link = l }) m z two (answers_turn m z answers);
+        rest = handles_turn l s.host s.effect z part handles;
       },
-      record {
-        link = ap (λ (k : Server). k.link.waiting) answers.2 ∙ ap (λ (k : End). k.waiting) answers.1.1 ∙ still.0;
-        answers = ap (λ (k : Server). k.host.pending_bytes) answers.2;
-        writes = ap (λ (k : Server). k.host.writes) answers.2 ∙ still.1;
-      },
+      handles_settled l s.host s.effect z part settled.writes handles,
     )
 
 settled_by : (s z : Server) (l : End) → IsSettled s → l.waiting ≡ s.link.waiting → z ≡ record s { link = l } → IsSettled z
 settled_by s z l settled same is =
-    subst IsSettled (sym is) (record { link = same ∙ settled.link; answers = settled.answers; writes = settled.writes })
+    subst IsSettled (sym is)
+    (record { part = ap (λ (w : Waiting). w.part) same ∙ settled.part; answers = settled.answers; writes = settled.writes })
 
 joined_turn : (s z : Server) (k : PlainHostEndpoint) (name text : List ℕ) (tag : ℕ) → Adds s.host name text (Ok tag) k
     → z ≡ record s { host = k } → TurnBy (Joined name text) s z
@@ -375,7 +398,7 @@ pub turns : (s z : Server) (r : PlainRecord) → IsSettled s → Takes s r z →
 turns s z (Joined name text) settled (tag, k, adds, is) = (
   joined_turn s z k name text tag adds is,
   subst IsSettled (sym is) (record {
-    link = settled.link;
+    part = settled.part;
     answers = ap (λ (e : PlainHostEndpoint). e.pending_bytes) adds.2 ∙ settled.answers;
     writes = ap (λ (e : PlainHostEndpoint). e.writes) adds.2 ∙ settled.writes;
   }),
@@ -383,7 +406,8 @@ turns s z (Joined name text) settled (tag, k, adds, is) = (
 turns s z (Marked f) settled (k, marks, answers) = (
   marked_turn s z k f marks answers,
   record {
-    link = ap (λ (x : Server). x.link.waiting) answers.2 ∙ ap (λ (e : End). e.waiting) answers.1.1 ∙ settled.link;
+    part =
+        ap (λ (x : Server). x.link.waiting.part) answers.2 ∙ ap (λ (e : End). e.waiting.part) answers.1.1 ∙ settled.part;
     answers = ap (λ (x : Server). x.host.pending_bytes) answers.2;
     writes = ap (λ (x : Server). x.host.writes) answers.2 ∙ ap (λ (e : PlainHostEndpoint). e.writes) marks.2 ∙ settled.writes;
   },
@@ -392,7 +416,7 @@ turns s z (Called hello) settled (l, does, is) = (
   linked_by (Called hello) s z (link.Answer hello (Ok tt)) l refl refl does refl refl is,
   settled_by s z l settled (answer_waits s.link.role s.link l hello does) is,
 )
-turns s z (Came attempt piece) settled (l, m, does, hands, answers) = came_turn s z attempt piece l m settled does hands answers
+turns s z (Came attempt piece) settled (l, does, handles) = came_turn s z attempt piece l settled does handles
 turns s z (Said bytes) settled (l, does, is) = (
   linked_by (Said bytes) s z (link.PutNote bytes (Ok tt)) l refl refl does refl refl is,
   settled_by s z l settled (ap (λ (k : End). k.waiting) does.1) is,
@@ -405,9 +429,10 @@ turns s z Asked settled (l, does, is) = (
   linked_by Asked s z (link.Ask (Ok tt)) l refl refl does refl refl is,
   settled_by s z l settled (ap (λ (k : End). k.waiting) does.1) is,
 )
-turns s z (Done ending) settled (e, rest, p, is) = (
-  unlinked_by (Done ending) s z refl refl (subst (λ k. Turn s k) (sym is) (no_turn s (record s { effects = rest }) refl refl)),
-  subst IsSettled (sym is) (record { link = settled.link; answers = settled.answers; writes = settled.writes }),
+turns s z (Done ending) settled (e, was, handles) = (
+  unlinked_by (Done ending) s z refl refl
+      (effect_turn (record s { effect = None }) z s.effect z.effect (handles_turn s.link s.host None z settled.part handles)),
+  handles_settled s.link s.host None z settled.part settled.writes handles,
 )
 
 pub turns_are_calls : TurnsAreCalls

@@ -2,12 +2,11 @@
 use Rattle.std.specs.Prelude.{◌≡◌, List, [], flat_map}
 use Rattle.sam_link.specs.Calls.{Call, DoesAll, bytes_of, handed, put}
 use Rattle.sam_endpoint.specs.HostRuns.{Call as HostCall, Runs, came_in, went_out}
-use Rattle.sam_link.specs.Inbox.{nothing}
 use Rattle.sam_server.specs.Servers.{PlainRecord, Server, Takes}
 
--- nothing waits in the link, and all that the endpoint answered is put
+-- nothing is left of a packet that was handed on, all that the endpoint answered is put, and nothing that it is told to write is left there
 pub record IsSettled (s : Server) : Type 0 where
-  pub link : s.link.waiting ≡ nothing.waiting
+  pub part : s.link.waiting.part ≡ []
   pub answers : s.host.pending_bytes ≡ []
   pub writes : s.host.writes ≡ []
 

@@ -1,11 +1,11 @@
 -- What a server takes, and where what is left of it leads.
-use Rattle.std.proofs.Common.{◌≡◌, ◌≢◌, ℕ, List, [], ◌∷◌, ◌++◌, map, Bool, true, false, true≢false, ◌⊎◌, inl, inr, None, Some, Result, Ok, Err, refl, sym, ap, ◌∙◌, subst, append-nil}
+use Rattle.std.proofs.Common.{◌≡◌, ◌≢◌, ℕ, List, [], ◌∷◌, ◌++◌, map, Bool, true, false, true≢false, ◌⊎◌, inl, inr, None, Some, Option, Result, Ok, Err, refl, sym, ap, ◌∙◌, subst, append-nil}
 use Rattle.std.proofs.lemmas.List.{map-append}
 use Rattle.std.specs.Prelude.{◌==◌, if◌then◌else◌}
 use Rattle.sam_link.specs.Calls.{Does}
 use Rattle.sam_link.specs.Calls.Call.{Answer, Feed, PutNote}
 use Rattle.sam_link.specs.End.{End, AnswersBy, broken, ended}
-use Rattle.sam_link.specs.Inbox.{nothing}
+use Rattle.sam_link.specs.Inbox.{Waiting}
 use Rattle.sam_link.specs.Packets.{Packet}
 use Rattle.sam_link.specs.declared.fault.FeedFault.{FeedFault}
 use Rattle.sam_link.specs.declared.fault.FeedFault.TheVariants as feeds
@@ -15,10 +15,10 @@ use Rattle.sam_link.specs.declared.phase.Role.{Role}
 use Rattle.sam_link.specs.declared.phase.Role.TheVariants.{Host, Terminal}
 use Rattle.sam_server.specs.Records.{Called, Came, Done, Joined, PlainRecord, record_bytes}
 use Rattle.sam_endpoint.specs.HostEndpoints.{Adds, with_file}
-use Rattle.sam_server.specs.Servers.{Effect, Hands, Server, Takes, Write, emptied}
+use Rattle.sam_server.specs.Servers.{Effect, Handles, Pauses, Server, Takes, Work}
 use Rattle.sam_server.specs.DurableServers.{Finishing, GoesOn, GoesOnNow, IsOwing, IsWell, Leads, LeadsBy, Left, LeftAt, PlainDurableServer, RefusesPiece, TakesRecord, gone_to, recorded, told_of_feed}
 use Rattle.sam_server.specs.Servers.{new_server}
-use Rattle.sam_server.specs.Turns.{DroppedEffect, Finishes, IsHanded, IsResting, Nears, PlainTurn, hosted, linked}
+use Rattle.sam_server.specs.Turns.{DroppedEffect, Finishes, IsHanded, IsResting, Nears, PlainTurn, hosted, linked, with_effect, work_of}
 use Rattle.sam_server.specs.declared.fault.CallFault.{CallFault}
 use Rattle.sam_server.specs.declared.fault.CallFault.TheVariants as fault
 use Rattle.sam_server.specs.declared.fault.GoOnFault.{GoOnFault}
@@ -26,26 +26,33 @@ use Rattle.sam_server.specs.declared.fault.GoOnFault.TheVariants as go_on
 use Rattle.sam_server.specs.declared.server.Stage.{Stage}
 use Rattle.sam_server.specs.declared.server.Stage.TheVariants.{Answering, Recording, Settled, Stopped}
 use Rattle.sam_server.specs.declared.turn.Stop.{Stop}
-use Rattle.sam_server.proofs.Turns.{HandsFrom, ends_ready, no_effects, plain_host}
+use Rattle.sam_server.proofs.Turns.{paused_on, ready_joined}
+
+-- what is left to work on, where nothing is held
+abbrev rest_of : PlainTurn → End → List Packet → Option Effect → Work
+rest_of t l held effect = record { packets = held ++ l.waiting.packets; host = t.server.host; effect = effect }
+
+handles_left : (t : PlainTurn) (l : End) (effect : Option Effect) (z : Server) → t.held ≡ []
+    → Finishes (with_effect (linked t l) effect) z → Handles l t.server.host effect z
+handles_left t l effect z none (m, pauses, puts) =
+    (m, subst (λ (h : List Packet). Pauses (rest_of t l h effect) m) none pauses, puts)
 
 -- what is left of a piece that was fed leads where its record leads
 pub came_leads : (t : PlainTurn) (l : End) (attempt : ℕ) (piece : List ℕ) (z : Server) → IsResting t
     → Does t.server.link (Feed attempt piece (Ok tt)) l → Finishes (linked t l) z → Takes t.server (Came attempt piece) z
 came_leads t l attempt piece z rests does ends =
-    let from = ends_ready (linked t l) z rests.handed.ready ends in
-    let effects : t.server.effects ++ map Write t.server.host.writes ≡ t.server.effects =
-    no_effects t.server.effects t.server.host.writes rests.handed.writes in
-    let packets : t.held ++ l.waiting.packets ≡ l.waiting.packets = ap (λ (h : List Packet). h ++ l.waiting.packets) rests.handed.held in
-    let same : record { link = emptied l; host = record t.server.host { writes = [] }; effects = t.server.effects ++ map Write t.server.host.writes }
-    ≡ record t.server { link = emptied l } =
-    λ i. record { link = emptied l; host = plain_host t.server.host rests.handed.writes i; effects = effects i } in (
-      l,
-      from.0,
-      does,
-      subst (λ (s : Server). Hands s l.waiting.packets from.0) same
-          (subst (λ (ps : List Packet). Hands (record { link = emptied l; host = record t.server.host { writes = [] }; effects = t.server.effects ++ map Write t.server.host.writes }) ps from.0) packets from.1),
-      from.2,
-    )
+    (l, does, handles_left t l t.server.effect z rests.handed.held ends)
+
+effect_of : (x : Option Effect) → x ≢ None → (e : Effect) × (x ≡ Some e)
+effect_of None some = absurd (some refl)
+effect_of (Some e) some = (e, refl)
+
+-- what is left behind an effect that is done leads where its record leads
+pub done_leads : (t u : PlainTurn) (ending : ℕ) (z : Server) → IsResting t → DroppedEffect t true u → Finishes u z
+    → Takes t.server (Done ending) z
+done_leads t u ending z rests (some, is) ends =
+    let x = effect_of t.server.effect some in
+    (x.0, x.1, handles_left t t.server.link None z rests.handed.held (subst (λ (y : PlainTurn). Finishes y z) is ends))
 
 -- ## What is left
 
@@ -172,7 +179,10 @@ taken d m e t stage r refuses (Err (fault.Refused why)) settled at owing leads g
 
 pub new_rests : (id : Id) → IsResting (record { server = new_server id; held = [] })
 new_rests id = record {
-  handed = record { ready = (refl, (record { waiting = refl; unwritten = refl }, refl)); writes = refl; held = refl; waiting = refl };
+  handed = record {
+    held = refl;
+    paused = ((refl, (record { waiting = refl; unwritten = refl }, refl)), refl);
+  };
   answers = refl;
 }
 
@@ -180,10 +190,10 @@ new_rests id = record {
 pub linked_rests : (t : PlainTurn) (l : End) → l.waiting ≡ t.server.link.waiting → IsResting t → IsResting (linked t l)
 linked_rests t l same rests = record {
   handed = record {
-    ready = rests.handed.ready;
-    writes = rests.handed.writes;
     held = rests.handed.held;
-    waiting = same ∙ rests.handed.waiting;
+    paused =
+        paused_on t.server.effect (work_of t) (work_of (linked t l)) rests.handed.paused
+        (ap (λ (w : Waiting). t.held ++ w.packets) same) (λ ready. ready);
   };
   answers = rests.answers;
 }
@@ -272,10 +282,11 @@ joined_well d u name text tag settled well is adds =
     let shape : u ≡ hosted d.turn (with_file d.turn.server.host name text) = is ∙ ap (hosted d.turn) adds.2 in
     subst IsResting (sym shape) (record {
       handed = record {
-        ready = (rests.handed.ready.0, (record { waiting = rests.handed.ready.1.0.waiting; unwritten = rests.handed.ready.1.0.unwritten }, rests.handed.ready.1.1));
-        writes = rests.handed.writes;
         held = rests.handed.held;
-        waiting = rests.handed.waiting;
+        paused =
+            paused_on d.turn.server.effect (work_of d.turn) (work_of (hosted d.turn (with_file d.turn.server.host name text)))
+            rests.handed.paused refl
+            (ready_joined d.turn.server.host (with_file d.turn.server.host name text) name text (Ok tag) (adds.0, adds.1, refl));
       };
       answers = rests.answers;
     })
@@ -286,21 +297,13 @@ said_well d u message settled well is does =
     subst IsResting (sym is)
     (linked_rests d.turn u.server.link (ap (λ (l : End). l.waiting) does.1) (resting d.stage d.turn settled well))
 
-pub done_well : (d : PlainDurableServer) (u : PlainTurn) → d.stage ≡ Settled → IsWell d.stage d.turn → DroppedEffect d.turn true u
-    → IsResting u
-done_well d u settled well (e, rest, was, is) =
-    let rests = resting d.stage d.turn settled well in
-    subst IsResting (sym is) (record {
-      handed = record {
-        ready = rests.handed.ready;
-        writes = rests.handed.writes;
-        held = rests.handed.held;
-        waiting = rests.handed.waiting;
-      };
-      answers = rests.answers;
-    })
-
--- an effect is done
-pub done_takes : (t u : PlainTurn) (ending : ℕ) (b : Bool) → b ≡ true → DroppedEffect t b u → Takes t.server (Done ending) u.server
-done_takes t u ending true some (e, rest, was, is) = (e, rest, was, ap (λ (x : PlainTurn). x.server) is)
-done_takes t u ending false some dropped = absurd (true≢false (sym some))
+-- an effect is done, and what is behind it is handled
+pub done_takes : {F : Type 0} (d e : PlainDurableServer) (t : PlainTurn) (ending : ℕ) (b : Bool) (body : List ℕ)
+    (refuses : F → PlainDurableServer → Type 0) (result : Result (Unit {0}) (CallFault F)) → d.stage ≡ Settled → IsWell d.stage d.turn
+    → body ≡ record_bytes (Done ending) → b ≡ true → DroppedEffect d.turn b t
+    → GoesOnNow (gone_to d t Answering body) result e → TakesRecord d (Done ending) refuses result e
+done_takes d e t ending true body refuses result settled well body_is some dropped goes =
+    taken d (gone_to d t Answering body) e t Answering (Done ending) refuses result settled
+    (ap (λ (x : List ℕ). gone_to d t Answering x) body_is) tt
+    (λ z left. done_leads d.turn t ending z (resting d.stage d.turn settled well) dropped left) goes
+done_takes d e t ending false body refuses result settled well body_is some dropped goes = absurd (true≢false (sym some))

@@ -10,7 +10,8 @@ use Rattle.sam_link.specs.Keeping.{Keeps, acknowledged, put}
 use Rattle.sam_link.specs.Packets.{Packet, packets, top_of}
 use Rattle.sam_link.specs.Packets.{Packet as packet}
 use Rattle.sam_link.proofs.Packing.{ack_if, told_keeps}
-use Rattle.sam_server.specs.HostLinks.{AreItems, HandsOut, IsHostEnd, waits_for}
+use Rattle.sam_server.specs.HostLinks.{AreItems, HandsOut, IsHostEnd}
+use Rattle.sam_server.specs.Servers.{waits_for}
 use Rattle.sam_server.specs.declared.host_link.Next.{Next}
 use Rattle.sam_server.specs.declared.host_link.Next.TheVariants as next
 
@@ -103,7 +104,7 @@ pub record Handed (e n : End) (left : ℕ) (what : Next) (new : List ℕ) : Type
 
 with_rest : (e : End) (left : ℕ) (rest : List Packet) → IsHostEnd e left → AreItems rest → IsHostEnd (waits_for e rest) left
 with_rest e left rest well items =
-    record { role = well.role; hello = well.hello; inside = well.inside; whole = refl; items = items }
+    record { role = well.role; hello = well.hello; inside = well.inside; whole = well.whole; items = items }
 
 pub data_handed : (e n : End) (left count : ℕ) (old new : List ℕ) → IsHostEnd e left → 4096 ≤ length old → 0 < count
     → count ≡ min (length (ready e.waiting).part) (length old) → new ≡ take count (ready e.waiting).part ++ drop count old
@@ -112,7 +113,7 @@ pub data_handed : (e n : End) (left count : ℕ) (old new : List ℕ) → IsHost
 data_handed e n left count old new well room some count_is new_is is =
     let t = took e.waiting.part e.waiting.packets count old new well.whole well.items room some count_is new_is in
     let same : n ≡ waits_for e t.rest =
-    is ∙ ap (λ (p : List ℕ). record e { waiting = record { part = p; packets = (ready e.waiting).packets } }) t.part
+    is ∙ ap (λ (p : List ℕ). record e { waiting = record { part = p; packets = (ready e.waiting).packets } }) (t.part ∙ sym well.whole)
     ∙ ap (λ (p : List Packet). waits_for e p) t.packets_are in
     record {
       out = (t.rest, some, t.brief, t.was, same);
@@ -147,8 +148,7 @@ note_handed : (e n : End) (left count : ℕ) (new : List ℕ) → IsHostEnd e le
 note_handed e n left count new well brief gives is =
     let x = note_next e.waiting.part e.waiting.packets n.waiting.packets (take count new) well.items gives.0 in
     let same : n ≡ waits_for e n.waiting.packets =
-    is
-    ∙ ap (λ (p : List ℕ). record e { waiting = record { part = p; packets = n.waiting.packets } }) (gives.1 ∙ well.whole) in
+    is ∙ ap (λ (p : List ℕ). record e { waiting = record { part = p; packets = n.waiting.packets } }) gives.1 in
     record {
       out = (n.waiting.packets, brief, x.0, same);
       well = subst (λ (m : End). IsHostEnd m left) (sym same) (with_rest e left n.waiting.packets well x.1);

@@ -3,6 +3,6 @@ pub mod Gates
 pub mod HostLinks
 pub mod One
 pub mod OneMade
-pub mod Owing
+pub mod Pauses
 pub mod Records
 pub mod Turns

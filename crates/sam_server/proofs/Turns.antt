@@ -1,18 +1,21 @@
 -- What the parts of a turn do, and where what is left leads.
-use Rattle.std.proofs.Common.{◌≡◌, ◌≢◌, ℕ, zero, suc, ◌+◌, ◌*◌, ◌<◌, ◌≤◌, List, [], ◌∷◌, ◌++◌, length, map, take, drop, Bool, true, false, None, Some, Option, Result, Ok, Err, refl, sym, ap, ◌∙◌, subst, append-nil, append_assoc, arith, length-append}
+use Rattle.std.proofs.Common.{◌≡◌, ◌≢◌, ◌⊎◌, inl, inr, ℕ, zero, suc, ◌+◌, ◌*◌, ◌<◌, ◌≤◌, List, [], ◌∷◌, ◌++◌, length, take, drop, Bool, true, false, true≢false, None, Some, Option, Result, Ok, Err, refl, sym, ap, ◌∙◌, subst, arith, length-append}
 use Rattle.std.proofs.lemmas.List.{drop_all}
-use Rattle.std.specs.Prelude.{option_map, slice_get}
+use Rattle.std.specs.Prelude.{if◌then◌else◌, option_map, slice_get}
 use Rattle.sam_mesg.specs.declared.tmesg.Tmesg.{Tmesg}
+use Rattle.sam_mesg.specs.declared.tmesg.Tmesg.TheVariants.{Twrite}
 use Rattle.sam_mesg.specs.declared.hmesg.HFrame.{HFrame}
 use Rattle.sam_link.specs.Calls.{Does}
 use Rattle.sam_link.specs.Calls.Call.{Put}
 use Rattle.sam_link.specs.End.{End}
-use Rattle.sam_link.specs.Inbox.{Waiting, nothing}
+use Rattle.sam_link.specs.Inbox.{Waiting}
 use Rattle.sam_link.specs.Packets.{Packet}
 use Rattle.sam_link.specs.Packets.{Packet as packet}
-use Rattle.sam_endpoint.specs.HostEndpoints.{PlainHostEndpoint}
-use Rattle.sam_endpoint.specs.HostEndpoints.{Feeds as FeedsHost}
-use Rattle.sam_endpoint.specs.HostStepping.{BringsIn, GoesBySteps, IsReady, Steps}
+use Rattle.sam_host.specs.Host.{PlainHost}
+use Rattle.sam_host.specs.declared.fault.MarkFault.{MarkFault}
+use Rattle.sam_endpoint.specs.declared.fault.AddFault.{AddFault}
+use Rattle.sam_endpoint.specs.HostEndpoints.{Adds, Marks, PlainHostEndpoint, writes_of}
+use Rattle.sam_endpoint.specs.HostStepping.{BringsIn, IsReady, Steps}
 use Rattle.sam_endpoint.specs.declared.fault.EndpointFault.{EndpointFault}
 use Rattle.sam_endpoint.specs.declared.fault.EndpointFault.TheVariants as endpoint
 use Rattle.sam_endpoint.specs.declared.fault.HostStop.{HostStop}
@@ -20,10 +23,10 @@ use Rattle.sam_endpoint.specs.declared.step.BringFault.{BringFault}
 use Rattle.sam_endpoint.specs.declared.step.BringFault.TheVariants as bring
 use Rattle.sam_endpoint.specs.declared.step.HostStep.{HostStep}
 use Rattle.sam_endpoint.specs.declared.step.HostStep.TheVariants as steps
-use Rattle.sam_endpoint.proofs.HostEndpointStepping.{steps_feed}
-use Rattle.sam_server.specs.HostLinks.{HandsOut, waits_for}
-use Rattle.sam_server.specs.Servers.{Effect, Hands, Hear, PutsAnswers, Server, Write, emptied}
-use Rattle.sam_server.specs.Turns.{Brought, DroppedEffect, DroppedFirst, Ends, Fetched, Finished, Finishes, GoesOn, Handed, HandedNext, Idles, IsHanded, IsResting, MovedWrite, Nears, PlainTurn, Stepped, held_in, left_in, plain_effect, some_left, steps_left, told_of_bring, told_of_step}
+use Rattle.sam_server.specs.HostLinks.{HandsOut}
+use Rattle.sam_server.specs.Servers.{Effect, HandsOn, Hear, IsPausedAt, Pauses, PutsAnswers, Server, StepsOn, Work, Write, to_write, waits_for, with_work}
+use Rattle.sam_server.specs.Turns.{BreaksOff, Brought, DroppedEffect, Fetched, Finished, Finishes, GoesOn, Handed, HandedNext, IsHanded, IsHolding, IsResting, IsStill, IsStillAt, MayHold, Nears, PlainTurn, Stepped, held_in, hosted, left_in, linked, plain_effect, some_left, steps_left, told_of_bring, told_of_step, with_effect, work_of}
+use Rattle.sam_server.specs.declared.turn.Stop.TheVariants as stop
 use Rattle.sam_server.specs.declared.turn.TurnFault.{TurnFault}
 use Rattle.sam_server.specs.declared.turn.TurnFault.TheVariants as fault
 use Rattle.sam_server.specs.declared.effect.Effect as declared
@@ -36,24 +39,51 @@ nears_itself t = record { leads = λ z ends. ends }
 pub nears_then : (t u v : PlainTurn) → Nears t u → Nears u v → Nears t v
 nears_then t u v first second = record { leads = λ z ends. first.leads z (second.leads z ends) }
 
+-- where it breaks off later
+pub breaks_then : (t u v : PlainTurn) (why : TurnFault) → Nears t u → BreaksOff u why v → BreaksOff t why v
+breaks_then t u v fault.OutOfMemory near breaks = nears_then t u v near breaks
+breaks_then t u v (fault.Stopped why) near breaks = tt
+
 pub goes_nowhere : (t : PlainTurn) → GoesOn t t
-goes_nowhere t = record { near = nears_itself t; packets = refl }
+goes_nowhere t = record { near = nears_itself t; link = refl; held = refl }
 
 pub goes_then : (t u v : PlainTurn) → GoesOn t u → GoesOn u v → GoesOn t v
 goes_then t u v first second =
-    record { near = nears_then t u v first.near second.near; packets = second.packets ∙ first.packets }
+    record { near = nears_then t u v first.near second.near; link = second.link ∙ first.link; held = second.held ∙ first.held }
+
+pub goes_breaks : (t u v : PlainTurn) (why : TurnFault) → GoesOn t u → BreaksOff u why v → BreaksOff t why v
+goes_breaks t u v why goes breaks = breaks_then t u v why goes.near breaks
+
+pub goes_held : (t u : PlainTurn) → GoesOn t u → t.held ≡ [] → u.held ≡ []
+goes_held t u goes none = goes.held ∙ none
+
+pub ruleset goes_facts = (goes_nowhere, goes_then, goes_breaks, goes_held)
+
+-- ## Moves
+
+-- the same work is left, and its packets would wait in the same link
+pub same_work : (t u : PlainTurn) → work_of u ≡ work_of t → ((ps : List Packet) → waits_for u.server.link ps ≡ waits_for t.server.link ps)
+    → Nears t u
+same_work t u work link = record {
+  leads = λ z (ends : Finishes u z). (
+    ends.0,
+    subst (λ (w : Work). Pauses w ends.0) work ends.1,
+    subst (λ (l : End). PutsAnswers (record { link = l; host = ends.0.host; effect = ends.0.effect }) z) (link ends.0.packets) ends.2,
+  );
+}
+
+-- one move is made
+pub moved : (t u : PlainTurn) → t.server.effect ≡ None → StepsOn (work_of t) (work_of u) ⊎ HandsOn (work_of t) (left_in t) (work_of u)
+    → ((ps : List Packet) → waits_for u.server.link ps ≡ waits_for t.server.link ps) → Nears t u
+moved t u none move link = record {
+  leads = λ z (ends : Finishes u z). (
+    ends.0,
+    (suc ends.1.0, (none, work_of u, move, ends.1.1)),
+    subst (λ (l : End). PutsAnswers (record { link = l; host = ends.0.host; effect = ends.0.effect }) z) (link ends.0.packets) ends.2,
+  );
+}
 
 -- ## Steps of the endpoint
-
-abbrev pub with_host : PlainTurn → PlainHostEndpoint → PlainTurn
-with_host t k = record t { server = record t.server { host = k } }
-
-pub stepped_on : (t : PlainTurn) (step : HostStep) (k : PlainHostEndpoint) → step ≢ steps.Idle → Steps t.server.host (Ok step) k
-    → GoesOn t (with_host t k)
-stepped_on t step k some does = record {
-  near = record { leads = λ z ends. (ends.0, (suc ends.1.0, (step, k, some, does, ends.1.1)), ends.2) };
-  packets = refl;
-}
 
 less_left : (before after : List Tmesg) (first : List Tmesg) (frames : List HFrame) → 0 < length first → before ≡ first ++ after
     → 2 * length after + some_left frames < 2 * length before
@@ -64,7 +94,7 @@ none_written : (frames : List HFrame) → 0 < length frames → some_left frames
 none_written [] some = absurd (omega (arith, some))
 none_written (f ∷ fs) some = refl
 
-pub steps_less : (e k : PlainHostEndpoint) (step : HostStep) → step ≢ steps.Idle → Steps e (Ok step) k → steps_left k < steps_left e
+steps_less : (e k : PlainHostEndpoint) (step : HostStep) → step ≢ steps.Idle → Steps e (Ok step) k → steps_left k < steps_left e
 steps_less e k steps.Idle some does = absurd (some refl)
 steps_less e k steps.Wrote some (going, waits, is) =
     subst (λ (x : PlainHostEndpoint). steps_left x < steps_left e) (sym is) (omega (arith, none_written e.unwritten waits))
@@ -75,168 +105,171 @@ steps_less e k (steps.Answered kind tag) some (written, did) =
     subst (λ (x : PlainHostEndpoint). steps_left x < steps_left e) (sym did.first.after)
     (omega (arith, less_left e.waiting did.first.rest (did.first.message ∷ []) did.first.frames (omega arith) did.first.waited))
 
+one_at_most : (b : Bool) (f : ℕ) → drop 1 (if b then [] else f ∷ []) ≡ []
+one_at_most true f = refl
+one_at_most false f = refl
+
+-- a message has one file written at most
+one_write : (h : PlainHost) (m : Tmesg) → drop 1 (writes_of h m) ≡ []
+one_write h (Twrite f) = one_at_most h.is_done f
+one_write h _ = refl
+
+-- and so has a step
+one_written : (e k : PlainHostEndpoint) (step : HostStep) → e.writes ≡ [] → Steps e (Ok step) k → drop 1 k.writes ≡ []
+one_written e k steps.Idle none does = ap (λ (x : PlainHostEndpoint). drop 1 x.writes) does.1 ∙ ap (drop 1) none
+one_written e k steps.Wrote none (going, waits, is) = ap (λ (x : PlainHostEndpoint). drop 1 x.writes) is ∙ ap (drop 1) none
+one_written e k (steps.Edited tag count) none (written, took) =
+    ap (λ (x : PlainHostEndpoint). drop 1 x.writes) took.edits.after ∙ ap (drop 1) none
+one_written e k (steps.Answered kind tag) none (written, did) =
+    ap (λ (x : PlainHostEndpoint). drop 1 x.writes) did.first.after
+    ∙ ap (λ (l : List ℕ). drop 1 (l ++ writes_of e.host did.first.message)) none ∙ one_write e.host did.first.message
+
+-- how a step leaves a turn
+abbrev pub stepped : PlainTurn → PlainHostEndpoint → Option Effect → PlainTurn
+stepped t k effect = record t { server = record t.server { host = record k { writes = drop 1 k.writes }; effect = effect } }
+
+stepped_on : (t : PlainTurn) (step : HostStep) (k : PlainHostEndpoint) (effect : Option Effect) → t.server.effect ≡ None
+    → t.server.host.writes ≡ [] → step ≢ steps.Idle → Steps t.server.host (Ok step) k → effect ≡ to_write k.writes
+    → Stepped t (Ok true) (stepped t k effect)
+stepped_on t step k effect none quiet some does is =
+    let rest : drop 1 k.writes ≡ [] = one_written t.server.host k step quiet does in
+    let work : work_of (stepped t k effect)
+    ≡ record { packets = left_in t; host = record k { writes = [] }; effect = to_write k.writes } =
+    λ i. record { packets = left_in t; host = record k { writes = rest i }; effect = is i } in (
+      record {
+        near = moved t (stepped t k effect) none (inl (step, k, some, does, work)) (λ ps. refl);
+        link = refl;
+        held = refl;
+      },
+      steps_less t.server.host k step some does,
+    )
+
+ok_same : (a b : Bool) (r : Result Bool TurnFault) → r ≡ Ok a → r ≡ Ok b → a ≡ b
+ok_same a b r is is_too = cc
+
+err_same : (a b : TurnFault) (r : Result Bool TurnFault) → r ≡ Err a → r ≡ Err b → a ≡ b
+err_same a b r is is_too = cc
+
+never : (b : Bool) (why : TurnFault) (r : Result Bool TurnFault) → r ≡ Ok b → r ≡ Err why → ⊥
+never b why r is is_too = cc
+
 -- what a step says
-pub step_told : (t : PlainTurn) (r : Result HostStep (EndpointFault HostStop)) (k : PlainHostEndpoint) → Steps t.server.host r k
-    → Stepped t (told_of_step r) (with_host t k)
-step_told t (Ok steps.Idle) k does = (ap (with_host t) does.1, does.0)
-step_told t (Ok steps.Wrote) k does =
-    (stepped_on t steps.Wrote k (λ e. cc) does, steps_less t.server.host k steps.Wrote (λ e. cc) does)
-step_told t (Ok (steps.Edited tag count)) k does =
-    (stepped_on t (steps.Edited tag count) k (λ e. cc) does, steps_less t.server.host k (steps.Edited tag count) (λ e. cc) does)
-step_told t (Ok (steps.Answered kind tag)) k does =
-    (stepped_on t (steps.Answered kind tag) k (λ e. cc) does, steps_less t.server.host k (steps.Answered kind tag) (λ e. cc) does)
-step_told t (Err (endpoint.Stopped why)) k does = tt
-step_told t (Err endpoint.Unfinished) k does = subst (λ (x : PlainHostEndpoint). Nears t (with_host t x)) (sym does.2) (nears_itself t)
-step_told t (Err endpoint.OutOfMemory) k does = absurd does
-step_told t (Err endpoint.CountFull) k does = absurd does
+pub step_told : (t : PlainTurn) (r : Result HostStep (EndpointFault HostStop)) (k : PlainHostEndpoint) (did : Bool) (effect : Option Effect)
+    → t.server.effect ≡ None → t.server.host.writes ≡ [] → Steps t.server.host r k → told_of_step r ≡ Ok did → effect ≡ to_write k.writes
+    → Stepped t (Ok did) (stepped t k effect)
+step_told t (Ok steps.Idle) k did effect none quiet does told is =
+    let same : t.server.host ≡ record k { writes = drop 1 k.writes } =
+    ap (λ (l : List ℕ). record t.server.host { writes = l }) (quiet ∙ sym (ap (drop 1) quiet))
+    ∙ ap (λ (x : PlainHostEndpoint). record x { writes = drop 1 x.writes }) (sym does.1) in
+    let writes : effect ≡ t.server.effect = is ∙ ap (λ (x : PlainHostEndpoint). to_write x.writes) does.1 ∙ ap to_write quiet ∙ sym none in
+    subst (λ (b : Bool). Stepped t (Ok b) (stepped t k effect)) (ok_same false did (told_of_step (Ok steps.Idle)) refl told) (
+      (λ i. record t { server = record t.server { host = sym same i; effect = writes i } }),
+      subst (λ (x : Option Effect). IsStillAt x t.server.host) (sym none) does.0,
+    )
+step_told t (Ok steps.Wrote) k did effect none quiet does told is =
+    subst (λ (b : Bool). Stepped t (Ok b) (stepped t k effect)) (ok_same true did (told_of_step (Ok steps.Wrote)) refl told)
+    (stepped_on t steps.Wrote k effect none quiet (λ e. cc) does is)
+step_told t (Ok (steps.Edited tag count)) k did effect none quiet does told is =
+    subst (λ (b : Bool). Stepped t (Ok b) (stepped t k effect)) (ok_same true did (told_of_step (Ok (steps.Edited tag count))) refl told)
+    (stepped_on t (steps.Edited tag count) k effect none quiet (λ e. cc) does is)
+step_told t (Ok (steps.Answered kind tag)) k did effect none quiet does told is =
+    subst (λ (b : Bool). Stepped t (Ok b) (stepped t k effect)) (ok_same true did (told_of_step (Ok (steps.Answered kind tag))) refl told)
+    (stepped_on t (steps.Answered kind tag) k effect none quiet (λ e. cc) does is)
+step_told t (Err (endpoint.Stopped why)) k did effect none quiet does told is =
+    absurd (never did (fault.Stopped (stop.Endpoint why)) (told_of_step (Err (endpoint.Stopped why))) told refl)
+step_told t (Err endpoint.Unfinished) k did effect none quiet does told is =
+    absurd (never did fault.OutOfMemory (told_of_step (Err endpoint.Unfinished)) told refl)
+step_told t (Err endpoint.OutOfMemory) k did effect none quiet does told is = absurd does
+step_told t (Err endpoint.CountFull) k did effect none quiet does told is = absurd does
 
-pub goes_near : (t u : PlainTurn) → GoesOn t u → Nears t u
-goes_near t u goes = goes.near
+-- what a step says that was not made
+pub step_broke : (t : PlainTurn) (r : Result HostStep (EndpointFault HostStop)) (k : PlainHostEndpoint) (why : TurnFault)
+    → Steps t.server.host r k → told_of_step r ≡ Err why → BreaksOff t why (hosted t k)
+step_broke t (Ok steps.Idle) k why does told = absurd (never false why (told_of_step (Ok steps.Idle)) refl told)
+step_broke t (Ok steps.Wrote) k why does told = absurd (never true why (told_of_step (Ok steps.Wrote)) refl told)
+step_broke t (Ok (steps.Edited tag count)) k why does told =
+    absurd (never true why (told_of_step (Ok (steps.Edited tag count))) refl told)
+step_broke t (Ok (steps.Answered kind tag)) k why does told =
+    absurd (never true why (told_of_step (Ok (steps.Answered kind tag))) refl told)
+step_broke t (Err (endpoint.Stopped stopped)) k why does told =
+    subst (λ (w : TurnFault). BreaksOff t w (hosted t k))
+    (err_same (fault.Stopped (stop.Endpoint stopped)) why (told_of_step (Err (endpoint.Stopped stopped))) refl told) tt
+step_broke t (Err endpoint.Unfinished) k why does told =
+    subst (λ (w : TurnFault). BreaksOff t w (hosted t k))
+    (err_same fault.OutOfMemory why (told_of_step (Err endpoint.Unfinished)) refl told)
+    (subst (λ (x : PlainHostEndpoint). Nears t (hosted t x)) (sym does.2) (nears_itself t))
+step_broke t (Err endpoint.OutOfMemory) k why does told = absurd does
+step_broke t (Err endpoint.CountFull) k why does told = absurd does
 
-pub ruleset goes_facts = (goes_nowhere, goes_then, nears_then, goes_near)
+-- the file that is to be written is an effect
+pub some_write : (writes : List ℕ) (f : ℕ) → Some f ≡ slice_get writes 0 → Some (Write f) ≡ to_write writes
+some_write [] f is = absurd (cc)
+some_write (g ∷ writes) f is = let same : f ≡ g = cc in ap (λ n. Some (Write n)) same
 
--- an endpoint that is ready stays
-pub rests : (e : PlainHostEndpoint) → IsReady e → Idles e e
-rests e ready = (0, (ready, refl))
+pub none_write : (writes : List ℕ) → None ≡ slice_get writes 0 → None ≡ to_write writes
+none_write [] is = refl
+none_write (g ∷ writes) is = absurd (cc)
 
-some_messages : (ms rest : List Tmesg) → 0 < length ms → [] ≡ ms ++ rest → ⊥
-some_messages [] rest some is = omega (arith, some)
-some_messages (m ∷ ms) rest some is = cc
+pub ruleset write_facts = (some_write, none_write)
 
-no_step : (e k : PlainHostEndpoint) (step : HostStep) → IsReady e → step ≢ steps.Idle → Steps e (Ok step) k → ⊥
-no_step e k steps.Idle ready some does = some refl
-no_step e k steps.Wrote ready some (going, waits, is) = omega (arith, waits, ap length ready.1.0.unwritten)
-no_step e k (steps.Edited tag count) ready some (written, took) =
-    some_messages took.edits.messages took.edits.rest took.edits.some (sym ready.1.0.waiting ∙ took.edits.waited)
-no_step e k (steps.Answered kind tag) ready some (written, did) =
-    some_messages (did.first.message ∷ []) did.first.rest (omega arith) (sym ready.1.0.waiting ∙ did.first.waited)
-
-stays_by : (n : ℕ) (e k : PlainHostEndpoint) → IsReady e → GoesBySteps n e (Ok tt) k → k ≡ e
-stays_by zero e k ready does = does.1
-stays_by (suc n) e k ready (step, m, some, does, more) = absurd (no_step e m step ready some does)
-
-pub stays : (e k : PlainHostEndpoint) → IsReady e → Idles e k → k ≡ e
-stays e k ready (n, does) = stays_by n e k ready does
-
--- ## What the endpoint was told to write
-
-ready_writes : (e : PlainHostEndpoint) (writes : List ℕ) → IsReady e → IsReady (record e { writes = writes })
-ready_writes e writes ready =
-    (ready.0, (record { waiting = ready.1.0.waiting; unwritten = ready.1.0.unwritten }, ready.1.1))
-
-ready_pending : (e : PlainHostEndpoint) (bytes : List ℕ) → IsReady e → IsReady (record e { pending_bytes = bytes })
-ready_pending e bytes ready =
-    (ready.0, (record { waiting = ready.1.0.waiting; unwritten = ready.1.0.unwritten }, ready.1.1))
-
-first_tag : (tags : List ℕ) (tag : ℕ) → Some tag ≡ slice_get tags 0 → tags ≡ tag ∷ drop 1 tags
-first_tag [] tag is = absurd (cc)
-first_tag (t ∷ tags) tag is = let same : tag ≡ t = cc in ap (λ n. n ∷ tags) (sym same)
-
-pub no_tag : (tags : List ℕ) → None ≡ slice_get tags 0 → tags ≡ []
-no_tag [] is = refl
-no_tag (t ∷ tags) is = absurd (cc)
-
-abbrev pub write_moved : PlainTurn → ℕ → List ℕ → PlainTurn
-write_moved t tag rest =
-    record t { server = record t.server { host = record t.server.host { writes = rest }; effects = t.server.effects ++ Write tag ∷ [] } }
-
--- nothing is left but these packets, which lead there
-abbrev pub HandsFrom : PlainTurn → List Effect → List Packet → Server → Type 0
-HandsFrom t effects packets z =
-    (m : Server)
-    × Hands (record { link = emptied t.server.link; host = record t.server.host { writes = [] }; effects = effects }) packets m
-    × PutsAnswers m z
-
-pub ends_ready : (t : PlainTurn) (z : Server) → IsReady t.server.host → Finishes t z
-    → HandsFrom t (t.server.effects ++ map Write t.server.host.writes) (left_in t) z
-ends_ready t z ready (k, idles, ends) = subst (λ (x : PlainHostEndpoint). Ends t x z) (stays t.server.host k ready idles) ends
-
-pub finishes_ready : (t : PlainTurn) (z : Server) → IsReady t.server.host
-    → HandsFrom t (t.server.effects ++ map Write t.server.host.writes) (left_in t) z → Finishes t z
-finishes_ready t z ready ends = (t.server.host, rests t.server.host ready, ends)
-
-pub write_goes : (t : PlainTurn) (tag : ℕ) → IsReady t.server.host → Some tag ≡ slice_get t.server.host.writes 0
-    → GoesOn t (write_moved t tag (drop 1 t.server.host.writes))
-write_goes t tag ready is = record {
-  near = record {
-    leads = λ z ends.
-        let rest = drop 1 t.server.host.writes in
-        let all : (t.server.effects ++ Write tag ∷ []) ++ map Write rest ≡ t.server.effects ++ map Write t.server.host.writes =
-        append_assoc t.server.effects (Write tag ∷ []) (map Write rest)
-        ∙ ap (λ (l : List ℕ). t.server.effects ++ map Write l) (sym (first_tag t.server.host.writes tag is)) in
-        finishes_ready t z ready
-        (subst (λ (l : List Effect). HandsFrom t l (left_in t) z) all (ends_ready (write_moved t tag rest) z (ready_writes t.server.host rest ready) ends));
-  };
-  packets = refl;
-}
-
-pub write_less : (tags : List ℕ) (tag : ℕ) → Some tag ≡ slice_get tags 0 → length (drop 1 tags) < length tags
-write_less [] tag is = absurd (cc)
-write_less (t ∷ tags) tag is = omega arith
-
--- a tag became an effect
-pub write_told : (t : PlainTurn) (k : PlainHostEndpoint) (effects : List Effect) (tag : ℕ) → IsReady t.server.host
-    → Some tag ≡ slice_get t.server.host.writes 0 → k ≡ record t.server.host { writes = drop 1 t.server.host.writes }
-    → effects ≡ t.server.effects ++ Write tag ∷ []
-    → MovedWrite t (Ok true) (record t { server = record t.server { host = k; effects = effects } })
-write_told t k effects tag ready is host more =
-    subst (λ (x : PlainHostEndpoint). MovedWrite t (Ok true) (record t { server = record t.server { host = x; effects = effects } })) (sym host)
-    (subst (λ (x : List Effect). MovedWrite t (Ok true) (record t { server = record t.server { host = record t.server.host { writes = drop 1 t.server.host.writes }; effects = x } })) (sym more)
-    (write_goes t tag ready is, ready_writes t.server.host (drop 1 t.server.host.writes) ready, write_less t.server.host.writes tag is))
-
-pub ruleset write_facts = (no_tag, nears_itself)
+pub still_by_effect : (t : PlainTurn) (e : Effect) → t.server.effect ≡ Some e → IsStill t
+still_by_effect t e is = subst (λ (x : Option Effect). IsStillAt x t.server.host) (sym is) tt
 
 -- ## A packet leaves the link
-
-pub fetched : (t u : PlainTurn) → u.server.host ≡ t.server.host → u.server.effects ≡ t.server.effects
-    → emptied u.server.link ≡ emptied t.server.link → left_in u ≡ left_in t → GoesOn t u
-fetched t u host effects link packets = record {
-  near = record {
-    leads = λ z (ends : Finishes u z). (
-      ends.0,
-      subst (λ (e : PlainHostEndpoint). Idles e ends.0) host ends.1,
-      (
-        ends.2.0,
-        subst (λ (l : End). Hands (record { link = l; host = record ends.0 { writes = [] }; effects = t.server.effects ++ map Write ends.0.writes }) (left_in t) ends.2.0) link
-            (subst (λ (x : List Effect). Hands (record { link = emptied u.server.link; host = record ends.0 { writes = [] }; effects = x ++ map Write ends.0.writes }) (left_in t) ends.2.0) effects
-            (subst (λ (x : List Packet). Hands (record { link = emptied u.server.link; host = record ends.0 { writes = [] }; effects = u.server.effects ++ map Write ends.0.writes }) x ends.2.0) packets ends.2.1)),
-        ends.2.2,
-      ),
-    );
-  };
-  packets = packets;
-}
 
 -- what the turn is after the link handed out what is next
 abbrev pub fetched_by : PlainTurn → End → List Packet → PlainTurn
 fetched_by t l held = record { server = record t.server { link = l }; held = held }
 
-pub fetches : (t : PlainTurn) (l : End) (what : Next) (buffer : List ℕ) → t.held ≡ [] → HandsOut t.server.link what buffer l
-    → Fetched t (fetched_by t l (held_in what buffer))
-fetches t l (next.Data count) buffer none (rest, some, brief, was, is) = record {
-  goes_on =
-      fetched t (fetched_by t l (packet.Data (take count buffer) ∷ [])) refl refl (ap emptied is)
-      (ap (λ (m : End). packet.Data (take count buffer) ∷ m.waiting.packets) is ∙ sym was ∙ ap (λ (h : List Packet). h ++ t.server.link.waiting.packets) (sym none));
-  host = refl;
-  last = λ e. absurd (cc);
-}
-fetches t l (next.Note count) buffer none (rest, brief, was, is) = record {
-  goes_on =
-      fetched t (fetched_by t l (packet.Note (take count buffer) ∷ [])) refl refl (ap emptied is)
-      (ap (λ (m : End). packet.Note (take count buffer) ∷ m.waiting.packets) is ∙ sym was ∙ ap (λ (h : List Packet). h ++ t.server.link.waiting.packets) (sym none));
-  host = refl;
-  last = λ e. absurd (cc);
-}
-fetches t l next.Nothing buffer none (empty, is) = record {
-  goes_on =
-      fetched t (fetched_by t l []) refl refl (ap emptied is)
-      (ap (λ (m : End). m.waiting.packets) is ∙ ap (λ (h : List Packet). h ++ t.server.link.waiting.packets) (sym none));
-  host = refl;
-  last = λ e. ap (λ (m : End). m.waiting) is ∙ empty;
-}
+-- whether there was one
+abbrev pub FetchedAs : Next → PlainTurn → PlainTurn → Type 0
+FetchedAs (next.Data count) t u = Fetched t (Ok true) u
+FetchedAs (next.Note count) t u = Fetched t (Ok true) u
+FetchedAs next.Nothing t u = Fetched t (Ok false) u
 
-pub fetches_not : (t : PlainTurn) → (t.held ≡ [] → ⊥) → Fetched t t
-fetches_not t some = record { goes_on = goes_nowhere t; host = refl; last = λ e. absurd (some e) }
+ready_at : (t : PlainTurn) → t.server.effect ≡ None → IsStill t → IsReady t.server.host
+ready_at t none still = subst (λ (x : Option Effect). IsStillAt x t.server.host) none still
+
+held_out : (t u : PlainTurn) (p : Packet) (rest : List Packet) (l : End) → GoesOn t u → t.held ≡ [] → IsStill u → u.server.effect ≡ None
+    → u.server.link.waiting.packets ≡ p ∷ rest → l ≡ waits_for u.server.link rest → Fetched t (Ok true) (fetched_by u l (p ∷ []))
+held_out t u p rest l goes none still quiet was is =
+    let packets : p ∷ l.waiting.packets ≡ u.held ++ u.server.link.waiting.packets =
+    ap (λ (m : End). p ∷ m.waiting.packets) is ∙ sym was
+    ∙ ap (λ (h : List Packet). h ++ u.server.link.waiting.packets) (sym (goes.held ∙ none)) in (
+      nears_then t u (fetched_by u l (p ∷ [])) goes.near
+          (same_work u (fetched_by u l (p ∷ []))
+          (ap (λ (ps : List Packet). record { packets = ps; host = u.server.host; effect = u.server.effect }) packets)
+          (λ ps. ap (λ (m : End). waits_for m ps) is)),
+      record { some = λ e. cc; ready = ready_at u quiet still; none = quiet },
+      packets ∙ ap (λ (h : List Packet). h ++ u.server.link.waiting.packets) goes.held
+          ∙ ap (λ (m : End). t.held ++ m.waiting.packets) goes.link,
+    )
+
+pub fetches : (t u : PlainTurn) (l : End) (what : Next) (buffer : List ℕ) → GoesOn t u → t.held ≡ [] → IsStill u → u.server.effect ≡ None
+    → HandsOut u.server.link what buffer l → FetchedAs what t (fetched_by u l (held_in what buffer))
+fetches t u l (next.Data count) buffer goes none still quiet (rest, some, brief, was, is) =
+    held_out t u (packet.Data (take count buffer)) rest l goes none still quiet was is
+fetches t u l (next.Note count) buffer goes none still quiet (rest, brief, was, is) =
+    held_out t u (packet.Note (take count buffer)) rest l goes none still quiet was is
+fetches t u l next.Nothing buffer goes none still quiet (empty, is) =
+    let left : u.held ≡ [] = goes.held ∙ none in
+    let packets : l.waiting.packets ≡ [] = ap (λ (m : End). m.waiting.packets) is ∙ ap (λ (w : Waiting). w.packets) empty in (
+      nears_then t u (fetched_by u l []) goes.near
+          (same_work u (fetched_by u l [])
+          (ap (λ (ps : List Packet). record { packets = ps; host = u.server.host; effect = u.server.effect })
+          (ap (λ (m : End). m.waiting.packets) is ∙ ap (λ (h : List Packet). h ++ u.server.link.waiting.packets) (sym left)))
+          (λ ps. ap (λ (m : End). waits_for m ps) is)),
+      record {
+        held = refl;
+        paused =
+            subst (λ (x : Option Effect). IsPausedAt x (work_of (fetched_by u l []))) (sym quiet) (ready_at u quiet still, packets);
+      },
+    )
+
+-- none leaves it while an effect waits
+pub fetches_not : (t u : PlainTurn) (e : Effect) → GoesOn t u → t.held ≡ [] → u.server.effect ≡ Some e → Fetched t (Ok false) u
+fetches_not t u e goes none some =
+    (goes.near, record { held = goes.held ∙ none; paused = subst (λ (x : Option Effect). IsPausedAt x (work_of u)) (sym some) tt })
 
 pub none_held : (what : Next) (buffer : List ℕ) → what ≡ next.Nothing → held_in what buffer ≡ []
 none_held what buffer is = ap (λ (w : Next). held_in w buffer) is
@@ -246,146 +279,191 @@ some_held (next.Data count) buffer some is = cc
 some_held (next.Note count) buffer some is = cc
 some_held next.Nothing buffer some is = some refl
 
-pub first_mapped : {A B : Type 0} (f : A → B) (xs : List A) → option_map f (slice_get xs 0) ≡ slice_get (map f xs) 0
-first_mapped f [] = refl
-first_mapped f (x ∷ xs) = refl
+effect_none : (effect : Option declared.Effect) → effect ≡ None → option_map plain_effect effect ≡ None
+effect_none effect is = ap (option_map plain_effect) is
 
-pub first_dropped : {A : Type 0} (xs : List A) (x : A) → Some x ≡ slice_get xs 0 → xs ≡ x ∷ drop 1 xs
-first_dropped [] x is = absurd (cc)
-first_dropped (y ∷ xs) x is = let same : x ≡ y = cc in ap (λ z. z ∷ xs) (sym same)
+-- it was held before
+pub holds : (t : PlainTurn) (what : Next) (buffer : List ℕ) (effect : Option declared.Effect) → t.held ≡ held_in what buffer
+    → t.server.effect ≡ option_map plain_effect effect → MayHold what t.server.host effect → (what ≡ next.Nothing → ⊥)
+    → Fetched t (Ok true) t
+holds t (next.Data count) buffer effect held is may some = (
+  nears_itself t,
+  record { some = λ e. some_held (next.Data count) buffer some (sym held ∙ e); ready = may.0; none = is ∙ effect_none effect may.1 },
+  refl,
+)
+holds t (next.Note count) buffer effect held is may some = (
+  nears_itself t,
+  record { some = λ e. some_held (next.Note count) buffer some (sym held ∙ e); ready = may.0; none = is ∙ effect_none effect may.1 },
+  refl,
+)
+holds t next.Nothing buffer effect held is may some = absurd (some refl)
 
-pub none_dropped : {A : Type 0} (xs : List A) → None ≡ slice_get xs 0 → xs ≡ []
-none_dropped [] is = refl
-none_dropped (y ∷ xs) is = absurd (cc)
+-- ## An endpoint that holds a packet stays ready
 
-pub none_left : {A : Type 0} (xs : List A) → None ≡ slice_get xs 0 → drop 1 xs ≡ xs
-none_left [] is = refl
-none_left (y ∷ xs) is = absurd (cc)
+pub ready_on : (e k : PlainHostEndpoint) → k.stop ≡ e.stop → k.waiting ≡ e.waiting → (e.unwritten ≡ [] → k.unwritten ≡ [])
+    → k.broken_by ≡ e.broken_by → IsReady e → IsReady k
+ready_on e k stop waiting unwritten broken_by ready = (
+  stop ∙ ready.0,
+  (
+    record { waiting = waiting ∙ ready.1.0.waiting; unwritten = unwritten ready.1.0.unwritten },
+    broken_by ∙ ready.1.1,
+  ),
+)
 
-abbrev pub with_effects : PlainTurn → List Effect → PlainTurn
-with_effects t effects = record t { server = record t.server { effects = effects } }
+hold_on : (what : Next) (e k : PlainHostEndpoint) (effect : Option declared.Effect) → (IsReady e → IsReady k) → MayHold what e effect
+    → MayHold what k effect
+hold_on (next.Data count) e k effect on may = (on may.0, may.1)
+hold_on (next.Note count) e k effect on may = (on may.0, may.1)
+hold_on next.Nothing e k effect on may = tt
 
--- the effects are those of the items
-pub dropped_told : (t : PlainTurn) (xs ys : List declared.Effect) (b : Bool) → t.server.effects ≡ map plain_effect xs
-    → DroppedFirst xs b ys → DroppedEffect t b (with_effects t (map plain_effect ys))
-dropped_told t xs ys true is (x, was) = (plain_effect x, map plain_effect ys, is ∙ ap (map plain_effect) was, refl)
-dropped_told t xs ys false is (none, same) =
-    (is ∙ ap (map plain_effect) none, ap (with_effects t) (ap (map plain_effect) same ∙ sym is))
+pub ready_joined : (e k : PlainHostEndpoint) (name text : List ℕ) (r : Result ℕ AddFault) → Adds e name text r k → IsReady e → IsReady k
+ready_joined e k name text (Ok tag) adds ready =
+    subst IsReady (sym adds.2) (ready_on e _ refl refl (λ none. none) refl ready)
+ready_joined e k name text (Err why) adds ready = subst IsReady (sym adds.1) ready
 
-pub ruleset drop_facts = (first_dropped, none_dropped, none_left)
+pub ready_marked : (e k : PlainHostEndpoint) (f : ℕ) (r : Result (Unit {0}) MarkFault) → Marks e f r k → IsReady e → IsReady k
+ready_marked e k f (Ok done) marks ready =
+    subst IsReady (sym marks.2) (ready_on e _ refl refl (λ none. refl) refl ready)
+ready_marked e k f (Err why) marks ready = subst IsReady (sym marks.1) ready
 
-pub ruleset fetch_facts = (fetches, fetches_not, none_held, some_held)
+pub ready_taken : (e : PlainHostEndpoint) (bytes : List ℕ) → IsReady e → IsReady (record e { pending_bytes = bytes })
+ready_taken e bytes ready = ready_on e (record e { pending_bytes = bytes }) refl refl (λ none. none) refl ready
+
+pub hold_joined : (what : Next) (e k : PlainHostEndpoint) (effect : Option declared.Effect) (name text : List ℕ) (r : Result ℕ AddFault)
+    → MayHold what e effect → Adds e name text r k → MayHold what k effect
+hold_joined what e k effect name text r may adds = hold_on what e k effect (ready_joined e k name text r adds) may
+
+pub hold_marked : (what : Next) (e k : PlainHostEndpoint) (effect : Option declared.Effect) (f : ℕ) (r : Result (Unit {0}) MarkFault)
+    → MayHold what e effect → Marks e f r k → MayHold what k effect
+hold_marked what e k effect f r may marks = hold_on what e k effect (ready_marked e k f r marks) may
+
+pub hold_taken : (what : Next) (e : PlainHostEndpoint) (effect : Option declared.Effect) (bytes : List ℕ) → MayHold what e effect
+    → MayHold what (record e { pending_bytes = bytes }) effect
+hold_taken what e effect bytes may = hold_on what e (record e { pending_bytes = bytes }) effect (ready_taken e bytes) may
+
+pub hold_none : (what : Next) (e : PlainHostEndpoint) (effect : Option declared.Effect) → MayHold what e effect → MayHold what e None
+hold_none (next.Data count) e effect may = (may.0, refl)
+hold_none (next.Note count) e effect may = (may.0, refl)
+hold_none next.Nothing e effect may = tt
+
+no_writes : (e k : PlainHostEndpoint) → e.writes ≡ [] → k.writes ≡ e.writes → k.writes ≡ []
+no_writes e k none same = same ∙ none
+
+pub joined_none : (e k : PlainHostEndpoint) (name text : List ℕ) (r : Result ℕ AddFault) → e.writes ≡ [] → Adds e name text r k
+    → k.writes ≡ []
+joined_none e k name text (Ok tag) none adds = no_writes e k none (ap (λ (x : PlainHostEndpoint). x.writes) adds.2)
+joined_none e k name text (Err why) none adds = no_writes e k none (ap (λ (x : PlainHostEndpoint). x.writes) adds.1)
+
+pub marked_none : (e k : PlainHostEndpoint) (f : ℕ) (r : Result (Unit {0}) MarkFault) → e.writes ≡ [] → Marks e f r k → k.writes ≡ []
+marked_none e k f (Ok done) none marks = no_writes e k none (ap (λ (x : PlainHostEndpoint). x.writes) marks.2)
+marked_none e k f (Err why) none marks = no_writes e k none (ap (λ (x : PlainHostEndpoint). x.writes) marks.1)
+
+pub ruleset joined_facts = (hold_joined, joined_none)
+
+pub ruleset marked_facts = (hold_marked, marked_none)
 
 -- ## It is handed on
 
 pub brought_told : (e k : PlainHostEndpoint) (piece : List ℕ) (r : Result (Unit {0}) (BringFault HostStop)) → BringsIn e piece r k
     → Brought e piece (told_of_bring r) k
 brought_told e k piece (Ok done) does = does
-brought_told e k piece (Err (bring.Stopped why)) does = tt
-brought_told e k piece (Err bring.CountFull) does = tt
+brought_told e k piece (Err (bring.Stopped why)) does = does.1
+brought_told e k piece (Err bring.CountFull) does = does.2
 brought_told e k piece (Err bring.Waiting) does = does.2
 brought_told e k piece (Err bring.OutOfMemory) does = does.2
 
-abbrev pub brought : PlainTurn → PlainHostEndpoint → PlainTurn
-brought t k = record { server = record t.server { host = k }; held = [] }
+pub brought_none : (e k : PlainHostEndpoint) (piece : List ℕ) → e.writes ≡ [] → BringsIn e piece (Ok tt) k → k.writes ≡ []
+brought_none e k piece none (ready, (messages, broken_by, rest, gives, is)) = ap (λ (x : PlainHostEndpoint). x.writes) is ∙ none
 
-pub plain_host : (e : PlainHostEndpoint) → e.writes ≡ [] → record e { writes = [] } ≡ e
-plain_host e none = ap (λ (l : List ℕ). record e { writes = l }) (sym none)
+-- a packet that was held is handed on
+abbrev pub handed_on : PlainTurn → PlainHostEndpoint → Option Effect → PlainTurn
+handed_on t k effect = record { server = record t.server { host = k; effect = effect }; held = [] }
 
-pub no_effects : (effects : List Effect) (writes : List ℕ) → writes ≡ [] → effects ++ map Write writes ≡ effects
-no_effects effects writes none = ap (λ (l : List ℕ). effects ++ map Write l) none ∙ append-nil effects
+fewer : (t : PlainTurn) (p : Packet) → t.held ≡ p ∷ [] → length t.server.link.waiting.packets < length (left_in t)
+fewer t p held =
+    subst (λ (h : List Packet). length t.server.link.waiting.packets < length (h ++ t.server.link.waiting.packets)) (sym held)
+    (omega arith)
 
-pub bring_nears : (t : PlainTurn) (piece : List ℕ) (k : PlainHostEndpoint) → IsReady t.server.host → t.server.host.writes ≡ []
-    → t.held ≡ packet.Data piece ∷ [] → BringsIn t.server.host piece (Ok tt) k → Nears t (brought t k)
-bring_nears t piece k ready none held brings = record {
-  leads = λ z (ends : Finishes (brought t k) z).
-      let fed = steps_feed ends.1.0 piece (Ok tt) t.server.host k ends.0 brings ends.1.1 in
-      let effects : t.server.effects ++ map Write t.server.host.writes ≡ t.server.effects =
-      no_effects t.server.effects t.server.host.writes none in
-      finishes_ready t z ready
-      (subst (λ (h : List Packet). HandsFrom t (t.server.effects ++ map Write t.server.host.writes) (h ++ t.server.link.waiting.packets) z) (sym held)
-      (subst (λ (l : List Effect). HandsFrom t l (packet.Data piece ∷ t.server.link.waiting.packets) z) (sym effects) (
-        ends.2.0,
-        (
-          ends.0,
-          subst (λ (e : PlainHostEndpoint). FeedsHost e piece (Ok tt) ends.0) (sym (plain_host t.server.host none)) fed,
-          ends.2.1,
-        ),
-        ends.2.2,
-      )));
-}
+pub bring_told : (t : PlainTurn) (k : PlainHostEndpoint) (effect : Option Effect) (piece : List ℕ) → t.server.effect ≡ None
+    → effect ≡ t.server.effect → t.held ≡ packet.Data piece ∷ [] → BringsIn t.server.host piece (Ok tt) k
+    → Handed t (Ok tt) (handed_on t k effect)
+bring_told t k effect piece none same held brings =
+    let rest = t.server.link.waiting.packets in
+    let work : work_of (handed_on t k effect) ≡ record { packets = rest; host = k; effect = None } =
+    ap (λ (x : Option Effect). record { packets = rest; host = k; effect = x }) (same ∙ none) in (
+      moved t (handed_on t k effect) none
+          (inr (subst (λ (h : List Packet). HandsOn (work_of t) (h ++ rest) (work_of (handed_on t k effect))) (sym held) (k, brings, work)))
+          (λ ps. refl),
+      fewer t (packet.Data piece) held,
+    )
 
-pub bring_told : (t : PlainTurn) (k : PlainHostEndpoint) (piece : List ℕ) → IsReady t.server.host → t.server.host.writes ≡ []
-    → t.held ≡ packet.Data piece ∷ [] → BringsIn t.server.host piece (Ok tt) k → Handed t (Ok true) (brought t k)
-bring_told t k piece ready none held brings = (
-  bring_nears t piece k ready none held brings,
-  subst (λ (h : List Packet). length t.server.link.waiting.packets < length (h ++ t.server.link.waiting.packets)) (sym held) (omega arith),
-)
+pub hear_told : (t : PlainTurn) (effect : Option Effect) (message : List ℕ) → IsReady t.server.host → t.server.effect ≡ None
+    → effect ≡ Some (Hear message) → t.held ≡ packet.Note message ∷ [] → Handed t (Ok tt) (handed_on t t.server.host effect)
+hear_told t effect message ready none is held =
+    let rest = t.server.link.waiting.packets in
+    let work : work_of (handed_on t t.server.host effect) ≡ record { packets = rest; host = t.server.host; effect = Some (Hear message) } =
+    ap (λ (x : Option Effect). record { packets = rest; host = t.server.host; effect = x }) is in (
+      moved t (handed_on t t.server.host effect) none
+          (inr (subst (λ (h : List Packet). HandsOn (work_of t) (h ++ rest) (work_of (handed_on t t.server.host effect))) (sym held) (ready, work)))
+          (λ ps. refl),
+      fewer t (packet.Note message) held,
+    )
 
-abbrev pub heard : PlainTurn → List ℕ → PlainTurn
-heard t message = record { server = record t.server { effects = t.server.effects ++ Hear message ∷ [] }; held = [] }
+pub next_handed : (t u v : PlainTurn) (b : Bool) → b ≡ true → Fetched t (Ok b) u → Handed u (Ok tt) v → HandedNext t (Ok true) v
+next_handed t u v true is (near, holding, same) (more, less) =
+    (nears_then t u v near more, subst (λ (l : List Packet). length (left_in v) < length l) same less)
+next_handed t u v false is fetched handed = absurd (true≢false (sym is))
 
-pub hear_nears : (t : PlainTurn) (message : List ℕ) → IsReady t.server.host → t.server.host.writes ≡ [] → t.held ≡ packet.Note message ∷ []
-    → Nears t (heard t message)
-hear_nears t message ready none held = record {
-  leads = λ z (ends : Finishes (heard t message) z).
-      let from = ends_ready (heard t message) z ready ends in
-      let before : t.server.effects ++ map Write t.server.host.writes ≡ t.server.effects =
-      no_effects t.server.effects t.server.host.writes none in
-      let after : (t.server.effects ++ Hear message ∷ []) ++ map Write t.server.host.writes ≡ t.server.effects ++ Hear message ∷ [] =
-      no_effects (t.server.effects ++ Hear message ∷ []) t.server.host.writes none in
-      let rest = subst (λ (l : List Effect). HandsFrom t l t.server.link.waiting.packets z) after from in
-      finishes_ready t z ready
-      (subst (λ (h : List Packet). HandsFrom t (t.server.effects ++ map Write t.server.host.writes) (h ++ t.server.link.waiting.packets) z) (sym held)
-      (subst (λ (l : List Effect). HandsFrom t l (packet.Note message ∷ t.server.link.waiting.packets) z) (sym before) rest));
-}
+pub next_none : (t u : PlainTurn) (b : Bool) → b ≡ false → Fetched t (Ok b) u → HandedNext t (Ok false) u
+next_none t u true is fetched = absurd (true≢false is)
+next_none t u false is fetched = fetched
 
-pub fewer_held : (p : Packet) (ps : List Packet) → length ([] ++ ps) < length ((p ∷ []) ++ ps)
-fewer_held p ps = omega arith
+pub next_broke : (t u v : PlainTurn) (b : Bool) (why : TurnFault) → b ≡ true → Fetched t (Ok b) u → Handed u (Err why) v
+    → BreaksOff t why v
+next_broke t u v true why is (near, holding, same) breaks = breaks_then t u v why near breaks
+next_broke t u v false why is fetched breaks = absurd (true≢false (sym is))
 
-pub ruleset hand_facts = (bring_nears, hear_nears, fewer_held, nears_itself)
+pub next_holding : (t u : PlainTurn) (b : Bool) → b ≡ true → Fetched t (Ok b) u → IsHolding u
+next_holding t u true is fetched = fetched.1
+next_holding t u false is fetched = absurd (true≢false (sym is))
 
-pub goes_fewer : (t u : PlainTurn) (n : ℕ) → GoesOn t u → n < length (left_in u) → n < length (left_in t)
-goes_fewer t u n goes less = subst (λ (l : List Packet). n < length l) goes.packets less
-
-pub handed_all : (u : PlainTurn) → IsReady u.server.host → u.server.host.writes ≡ [] → u.held ≡ []
-    → u.server.link.waiting ≡ nothing.waiting → IsHanded u
-handed_all u ready none held waiting = record { ready = ready; writes = none; held = held; waiting = waiting }
+pub ruleset next_facts = (next_handed, next_none, next_broke, next_holding)
 
 -- ## All answers are put
+
+-- a server that pauses does so with another endpoint that is ready where that was, and where the same packets wait
+pub paused_on : (effect : Option Effect) (w v : Work) → IsPausedAt effect w → v.packets ≡ w.packets → (IsReady w.host → IsReady v.host)
+    → IsPausedAt effect v
+paused_on None w v paused packets ready = (ready paused.0, packets ∙ paused.1)
+paused_on (Some effect) w v paused packets ready = tt
 
 abbrev pub answers_put : PlainTurn → End → PlainTurn
 answers_put t l = record t { server = record t.server { link = l; host = record t.server.host { pending_bytes = [] } } }
 
-pub put_ends : (t : PlainTurn) (l : End) → IsHanded t → Does t.server.link (Put t.server.host.pending_bytes (Ok tt)) l
-    → Finishes t (answers_put t l).server
-put_ends t l handed does =
-    let link : emptied t.server.link ≡ t.server.link = ap (λ (w : Waiting). record t.server.link { waiting = w }) (sym handed.waiting) in
-    let effects : t.server.effects ++ map Write t.server.host.writes ≡ t.server.effects =
-    no_effects t.server.effects t.server.host.writes handed.writes in
-    let packets : left_in t ≡ [] =
-    ap (λ (h : List Packet). h ++ t.server.link.waiting.packets) handed.held ∙ ap (λ (w : Waiting). w.packets) handed.waiting in
-    let same : record { link = emptied t.server.link; host = record t.server.host { writes = [] }; effects = t.server.effects ++ map Write t.server.host.writes }
-    ≡ t.server =
-    λ i. record { link = link i; host = plain_host t.server.host handed.writes i; effects = effects i } in
-    finishes_ready t (answers_put t l).server handed.ready
-    (subst (λ (ps : List Packet). HandsFrom t (t.server.effects ++ map Write t.server.host.writes) ps (answers_put t l).server) (sym packets)
-    (t.server, sym same, (l, does, refl)))
+-- what is left is what the server has
+pub whole : (t : PlainTurn) → t.held ≡ [] → with_work t.server.link (work_of t) ≡ t.server
+whole t none =
+    ap (λ (h : List Packet). record t.server { link = waits_for t.server.link (h ++ t.server.link.waiting.packets) }) none
 
-pub put_rests : (t : PlainTurn) (l : End) → IsHanded t → Does t.server.link (Put t.server.host.pending_bytes (Ok tt)) l
+put_ends : (t : PlainTurn) (l : End) → IsHanded t → Does t.server.link (Put t.server.host.pending_bytes (Ok tt)) l
+    → Finishes t (answers_put t l).server
+put_ends t l handed does = (
+  work_of t,
+  (0, (handed.paused, refl)),
+  subst (λ (s : Server). PutsAnswers s (answers_put t l).server) (sym (whole t handed.held)) (l, does, refl),
+)
+
+put_rests : (t : PlainTurn) (l : End) → IsHanded t → Does t.server.link (Put t.server.host.pending_bytes (Ok tt)) l
     → IsResting (answers_put t l)
 put_rests t l handed does = record {
   handed = record {
-    ready = ready_pending t.server.host [] handed.ready;
-    writes = handed.writes;
     held = handed.held;
-    waiting = ap (λ (e : End). e.waiting) does.1 ∙ handed.waiting;
+    paused =
+        paused_on t.server.effect (work_of t) (work_of (answers_put t l)) handed.paused
+        (ap (λ (e : End). t.held ++ e.waiting.packets) does.1) (ready_taken t.server.host []);
   };
   answers = refl;
 }
-
-pub finishes_near : (t u : PlainTurn) (z : Server) → Nears t u → Finishes u z → Finishes t z
-finishes_near t u z near ends = near.leads z ends
 
 -- the answers are put, and wait at the endpoint no more
 pub put_told : (t : PlainTurn) (l : End) (k : PlainHostEndpoint) (bytes : List ℕ) (count : ℕ) → IsHanded t
@@ -402,12 +480,11 @@ put_told t l k bytes count handed all long does host =
     (put_ends t l handed put, put_rests t l handed put)
 
 finished_near : (t v w : PlainTurn) (r : Result (Unit {0}) TurnFault) → Nears t v → Finished v r w → Finished t r w
-finished_near t v w (Ok done) near ends = (finishes_near t v w.server near ends.0, ends.1)
-finished_near t v w (Err fault.OutOfMemory) near ends = nears_then t v w near ends
-finished_near t v w (Err (fault.Stopped why)) near ends = tt
+finished_near t v w (Ok done) near ends = (near.leads w.server ends.0, ends.1)
+finished_near t v w (Err why) near breaks = breaks_then t v w why near breaks
 
 -- all is handed on, and then the answers are put
 pub finish_told : (t u v w : PlainTurn) (b : Bool) (r : Result (Unit {0}) TurnFault) → Nears t u → b ≡ false → HandedNext u (Ok b) v
     → Finished v r w → Finished t r w
-finish_told t u v w b r near none handed ends =
-    finished_near t v w r (nears_then t u v near (subst (λ (x : Bool). HandedNext u (Ok x) v) none handed).0) ends
+finish_told t u v w true r near none handed ends = absurd (true≢false none)
+finish_told t u v w false r near none handed ends = finished_near t v w r (nears_then t u v near handed.0) ends

@@ -1,5 +1,5 @@
 -- A server with its records, and what its calls do.
-use Rattle.std.specs.Prelude.{◌≡◌, ◌≢◌, ◌⊎◌, ℕ, List, [], ◌∷◌, ◌++◌, length, take, drop, min, Some, Result, Ok, Err}
+use Rattle.std.specs.Prelude.{◌≡◌, ◌≢◌, ◌⊎◌, ℕ, List, [], ◌∷◌, ◌++◌, length, take, drop, min, None, Some, Result, Ok, Err}
 use Rattle.std.specs.Global.{Vec}
 use Rattle.sam_link.specs.Calls.{Does}
 use Rattle.sam_link.specs.Calls.Call.{Feed, PutNote}
@@ -166,7 +166,7 @@ RefusesNote d message why e = Does d.turn.server.link (PutNote message (Err why)
 
 -- no effect waits, and all stays
 abbrev pub RefusesEffect : PlainDurableServer → NoEffect → PlainDurableServer → Type 0
-RefusesEffect d why e = (d.turn.server.effects ≡ []) × (e ≡ d)
+RefusesEffect d why e = (d.turn.server.effect ≡ None) × (e ≡ d)
 
 -- what a call says of a piece that the link has not taken
 abbrev pub told_of_feed : FeedFault → CallFault FeedFault

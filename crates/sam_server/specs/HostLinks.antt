@@ -9,6 +9,7 @@ use Rattle.sam_link.specs.Packets.{Packet as packet}
 use Rattle.sam_link.specs.declared.hello.Hello.{Hello}
 use Rattle.sam_link.specs.declared.hello.Refusal.{Refusal}
 use Rattle.sam_link.specs.declared.phase.Role.TheVariants.{Host}
+use Rattle.sam_server.specs.Servers.{waits_for}
 use Rattle.sam_server.specs.declared.host_link.Next.{Next}
 use Rattle.sam_server.specs.declared.host_link.Next.TheVariants as next
 
@@ -35,10 +36,6 @@ pub record IsHostEnd (e : End) (left : ℕ) : Type 0 where
 abbrev pub Answered : End → Hello → Result (Unit {0}) Refusal → End → Type 0
 Answered e hello (Ok done) n = Does e (Answer hello (Ok tt)) n
 Answered e hello (Err why) n = (refusal_of e hello ≡ Some why) × (n ≡ e)
-
--- these packets wait
-abbrev pub waits_for : End → List Packet → End
-waits_for e packets = record e { waiting = record { part = []; packets = packets } }
 
 -- the packet that is next, whole, if there is one
 abbrev pub HandsOut : End → Next → List ℕ → End → Type 0

@@ -3,6 +3,5 @@ pub mod DurableServers
 pub mod Laws
 pub mod Gates
 pub mod HostLinks
-pub mod Owing
 pub mod Servers
 pub mod Turns

@@ -1,15 +1,20 @@
 -- A server: a host endpoint, its end of a link, and the records of what it was given, which alone decide it.
-use Rattle.std.specs.Prelude.{◌≡◌, ℕ, List, [], ◌∷◌, ◌++◌, length, map, Ok}
+use Rattle.std.specs.Prelude.{◌≡◌, ◌≢◌, ◌⊎◌, ℕ, zero, suc, List, [], ◌∷◌, length, Option, None, Some, Ok}
 use Rattle.sam_link.specs.Calls.{Does}
 use Rattle.sam_link.specs.Calls.Call.{Acknowledge, Answer, Ask, Feed, Put, PutNote}
 use Rattle.sam_link.specs.End.{End, fresh}
 use Rattle.sam_link.specs.Packets.{Packet}
 use Rattle.sam_link.specs.Packets.{Packet as packet}
 use Rattle.sam_link.specs.declared.hello.Id.{Id}
+use Rattle.sam_link.specs.declared.phase.Phase.{Phase}
+use Rattle.sam_link.specs.declared.phase.Phase.TheVariants.{Asking, Down, Open}
 use Rattle.sam_link.specs.declared.phase.Role.TheVariants.{Host}
 use Rattle.sam_host.specs.Host.{new_host}
-use Rattle.sam_endpoint.specs.HostEndpoints.{Adds, Feeds, Marks, PlainHostEndpoint}
+use Rattle.sam_endpoint.specs.HostEndpoints.{Adds, Marks, PlainHostEndpoint}
 use Rattle.sam_endpoint.specs.HostRuns.{begun_with}
+use Rattle.sam_endpoint.specs.HostStepping.{BringsIn, IsReady, Steps}
+use Rattle.sam_endpoint.specs.declared.step.HostStep.{HostStep}
+use Rattle.sam_endpoint.specs.declared.step.HostStep.TheVariants.{Idle}
 pub use Rattle.sam_server.specs.Records.{Acknowledged, Asked, Called, Came, Done, Joined, Marked, PlainRecord, Said}
 
 -- what the program is asked to do
@@ -20,21 +25,59 @@ pub data Effect : Type 0 where
 pub record Server : Type 0 where
   pub link : End
   pub host : PlainHostEndpoint
-  pub effects : List Effect  -- that are not done yet, the oldest first
+  pub effect : Option Effect  -- that is to be done before anything behind it is handled
 
 abbrev pub new_server : Id → Server
-new_server id = record { link = fresh Host id; host = begun_with (new_host []); effects = [] }
+new_server id = record { link = fresh Host id; host = begun_with (new_host []); effect = None }
 
--- The endpoint takes what came, packet by packet. What it is told to write and what the program is to hear become effects, in their order.
--- Acknowledgements and questions are never among what waits
-abbrev pub Hands : Server → List Packet → Server → Type 0
-Hands s [] z = z ≡ s
-Hands s (packet.Data bytes ∷ rest) z =
-    (k : PlainHostEndpoint) × Feeds s.host bytes (Ok tt) k
-    × Hands (record s { host = record k { writes = [] }; effects = s.effects ++ map Write k.writes }) rest z
-Hands s (packet.Note bytes ∷ rest) z = Hands (record s { effects = s.effects ++ Hear bytes ∷ [] }) rest z
-Hands s (packet.Acknowledge count ∷ rest) z = ⊥
-Hands s (packet.Ask ∷ rest) z = ⊥
+-- ## What came is handled
+
+-- what a server works on: the packets that wait in its link, its endpoint, and the effect that waits, if one does
+pub record Work : Type 0 where
+  pub packets : List Packet
+  pub host : PlainHostEndpoint
+  pub effect : Option Effect
+
+-- the endpoint is told to write the first of these files, if there is one
+abbrev pub to_write : List ℕ → Option Effect
+to_write [] = None
+to_write (f ∷ fs) = Some (Write f)
+
+-- the endpoint goes on by a step; where that tells it to write, an effect waits
+abbrev pub StepsOn : Work → Work → Type 0
+StepsOn w v =
+    (step : HostStep) × (k : PlainHostEndpoint) × (step ≢ Idle) × Steps w.host (Ok step) k
+    × (v ≡ record { packets = w.packets; host = record k { writes = [] }; effect = to_write k.writes })
+
+-- Where the endpoint is ready, it takes the bytes of the first packet in; what the terminal's program said is an effect. Acknowledgements
+-- and questions are never among what waits
+abbrev pub HandsOn : Work → List Packet → Work → Type 0
+HandsOn w [] v = ⊥
+HandsOn w (packet.Data bytes ∷ rest) v =
+    (k : PlainHostEndpoint) × BringsIn w.host bytes (Ok tt) k × (v ≡ record { packets = rest; host = k; effect = None })
+HandsOn w (packet.Note bytes ∷ rest) v = IsReady w.host × (v ≡ record { packets = rest; host = w.host; effect = Some (Hear bytes) })
+HandsOn w (packet.Acknowledge count ∷ rest) v = ⊥
+HandsOn w (packet.Ask ∷ rest) v = ⊥
+
+-- an effect waits, or nothing is left
+abbrev pub IsPausedAt : Option Effect → Work → Type 0
+IsPausedAt None w = IsReady w.host × (w.packets ≡ [])
+IsPausedAt (Some effect) w = Unit {0}
+
+-- so many of these moves lead there, one after another while no effect waits, and there it pauses
+abbrev pub PausesBy : ℕ → Work → Work → Type 0
+PausesBy zero w v = IsPausedAt w.effect w × (v ≡ w)
+PausesBy (suc n) w v = (w.effect ≡ None) × (m : Work) × (StepsOn w m ⊎ HandsOn w w.packets m) × PausesBy n m v
+
+abbrev pub Pauses : Work → Work → Type 0
+Pauses w v = (n : ℕ) × PausesBy n w v
+
+-- these packets wait in the link
+abbrev pub waits_for : End → List Packet → End
+waits_for l packets = record l { waiting = record l.waiting { packets = packets } }
+
+abbrev pub with_work : End → Work → Server
+with_work l w = record { link = waits_for l w.packets; host = w.host; effect = w.effect }
 
 -- All that the endpoint answered is put at once: a link cuts its stream into packets by what is put, so it is cut alike whenever there was
 -- memory for it
@@ -43,26 +86,30 @@ PutsAnswers s z =
     (l : End) × Does s.link (Put s.host.pending_bytes (Ok tt)) l
     × (z ≡ record s { link = l; host = record s.host { pending_bytes = [] } })
 
--- nothing waits in the link any more
-abbrev pub emptied : End → End
-emptied l = record l { waiting = record { part = []; packets = [] } }
+-- what waits is handled until an effect waits or nothing is left, and then all answers are put
+abbrev pub Handles : End → PlainHostEndpoint → Option Effect → Server → Type 0
+Handles l host effect z =
+    (m : Work) × Pauses (record { packets = l.waiting.packets; host = host; effect = effect }) m × PutsAnswers (with_work l m) z
 
 -- what the server does with a record
 abbrev pub Takes : Server → PlainRecord → Server → Type 0
 Takes s (Joined name text) z = (tag : ℕ) × (k : PlainHostEndpoint) × Adds s.host name text (Ok tag) k × (z ≡ record s { host = k })
 Takes s (Marked f) z = (k : PlainHostEndpoint) × Marks s.host f (Ok tt) k × PutsAnswers (record s { host = k }) z
 Takes s (Called hello) z = (l : End) × Does s.link (Answer hello (Ok tt)) l × (z ≡ record s { link = l })
-Takes s (Came attempt piece) z =
-    (l : End) × (m : Server) × Does s.link (Feed attempt piece (Ok tt)) l
-    × Hands (record s { link = emptied l }) l.waiting.packets m × PutsAnswers m z
+Takes s (Came attempt piece) z = (l : End) × Does s.link (Feed attempt piece (Ok tt)) l × Handles l s.host s.effect z
 Takes s (Said bytes) z = (l : End) × Does s.link (PutNote bytes (Ok tt)) l × (z ≡ record s { link = l })
 Takes s Acknowledged z = (l : End) × Does s.link (Acknowledge (Ok tt)) l × (z ≡ record s { link = l })
 Takes s Asked z = (l : End) × Does s.link (Ask (Ok tt)) l × (z ≡ record s { link = l })
-Takes s (Done ending) z = (e : Effect) × (rest : List Effect) × (s.effects ≡ e ∷ rest) × (z ≡ record s { effects = rest })
+Takes s (Done ending) z = (e : Effect) × (s.effect ≡ Some e) × Handles s.link s.host None z
 
--- all that was put counts as given, since the records don't say what went out
+-- where a connection is up all that was put counts as given, since the records don't say what went out; a host never asks
+abbrev pub given_at : Phase → End → End
+given_at Open e = record e { hello = []; keeps = record e.keeps { sent = length e.keeps.kept } }
+given_at Asking e = e
+given_at Down e = e
+
 abbrev pub all_given : End → End
-all_given e = record e { hello = []; keeps = record e.keeps { sent = length e.keeps.kept } }
+all_given e = given_at e.phase e
 
 abbrev pub given : Server → Server
 given s = record s { link = all_given s.link }
@@ -74,7 +121,7 @@ Makes s (first ∷ records) z = (m : Server) × Takes (given s) first m × Makes
 
 -- ## The law
 
--- the records alone decide what is made of them: link, bytes, texts and effects
+-- the records alone decide what is made of them: link, bytes, texts, and the effect that waits
 abbrev pub OneIsMade : Type 0
 OneIsMade =
     (id : Id) (records : List PlainRecord) (a b : Server) → Makes (new_server id) records a → Makes (new_server id) records b → a ≡ b

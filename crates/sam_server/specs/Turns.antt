@@ -1,12 +1,11 @@
 -- A server in the middle of a turn, and what is left of it.
-use Rattle.std.specs.Prelude.{◌≡◌, ◌⊎◌, ℕ, ◌+◌, ◌*◌, ◌<◌, ◌≤◌, List, [], ◌∷◌, ◌++◌, length, map, take, Bool, true, false, Result, Ok, Err}
+use Rattle.std.specs.Prelude.{◌≡◌, ◌≢◌, ℕ, ◌+◌, ◌*◌, ◌<◌, ◌≤◌, List, [], ◌∷◌, ◌++◌, length, take, Option, option_map, None, Some, Bool, true, false, Result, Ok, Err}
 use Rattle.sam_link.specs.End.{End}
-use Rattle.sam_link.specs.Inbox.{nothing}
 use Rattle.sam_link.specs.Packets.{Packet}
 use Rattle.sam_link.specs.Packets.{Packet as packet}
 use Rattle.sam_mesg.specs.declared.hmesg.HFrame.{HFrame}
 use Rattle.sam_endpoint.specs.HostEndpoints.{PlainHostEndpoint}
-use Rattle.sam_endpoint.specs.HostStepping.{BringsIn, GoesBySteps, IsReady}
+use Rattle.sam_endpoint.specs.HostStepping.{BringsIn, IsReady}
 use Rattle.sam_endpoint.specs.declared.fault.EndpointFault.{EndpointFault}
 use Rattle.sam_endpoint.specs.declared.fault.EndpointFault.TheVariants as endpoint
 use Rattle.sam_endpoint.specs.declared.fault.HostStop.{HostStop}
@@ -14,7 +13,7 @@ use Rattle.sam_endpoint.specs.declared.step.BringFault.{BringFault}
 use Rattle.sam_endpoint.specs.declared.step.BringFault.TheVariants as bring
 use Rattle.sam_endpoint.specs.declared.step.HostStep.{HostStep}
 use Rattle.sam_endpoint.specs.declared.step.HostStep.TheVariants as steps
-use Rattle.sam_server.specs.Servers.{Effect, Hands, Hear, PutsAnswers, Server, Write, emptied}
+use Rattle.sam_server.specs.Servers.{Effect, Hear, IsPausedAt, Pauses, PutsAnswers, Server, Work, Write, with_work}
 use Rattle.sam_server.specs.declared.effect.Effect as declared
 use Rattle.sam_server.specs.declared.effect.Effect.TheVariants as effect
 use Rattle.sam_server.specs.declared.host_link.Next.{Next}
@@ -37,16 +36,8 @@ linked t l = record t { server = record t.server { link = l } }
 abbrev pub hosted : PlainTurn → PlainHostEndpoint → PlainTurn
 hosted t k = record t { server = record t.server { host = k } }
 
--- the first item is dropped, if there is one
-abbrev pub DroppedFirst : {A : Type 0} → List A → Bool → List A → Type 0
-DroppedFirst {A} old true new = (x : A) × (old ≡ x ∷ new)
-DroppedFirst old false new = (old ≡ []) × (new ≡ old)
-
--- the oldest effect is dropped, if there is one
-abbrev pub DroppedEffect : PlainTurn → Bool → PlainTurn → Type 0
-DroppedEffect t true u =
-    (e : Effect) × (rest : List Effect) × (t.server.effects ≡ e ∷ rest) × (u ≡ record t { server = record t.server { effects = rest } })
-DroppedEffect t false u = (t.server.effects ≡ []) × (u ≡ t)
+abbrev pub with_effect : PlainTurn → Option Effect → PlainTurn
+with_effect t effect = record t { server = record t.server { effect = effect } }
 
 -- the packet that stands in a buffer
 abbrev pub held_in : Next → List ℕ → List Packet
@@ -59,25 +50,28 @@ Fits (next.Data count) = (1 ≤ count) × (count ≤ 4096)
 Fits (next.Note count) = count ≤ 4096
 Fits next.Nothing = Unit {0}
 
--- the endpoint goes on until nothing is left to answer or to write
-abbrev pub Idles : PlainHostEndpoint → PlainHostEndpoint → Type 0
-Idles e k = (n : ℕ) × GoesBySteps n e (Ok tt) k
+-- a packet is held only for an endpoint that is ready, and while no effect waits
+abbrev pub MayHold : Next → PlainHostEndpoint → Option declared.Effect → Type 0
+MayHold (next.Data count) e effect = IsReady e × (effect ≡ None)
+MayHold (next.Note count) e effect = IsReady e × (effect ≡ None)
+MayHold next.Nothing e effect = Unit {0}
 
--- where the endpoint is idle: what it was told to write becomes effects, what came is handed on, and all answers are put
-abbrev pub Ends : PlainTurn → PlainHostEndpoint → Server → Type 0
-Ends t k z =
-    (m : Server)
-    × Hands (record { link = emptied t.server.link; host = record k { writes = [] }; effects = t.server.effects ++ map Write k.writes })
-    (t.held ++ t.server.link.waiting.packets) m
-    × PutsAnswers m z
+-- what is left to work on
+abbrev pub work_of : PlainTurn → Work
+work_of t = record { packets = t.held ++ t.server.link.waiting.packets; host = t.server.host; effect = t.server.effect }
 
 -- What is left of a turn leads there
 abbrev pub Finishes : PlainTurn → Server → Type 0
-Finishes t z = (k : PlainHostEndpoint) × Idles t.server.host k × Ends t k z
+Finishes t z = (m : Work) × Pauses (work_of t) m × PutsAnswers (with_work t.server.link m) z
 
 -- something of the turn is done: what is left leads where all led
 pub record Nears (t u : PlainTurn) : Type 0 where
   pub leads : (z : Server) → Finishes u z → Finishes t z
+
+-- the effect that waits is dropped, if there is one
+abbrev pub DroppedEffect : PlainTurn → Bool → PlainTurn → Type 0
+DroppedEffect t true u = (t.server.effect ≢ None) × (u ≡ with_effect t None)
+DroppedEffect t false u = (t.server.effect ≡ None) × (u ≡ t)
 
 -- ## What each part of a turn answers, and how it leaves the server
 
@@ -93,10 +87,11 @@ steps_left e = 2 * length e.waiting + some_left e.unwritten
 abbrev pub left_in : PlainTurn → List Packet
 left_in t = t.held ++ t.server.link.waiting.packets
 
--- something is done, and no packet is handed on by it
+-- something is done by the endpoint alone
 pub record GoesOn (t u : PlainTurn) : Type 0 where
   pub near : Nears t u
-  pub packets : left_in u ≡ left_in t
+  pub link : u.server.link ≡ t.server.link
+  pub held : u.held ≡ t.held
 
 -- where a turn breaks off: memory was refused, and what is left leads where all led; or the server has stopped
 abbrev pub BreaksOff : PlainTurn → TurnFault → PlainTurn → Type 0
@@ -114,29 +109,39 @@ told_of_step (Err endpoint.Unfinished) = Err fault.OutOfMemory
 told_of_step (Err endpoint.OutOfMemory) = Err fault.OutOfMemory
 told_of_step (Err endpoint.CountFull) = Err fault.OutOfMemory
 
+-- an effect waits, or the endpoint has nothing left to do
+abbrev pub IsStillAt : Option Effect → PlainHostEndpoint → Type 0
+IsStillAt None e = IsReady e
+IsStillAt (Some effect) e = Unit {0}
+
+abbrev pub IsStill : PlainTurn → Type 0
+IsStill t = IsStillAt t.server.effect t.server.host
+
 abbrev pub Stepped : PlainTurn → Result Bool TurnFault → PlainTurn → Type 0
 Stepped t (Ok true) u = GoesOn t u × (steps_left u.server.host < steps_left t.server.host)
-Stepped t (Ok false) u = (u ≡ t) × IsReady t.server.host
+Stepped t (Ok false) u = (u ≡ t) × IsStill t
 Stepped t (Err why) u = BreaksOff t why u
 
 abbrev pub Idled : PlainTurn → Result (Unit {0}) TurnFault → PlainTurn → Type 0
-Idled t (Ok done) u = GoesOn t u × IsReady u.server.host
+Idled t (Ok done) u = GoesOn t u × IsStill u
 Idled t (Err why) u = BreaksOff t why u
 
-abbrev pub MovedWrite : PlainTurn → Result Bool TurnFault → PlainTurn → Type 0
-MovedWrite t (Ok true) u = GoesOn t u × IsReady u.server.host × (length u.server.host.writes < length t.server.host.writes)
-MovedWrite t (Ok false) u = (u ≡ t) × (t.server.host.writes ≡ [])
-MovedWrite t (Err why) u = BreaksOff t why u
+-- nothing is left of what came, or an effect waits
+pub record IsHanded (t : PlainTurn) : Type 0 where
+  pub held : t.held ≡ []
+  pub paused : IsPausedAt t.server.effect (work_of t)
 
-abbrev pub MovedWrites : PlainTurn → Result (Unit {0}) TurnFault → PlainTurn → Type 0
-MovedWrites t (Ok done) u = GoesOn t u × IsReady u.server.host × (u.server.host.writes ≡ [])
-MovedWrites t (Err why) u = BreaksOff t why u
+-- a packet is held, and may be handed on
+pub record IsHolding (t : PlainTurn) : Type 0 where
+  pub some : t.held ≡ [] → ⊥
+  pub ready : IsReady t.server.host
+  pub none : t.server.effect ≡ None
 
--- a packet is held, if there was one
-pub record Fetched (t u : PlainTurn) : Type 0 where
-  pub goes_on : GoesOn t u
-  pub host : u.server.host ≡ t.server.host
-  pub last : u.held ≡ [] → u.server.link.waiting ≡ nothing.waiting
+-- as many packets are left to be handed on, and one is held where there was one
+abbrev pub Fetched : PlainTurn → Result Bool TurnFault → PlainTurn → Type 0
+Fetched t (Ok true) u = Nears t u × IsHolding u × (left_in u ≡ left_in t)
+Fetched t (Ok false) u = Nears t u × IsHanded u
+Fetched t (Err why) u = BreaksOff t why u
 
 -- what bringing a piece says of a turn
 abbrev pub told_of_bring : Result (Unit {0}) (BringFault HostStop) → Result (Unit {0}) TurnFault
@@ -148,25 +153,18 @@ told_of_bring (Err bring.OutOfMemory) = Err fault.OutOfMemory
 
 abbrev pub Brought : PlainHostEndpoint → List ℕ → Result (Unit {0}) TurnFault → PlainHostEndpoint → Type 0
 Brought e piece (Ok done) k = BringsIn e piece (Ok tt) k
-Brought e piece (Err fault.OutOfMemory) k = k ≡ e
-Brought e piece (Err (fault.Stopped why)) k = Unit {0}
+Brought e piece (Err why) k = k ≡ e
 
-abbrev pub Heard : List Effect → List ℕ → Result (Unit {0}) TurnFault → List Effect → Type 0
-Heard old message (Ok done) new = new ≡ old ++ Hear message ∷ []
-Heard old message (Err fault.OutOfMemory) new = new ≡ old
-Heard old message (Err (fault.Stopped why)) new = ⊥
+-- an effect with the message, or out of memory
+abbrev pub Heard : List ℕ → Result declared.Effect TurnFault → Type 0
+Heard message (Ok effect) = plain_effect effect ≡ Hear message
+Heard message (Err fault.OutOfMemory) = Unit {0}
+Heard message (Err (fault.Stopped why)) = ⊥
 
-abbrev pub Handed : PlainTurn → Result Bool TurnFault → PlainTurn → Type 0
-Handed t (Ok true) u = Nears t u × (length (left_in u) < length (left_in t))
-Handed t (Ok false) u = (u ≡ t) × (t.held ≡ [])
+-- the packet is handed on
+abbrev pub Handed : PlainTurn → Result (Unit {0}) TurnFault → PlainTurn → Type 0
+Handed t (Ok done) u = Nears t u × (length (left_in u) < length (left_in t))
 Handed t (Err why) u = BreaksOff t why u
-
--- all is handed on, and what is left is to put the answers
-pub record IsHanded (t : PlainTurn) : Type 0 where
-  pub ready : IsReady t.server.host
-  pub writes : t.server.host.writes ≡ []
-  pub held : t.held ≡ []
-  pub waiting : t.server.link.waiting ≡ nothing.waiting
 
 abbrev pub HandedNext : PlainTurn → Result Bool TurnFault → PlainTurn → Type 0
 HandedNext t (Ok true) u = Nears t u × (length (left_in u) < length (left_in t))

@@ -1,6 +1,6 @@
 //! What a server's program gives it: files, messages, and how effects ended.
 
-ghost use Rattle.std.specs.Prelude.{◌≡◌, IfOk, length, option_copied, option_map, slice_get};
+ghost use Rattle.std.specs.Prelude.{◌≡◌, IfOk, length, option_copied, option_map};
 ghost use Rattle.sam_server.specs.DurableServers.{RefusesEffect, RefusesFile, RefusesNote, TakesRecord};
 ghost use Rattle.sam_server.specs.Records.{Done, Joined, Said};
 ghost use Rattle.sam_server.specs.Turns.{plain_effect};
@@ -55,26 +55,26 @@ impl DurableServer {
         self.go_on_now()
     }
 
-    /// Lends the oldest effect that is not done; `None` if there is none. A file is written only once all records that were handed out are
-    /// durable, and `effect_done` says how that ended.
+    /// Lends the effect that is to be done now: nothing behind it is handled before; `None` if there is none. A file is written only once
+    /// all records that were handed out are durable, and then `effect_done` says how that ended. What is said or marked before that goes out
+    /// in front of the answer to a write.
     pub fn next_effect(&self) -> Option<&Effect>
-        ensures { option_map plain_effect (option_copied result) ≡ slice_get self.now.turn.server.effects 0 }
+        ensures { option_map plain_effect (option_copied result) ≡ self.now.turn.server.effect }
     {
-        self.turn.first_effect()
+        self.turn.effect()
     }
 
-    /// Takes note that the oldest effect is done, with a number of the program's for how it ended.
+    /// Takes note that the effect is done, with a number of the program's for how it ended, and handles what waited behind it.
     ///
     /// Errors, in this order: `Stopped`; `Waiting`; `OutOfMemory`; `Refused` if there is no effect; `Unfinished`, after which it counts as
-    /// done. After all but the last it is as it was.
-    #[tactic(auto, using(crate::proofs::DurableServers::done_well))]
+    /// done, or `Stopped` where the terminal breaks the protocol behind it. After `Waiting`, `OutOfMemory` and `Refused` it is as it was.
     pub fn effect_done(&mut self, ending: u64) -> Result<(), CallFault<NoEffect>>
         ensures { TakesRecord self.old (Done ending) (RefusesEffect self.old) result self.new }
     {
         let body = self.prepare(Record::Done(ending))?;
         if self.turn.drop_effect() {
             self.owed = body;
-            self.stage = Stage::Recording;
+            self.stage = Stage::Answering;
             return self.go_on_now();
         }
         Err(CallFault::Refused(NoEffect))

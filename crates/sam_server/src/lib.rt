@@ -26,7 +26,7 @@ mod writing;
 pub use effect::Effect;
 pub use fault::{CallFault, GoOnFault, NoEffect};
 pub use gate::{Gate, Mark};
-pub use laws::{one_is_made, one_record, owed_is_fed};
+pub use laws::{one_is_made, one_record};
 pub use reading::read_record;
 pub use record::Record;
 pub use server::DurableServer;

@@ -1,20 +1,19 @@
 //! A turn of a server: what came is handed to the endpoint and to the program, and then all answers are put at once.
 
-ghost use Rattle.std.specs.Prelude.{◌≡◌, [], IfOk, length, map, option_copied, option_map, slice_get};
+ghost use Rattle.std.specs.Prelude.{◌≡◌, [], IfOk, drop, option_copied, option_map};
 ghost use Rattle.sam_link.specs.Calls.{Does};
 ghost use Rattle.sam_link.specs.Calls.Call.{Feed, PutNote};
-ghost use Rattle.sam_endpoint.specs.HostEndpoints.{Adds};
-ghost use Rattle.sam_endpoint.specs.HostStepping.{IsReady};
+ghost use Rattle.sam_endpoint.specs.HostEndpoints.{Adds, Marks};
 ghost use Rattle.sam_server.specs.HostLinks.{Answered};
-ghost use Rattle.sam_server.specs.Servers.{new_server};
-ghost use Rattle.sam_server.specs.Turns.{Brought, DroppedEffect, DroppedFirst, Fetched, Finished, Handed, HandedNext, Heard, Idled, IsHanded, MovedWrite, MovedWrites, Stepped, hosted, linked, plain_effect, told_of_bring, told_of_step};
+ghost use Rattle.sam_server.specs.Servers.{new_server, to_write};
+ghost use Rattle.sam_server.specs.Turns.{Brought, DroppedEffect, Fetched, Finished, Handed, HandedNext, Heard, Idled, IsHanded, IsHolding, Stepped, hosted, linked, plain_effect, told_of_bring, told_of_step};
 
 use crate::effect::Effect;
 use crate::host_link::{HostLink, Next};
 use sam_endpoint::{AddFault, BringFault, EndpointFault, HostEndpoint, HostStep, HostStop};
+use sam_host::MarkFault;
 use sam_link::{FeedFault, Hello, Id, MOST_BODY, NoteFault, PutFault, Refusal};
 use std::alloc::{AllocError, Global};
-use std::collections::VecDeque;
 use std::marker::Model;
 use thiserror::Error;
 
@@ -44,24 +43,25 @@ pub(crate) struct Turn {
     alloc: Global,
     pub(crate) link: HostLink,
     pub(crate) host: HostEndpoint,
-    pub(crate) effects: VecDeque<Effect>,
+    /// What is to be done before anything behind it is handled.
+    effect: Option<Effect>,
     /// What left the link last, and neither the endpoint nor the program has got yet: its first bytes stand in `packet`.
     held: Next,
     packet: [u8; MOST_BODY],
 }
 
 impl Model for Turn {
-    ghost use Rattle.std.specs.Prelude.{◌≡◌, length, map};
-    ghost use Rattle.sam_server.specs.Turns.{Fits, PlainTurn, held_in, plain_effect};
+    ghost use Rattle.std.specs.Prelude.{◌≡◌, [], length, option_map};
+    ghost use Rattle.sam_server.specs.Turns.{Fits, MayHold, PlainTurn, held_in, plain_effect};
 
     ghost Value = { PlainTurn };
 
     ghost view = { λ a. record {
-      server = record { link = a.link; host = a.host; effects = map plain_effect a.effects.items };
+      server = record { link = a.link; host = a.host; effect = option_map plain_effect a.effect };
       held = held_in a.held a.packet;
     } };
 
-    ghost invariant = { λ a. (length a.packet ≡ 4096) × Fits a.held };
+    ghost invariant = { λ a. (length a.packet ≡ 4096) × Fits a.held × MayHold a.held a.host a.effect × (a.host.writes ≡ []) };
 }
 
 /// Returns what a step of the endpoint says of a turn: whether something was done.
@@ -96,26 +96,33 @@ fn bring(host: &mut HostEndpoint, piece: &[u8]) -> Result<(), TurnFault>
     told_of_bring(host.bring(piece))
 }
 
-/// Puts a message that the terminal's program said behind the effects.
-fn hear(alloc: Global, effects: &mut VecDeque<Effect>, bytes: &[u8]) -> Result<(), TurnFault>
-    ensures { Heard (map plain_effect effects.old.items) bytes.now result (map plain_effect effects.new.items) }
+/// Puts the value in place of another, which is dropped.
+fn set<T: Drop>(slot: &mut T, value: T)
+    ensures { slot.new ≡ value }
 {
-    let mut message = Vec::new(alloc);
-    if message.extend_from_slice(bytes).is_err() || effects.reserve(1).is_err() {
-        return Err(TurnFault::OutOfMemory);
-    }
-    effects.push_back_reserved(Effect::Hear(message));
-    Ok(())
+    *slot = value;
 }
 
-/// Drops the first item, and returns whether there was one.
-#[tactic(auto, using(crate::proofs::Turns::drop_facts))]
-fn drop_first<T: Drop>(items: &mut VecDeque<T>) -> bool
-    ensures { DroppedFirst items.old.items result items.new.items }
+/// Makes an effect of what the endpoint was told to write, if it was.
+#[tactic(auto, using(crate::proofs::Turns::write_facts))]
+fn next_write(host: &mut HostEndpoint) -> Option<Effect>
+    ensures effect { option_map plain_effect result ≡ to_write host.old.writes }
+    ensures rest { host.new ≡ record host.old { writes = drop 1 host.old.writes } }
 {
-    match items.pop_front() {
-        Some(_) => true,
-        None => false,
+    match host.next_written() {
+        Some(tag) => Some(Effect::Write(tag)),
+        None => None,
+    }
+}
+
+/// Makes an effect of a message that the terminal's program said.
+fn hear(alloc: Global, bytes: &[u8]) -> Result<Effect, TurnFault>
+    ensures { Heard bytes.now result }
+{
+    let mut message = Vec::new(alloc);
+    match message.extend_from_slice(bytes) {
+        Ok(()) => Ok(Effect::Hear(message)),
+        Err(_) => Err(TurnFault::OutOfMemory),
     }
 }
 
@@ -128,7 +135,7 @@ impl Turn {
             alloc,
             link: HostLink::new(alloc, id),
             host: HostEndpoint::new(alloc)?,
-            effects: VecDeque::new(alloc),
+            effect: None,
             held: Next::Nothing,
             packet: [0; MOST_BODY],
         })
@@ -166,107 +173,116 @@ impl Turn {
         self.host.add_file(name, text)
     }
 
-    /// Lends the oldest effect, if there is one.
-    #[tactic(auto, using(crate::proofs::Turns::first_mapped))]
-    pub(crate) fn first_effect(&self) -> Option<&Effect>
-        ensures { option_map plain_effect (option_copied result) ≡ slice_get self.now.server.effects 0 }
+    /// Marks a file of the endpoint as dirty.
+    pub(crate) fn mark_dirty(&mut self, tag: u16) -> Result<(), MarkFault>
+        ensures host { Marks self.old.server.host tag result self.new.server.host }
+        ensures others { self.new ≡ hosted self.old self.new.server.host }
     {
-        self.effects.front()
+        self.host.mark_dirty(tag)
     }
 
-    /// Drops the oldest effect, and returns whether there was one.
+    /// Lends the effect that waits, if one does.
+    pub(crate) fn effect(&self) -> Option<&Effect>
+        ensures { option_map plain_effect (option_copied result) ≡ self.now.server.effect }
+    {
+        self.effect.as_ref()
+    }
+
+    /// Drops the effect that waits, and returns whether there was one.
     pub(crate) fn drop_effect(&mut self) -> bool
         ensures { DroppedEffect self.old result self.new }
     {
-        drop_first(&mut self.effects)
+        if self.effect.is_none() {
+            return false;
+        }
+        set(&mut self.effect, None);
+        true
     }
 
-    /// Has the endpoint go on by one step, and returns whether it did something.
+    /// Has the endpoint go on by one step while no effect waits, and returns whether it did something. Where it is told to write, an effect
+    /// waits.
     fn step(&mut self) -> Result<bool, TurnFault>
+        requires { self.old.held ≡ [] }
         ensures { Stepped self.old result self.new }
     {
-        told_of_step(self.host.step())
+        match self.effect {
+            Some(_) => return Ok(false),
+            None => {}
+        }
+        let did = told_of_step(self.host.step())?;
+        set(&mut self.effect, next_write(&mut self.host));
+        Ok(did)
     }
 
-    /// Has the endpoint go on until nothing is left to answer or to write.
+    /// Has the endpoint go on until an effect waits, or nothing is left to answer.
     #[tactic(auto, using(crate::proofs::Turns::goes_facts))]
     fn idle(&mut self) -> Result<(), TurnFault>
+        requires { self.old.held ≡ [] }
         ensures { Idled self.old result self.new }
     {
         while self.step()? {}
         Ok(())
     }
 
-    /// Makes an effect of the oldest tag that the endpoint was told to write, and returns whether there was one.
-    fn move_write(&mut self) -> Result<bool, TurnFault>
-        requires { IsReady self.old.server.host }
-        ensures { MovedWrite self.old result self.new }
+    /// Has the endpoint go on, and then the packet that is next leave the link; returns whether there was one that may be handed on.
+    fn fetch_next(&mut self) -> Result<bool, TurnFault>
+        requires { self.old.held ≡ [] }
+        ensures { Fetched self.old result self.new }
     {
-        if self.effects.reserve(1).is_err() {
-            return Err(TurnFault::OutOfMemory);
+        self.idle()?;
+        if self.effect.is_some() {
+            return Ok(false);
         }
-        match self.host.next_written() {
-            Some(tag) => {
-                self.effects.push_back_reserved(Effect::Write(tag));
-                Ok(true)
-            }
-            None => Ok(false),
+        self.held = self.link.next_packet(&mut self.packet);
+        match self.held {
+            Next::Nothing => Ok(false),
+            Next::Data(_) => Ok(true),
+            Next::Note(_) => Ok(true),
         }
     }
 
-    /// Makes effects of all that the endpoint was told to write.
-    #[tactic(auto, using(crate::proofs::Turns::goes_facts))]
-    fn move_writes(&mut self) -> Result<(), TurnFault>
-        requires { IsReady self.old.server.host }
-        ensures { MovedWrites self.old result self.new }
-    {
-        while self.move_write()? {}
-        Ok(())
-    }
-
-    /// Has the packet that is next leave the link, if none has.
-    #[tactic(auto, using(crate::proofs::Turns::fetch_facts))]
-    fn fetch(&mut self)
-        ensures { Fetched self.old self.new }
+    /// Has a packet leave the link, if none has, and returns whether one is held.
+    fn fetch(&mut self) -> Result<bool, TurnFault>
+        ensures { Fetched self.old result self.new }
     {
         match self.held {
-            Next::Nothing => self.held = self.link.next_packet(&mut self.packet),
-            Next::Data(_) => {}
-            Next::Note(_) => {}
+            Next::Nothing => self.fetch_next(),
+            Next::Data(_) => Ok(true),
+            Next::Note(_) => Ok(true),
         }
     }
 
-    /// Hands on what left the link, and returns whether there was something.
-    #[tactic(auto, using(crate::proofs::Turns::hand_facts))]
-    fn hand(&mut self) -> Result<bool, TurnFault>
-        requires ready { IsReady self.old.server.host }
-        requires written { self.old.server.host.writes ≡ [] }
+    /// Hands on the packet that is held.
+    fn hand(&mut self) -> Result<(), TurnFault>
+        requires { IsHolding self.old }
         ensures { Handed self.old result self.new }
     {
         match self.held {
-            Next::Nothing => Ok(false),
+            Next::Nothing => unreachable!(),
             Next::Data(count) => {
                 bring(&mut self.host, &self.packet[..count])?;
                 self.held = Next::Nothing;
-                Ok(true)
+                Ok(())
             }
             Next::Note(count) => {
-                hear(self.alloc, &mut self.effects, &self.packet[..count])?;
+                let effect = hear(self.alloc, &self.packet[..count])?;
+                set(&mut self.effect, Some(effect));
                 self.held = Next::Nothing;
-                Ok(true)
+                Ok(())
             }
         }
     }
 
-    /// Has the endpoint go on, and then hands on the packet that is next; returns whether there was one.
-    #[tactic(auto, using(crate::proofs::Turns::goes_facts, crate::proofs::Turns::goes_fewer, crate::proofs::Turns::handed_all))]
+    /// Hands on the packet that is next, and returns whether there was one that may be.
+    #[tactic(auto, using(crate::proofs::Turns::next_facts))]
     fn hand_next(&mut self) -> Result<bool, TurnFault>
         ensures { HandedNext self.old result self.new }
     {
-        self.idle()?;
-        self.move_writes()?;
-        self.fetch();
-        self.hand()
+        if !self.fetch()? {
+            return Ok(false);
+        }
+        self.hand()?;
+        Ok(true)
     }
 
     /// Puts all that the endpoint answered at once.
@@ -285,7 +301,7 @@ impl Turn {
         }
     }
 
-    /// Does the rest of a turn. After `OutOfMemory` it goes on where it was.
+    /// Does the rest of a turn, which ends where an effect waits. After `OutOfMemory` it goes on where it was.
     #[tactic(auto, using(crate::proofs::Turns::nears_then, crate::proofs::Turns::nears_itself))]
     pub(crate) fn finish(&mut self) -> Result<(), TurnFault>
         ensures { Finished self.old result self.new }

@@ -1,12 +1,20 @@
-use Rattle.std.proofs.Common.{Bool, Result, subst, sym}
-use Rattle.sam_server.specs.Turns.{PlainTurn, Stepped}
+use Rattle.std.proofs.Common.{◌≡◌, [], Ok, None, Option, ap, subst, sym, ◌∙◌}
+use Rattle.std.specs.Prelude.{option_map}
+use Rattle.sam_endpoint.specs.HostEndpoints.{PlainHostEndpoint}
+use Rattle.sam_server.specs.Servers.{Effect, to_write}
+use Rattle.sam_server.specs.Turns.{PlainTurn, Stepped, plain_effect}
 use Rattle.sam_server.specs.contracts.turn.Turn.{the_view}
-use Rattle.sam_server.specs.declared.turn.TurnFault.{TurnFault}
-use Rattle.sam_server.proofs.Turns.{step_told, with_host}
+use Rattle.sam_server.proofs.Turns.{step_told}
 use Rattle.sam_server.proofs.turn.Turn.step.Goals as goal
 
 pub returns : goal.returns
 returns c =
-    subst (λ (t : PlainTurn). Stepped t c.told_of_step.result (with_host (the_view c.self.inside) c.step.new.self)) c.self.view_is
-    (subst (λ (r : Result Bool TurnFault). Stepped (the_view c.self.inside) r (with_host (the_view c.self.inside) c.step.new.self))
-    (sym c.told_of_step.ensures) (step_told (the_view c.self.inside) c.step.result c.step.new.self c.step.ensures))
+    let t = the_view c.self.inside in
+    let effect = option_map plain_effect c.set.new.slot in
+    let none : t.server.effect ≡ None = ap (option_map plain_effect) c.in-None.is in
+    let is : effect ≡ to_write c.step.new.self.writes = ap (option_map plain_effect) c.set.ensures ∙ c.next_write.ensures.effect in
+    subst (λ (x : PlainTurn). Stepped x (Ok c.in_ok-did.did) (record t { server = record t.server { host = c.next_write.new.host; effect = effect } }))
+    c.self.view_is
+    (subst (λ (k : PlainHostEndpoint). Stepped t (Ok c.in_ok-did.did) (record t { server = record t.server { host = k; effect = effect } }))
+    (sym c.next_write.ensures.rest)
+    (step_told t c.step.result c.step.new.self c.in_ok-did.did effect none c.self.invariant.3 c.step.ensures (sym c.in_ok-did.ensures) is))
