@@ -1039,6 +1039,7 @@ SAM_MUST_USE sam_status sam_link_received(sam_link *link, uint64_t *count);
  *     sam_line_receive(&line, attempt, .., now)     all bytes that came on it
  *     sam_line_take_in(&line, ..)                   the program's bytes among them, and sam_line_next_note the notes
  *     sam_line_ask(&line, now)                      asks whether all has come, if that is to be asked
+ *     sam_line_expect(&line, waits, now)            the program waits for an answer, or for none
  *     sam_line_broken(&line, attempt, now)          the connection has ended
  *     sam_line_due_in(&line, now, &left)            for so long nothing is to be done, unless a call comes
  *
@@ -1115,6 +1116,11 @@ SAM_MUST_USE sam_status sam_line_broken(sam_line *line, uint64_t attempt, uint64
 /* Doubts an open connection, because an address of the machine came or went: it is late, so call sam_line_ask, and if no byte comes it is
  * given up after 2 seconds. A connection that is to be made is tried after 1 second at most. */
 SAM_MUST_USE sam_status sam_line_address_changed(sam_line *line, uint64_t now);
+
+/* Notes whether the program waits for an answer of the host's program, as to a request: that holds over all connections, until another call
+ * says otherwise. While the program waits an answer is due, though the host has acknowledged all that was put: if no byte comes for 15
+ * seconds, the connection is late, so sam_line_ask asks, and if none comes for 15 more, it is given up. */
+SAM_MUST_USE sam_status sam_line_expect(sam_line *line, bool expects, uint64_t now);
 
 /* ---- A line: bytes and notes to send ---- */
 

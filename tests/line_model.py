@@ -49,12 +49,17 @@ class Line:
         self.due = self.asked = self.round_trip = self.answers = 0
         self.asked_at: Optional[int] = None
         self.begun = b""  # what came of a connection before its welcome
+        self.expects = False  # the program waits for an answer
 
     # ---- How it stands
 
     @property
+    def has_all(self) -> bool:
+        return self.due <= self.link.acknowledged
+
+    @property
     def is_due(self) -> bool:
-        return self.link.acknowledged < self.due
+        return self.expects or not self.has_all
 
     @property
     def is_up(self) -> bool:
@@ -78,8 +83,7 @@ class Line:
     def describe(self, now: int) -> Details:
         link = self.link
         counts = (link.attempt, link.put_count, link.acknowledged, link.received)
-        has_all = self.due <= link.acknowledged
-        return Details(self._silence(now), self.round_trip, self.failures, *counts, self.state, self.why, link._welcomed, has_all)
+        return Details(self._silence(now), self.round_trip, self.failures, *counts, self.state, self.why, link._welcomed, self.has_all)
 
     @property
     def words(self) -> bytes:
@@ -152,6 +156,11 @@ class Line:
         elif self.state == LATE:
             self.until = min(self.until, self.time + DROP_AFTER_MOVE)
 
+    def expect(self, expects: bool, now: int) -> None:
+        self._set(now)
+        self._rest()
+        self.expects = expects
+
     # ---- What is put
 
     def _owe(self, put: Callable[[bytes], None], data: bytes, now: int) -> None:
@@ -168,7 +177,7 @@ class Line:
 
     def ask(self, now: int) -> None:
         self._set(now)
-        if self.asked <= self.link.acknowledged and (self.is_due or self.state == LATE):
+        if self.asked <= self.link.acknowledged and (not self.has_all or self.state == LATE):
             self.link.ask()
             self._rest()
             self.due = self.asked = self.link.put_count

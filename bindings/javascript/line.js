@@ -55,6 +55,10 @@ export class Line extends Held {
     make(this, "address_changed", size(now));
   }
 
+  expect(expects, now) {
+    make(this, "expect", expects ? 1 : 0, size(now));
+  }
+
   put(bytes, now) {
     makeOfBytes(this, "put", [], bytesIn(bytes), size(now));
   }

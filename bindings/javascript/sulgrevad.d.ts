@@ -687,6 +687,10 @@ export declare class Line extends Held {
   /** Doubts an open connection, because an address of the machine came or went: it is late, so call `ask`, and if no byte comes it is given
    * up after 2 seconds. A connection that is to be made is tried after 1 second at most. */
   addressChanged(now: number): void;
+  /** Notes whether the program waits for an answer of the host's program, as to a request: that holds over all connections, until another
+   * call says otherwise. While the program waits an answer is due, though the host has acknowledged all that was put: if no byte comes for
+   * 15 seconds, the connection is late, so call `ask`, and if none comes for 15 more, it is given up. */
+  expect(expects: boolean, now: number): void;
   /** Puts bytes for the host's program, all or none, with or without a connection. Throws, in this order: CountFull if the stream would
    * have more than 2^64-1 bytes; NoMemory. */
   put(bytes: Uint8Array, now: number): void;

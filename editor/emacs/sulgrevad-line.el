@@ -23,6 +23,7 @@
 (declare-function sulgrevad--line-connected "ext:sulgrevad-module" (line now))
 (declare-function sulgrevad--line-describe "ext:sulgrevad-module" (line now))
 (declare-function sulgrevad--line-due-in "ext:sulgrevad-module" (line now))
+(declare-function sulgrevad--line-expect "ext:sulgrevad-module" (line expects now))
 (declare-function sulgrevad--line-name "ext:sulgrevad-module" (line))
 (declare-function sulgrevad--line-next-note "ext:sulgrevad-module" (line))
 (declare-function sulgrevad--line-not-connected "ext:sulgrevad-module" (line now))
@@ -82,6 +83,7 @@ Its folder may come later, as a home that is mounted late does.")
   (told "") last-told      ; of standard error: a line that has begun, and the last one
   (asks "")                ; what stands on the terminal
   ended-with is-taken      ; the status with which the session has ended; whether another terminal has it
+  expects                  ; whether an answer of the host is waited for
   is-named is-missing      ; whether the host has said the first message, and whether it was told that none finds the session
   why                      ; why no connection comes any more
   timer)
@@ -252,6 +254,14 @@ It is a second at most, since the mode line has the time."
           (sulgrevad--line-ask machine now))
       (sulgrevad-no-memory))
     (sulgrevad-line--push line)
+    (sulgrevad-line--schedule line)))
+
+(defun sulgrevad-line-expect (line expects)
+  "Note by EXPECTS whether an answer of the host is waited for on LINE.
+The line may die once it has acknowledged what was asked."
+  (unless (or (sulgrevad-line-why line) (eq expects (sulgrevad-line-expects line)))
+    (sulgrevad--line-expect (sulgrevad-line-machine line) expects (sulgrevad-line--now))
+    (setf (sulgrevad-line-expects line) expects)
     (sulgrevad-line--schedule line)))
 
 (defun sulgrevad-line-put-request (line kind number path)

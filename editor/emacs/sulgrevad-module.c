@@ -228,6 +228,13 @@ static emacs_value line_put_request(emacs_env *env, ptrdiff_t count, emacs_value
     return done(env, status == SAM_OK ? sam_line_put_note(line_of(env, words[0]), bytes, len, u64(env, words[4])) : status);
 }
 
+/* Whether an answer of the host is waited for. */
+static emacs_value line_expect(emacs_env *env, ptrdiff_t count, emacs_value *words, void *data)
+{
+    (void)count, (void)data;
+    return done(env, sam_line_expect(line_of(env, words[0]), env->is_not_nil(env, words[1]), u64(env, words[2])));
+}
+
 static emacs_value line_ask(emacs_env *env, ptrdiff_t count, emacs_value *words, void *data)
 {
     (void)count, (void)data;
@@ -283,6 +290,7 @@ SHOWN int emacs_module_init(struct emacs_runtime *runtime)
         {"line-broken", line_broken, 3},
         {"line-put", line_put, 3},
         {"line-put-request", line_put_request, 5},
+        {"line-expect", line_expect, 3},
         {"line-ask", line_ask, 2},
         {"line-acknowledge", line_acknowledge, 1},
         {"line-take-out", line_take_out, 3},

@@ -78,6 +78,7 @@ Each is a string of bytes, or a pair: `note' and that, or `lost' and why.")
 (defvar sulgrevad--timer nil
   "What sends edits that no command has made, or nil.")
 (defvar sulgrevad--is-pumping nil "Whether bytes are taken in and sent.")
+(defvar sulgrevad--is-waiting nil "Whether a command waits for the host.")
 (defvar sulgrevad--is-taking nil
   "Whether a buffer is being changed to what the terminal has.")
 (defvar sulgrevad--history nil "Commands that have run hosts.")

@@ -259,9 +259,15 @@ class Editor(WindowLayout, KeyQueue, Actions):
             window = self.window_of(tag)
             window.select(window.dot[1])
 
+    @property
+    def is_answer_due(self) -> bool:
+        """Whether an answer of the host is waited for: by a lock, by a menu that lacks names, or to leave."""
+        return self.is_leaving or self.joining.is_asking or self.is_lock_held
+
     def pause(self) -> None:
         """The user pauses: sends what was typed."""
         self.way.send()
+        self.way.line.expect(self.is_answer_due)
 
     def has_command_file(self) -> bool:
         """Whether the command file is open. If not, the host is asked for it, unless its answers are late: no key acts for that round

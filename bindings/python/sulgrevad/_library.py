@@ -141,8 +141,8 @@ SIGNATURES: Dict[str, Tuple[Any, ...]] = {
     "link_acknowledged": (_U64,), "link_unsent": (_SIZE,), "link_received": (_U64,),
     "line_new": (c_char_p, c_bool, c_uint64), "line_free": (), "line_tick": (c_uint64, _U32), "line_due_in": (c_uint64, _U64),
     "line_connected": (c_uint64, _U64), "line_not_connected": (c_uint64,), "line_broken": (c_uint64, c_uint64),
-    "line_address_changed": (c_uint64,), "line_put": (*_BYTES, c_uint64), "line_put_note": (*_BYTES, c_uint64),
-    "line_ask": (c_uint64,), "line_acknowledge": (), "line_take_out": (c_uint64, *_BUFFER, _SIZE),
+    "line_address_changed": (c_uint64,), "line_expect": (c_bool, c_uint64), "line_put": (*_BYTES, c_uint64),
+    "line_put_note": (*_BYTES, c_uint64), "line_ask": (c_uint64,), "line_acknowledge": (), "line_take_out": (c_uint64, *_BUFFER, _SIZE),
     "line_receive": (c_uint64, *_BYTES, c_uint64), "line_take_in": (*_BUFFER, _SIZE), "line_next_note": (*_BUFFER, _SIZE),
     "line_describe": (c_uint64, POINTER(Details)), "line_words": (*_BUFFER, _SIZE),
 }  # fmt: skip

@@ -104,6 +104,12 @@ class Line(Carrier):
         given up after 2 seconds. A connection that is to be made is tried after 1 second at most."""
         self._call("address_changed", now)
 
+    def expect(self, expects: bool, now: int) -> None:
+        """Notes whether the program waits for an answer of the host's program, as to a request: that holds over all connections, until
+        another call says otherwise. While the program waits an answer is due, though the host has acknowledged all that was put: if no byte
+        comes for 15 seconds, the connection is late, so call `ask`, and if none comes for 15 more, it is given up."""
+        self._call("expect", bool(expects), now)
+
     # ---- Bytes and notes to send
 
     def put(self, data: Bytes, now: int) -> None:

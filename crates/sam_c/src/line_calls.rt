@@ -2,7 +2,7 @@
 //! `SAM_NO_HANDLE`, `SAM_NONE` and each refusal what its other arguments lead to is as it was. `now` is the time, in milliseconds.
 
 ghost use Rattle.std.specs.Prelude.{◌≤◌, false, length};
-ghost use Rattle.sam_line.specs.Line.{at, broken, moved, not_connected};
+ghost use Rattle.sam_line.specs.Line.{at, broken, expecting, moved, not_connected};
 ghost use Rattle.sam_c.specs.Hosts.{Freed};
 ghost use Rattle.sam_c.specs.Lines.{LineAcknowledges, LineAsked, LineConnected, LineDone, LineMade, LineNextNote, LineNote, LineNotePut, LinePut};
 ghost use Rattle.sam_c.specs.Lines.{LineReceived, LineTakenIn, LineTakenOut, LineTicked};
@@ -101,6 +101,14 @@ pub extern "C" fn sam_line_address_changed(line: &mut SamLine, now: u64, alloc: 
     ensures { LineDone line.old.held.end result line.new.held.end (λ l. moved (at l now)) }
 {
     with_end!(line alloc mut end { end.address_changed(now); OK })
+}
+
+/// Notes whether the program waits for an answer of the host's program. `SAM_NO_HANDLE` if the handle is empty.
+#[unsafe(no_mangle)]
+pub extern "C" fn sam_line_expect(line: &mut SamLine, expects: bool, now: u64, alloc: Global) -> u32
+    ensures { LineDone line.old.held.end result line.new.held.end (λ l. expecting (at l now) expects) }
+{
+    with_end!(line alloc mut end { end.expect(expects, now); OK })
 }
 
 /// Puts bytes for the host's program, all or none. Errors, in this order: `SAM_NO_HANDLE`; `SAM_COUNT_FULL`; `SAM_NO_MEMORY`.

@@ -16,7 +16,7 @@ use Rattle.sam_link.specs.declared.hello.Hello.{Hello}
 use Rattle.sam_link.specs.declared.hello.Id.{Id}
 use Rattle.sam_link.specs.declared.hello.Refusal.{Refusal}
 use Rattle.sam_line.specs.Calls.{IsLinked, LineCall, LineDoes, LineDoesAll, handed_by, put_by}
-use Rattle.sam_line.specs.Calls.LineCall.{Acknowledge, AddressChanged, Ask, Broken, Connected, NextNote, NotConnected, Put, PutNote, Receive, TakeIn, TakeOut, TickAt}
+use Rattle.sam_line.specs.Calls.LineCall.{Acknowledge, AddressChanged, Ask, Broken, Connected, Expect, NextNote, NotConnected, Put, PutNote, Receive, TakeIn, TakeOut, TickAt}
 use Rattle.sam_line.specs.Clock as clocks
 use Rattle.sam_line.specs.Laws.{IsNear, IsNearIn, IsTimely}
 use Rattle.sam_line.specs.Line as lines
@@ -330,6 +330,10 @@ each_call l (AddressChanged now) n timely d =
     one_of l (AddressChanged now) n refl refl
     (kept_at l.link (lines.moved (lines.at l now)) n d
     (record { timely = moved_timely (clocks.at l.clock now) (lines.is_due l) (at_timely l.clock now timely); silent = none_made l.link }))
+each_call l (Expect expects now) n timely d =
+    one_of l (Expect expects now) n refl refl
+    (kept_at l.link (lines.expecting (lines.at l now) expects) n d
+    (record { timely = owed_timely (clocks.at l.clock now) (lines.is_due l) (at_timely l.clock now timely); silent = none_made l.link }))
 each_call l (Receive attempt piece now answer) n timely d =
     one_of l (Receive attempt piece now answer) n refl refl (takes_kept l.link (lines.at l now) attempt piece answer n (begun_kept l now timely) d)
 each_call l (Put bytes now (Ok done)) n timely d =

@@ -1,5 +1,5 @@
 -- What a piece of a connection does to a line and to its link.
-use Rattle.std.proofs.Common.{◌≡◌, ◌≢◌, ℕ, ◌+◌, ◌-◌, ◌<◌, inl, inr, nat_lt, nat_le, ◌==◌, List, [], ◌++◌, length, drop, Bool, true, false, not, ◌&&◌, MatchBool, if◌then◌else◌, Option, None, Some, Result, Ok, Err, refl, sym, ap, subst, ◌∙◌, arith, length-append}
+use Rattle.std.proofs.Common.{◌≡◌, ◌≢◌, ℕ, ◌+◌, ◌<◌, inl, inr, nat_lt, nat_le, ◌==◌, List, [], ◌++◌, length, drop, Bool, true, false, not, ◌&&◌, MatchBool, if◌then◌else◌, Option, None, Some, Result, Ok, Err, refl, sym, ap, subst, ◌∙◌, arith, length-append}
 use Rattle.std.proofs.lemmas.Bool.{and_from, and_parts, eq-eqb, eqb-true}
 use Rattle.std.proofs.lemmas.List.{append-nil, append_assoc}
 use Rattle.sam_link.specs.Calls.{Call, Does, Item, fed, fed_by, out}

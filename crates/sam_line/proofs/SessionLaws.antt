@@ -1,5 +1,5 @@
 -- A session of a line and a host is one of two links.
-use Rattle.std.proofs.Common.{◌≡◌, ℕ, ◌+◌, ◌-◌, ◌≤◌, max, List, [], ◌∷◌, ◌++◌, take, drop, flat_map, Bool, true, false, MatchBool, if◌then◌else◌, None, Some, Result, Ok, Err, is_ok, refl, sym, ap, subst, ◌∙◌, arith}
+use Rattle.std.proofs.Common.{◌≡◌, ℕ, ◌+◌, ◌≤◌, max, List, [], ◌∷◌, ◌++◌, take, drop, flat_map, Bool, true, false, MatchBool, if◌then◌else◌, None, Some, Result, Ok, Err, is_ok, refl, sym, ap, subst, ◌∙◌, arith}
 use Rattle.std.proofs.lemmas.Bool.{leb-true}
 use Rattle.std.proofs.lemmas.List.{append-nil}
 use Rattle.sam_link.specs.Calls.{Call, Does, Item, fed, fed_by, handed, out, out_by, put}
@@ -20,7 +20,7 @@ use Rattle.sam_link.specs.declared.phase.Role.TheVariants.{Terminal, Host}
 use Rattle.sam_link.proofs.Meeting.{lacks_are_kept}
 use Rattle.sam_link.proofs.SessionLaws.{links_carry}
 use Rattle.sam_line.specs.Calls.{LineCall, LineDoes, handed_by, put_by}
-use Rattle.sam_line.specs.Calls.LineCall.{Acknowledge, AddressChanged, Ask, Broken, Connected, NextNote, NotConnected, Put, PutNote, Receive, TakeIn, TakeOut, TickAt}
+use Rattle.sam_line.specs.Calls.LineCall.{Acknowledge, AddressChanged, Ask, Broken, Connected, Expect, NextNote, NotConnected, Put, PutNote, Receive, TakeIn, TakeOut, TickAt}
 use Rattle.sam_line.specs.Clock as clocks
 use Rattle.sam_line.specs.Line as lines
 use Rattle.sam_line.specs.Sessions.{ByHost, ByLine, IsBrought, LineCarries, LineLeads, LineSession, LineStep, WasBrought, host_did, line_did, new_line_session, out_of, outs, took, took_by}
@@ -206,6 +206,9 @@ module _ (t : Session) (tk : ℕ → List ℕ) (l n : Line) (link : t.terminal �
       went t (AddressChanged now) n tk (λ a. refl) (rests (ap (λ (x : Line). x.link) d))
       (tied_at (lines.moved (lines.at l now)) n tk fds d
       (record { newer = tied.newer; stage = moved_stage l.clock.state (max l.clock.time now) l.link.phase l.link.attempt l.greeting tk fds tied.stage }))
+  call_went (Expect expects now) mine same d brought =
+      went t (Expect expects now) n tk (λ a. refl) (rests (ap (λ (x : Line). x.link) d))
+      (same_stand l n tk fds (lines.expecting (lines.at l now) expects) d refl refl refl refl tied)
   call_went (Receive attempt piece now answer) mine same d brought =
       let a : Line = lines.at l now in
       let w = receive_taken t tk a n attempt piece now answer link (kept_stage l a tk fds refl refl refl refl tied)

@@ -20,6 +20,7 @@ pub data LineCall : Type 0 where
   NotConnected : ℕ → LineCall
   Broken : ℕ → ℕ → LineCall
   AddressChanged : ℕ → LineCall
+  Expect : Bool → ℕ → LineCall
   Receive : ℕ → List ℕ → ℕ → Result (Unit {0}) ReceiveFault → LineCall
   Put : List ℕ → ℕ → Result (Unit {0}) PutFault → LineCall
   PutNote : List ℕ → ℕ → Result (Unit {0}) NoteFault → LineCall
@@ -36,6 +37,7 @@ LineDoes l (Connected now answer) n = lines.Connects l now answer n
 LineDoes l (NotConnected now) n = n ≡ lines.not_connected (lines.at l now)
 LineDoes l (Broken attempt now) n = n ≡ lines.broken (lines.at l now) attempt
 LineDoes l (AddressChanged now) n = n ≡ lines.moved (lines.at l now)
+LineDoes l (Expect expects now) n = n ≡ lines.expecting (lines.at l now) expects
 LineDoes l (Receive attempt piece now answer) n = receiving.Receives l attempt piece now answer n
 LineDoes l (Put bytes now answer) n = lines.PutsBytes l bytes now answer n
 LineDoes l (PutNote bytes now answer) n = lines.PutsNote l bytes now answer n
@@ -57,6 +59,7 @@ put_by (Connected now answer) = []
 put_by (NotConnected now) = []
 put_by (Broken attempt now) = []
 put_by (AddressChanged now) = []
+put_by (Expect expects now) = []
 put_by (Receive attempt piece now answer) = []
 put_by (Put bytes now (Ok done)) = map Byte bytes
 put_by (Put bytes now (Err why)) = []
@@ -75,6 +78,7 @@ handed_by (Connected now answer) = []
 handed_by (NotConnected now) = []
 handed_by (Broken attempt now) = []
 handed_by (AddressChanged now) = []
+handed_by (Expect expects now) = []
 handed_by (Receive attempt piece now answer) = []
 handed_by (Put bytes now answer) = []
 handed_by (PutNote bytes now answer) = []

@@ -31,6 +31,7 @@ begun id take_over now =
       greeting = [];
       answers = 0;
       take_over = take_over;
+      expects = false;
     }
 
 -- the time goes on, and never back
@@ -41,9 +42,13 @@ at l now = record l { clock = clocks.at l.clock now }
 abbrev pub put_len : End → ℕ
 put_len e = e.keeps.base + length e.keeps.kept
 
--- an answer is due: something that was put is not acknowledged
+-- something that was put is not acknowledged
+abbrev pub is_unacknowledged : Line → Bool
+is_unacknowledged l = nat_lt l.link.keeps.base l.question.due
+
+-- an answer is due: to what was put, or one for which the program waits
 abbrev pub is_due : Line → Bool
-is_due l = nat_lt l.link.keeps.base l.question.due
+is_due l = is_unacknowledged l || l.expects
 
 -- all that was put is acknowledged
 abbrev pub has_all : Line → Bool
@@ -124,9 +129,13 @@ PutsBytes l bytes now answer n = Does l.link (Put bytes answer) n.link × (n ≡
 abbrev pub PutsNote : Line → List ℕ → ℕ → Result (Unit {0}) NoteFault → Line → Type 0
 PutsNote l bytes now answer n = Does l.link (PutNote bytes answer) n.link × (n ≡ put_by (at l now) (is_ok answer) n.link)
 
--- no question is under way, and an answer is due, or the line is late
+-- the program waits for an answer from now on, or waits for none
+abbrev pub expecting : Line → Bool → Line
+expecting l expects = record l { clock = clocks.owed l.clock (is_due l); expects = expects }
+
+-- no question is under way, and something that was put is not acknowledged, or the line is late
 abbrev pub is_to_ask : Line → Bool
-is_to_ask l = nat_le l.question.asked l.link.keeps.base && (is_due l || is_late l.clock.state)
+is_to_ask l = nat_le l.question.asked l.link.keeps.base && (is_unacknowledged l || is_late l.clock.state)
 
 abbrev pub asking : Line → Line
 asking l =

@@ -7,7 +7,7 @@ use Rattle.sam_link.specs.Sessions.{IsId, StartsWith, WasCarried, is_taken}
 use Rattle.sam_link.specs.declared.hello.Id.{Id}
 use Rattle.sam_link.specs.declared.phase.Role.TheVariants.{Host}
 use Rattle.sam_line.specs.Calls.{LineCall, LineDoes, handed_by, put_by}
-use Rattle.sam_line.specs.Calls.LineCall.{Acknowledge, AddressChanged, Ask, Broken, Connected, NextNote, NotConnected, Put, PutNote, Receive, TakeIn, TakeOut, TickAt}
+use Rattle.sam_line.specs.Calls.LineCall.{Acknowledge, AddressChanged, Ask, Broken, Connected, Expect, NextNote, NotConnected, Put, PutNote, Receive, TakeIn, TakeOut, TickAt}
 use Rattle.sam_line.specs.Greeting.{IsBefore}
 use Rattle.sam_line.specs.Line.{begun, has_all}
 use Rattle.sam_line.specs.declared.fault.ReceiveFault.TheVariants.{Over}
@@ -22,6 +22,7 @@ took_by attempt (Connected now answer) = []
 took_by attempt (NotConnected now) = []
 took_by attempt (Broken n now) = []
 took_by attempt (AddressChanged now) = []
+took_by attempt (Expect expects now) = []
 took_by attempt (Receive n piece now (Ok done)) = if n == attempt then piece else []
 took_by attempt (Receive n piece now (Err why)) = []
 took_by attempt (Put bytes now answer) = []
@@ -49,6 +50,7 @@ WasBrought mine theirs (Connected now answer) = Unit {0}
 WasBrought mine theirs (NotConnected now) = Unit {0}
 WasBrought mine theirs (Broken n now) = Unit {0}
 WasBrought mine theirs (AddressChanged now) = Unit {0}
+WasBrought mine theirs (Expect expects now) = Unit {0}
 WasBrought mine theirs (Receive n piece now answer) =
     (answer ≢ Err Over) → IsBrought theirs n (took n mine ++ piece)
 WasBrought mine theirs (Put bytes now answer) = Unit {0}
@@ -66,6 +68,7 @@ out_of (Connected now answer) = []
 out_of (NotConnected now) = []
 out_of (Broken n now) = []
 out_of (AddressChanged now) = []
+out_of (Expect expects now) = []
 out_of (Receive n piece now answer) = []
 out_of (Put bytes now answer) = []
 out_of (PutNote bytes now answer) = []

@@ -9,8 +9,8 @@ ghost use Rattle.sam_link.specs.End.{ended, is_up};
 ghost use Rattle.sam_line.specs.Clock as clocks;
 ghost use Rattle.sam_line.specs.Greeting.{IsBefore, IsFront};
 ghost use Rattle.sam_line.specs.Line.{Acknowledges, Asks, Connects, GivesNote, PutsBytes, PutsNote, TakesIn, TakesOut, Ticks};
-ghost use Rattle.sam_line.specs.Line.{asking, at, begun, broken, failed, has_all, is_connecting, is_due, is_late, is_newest, is_opening, is_to_ask};
-ghost use Rattle.sam_line.specs.Line.{moved, not_connected, opened, owing, put_len, refused};
+ghost use Rattle.sam_line.specs.Line.{asking, at, begun, broken, expecting, failed, has_all, is_connecting, is_due, is_late, is_newest, is_opening};
+ghost use Rattle.sam_line.specs.Line.{is_to_ask, is_unacknowledged, moved, not_connected, opened, owing, put_len, refused};
 ghost use Rattle.sam_line.specs.Receiving.{BeginsBy, Feeds, Greets, Meets, MeetsBy, Receives, failed_by, fed_fault, heard, welcomed};
 
 use crate::clock::{Clock, State, Tick};
@@ -40,6 +40,8 @@ pub struct Line {
     /// At most so many of the bytes that are kept answer the host's questions.
     answers: u64,
     take_over: bool,
+    /// Whether the program waits for an answer of the host's program.
+    expects: bool,
 }
 
 /// How many bytes of a greeting there are, and how many of them are words.
@@ -62,14 +64,22 @@ impl Line {
             greeting: Greeting::new(alloc),
             answers: 0,
             take_over,
+            expects: false,
         }
     }
 
-    /// Returns whether an answer is due: something that was put is not acknowledged.
+    /// Returns whether something that was put is not acknowledged.
+    fn is_unacknowledged(&self) -> bool
+        ensures { result ≡ is_unacknowledged self.now }
+    {
+        self.link.acknowledged() < self.question.due()
+    }
+
+    /// Returns whether an answer is due: to what was put, or one for which the program waits.
     fn is_due(&self) -> bool
         ensures { result ≡ is_due self.now }
     {
-        self.link.acknowledged() < self.question.due()
+        self.is_unacknowledged() || self.expects
     }
 
     /// Returns whether the newest connection is not over.
@@ -202,6 +212,18 @@ impl Line {
         self.clock.shift(due);
     }
 
+    /// Notes whether the program waits for an answer of the host's program, as to a request: until another call says otherwise, over all
+    /// connections. While it does an answer is due, though all that was put is acknowledged: a connection on which nothing comes for 15
+    /// seconds is late, `ask` then asks, and after 15 more it is given up.
+    pub fn expect(&mut self, expects: bool, now: u64)
+        ensures { self.new ≡ expecting (at self.old now) expects }
+    {
+        self.clock.set(now);
+        let due = self.is_due();
+        self.clock.owe(due);
+        self.expects = expects;
+    }
+
     // ---- What the program puts
 
     /// Notes that more was put, which is to be acknowledged.
@@ -246,7 +268,7 @@ impl Line {
             State::Late(_) => true,
             State::Lost(_) => false,
         };
-        self.question.asked() <= self.link.acknowledged() && (self.is_due() || late)
+        self.question.asked() <= self.link.acknowledged() && (self.is_unacknowledged() || late)
     }
 
     /// Notes that a question was put.

@@ -2,7 +2,7 @@
 
 ghost use Rattle.std.specs.Prelude.{◌≤◌, length};
 ghost use Rattle.sam_line.specs.Calls.{LineDoes};
-ghost use Rattle.sam_line.specs.Calls.LineCall.{Acknowledge, AddressChanged, Ask, Broken, Connected, NextNote, NotConnected, Put, PutNote, Receive};
+ghost use Rattle.sam_line.specs.Calls.LineCall.{Acknowledge, AddressChanged, Ask, Broken, Connected, Expect, NextNote, NotConnected, Put, PutNote, Receive};
 ghost use Rattle.sam_line.specs.Calls.LineCall.{TakeIn, TakeOut, TickAt};
 
 use crate::clock::Tick;
@@ -43,6 +43,13 @@ pub fn address_changed(line: &mut Line, now: u64)
     ensures { LineDoes line.old (AddressChanged now) line.new }
 {
     line.address_changed(now);
+}
+
+/// `Line::expect`.
+pub fn expect(line: &mut Line, expects: bool, now: u64)
+    ensures { LineDoes line.old (Expect expects now) line.new }
+{
+    line.expect(expects, now);
 }
 
 /// `Line::receive`.

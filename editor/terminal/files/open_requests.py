@@ -27,6 +27,7 @@ class OpenRequests:
         self.editor, self.terminal = editor, editor.terminal
         self._request = 0  # the number of the last one, whatever it asked for
         self._names_of = self._open_of = 0  # that of the last one for names, and for a file
+        self.is_asking = False  # names were asked for that have not come
         self._path: Optional[str] = None  # the path that is being opened
         self._opened: Optional[int] = None  # the file of the path, once the host has told it
         self._wishes: Deque[Wished] = deque(maxlen=MOST_WISHES)
@@ -43,6 +44,7 @@ class OpenRequests:
         self._names_of = self.next_request()
         with contextlib.suppress(SamError):  # of a path that is too long nothing is known
             self.editor.way.line.put_note(Note(NoteKind.COMPLETE, request=self._names_of, path=os.fsencode(path)))
+            self.is_asking = True
 
     def open(self, path: str) -> bool:
         """Has the host open a file. Returns whether that is asked; else the key acts again, or can't act."""
@@ -66,6 +68,7 @@ class OpenRequests:
 
     def meet(self, note: Note) -> None:
         """An answer of the host, or the wish of another program."""
+        self.is_asking = self.is_asking and note.request != self._names_of
         if note.kind == NoteKind.SHOWN:
             self._wishes.append(Wished(note.tag, note.number))
         elif note.kind == NoteKind.NAMES and note.request == self._names_of and isinstance(self.editor.menu, Files):

@@ -89,6 +89,7 @@ class PersistentSession:
         self._tells: List[str] = []  # what is to be told of connections
         self._is_named = False  # the host has said the first message
         self._is_missing = False  # no host finds the session, and that is told
+        self._expects = False  # an answer of the host is waited for
         self._details, self._quiet_at = self._line.describe(self._now), 0.0
         self._due_at: Optional[float] = None  # when the line may have something to say: never later than it has
         self._line.tick(self._now)
@@ -173,8 +174,15 @@ class PersistentSession:
         """Whether the line's times count: a host that ends with its line is waited for, and so is a connection at which ssh may ask."""
         return self.stays and not self.is_lost and (self.relay is None or not self._is_in_front or self.is_open)
 
+    def expect(self, expects: bool) -> None:
+        """Notes whether an answer of the host is waited for: the line may die once it has acknowledged what was asked."""
+        if expects != self._expects:
+            self._expects = expects
+            self._line.expect(expects, self._now)
+            self._note()
+
     def go_on(self) -> None:
-        """Does what is due by the clock. Where a question is due one is under way, since each put and each piece has asked."""
+        """Does what is due by the clock; a question goes out by `send`."""
         if self._old:
             self._old = [relay for relay in self._old if not relay.is_over()]
         while self._is_timed and self._due_at is not None and self.clock() >= self._due_at:
@@ -185,6 +193,8 @@ class PersistentSession:
                 self.connect()
             elif tick == Tick.DROP:
                 self._break(why)
+            elif tick == Tick.ASK:
+                self._has_question = True
 
     def _hear_network(self, ready: Dict[int, int]) -> None:
         """Where an address has gone, or one has come and there is no line, the line hears of it."""
@@ -412,7 +422,7 @@ class PersistentSession:
     @property
     def silence(self) -> float:
         """For how many seconds nothing has come, though something was due."""
-        is_quiet = self._details.state == Line.OPEN and self._details.has_all
+        is_quiet = self._details.state == Line.OPEN and self._details.has_all and not self._expects
         return 0.0 if is_quiet else self.clock() - self._quiet_at
 
     @property

@@ -26,6 +26,7 @@ static void no_handles(sam_line *line)
     WANT(sam_line_not_connected(line, 0), SAM_NO_HANDLE);
     WANT(sam_line_broken(line, 1, 0), SAM_NO_HANDLE);
     WANT(sam_line_address_changed(line, 0), SAM_NO_HANDLE);
+    WANT(sam_line_expect(line, true, 0), SAM_NO_HANDLE);
     WANT(sam_line_put(line, BYTES("x"), 0), SAM_NO_HANDLE);
     WANT(sam_line_put_note(line, BYTES("x"), 0), SAM_NO_HANDLE);
     WANT(sam_line_ask(line, 0), SAM_NO_HANDLE);
@@ -170,6 +171,40 @@ static void silence(void)
     WANT(sam_line_free(&line), SAM_OK);
 }
 
+/* While the program waits for an answer one is due, though all is acknowledged. Nothing is asked before the line is late. */
+static void waits(void)
+{
+    static const char answer[] = ACKNOWLEDGEMENT "\0\x08" EIGHT("\x03");
+    sam_line line = made(false);
+    uint64_t left = 9;
+    uint8_t bytes[64];
+    size_t count = 9;
+    WANT(say(&line, SAM_LINK_WELCOME, connect(&line, 1000), 1000), SAM_OK);
+    WANT(READ(sam_line_due_in(&line, 1000, &left)), SAM_NONE);
+    WANT(READ(sam_line_expect(&line, true, 2000)), SAM_OK);
+    WANT(due_in(&line, 2000), 15000);
+    WANT(READ(sam_line_expect(&line, true, 3000)), SAM_OK); /* it does so already */
+    WANT(due_in(&line, 3000) == 14000 && details_of(&line, 3000).silence == 1000 && details_of(&line, 3000).has_all, 1);
+    WANT(READ(sam_line_ask(&line, 3000)), SAM_OK);
+    WANT(READ(sam_line_take_out(&line, 1, bytes, sizeof bytes, &count)), SAM_OK);
+    WANT(count, 0);
+    WANT(tick_of(&line, 17000), SAM_TICK_ASK);
+    WANT(sam_line_ask(&line, 17000), SAM_OK);
+    WANT(READ(sam_line_take_out(&line, 1, bytes, sizeof bytes, &count)), SAM_OK);
+    WANT(count == 3 && memcmp(bytes, ASK "\0\0", count) == 0, 1);
+    WANT(sam_line_receive(&line, 1, BYTES(answer), 17100), SAM_OK); /* the host is there, and its program has not answered */
+    WANT(details_of(&line, 17100).state == SAM_LINE_OPEN && due_in(&line, 17100) == 15000, 1);
+    WANT(READ(sam_line_expect(&line, false, 18000)), SAM_OK);
+    WANT(READ(sam_line_due_in(&line, 18000, &left)), SAM_NONE);
+    WANT(details_of(&line, 18000).silence, 0);
+    WANT(READ(sam_line_expect(&line, true, 20000)), SAM_OK);
+    WANT(tick_of(&line, 35000), SAM_TICK_ASK);
+    WANT(tick_of(&line, 50000), SAM_TICK_DROP);
+    WANT(say(&line, SAM_LINK_WELCOME, connect(&line, 50000), 50000), SAM_OK);
+    WANT(due_in(&line, 50000), 15000); /* over all connections */
+    WANT(sam_line_free(&line), SAM_OK);
+}
+
 /* Pauses grow. An older connection, and a connection that wasn't asked for, change nothing. */
 static void pauses(void)
 {
@@ -273,6 +308,7 @@ int main(void)
     no_handles(&line);
     bytes_go();
     silence();
+    waits();
     pauses();
     lost();
     wrong();

@@ -184,6 +184,8 @@ static void step(void)
         cut();
     if (pick(60) == 0)
         MUST(sam_line_address_changed(&line, now));
+    if (pick(60) == 0)
+        MUST(sam_line_expect(&line, pick(2) == 0, now));
     if (is_open)
         write_out();
     if (is_open && !is_dead)
@@ -191,9 +193,10 @@ static void step(void)
     take_in();
 }
 
-/* Nothing breaks any more: the line says when all has come. */
+/* Nothing breaks any more, and the program waits for all that the host has put: the line says when all has come. */
 static void end_well(void)
 {
+    MUST(sam_line_expect(&line, true, now));
     for (unsigned round = 0; round < ROUNDS && (!details().has_all || came_down.len != put_down.len); round++) {
         uint64_t left = 0;
         if (sam_line_due_in(&line, now, &left) == SAM_OK && (is_dead || !is_open))

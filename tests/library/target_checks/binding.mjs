@@ -366,6 +366,10 @@ function checkLine() {
   same(line.describe(1100), wanted);
   line.acknowledge();
   same(line.takeOut(first).length, 11);
+  line.expect(true, 1150);
+  same(line.dueIn(1150), 15000);
+  line.expect(false, 1160);
+  same(line.dueIn(1160), null);
   line.addressChanged(1200);
   same([line.describe(1200).state, line.dueIn(1200), line.tick(3200)], [Line.LATE, 2000, Tick.DROP]);
   throws("LinkFault", "LINK_NOT_OPEN", () => line.takeOut(first));

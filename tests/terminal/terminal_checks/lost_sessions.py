@@ -111,7 +111,7 @@ def check_when_a_missing_session_is_final(folder):
 
 def check_times_of_a_line(folder):
     """A connection that no host welcomes is given up after 30 seconds, but not while the user waits for it; and so is a silent line where
-    an answer is due, but not where none is."""
+    an answer is due or waited for, but not where none is."""
     from terminal.line import persistent_session as line
 
     now = [100.0]
@@ -134,6 +134,11 @@ def check_times_of_a_line(folder):
     expect(goes_on(100), "one is given up while the user waits")
     said_on(session, 4)
     expect(session.is_open and goes_on(100), "an open line is given up though nothing is due")
+    session.expect(True)
+    expect(session.has_all and goes_on(29) and session.silence > 28 and not goes_on(2), "a line isn't given up that brings no answer")
+    session.expect(False)
+    session.connect()
+    said_on(session, 4)
     session.send(b"x")
     expect(not session.has_all and goes_on(29) and session.silence > 28 and not goes_on(2), "a silent line isn't given up after 30 seconds")
     session.close(print, seconds=0)

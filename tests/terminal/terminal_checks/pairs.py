@@ -12,10 +12,13 @@ class Line:
     late_after, round_trip, has_all, told, stays = 1.0, 0.0, True, "LINE LOST", True
 
     def __init__(self):
-        self.is_broken, self.silence, self.notes = False, 0.0, []
+        self.is_broken, self.silence, self.notes, self.expects = False, 0.0, [], False
 
     def put_note(self, note):
         self.notes.append(note)
+
+    def expect(self, expects):
+        self.expects = expects
 
 
 class Wire(Line):
@@ -25,7 +28,7 @@ class Wire(Line):
     late_after, stays = 3.0, False
 
     def __init__(self, pair):
-        self.pair, self.is_broken, self.notes, self.due_since = pair, False, [], None
+        self.pair, self.is_broken, self.notes, self.due_since, self.expects = pair, False, [], None, False
 
     @property
     def has_all(self):

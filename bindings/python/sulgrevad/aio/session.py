@@ -19,7 +19,6 @@ VERSION = 2  # of the protocol
 MOST_RUNES = 1_000_000  # of a text
 MOST_TYPED = 511  # runes of a line that are typed together, behind a newline
 OPENING = 30.0  # seconds that a connection may take
-DOUBT = 15_000  # milliseconds without a byte after which the line is in doubt, if an answer is waited for
 
 Opener = Callable[[], Awaitable[Tuple[asyncio.StreamReader, asyncio.StreamWriter]]]
 
@@ -65,7 +64,6 @@ class Session(End):
         self._is_closing = False
         self._why: Optional[BaseException] = None  # the session is over
         self._state = Line.DOWN
-        self._silent_since: Optional[int] = None  # though an answer is waited for
         self._woken = asyncio.Event()
         self._terminal.offer_version(VERSION)
         self._terminal.open_cmd()
@@ -183,6 +181,7 @@ class Session(End):
         if not holds():
             wait = _Wait(holds, self._future(), None)
             self._waits.append(wait)
+            self._expect()
             await wait.future
 
     def _take_turns(self, *turns: Turn) -> None:
@@ -403,7 +402,6 @@ class Session(End):
                 elif tick == Tick.DROP:
                     self._drop(self._attempt)
                 elif tick == Tick.NOTHING:
-                    self._doubt()
                     self._go_on()  # which asks, too
                     if (line := self.line).state == Line.LOST:
                         raise SessionLost(line.why)
@@ -411,25 +409,17 @@ class Session(End):
         except Exception as why:
             self._end(why)
 
-    def _doubt(self) -> None:
-        """Doubts the line if an answer is waited for, and nothing comes. The line alone knows only of acknowledgements, which may have come
-        before it died."""
+    def _expect(self) -> None:
+        """Tells the line whether an answer is waited for: it knows of acknowledgements alone, which may come before it dies."""
         is_waiting = self._turns or self._waits or self._answers or self._made or any(each._is_loading for each in self._documents.values())
-        if not is_waiting or self._state != Line.OPEN:
-            self._silent_since = None
-        elif self._silent_since is None:
-            self._silent_since = now()
-        elif now() - self._silent_since >= DOUBT:
-            self._silent_since = None
-            self._line.address_changed(now())  # as if it had: if nothing comes then, the connection is given up
+        self._line.expect(bool(is_waiting), now())
+        self._woken.set()  # what it says next may be due sooner now
 
     async def _pause(self) -> None:
-        """Waits until the line, or the doubt of it, has something to say."""
+        """Waits until the line has something to say."""
         self._woken.clear()  # a round before it has set it
-        dues = [self._line.due_in(now()), None if self._silent_since is None else max(0, self._silent_since + DOUBT - now())]
-        due = min((each for each in dues if each is not None), default=None)
         with contextlib.suppress(asyncio.TimeoutError):
-            await within(seconds(due), self._woken.wait())
+            await within(seconds(self._line.due_in(now())), self._woken.wait())
 
     async def _connect(self) -> None:
         try:
@@ -458,12 +448,11 @@ class Session(End):
         self._line.put_note(data, now())
 
     def _ask(self) -> None:
+        self._expect()
         self._line.ask(now())
-        self._woken.set()  # what it says next may be due sooner now
 
     def _receive(self, attempt: int, data: bytes) -> None:
         self._line.receive(attempt, data, now())
-        self._silent_since = None
 
     def _take_out(self) -> None:
         self._terminal.flush_now()

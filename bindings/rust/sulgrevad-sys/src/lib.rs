@@ -907,6 +907,10 @@ extern "C" {
     /// Doubts an open connection, because an address of the machine came or went: it is late, so call sam_line_ask, and if no byte comes it
     /// is given up after 2 seconds. A connection that is to be made is tried after 1 second at most.
     pub fn sam_line_address_changed(line: *mut sam_line, now: u64) -> sam_status;
+    /// Notes whether the program waits for an answer of the host's program, as to a request: that holds over all connections, until another
+    /// call says otherwise. While the program waits an answer is due, though the host has acknowledged all that was put: if no byte comes
+    /// for 15 seconds, the connection is late, so sam_line_ask asks, and if none comes for 15 more, it is given up.
+    pub fn sam_line_expect(line: *mut sam_line, expects: bool, now: u64) -> sam_status;
     /// Puts bytes for the host's program, all or none, with or without a connection: an answer is then due. Refused, in this order:
     /// SAM_COUNT_FULL if the stream would have more than 2^64-1 bytes; SAM_NO_MEMORY.
     pub fn sam_line_put(line: *mut sam_line, bytes: *const u8, len: usize, now: u64) -> sam_status;

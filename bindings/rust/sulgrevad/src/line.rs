@@ -160,6 +160,13 @@ impl Line {
         unsafe { sys::sam_line_address_changed(self.at(), now) };
     }
 
+    /// Notes whether the program waits for an answer of the host's program, as to a request: that holds over all connections, until another
+    /// call says otherwise. While the program waits an answer is due, though the host has acknowledged all that was put: if no byte comes
+    /// for 15 seconds, the connection is late, so call `ask`, and if none comes for 15 more, it is given up.
+    pub fn expect(&mut self, expects: bool, now: u64) {
+        unsafe { sys::sam_line_expect(self.at(), expects, now) };
+    }
+
     /// Puts bytes for the host's program, all or none, with or without a connection. Errors, in this order: `CountFull`; `NoMemory`.
     pub fn put(&mut self, bytes: &[u8], now: u64) -> Result<(), Error> {
         done(unsafe { sys::sam_line_put(self.at(), bytes.as_ptr(), bytes.len(), now) })

@@ -39,6 +39,10 @@ fn connections_are_due_by_the_clock() {
 
     let (mut line, _, attempt) = opened();
     assert_eq!((line.words(), line.due_in(1000)), (b"a login\n".to_vec(), None));
+    line.expect(true, 1000);
+    assert_eq!(line.due_in(1000), Some(15_000));
+    line.expect(false, 1000);
+    assert_eq!(line.due_in(1000), None);
     line.put(b"hi", 1000).unwrap();
     assert_eq!((line.tick(15_999), line.tick(16_000)), (Tick::Nothing, Tick::Ask));
     line.ask(16_000).unwrap();

@@ -153,6 +153,9 @@ function Line:put_note(kind, fields)
   must("line_put_note", self.handle, bytes, length[0], now())
 end
 
+-- Notes whether an answer of the host is waited for: the line may die once it has acknowledged what was asked.
+function Line:expect(expects) must("line_expect", self.handle, expects, now()) end
+
 -- Sends what was put, and asks whether it has come.
 function Line:send()
   if self.why then return end

@@ -158,6 +158,15 @@ function Session:request(kind, fields, answer)
   return self.requests
 end
 
+-- Whether an answer of the host is waited for: to a request, or by a lock.
+function Session:is_waiting()
+  if next(self.answers) or self:state().command_locked or library.state.held > 0 then return true end
+  for tag in pairs(self.files) do
+    if self:file_state(tag).is_locked then return true end
+  end
+  return false
+end
+
 --## Edits
 
 -- Buffer and terminal have the same text.
@@ -366,6 +375,7 @@ function Session:pump()
     end
     must("term_flush_now", self.term)
     self:take_out()
+    self.line:expect(self:is_waiting())
     self.line:send()
   end)
   self.is_pumping = false
