@@ -1,0 +1,9 @@
+//! A terminal end over whose rasps edits wait, for front ends that keep a copy of what is shown: its changes come out one by one. Begin with
+//! `ShownEnd`.
+#![tactic(auto)]
+
+mod shown_end;
+mod splices;
+
+pub use shown_end::ShownEnd;
+pub use splices::{Splice, SpliceKind, Splices};
