@@ -11,6 +11,8 @@ mod link;
 #[cfg(test)]
 mod messages;
 #[cfg(test)]
+mod overlay;
+#[cfg(test)]
 mod pending;
 #[cfg(test)]
 mod rest;
