@@ -1,9 +1,9 @@
 -- What a server takes, and where what is left of it leads.
-use Rattle.std.proofs.Common.{◌≡◌, ◌≢◌, ℕ, List, [], ◌∷◌, ◌++◌, map, Bool, true, false, true≢false, ◌⊎◌, inl, inr, None, Some, Option, Result, Ok, Err, refl, sym, ap, ◌∙◌, subst, append-nil}
+use Rattle.std.proofs.Common.{◌≡◌, ◌≢◌, ℕ, List, [], ◌++◌, Bool, true, false, true≢false, inl, inr, None, Some, Option, Result, Ok, Err, refl, sym, ap, ◌∙◌, subst}
 use Rattle.std.proofs.lemmas.List.{map-append}
 use Rattle.std.specs.Prelude.{◌==◌, if◌then◌else◌}
 use Rattle.sam_link.specs.Calls.{Does}
-use Rattle.sam_link.specs.Calls.Call.{Answer, Feed, PutNote}
+use Rattle.sam_link.specs.Calls.Call.{Acknowledge, Answer, Ask, Feed, PutNote}
 use Rattle.sam_link.specs.End.{End, AnswersBy, broken, ended}
 use Rattle.sam_link.specs.Inbox.{Waiting}
 use Rattle.sam_link.specs.Packets.{Packet}
@@ -13,12 +13,12 @@ use Rattle.sam_link.specs.declared.hello.Hello.{Hello}
 use Rattle.sam_link.specs.declared.hello.Id.{Id}
 use Rattle.sam_link.specs.declared.phase.Role.{Role}
 use Rattle.sam_link.specs.declared.phase.Role.TheVariants.{Host, Terminal}
-use Rattle.sam_server.specs.Records.{Called, Came, Done, Joined, PlainRecord, record_bytes}
-use Rattle.sam_endpoint.specs.HostEndpoints.{Adds, with_file}
-use Rattle.sam_server.specs.Servers.{Effect, Handles, Pauses, Server, Takes, Work}
-use Rattle.sam_server.specs.DurableServers.{Finishing, GoesOn, GoesOnNow, IsOwing, IsWell, Leads, LeadsBy, Left, LeftAt, PlainDurableServer, RefusesPiece, TakesRecord, gone_to, recorded, told_of_feed}
+use Rattle.sam_server.specs.Records.{Called, Came, Done, Joined, Marked, PlainRecord, record_bytes}
+use Rattle.sam_endpoint.specs.HostEndpoints.{Adds, Marks, PlainHostEndpoint, with_file}
+use Rattle.sam_server.specs.Servers.{Effect, Handles, IsPausedAt, Pauses, PutsAnswers, Server, Takes, Work, with_work}
+use Rattle.sam_server.specs.DurableServers.{Finishing, GoesOn, GoesOnNow, IsOwing, IsWell, Leads, Left, LeftAt, PlainDurableServer, RefusesPiece, TakesRecord, gone_to, recorded, told_of_feed}
 use Rattle.sam_server.specs.Servers.{new_server}
-use Rattle.sam_server.specs.Turns.{DroppedEffect, Finishes, IsHanded, IsResting, Nears, PlainTurn, hosted, linked, with_effect, work_of}
+use Rattle.sam_server.specs.Turns.{DroppedEffect, Finishes, IsResting, Nears, PlainTurn, hosted, linked, with_effect, work_of}
 use Rattle.sam_server.specs.declared.fault.CallFault.{CallFault}
 use Rattle.sam_server.specs.declared.fault.CallFault.TheVariants as fault
 use Rattle.sam_server.specs.declared.fault.GoOnFault.{GoOnFault}
@@ -26,7 +26,7 @@ use Rattle.sam_server.specs.declared.fault.GoOnFault.TheVariants as go_on
 use Rattle.sam_server.specs.declared.server.Stage.{Stage}
 use Rattle.sam_server.specs.declared.server.Stage.TheVariants.{Answering, Recording, Settled, Stopped}
 use Rattle.sam_server.specs.declared.turn.Stop.{Stop}
-use Rattle.sam_server.proofs.Turns.{paused_on, ready_joined}
+use Rattle.sam_server.proofs.Turns.{paused_on, paused_stays, ready_joined, ready_marked, whole}
 
 -- what is left to work on, where nothing is held
 abbrev rest_of : PlainTurn → End → List Packet → Option Effect → Work
@@ -307,3 +307,40 @@ done_takes d e t ending true body refuses result settled well body_is some dropp
     (ap (λ (x : List ℕ). gone_to d t Answering x) body_is) tt
     (λ z left. done_leads d.turn t ending z (resting d.stage d.turn settled well) dropped left) goes
 done_takes d e t ending false body refuses result settled well body_is some dropped goes = absurd (true≢false (sym some))
+
+-- ## The terminal is told
+
+pub asked_well : (d : PlainDurableServer) (u : PlainTurn) → d.stage ≡ Settled → IsWell d.stage d.turn
+    → u ≡ linked d.turn u.server.link → Does d.turn.server.link (Ask (Ok tt)) u.server.link → IsResting u
+asked_well d u settled well is does =
+    subst IsResting (sym is)
+    (linked_rests d.turn u.server.link (ap (λ (l : End). l.waiting) does.1) (resting d.stage d.turn settled well))
+
+pub acknowledged_well : (d : PlainDurableServer) (u : PlainTurn) → d.stage ≡ Settled → IsWell d.stage d.turn
+    → u ≡ linked d.turn u.server.link → Does d.turn.server.link (Acknowledge (Ok tt)) u.server.link → IsResting u
+acknowledged_well d u settled well is does =
+    subst IsResting (sym is)
+    (linked_rests d.turn u.server.link (ap (λ (l : End). l.waiting) does.1) (resting d.stage d.turn settled well))
+
+marked_leads : (t : PlainTurn) (k : PlainHostEndpoint) (f : ℕ) (z : Server) → IsResting t → Marks t.server.host f (Ok tt) k
+    → Finishes (hosted t k) z → Takes t.server (Marked f) z
+marked_leads t k f z rests marks (m, (n, pauses), puts) =
+    let still : IsPausedAt t.server.effect (work_of (hosted t k)) =
+    paused_on t.server.effect (work_of t) (work_of (hosted t k)) rests.handed.paused refl (ready_marked t.server.host k f (Ok tt) marks) in
+    let same : m ≡ work_of (hosted t k) = paused_stays n (work_of (hosted t k)) m still pauses in (
+      k,
+      marks,
+      subst (λ (s : Server). PutsAnswers s z) (whole (hosted t k) rests.handed.held)
+          (subst (λ (w : Work). PutsAnswers (with_work t.server.link w) z) same puts),
+    )
+
+-- a file is marked, and the answers are put
+pub marked_takes : {F : Type 0} (d e : PlainDurableServer) (u : PlainTurn) (f : ℕ) (body : List ℕ)
+    (refuses : F → PlainDurableServer → Type 0) (result : Result (Unit {0}) (CallFault F)) → d.stage ≡ Settled → IsWell d.stage d.turn
+    → body ≡ record_bytes (Marked f) → u ≡ hosted d.turn u.server.host → Marks d.turn.server.host f (Ok tt) u.server.host
+    → GoesOnNow (gone_to d u Answering body) result e → TakesRecord d (Marked f) refuses result e
+marked_takes d e u f body refuses result settled well body_is is marks goes =
+    taken d (gone_to d u Answering body) e u Answering (Marked f) refuses result settled
+    (ap (λ (b : List ℕ). gone_to d u Answering b) body_is) tt
+    (λ z left. marked_leads d.turn u.server.host f z (resting d.stage d.turn settled well) marks
+    (subst (λ (x : PlainTurn). Finishes x z) is left)) goes

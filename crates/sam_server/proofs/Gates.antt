@@ -1,5 +1,5 @@
 -- What durable records let pass.
-use Rattle.std.proofs.Common.{◌≡◌, ℕ, suc, zero, ◌-◌, ◌<◌, List, [], ◌∷◌, length, refl, sym, ap, ◌∙◌, arith}
+use Rattle.std.proofs.Common.{◌≡◌, ℕ, suc, zero, ◌-◌, ◌<◌, List, [], ◌∷◌, length, refl, ap, ◌∙◌, arith}
 use Rattle.sam_server.specs.Gates.{passed}
 use Rattle.sam_server.specs.declared.gate.Mark.{Mark}
 

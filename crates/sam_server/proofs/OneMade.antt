@@ -1,5 +1,5 @@
 -- The records alone decide what is made of them.
-use Rattle.std.proofs.Common.{◌≡◌, ℕ, List, [], ◌∷◌, Option, None, Some, Ok, refl, sym, ap, ◌∙◌, subst}
+use Rattle.std.proofs.Common.{◌≡◌, List, [], ◌∷◌, Option, None, Ok, refl, sym, ap, ◌∙◌, subst}
 use Rattle.sam_link.specs.Calls.Call.{Acknowledge, Answer, Ask, Feed, Put, PutNote}
 use Rattle.sam_link.specs.End.{End}
 use Rattle.sam_endpoint.specs.HostEndpoints.{PlainHostEndpoint}

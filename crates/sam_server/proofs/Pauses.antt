@@ -1,8 +1,8 @@
 -- What waits is handled in one way, and pauses in one place.
-use Rattle.std.proofs.Common.{◌≡◌, ◌≢◌, ◌⊎◌, inl, inr, ℕ, zero, suc, ◌+◌, length, List, [], ◌∷◌, ◌++◌, drop, map, Option, None, Some, Result, Ok, Err, Bool, true, false, refl, sym, ap, ◌∙◌, subst, append-nil, drop_at, arith}
+use Rattle.std.proofs.Common.{◌≡◌, ◌≢◌, ◌⊎◌, inl, inr, ℕ, zero, suc, ◌+◌, length, List, [], ◌∷◌, ◌++◌, drop, map, Option, None, Some, Ok, Bool, true, false, refl, sym, ap, ◌∙◌, subst, append-nil, drop_at, arith}
 use Rattle.std.specs.Prelude.{option_map}
 use Rattle.sam_frame.specs.Direction.{host, terminal}
-use Rattle.sam_frame.specs.Framing.{GaveAll, GaveUp, Held}
+use Rattle.sam_frame.specs.Framing.{GaveUp, Held}
 use Rattle.sam_frame.specs.Reading.{IsStream}
 use Rattle.sam_frame.specs.Stream.{stream_of, version_after}
 use Rattle.sam_frame.proofs.Unique.{one_reading}
@@ -25,7 +25,7 @@ use Rattle.sam_endpoint.specs.declared.step.HostStep.TheVariants as steps
 use Rattle.sam_endpoint.proofs.HostEndpointStepping.{Went, steps_on, went_nowhere}
 use Rattle.sam_link.specs.Packets.{Packet}
 use Rattle.sam_link.specs.Packets.{Packet as packet}
-use Rattle.sam_server.specs.Servers.{Effect, HandsOn, Hear, IsPausedAt, Pauses, PausesBy, StepsOn, Work, Write, to_write}
+use Rattle.sam_server.specs.Servers.{Effect, HandsOn, Hear, Pauses, PausesBy, StepsOn, Work, Write, to_write}
 
 -- ## A piece is read in one way
 

@@ -1,5 +1,5 @@
 -- What the parts of a turn do, and where what is left leads.
-use Rattle.std.proofs.Common.{◌≡◌, ◌≢◌, ◌⊎◌, inl, inr, ℕ, zero, suc, ◌+◌, ◌*◌, ◌<◌, ◌≤◌, List, [], ◌∷◌, ◌++◌, length, take, drop, Bool, true, false, true≢false, None, Some, Option, Result, Ok, Err, refl, sym, ap, ◌∙◌, subst, arith, length-append}
+use Rattle.std.proofs.Common.{◌≡◌, ◌≢◌, ◌⊎◌, inl, inr, ℕ, zero, suc, ◌+◌, ◌*◌, ◌<◌, List, [], ◌∷◌, ◌++◌, length, take, drop, Bool, true, false, true≢false, None, Some, Option, Result, Ok, Err, refl, sym, ap, ◌∙◌, subst, arith, length-append}
 use Rattle.std.proofs.lemmas.List.{drop_all}
 use Rattle.std.specs.Prelude.{if◌then◌else◌, option_map, slice_get}
 use Rattle.sam_mesg.specs.declared.tmesg.Tmesg.{Tmesg}
@@ -24,8 +24,8 @@ use Rattle.sam_endpoint.specs.declared.step.BringFault.TheVariants as bring
 use Rattle.sam_endpoint.specs.declared.step.HostStep.{HostStep}
 use Rattle.sam_endpoint.specs.declared.step.HostStep.TheVariants as steps
 use Rattle.sam_server.specs.HostLinks.{HandsOut}
-use Rattle.sam_server.specs.Servers.{Effect, HandsOn, Hear, IsPausedAt, Pauses, PutsAnswers, Server, StepsOn, Work, Write, to_write, waits_for, with_work}
-use Rattle.sam_server.specs.Turns.{BreaksOff, Brought, DroppedEffect, Fetched, Finished, Finishes, GoesOn, Handed, HandedNext, IsHanded, IsHolding, IsResting, IsStill, IsStillAt, MayHold, Nears, PlainTurn, Stepped, held_in, hosted, left_in, linked, plain_effect, some_left, steps_left, told_of_bring, told_of_step, with_effect, work_of}
+use Rattle.sam_server.specs.Servers.{Effect, HandsOn, Hear, IsPausedAt, Pauses, PausesBy, PutsAnswers, Server, StepsOn, Work, Write, to_write, waits_for, with_work}
+use Rattle.sam_server.specs.Turns.{BreaksOff, Brought, Fetched, Finished, Finishes, GoesOn, Handed, HandedNext, IsHanded, IsHolding, IsResting, IsStill, IsStillAt, MayHold, Nears, PlainTurn, Stepped, held_in, hosted, left_in, plain_effect, some_left, steps_left, told_of_bring, told_of_step, work_of}
 use Rattle.sam_server.specs.declared.turn.Stop.TheVariants as stop
 use Rattle.sam_server.specs.declared.turn.TurnFault.{TurnFault}
 use Rattle.sam_server.specs.declared.turn.TurnFault.TheVariants as fault
@@ -436,6 +436,27 @@ pub paused_on : (effect : Option Effect) (w v : Work) → IsPausedAt effect w �
     → IsPausedAt effect v
 paused_on None w v paused packets ready = (ready paused.0, packets ∙ paused.1)
 paused_on (Some effect) w v paused packets ready = tt
+
+some_messages : (ms rest : List Tmesg) → 0 < length ms → [] ≡ ms ++ rest → ⊥
+some_messages [] rest some is = omega (arith, some)
+some_messages (m ∷ ms) rest some is = cc
+
+-- an endpoint that is ready makes no step
+no_step : (e k : PlainHostEndpoint) (step : HostStep) → IsReady e → step ≢ steps.Idle → Steps e (Ok step) k → ⊥
+no_step e k steps.Idle ready some does = some refl
+no_step e k steps.Wrote ready some (going, waits, is) = omega (arith, waits, ap length ready.1.0.unwritten)
+no_step e k (steps.Edited tag count) ready some (written, took) =
+    some_messages took.edits.messages took.edits.rest took.edits.some (sym ready.1.0.waiting ∙ took.edits.waited)
+no_step e k (steps.Answered kind tag) ready some (written, did) =
+    some_messages (did.first.message ∷ []) did.first.rest (omega arith) (sym ready.1.0.waiting ∙ did.first.waited)
+
+-- what pauses stays so
+pub paused_stays : (n : ℕ) (w m : Work) → IsPausedAt w.effect w → PausesBy n w m → m ≡ w
+paused_stays zero w m paused x = x.1
+paused_stays (suc n) w m paused (none, v, inl (step, k, some, does, is), more) =
+    absurd (no_step w.host k step (subst (λ (x : Option Effect). IsPausedAt x w) none paused).0 some does)
+paused_stays (suc n) w m paused (none, v, inr hands, more) =
+    absurd (subst (λ (ps : List Packet). HandsOn w ps v) (subst (λ (x : Option Effect). IsPausedAt x w) none paused).1 hands)
 
 abbrev pub answers_put : PlainTurn → End → PlainTurn
 answers_put t l = record t { server = record t.server { link = l; host = record t.server.host { pending_bytes = [] } } }

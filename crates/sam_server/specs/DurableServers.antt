@@ -2,7 +2,7 @@
 use Rattle.std.specs.Prelude.{◌≡◌, ◌≢◌, ◌⊎◌, ℕ, List, [], ◌∷◌, ◌++◌, length, take, drop, min, None, Some, Result, Ok, Err}
 use Rattle.std.specs.Global.{Vec}
 use Rattle.sam_link.specs.Calls.{Does}
-use Rattle.sam_link.specs.Calls.Call.{Feed, PutNote}
+use Rattle.sam_link.specs.Calls.Call.{Acknowledge, Ask, Feed, PutNote}
 use Rattle.sam_link.specs.End.{End, TakesOut, refusal_of}
 use Rattle.sam_link.specs.declared.fault.FeedFault.{FeedFault}
 use Rattle.sam_link.specs.declared.fault.FeedFault.TheVariants as feeds
@@ -12,7 +12,10 @@ use Rattle.sam_link.specs.declared.hello.Hello.{Hello}
 use Rattle.sam_link.specs.declared.hello.Id.{Id}
 use Rattle.sam_link.specs.declared.hello.Refusal.{Refusal}
 use Rattle.sam_runes.specs.Checks.{first_of_checks}
-use Rattle.sam_endpoint.specs.HostEndpoints.{IsAddFault, add_checks}
+use Rattle.sam_link.specs.declared.keeping.PutFault.{PutFault}
+use Rattle.sam_host.specs.Marking.{mark_checks}
+use Rattle.sam_host.specs.declared.fault.MarkFault.{MarkFault}
+use Rattle.sam_endpoint.specs.HostEndpoints.{IsAddFault, IsMarkFault, add_checks}
 use Rattle.sam_endpoint.specs.declared.fault.AddFault.{AddFault}
 use Rattle.sam_server.specs.Gates.{PlainGate, allowed, gone_count, new_gate, put_count}
 use Rattle.sam_server.specs.Records.{PlainRecord, record_bytes}
@@ -163,6 +166,18 @@ RefusesFile d name text why e = IsAddFault (first_of_checks (add_checks d.turn.s
 -- a message is refused as the link refuses it, and all stays
 abbrev pub RefusesNote : PlainDurableServer → List ℕ → NoteFault → PlainDurableServer → Type 0
 RefusesNote d message why e = Does d.turn.server.link (PutNote message (Err why)) d.turn.server.link × (e ≡ d)
+
+-- the link says why it doesn't ask, and all stays
+abbrev pub RefusesAsk : PlainDurableServer → PutFault → PlainDurableServer → Type 0
+RefusesAsk d why e = Does d.turn.server.link (Ask (Err why)) d.turn.server.link × (e ≡ d)
+
+-- the link says why it doesn't acknowledge, and all stays
+abbrev pub RefusesAcknowledge : PlainDurableServer → PutFault → PlainDurableServer → Type 0
+RefusesAcknowledge d why e = Does d.turn.server.link (Acknowledge (Err why)) d.turn.server.link × (e ≡ d)
+
+-- a file is not marked, for the reason that the endpoint has, and all stays
+abbrev pub RefusesMark : PlainDurableServer → ℕ → MarkFault → PlainDurableServer → Type 0
+RefusesMark d f why e = IsMarkFault (first_of_checks (mark_checks d.turn.server.host.host f)) why × (e ≡ d)
 
 -- no effect waits, and all stays
 abbrev pub RefusesEffect : PlainDurableServer → NoEffect → PlainDurableServer → Type 0

@@ -1,5 +1,5 @@
 -- A server in the middle of a turn, and what is left of it.
-use Rattle.std.specs.Prelude.{◌≡◌, ◌≢◌, ℕ, ◌+◌, ◌*◌, ◌<◌, ◌≤◌, List, [], ◌∷◌, ◌++◌, length, take, Option, option_map, None, Some, Bool, true, false, Result, Ok, Err}
+use Rattle.std.specs.Prelude.{◌≡◌, ◌≢◌, ℕ, ◌+◌, ◌*◌, ◌<◌, ◌≤◌, List, [], ◌∷◌, ◌++◌, length, take, Option, None, Some, Bool, true, false, Result, Ok, Err}
 use Rattle.sam_link.specs.End.{End}
 use Rattle.sam_link.specs.Packets.{Packet}
 use Rattle.sam_link.specs.Packets.{Packet as packet}

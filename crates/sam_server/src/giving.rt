@@ -10,6 +10,7 @@ use crate::fault::{CallFault, NoEffect};
 use crate::record::Record;
 use crate::server::{DurableServer, Stage};
 use sam_endpoint::AddFault;
+use sam_host::Host;
 use sam_link::NoteFault;
 
 impl DurableServer {
@@ -62,6 +63,13 @@ impl DurableServer {
         ensures { option_map plain_effect (option_copied result) ≡ self.now.turn.server.effect }
     {
         self.turn.effect()
+    }
+
+    /// Lends the host, to be read: a write is of the saved text of its file.
+    pub fn host(&self) -> &Host
+        ensures { result.now ≡ self.now.turn.server.host.host }
+    {
+        self.turn.host.host()
     }
 
     /// Takes note that the effect is done, with a number of the program's for how it ended, and handles what waited behind it.

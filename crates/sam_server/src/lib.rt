@@ -20,6 +20,7 @@ mod laws;
 mod reading;
 mod record;
 mod server;
+mod telling;
 mod turn;
 mod writing;
 

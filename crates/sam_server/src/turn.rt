@@ -2,7 +2,7 @@
 
 ghost use Rattle.std.specs.Prelude.{◌≡◌, [], IfOk, drop, option_copied, option_map};
 ghost use Rattle.sam_link.specs.Calls.{Does};
-ghost use Rattle.sam_link.specs.Calls.Call.{Feed, PutNote};
+ghost use Rattle.sam_link.specs.Calls.Call.{Acknowledge, Ask, Feed, PutNote};
 ghost use Rattle.sam_endpoint.specs.HostEndpoints.{Adds, Marks};
 ghost use Rattle.sam_server.specs.HostLinks.{Answered};
 ghost use Rattle.sam_server.specs.Servers.{new_server, to_write};
@@ -163,6 +163,22 @@ impl Turn {
         ensures others { self.new ≡ linked self.old self.new.server.link }
     {
         self.link.put_note(message)
+    }
+
+    /// Asks the terminal to acknowledge.
+    pub(crate) fn ask(&mut self) -> Result<(), PutFault>
+        ensures link { Does self.old.server.link (Ask result) self.new.server.link }
+        ensures others { self.new ≡ linked self.old self.new.server.link }
+    {
+        self.link.ask()
+    }
+
+    /// Acknowledges what came.
+    pub(crate) fn acknowledge(&mut self) -> Result<(), PutFault>
+        ensures link { Does self.old.server.link (Acknowledge result) self.new.server.link }
+        ensures others { self.new ≡ linked self.old self.new.server.link }
+    {
+        self.link.acknowledge()
     }
 
     /// Adds a file to the endpoint.

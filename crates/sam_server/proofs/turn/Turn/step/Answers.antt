@@ -1,7 +1,7 @@
-use Rattle.std.proofs.Common.{◌≡◌, [], Ok, None, Option, ap, subst, sym, ◌∙◌}
+use Rattle.std.proofs.Common.{◌≡◌, Ok, None, ap, subst, sym, ◌∙◌}
 use Rattle.std.specs.Prelude.{option_map}
 use Rattle.sam_endpoint.specs.HostEndpoints.{PlainHostEndpoint}
-use Rattle.sam_server.specs.Servers.{Effect, to_write}
+use Rattle.sam_server.specs.Servers.{to_write}
 use Rattle.sam_server.specs.Turns.{PlainTurn, Stepped, plain_effect}
 use Rattle.sam_server.specs.contracts.turn.Turn.{the_view}
 use Rattle.sam_server.proofs.Turns.{step_told}

@@ -1,0 +1,18 @@
+use Rattle.std.proofs.Common.{◌≡◌, ap, subst, sym}
+use Rattle.sam_server.specs.DurableServers.{PlainDurableServer, RefusesAcknowledge, TakesRecord}
+use Rattle.sam_server.specs.Records.{Acknowledged}
+use Rattle.sam_server.specs.Turns.{PlainTurn}
+use Rattle.sam_server.specs.contracts.server.DurableServer.{the_view}
+use Rattle.sam_server.specs.declared.server.Stage.TheVariants.{Settled}
+use Rattle.sam_server.proofs.DurableServers.{single_takes}
+use Rattle.sam_server.proofs.server.DurableServer.acknowledge.Goals as goal
+
+pub returns : goal.returns
+returns c =
+    let d = the_view c.self.inside in
+    let settled : d.stage ≡ Settled = subst (λ (x : PlainDurableServer). x.stage ≡ Settled) (sym c.self.view_is) c.in_ok-body.ensures.0 in
+    subst (λ (x : PlainDurableServer). TakesRecord x Acknowledged (RefusesAcknowledge x) c.go_on_now.result c.go_on_now.new.self)
+    c.self.view_is
+    (single_takes d c.go_on_now.new.self c.acknowledge.new.self Acknowledged c.in_ok-body.body.items
+    (RefusesAcknowledge d) c.go_on_now.result settled c.in_ok-body.ensures.1
+    (c.acknowledge.new.self.server.link, c.in-Ok.ensures.link, ap (λ (x : PlainTurn). x.server) c.acknowledge.ensures.others) c.go_on_now.ensures)
