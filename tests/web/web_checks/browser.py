@@ -69,11 +69,11 @@ def expect(holds, told):
 
 
 def wait_until(holds, told, seconds=SECONDS):
-    """Waits until something holds, and returns what it is."""
+    """Waits until something holds, and returns what it is. Else tells what is wrong: words, or what gives them."""
     until = time.monotonic() + seconds
     while not (found := holds()):
         if time.monotonic() > until:
-            raise Failed(f"{told} (waited for {seconds} s)")
+            raise Failed(f"{told() if callable(told) else told} (waited for {seconds} s)")
         time.sleep(0.02)
     return found
 
