@@ -42,7 +42,7 @@ class Page {
     this.keys = this.#keys();
     this.editor = new Editor(CodeMirror, this.cm, this, terminal);
     this.find = new Find(this.editor, part("finding"), part("pattern"));
-    this.opening = new Opening(this.editor, part("opening"), part("path"), part("paths"));
+    this.opening = new Opening(this.editor, this.find, part("opening"), part("path"), part("paths"));
     this.copies = new Copies(this.editor, PLACE);
     document.addEventListener("click", ({ target }) => this.#meetClick(target));
     document.addEventListener("keydown", (event) => this.#meetKey(event));

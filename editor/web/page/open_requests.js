@@ -20,10 +20,10 @@ export class Opening {
   #names = [];
   #hasMore = false;
   #chosen = 0;
-  #wishes = []; // files that the host wishes shown
+  #wishes = []; // files that the host wishes shown: the tag of each, and a line, or 0
 
-  constructor(editor, box, field, list) {
-    Object.assign(this, { editor, box, field, list });
+  constructor(editor, find, box, field, list) {
+    Object.assign(this, { editor, find, box, field, list });
     field.addEventListener("input", () => this.#narrow());
     field.addEventListener("keydown", (event) => this.#meetKey(event));
     list.addEventListener("mousedown", (event) => event.preventDefault()); // the field keeps the keyboard
@@ -201,10 +201,10 @@ export class Opening {
   }
 
   /** A message of the host. */
-  meet({ kind, request, tag, code, path, text }) {
+  meet({ kind, request, tag, code, number, path, text }) {
     const isOfOpening = request !== 0 && request === this.#opening?.number;
     if (kind === NoteKind.NAMES && request === this.#namesOf) this.#meetNames(DECODER.decode(path), code === NoteCode.HAS_MORE);
-    else if (kind === NoteKind.SHOWN) this.#wishes.push(tag);
+    else if (kind === NoteKind.SHOWN) this.#wishes.push({ tag, line: number });
     else if (kind === NoteKind.OPENED && isOfOpening) this.#opening.tag = tag;
     else if (kind === NoteKind.REFUSED && isOfOpening && code === NoteCode.IS_FOLDER) this.#opening.isFolder = true;
     else if (kind === NoteKind.REFUSED && isOfOpening) this.#opening.why = text;
@@ -224,11 +224,11 @@ export class Opening {
 
   /** Shows files that the host wishes shown, where the user rests. */
   goOn() {
-    const [tag] = this.#wishes;
-    if (tag === undefined || !this.editor.isAtRest) return;
-    this.#wishes.shift();
-    if (!this.editor.terminal.isKnown(tag)) this.editor.terminal.offerVersion(VERSION);
-    const act = () => (this.editor.terminal.isKnown(tag) && this.editor.open(tag) ? undefined : AGAIN);
-    this.editor.press("the file that the host shows", act, { isOfNoFile: true });
+    const { editor } = this;
+    if (this.#wishes.length === 0 || !editor.isAtRest) return;
+    const { tag, line } = this.#wishes.shift();
+    if (!editor.terminal.isKnown(tag)) editor.terminal.offerVersion(VERSION);
+    editor.press("the file that the host shows", () => (editor.open(tag) ? undefined : AGAIN), { isOfNoFile: true });
+    if (line > 0) this.find.goToLine(tag, line);
   }
 }

@@ -4,6 +4,7 @@ import { AGAIN } from "./key_queue.js";
 
 const COMMAND = 0; // the tag of the command file
 const SIGNS = /[!-/:-@[-`{-~]/g; // what a pattern of a command line has a backslash before
+const MOST_LINES = 1_000_000; // of a text
 
 /** A pattern of a command line that stands for a text. */
 function escaped(text) {
@@ -70,7 +71,7 @@ export class Find {
       if (place !== null) return this.#select(place, value);
       if (!this.#isAllLoaded && !this.editor.line.isLate) {
         isAsked = true;
-        this.#askHost(value);
+        this.#askHost(`/${escaped(value)}/`);
         return AGAIN;
       }
       return this.#wrap(this.#after(0, value), value);
@@ -126,27 +127,56 @@ export class Find {
     this.editor.say("");
   }
 
+  /** Goes to a line of a file, counted from 1, if that file is shown: in what is loaded from its start on, else the host looks. */
+  goToLine(tag, number) {
+    const { editor } = this;
+    const { terminal } = editor;
+    let from = null; // the place from which the host looks
+    const act = () => {
+      if (editor.active?.tag !== tag) return undefined;
+      if (!editor.isFree) return AGAIN;
+      const place = from === null ? terminal.line(tag, 0, Math.min(number, MOST_LINES) - 1) : this.#foundFrom(tag, from);
+      if (place !== null) return this.#selectLoaded(place, "");
+      if (from !== null || this.#isAllLoaded) return editor.say(`line ${number} is not there`);
+      if (editor.line.isLate) return AGAIN;
+      from = editor.active.selection.end;
+      this.#askHost(String(number));
+      return AGAIN;
+    };
+    editor.press("going to a line", act, { isOfNoFile: true });
+  }
+
+  /** Where the host has selected a line; null where it has selected none. */
+  #foundFrom(tag, from) {
+    const { start, end } = this.editor.terminal.dot(tag);
+    return start === from && end === from ? null : start;
+  }
+
   /** Has the host look, by a command line. */
-  #askHost(value) {
+  #askHost(command) {
     const { terminal, active } = this.editor;
     const { tag, selection } = active;
     if (!terminal.isOpen(COMMAND)) terminal.openCmd();
     terminal.select(tag, selection.end, selection.end);
     terminal.work(tag);
-    terminal.type(COMMAND, `/${escaped(value)}/\n`);
+    terminal.type(COMMAND, `${command}\n`);
     this.editor.say("the host looks for it");
   }
 
   /** The host's answer is here: it has selected the place. */
   #meetAnswer(value) {
-    const { terminal, active, line } = this.editor;
+    const { terminal, active } = this.editor;
     const { start, end } = terminal.dot(active.tag);
-    if (end - start !== runesOf(value)) return this.#wrap(null, value);
-    if (terminal.bytes(active.tag, start, end).gaps > 0) {
-      if (line.isLate) return undefined;
-      this.editor.loading.around(active.tag, start);
-      return AGAIN;
-    }
-    return this.#select(start, value);
+    return end - start === runesOf(value) ? this.#selectLoaded(start, value) : this.#wrap(null, value);
+  }
+
+  /** Selects a text at a place, once that is loaded. */
+  #selectLoaded(place, value) {
+    const { terminal, active, loading, line } = this.editor;
+    const end = Math.min(place + Math.max(1, runesOf(value)), terminal.len(active.tag));
+    if (terminal.bytes(active.tag, place, end).gaps === 0) return this.#select(place, value);
+    if (line.isLate) return undefined;
+    loading.around(active.tag, place);
+    return AGAIN;
   }
 }
