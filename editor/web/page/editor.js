@@ -5,14 +5,13 @@ import { Loading } from "./prefetch.js";
 import { runesOf } from "./shown_text.js";
 import { Undo } from "./undo.js";
 import { View } from "./view.js";
-import { AGAIN, Waiting } from "./key_queue.js";
+import { AGAIN, READ_AFTER, Waiting } from "./key_queue.js";
 
 const COMMAND = 0; // the tag of the command file
 const MOST_TYPED = 512; // runes of one event
 const ALL_TAGS = 65_536; // of a session
 const AT_REST = 1000; // milliseconds after the last key
 const RETRY = 100; // milliseconds until that for which the memory was too small is tried again
-const READ_AFTER = 500; // milliseconds for which a message stands; then the next key takes it away, since it may not be true any more
 
 const WHY = {
   [Status.REFUSAL_TOO_LONG]: "the file would have more than 1,000,000 characters",
@@ -130,6 +129,7 @@ export class Editor {
     if (this.isFree) this.loading.reach(gap, this.active.tag);
   }
 
+  /** A key was pressed. A message that has stood so long goes, since it may not be true any more. */
   noteKey() {
     this.keyAt = performance.now();
     if (this.keyAt - this.#saidAt >= READ_AFTER) this.message = "";
@@ -347,7 +347,8 @@ export class Editor {
       if (wait !== null) this.#wake(wait);
     }
     terminal.flushNow();
-    if (this.line.isLate || this.waiting.count > 0) this.#wake(1000);
+    if (this.waiting.count > 0) this.#wake(READ_AFTER);
+    else if (this.line.isLate) this.#wake(1000);
   }
 
   /** The names of the files are known: opens the first one. */

@@ -11,6 +11,8 @@ const ANYWHERE = /^(goDoc|selectAll|insertTab|newline)/; // what needs no text b
 const KEPT = /^(go|del|newline|insertTab|selectAll|killLine|openLine|transposeChars)/;
 const REPLACED = { defaultTab: "insertTab", newlineAndIndent: "newlineAsAbove", goLineStartSmart: "goLineStart" };
 
+const AT_CARET = /^(del|newline|insertTab|killLine|openLine|transposeChars)/; // what changes the text there
+
 const NAMES = { del: "erasing", go: "that move" };
 
 function nameOf(command) {
@@ -88,8 +90,8 @@ export class Input {
   press(command, isExtending = false) {
     const { editor } = this;
     editor.noteKey();
-    const isReady = () => this.#hasText(command);
-    editor.waiting.press({ name: nameOf(command), isReady, act: () => this.#run(command, isExtending) });
+    const [isReady, isAtCaret] = [() => this.#hasText(command), AT_CARET.test(command)];
+    editor.waiting.press({ name: nameOf(command), isReady, isAtCaret, act: () => this.#run(command, isExtending) });
   }
 
   /** Does what a key means that was pressed before the text had the keyboard. */
@@ -220,7 +222,7 @@ export class Input {
       else clip.isKept = true;
       if (isCut && text !== "") cm.replaceSelection("", "end", "cut");
     };
-    editor.waiting.press({ name: isCut ? "cutting" : "copying", isReady: () => this.#isSelectedLoaded, act });
+    editor.waiting.press({ name: isCut ? "cutting" : "copying", isReady: () => this.#isSelectedLoaded, isAtCaret: true, act });
   }
 
   get #isSelectedLoaded() {

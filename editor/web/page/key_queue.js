@@ -2,11 +2,12 @@
  * line. */
 
 export const AGAIN = Symbol("again"); // what an action returns that goes on once the host has answered
-const KNOWN_AFTER = 3000; // milliseconds for which answers are late until an action that needs them is given up
+export const READ_AFTER = 500; // milliseconds after which a message counts as read
+const KNOWN_AFTER = 3000; // milliseconds for which answers are late until the user is told of an action that needs them
 
 /** What is pressed: `act` does it. Before that the file has to be free, unless it `isOfNoFile`; and `isReady`, where there is one, has to
- * hold, which may ask the host for text. `text` is what the user has typed or pasted, `name` what he is told where it can't be done, and
- * `giveUp` is called then. */
+ * hold, which may ask the host for text. `text` is what the user has typed or pasted; `isAtCaret` says of another action that it takes out
+ * or copies text at the caret. `name` is what the user is told where it can't be done, and `giveUp` is called then. */
 export class Waiting {
   #actions = [];
   #isActing = false;
@@ -49,17 +50,14 @@ export class Waiting {
     this.#noteLate();
     while (this.#actions.length > 0) {
       const [action] = this.#actions;
-      if (!this.#mayAct(action)) {
-        if (!this.#isGivenUp(action)) return;
-        this.#giveUp();
-        continue;
-      }
-      this.#actions.shift();
-      if (this.#act(action) === AGAIN) {
+      if (this.#mayAct(action)) {
+        this.#actions.shift();
+        if (this.#act(action) !== AGAIN) continue;
         this.#actions.unshift(action);
-        if (!this.#isGivenUp(action)) return;
-        this.#giveUp();
       }
+      if (!this.#isKnownLate || this.#isNeeded(action) || !this.#isTold(action)) return;
+      this.#actions.shift();
+      action.giveUp?.();
     }
   }
 
@@ -79,12 +77,6 @@ export class Waiting {
     return typed;
   }
 
-  #giveUp() {
-    const { name, giveUp } = this.#actions.shift();
-    giveUp?.();
-    this.editor.say(`${name} can't be done until the line is back`);
-  }
-
   #act(action) {
     this.#isActing = true;
     try {
@@ -99,10 +91,21 @@ export class Waiting {
     else this.#lateSince ??= performance.now();
   }
 
-  /** Whether the first action goes with a word, since the line is lost and the user knows. One that typed text waits behind stays: that
-   * text would go elsewhere. */
-  #isGivenUp(action) {
-    const isKnown = this.#lateSince !== null && performance.now() - this.#lateSince >= KNOWN_AFTER;
-    return isKnown && !this.#actions.some(({ text }) => text);
+  get #isKnownLate() {
+    return this.#lateSince !== null && performance.now() - this.#lateSince >= KNOWN_AFTER;
+  }
+
+  /** Whether the first action has to be done, because what is typed or erased behind it would else go elsewhere. */
+  #isNeeded(first) {
+    return this.#actions.some(({ text, isAtCaret }) => text || (isAtCaret && !first.isAtCaret));
+  }
+
+  /** Tells, once, that an action can't be done. Returns whether the user has had the time to read that: a key that comes then isn't meant
+   * to come behind it. */
+  #isTold(action) {
+    const now = performance.now();
+    if (action.toldAt === undefined) this.editor.say(`${action.name} can't be done until the line is back`);
+    action.toldAt ??= now;
+    return now - action.toldAt >= READ_AFTER;
   }
 }
