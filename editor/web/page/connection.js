@@ -46,8 +46,8 @@ export function nameOf(id) {
 /** The code with which samweb closes a socket whose page doesn't have its token. */
 export const UNKNOWN = 1008;
 
-/** One connection, whose messages are kept until somebody hears them. It is open once samweb and the page have proved to each other that they
- * have the token. */
+/** One connection, whose messages are kept until somebody hears them. It is open once samweb and the page have proved to each other that
+ * they have the token. */
 export class Connection {
   #socket;
   #isKnown = false;

@@ -12,6 +12,7 @@ const MOST_TYPED = 512; // runes of one event
 const ALL_TAGS = 65_536; // of a session
 const AT_REST = 1000; // milliseconds after the last key
 const RETRY = 100; // milliseconds until that for which the memory was too small is tried again
+const TICK = 1000; // milliseconds until it is seen how the line is, while something is due
 
 const WHY = {
   [Status.REFUSAL_TOO_LONG]: "the file would have more than 1,000,000 characters",
@@ -348,7 +349,7 @@ export class Editor {
     }
     terminal.flushNow();
     if (this.waiting.count > 0) this.#wake(READ_AFTER);
-    else if (this.line.isLate) this.#wake(1000);
+    else if (!this.line.hasAll || this.line.isLate) this.#wake(TICK);
   }
 
   /** The names of the files are known: opens the first one. */

@@ -1,53 +1,46 @@
-/* A line that goes on through breaks: the stream and the notes of a session that stays at the host, over one WebSocket after another. What
- * the host has not acknowledged is kept, and goes out again over the next one. */
-import { Connection, UNKNOWN, first, nameOf, newId } from "./connection.js";
-import { Link, NoMemory, NoteKind, SamError, What, readHello, readNote, writeNote } from "./sulgrevad/sulgrevad.js";
+/* A line that goes on through breaks: the stream and the notes of a session that stays at the host, over one WebSocket after another. The
+ * library's line keeps what the host has not acknowledged, and says when to connect, to ask and to give up. */
+import { Connection, UNKNOWN, first, keepNames, nameOf, newId } from "./connection.js";
+import { Line as LibraryLine, NoMemory, NoteKind, SamError, Status, Tick, readNote, writeNote } from "./sulgrevad/sulgrevad.js";
 
-const MARK = [0x89, 0x73, 0x61, 0x6d, 0x6c, 0x69, 0x6e, 0x6b]; // with which a hello begins
-const HELLO_BYTES = 42;
-const PIECE = 65536; // bytes of one message
-const MOST_NOISE = 65536; // bytes that may come before a hello
 const MOST_BUFFERED = 1 << 18; // bytes that wait in a socket, above which it is given no more
-const LOOK_AGAIN = 50; // milliseconds until such a socket is looked at again
+const LOOK_AGAIN = 50; // milliseconds until such a socket is looked at again, and until it is seen whether there is memory
+const LATE_AFTER = 1000; // milliseconds, and two round trips, after which an answer counts as late
 
-// Milliseconds.
-const SILENCE_TO_BREAK = 15000; // without a byte, where an answer is due
-const TIME_TO_CONNECT = 30000; // until a connection is welcomed, and twice as long each time after that
-const MOST_TO_CONNECT = 960000;
-const PAUSES = [0, 1000, 2000, 4000, 8000, 16000, 30000]; // until another connection is tried; the last one from then on
-const LATE_AFTER = 1000; // and two round trips, after which an answer counts as late
-
-const TIME_MISSING = 60000; // for which a session that the host doesn't find may come back: its folder may be mounted late
-
-const STATUS_NO_SESSION = 7; // of samhost
 const SESSION_NAME = /^[0-9a-f]{16}$/; // what the host says becomes a word of a command
 const CLOSED_WITH = 4000; // the code with which samweb closes a socket: this, and the status of the host
+const MOST_STATUS = 127; // of the host; what ssh says is above
+const PASSING = [6, 7]; // statuses of a host whose line broke, or that found no session: another connection may do
+const MESSAGES = 1; // the version of the session's messages
+const OTHER_MESSAGES = "samhost there is of another version: page and host have to be of one release";
+const CANT_BEGIN = "the host can't begin";
+const MOST_FAILURES = 6; // that make a difference to the library's line
 
-/** Refusals of the host after which no connection comes any more. */
-const REFUSED = {
-  [What.OTHER_VERSION]: "the host knows another version of the link",
-  [What.NO_SESSION]: "the session is not there any more",
-  [What.OTHER_SESSION]: "another page has the session",
-  [What.WRONG_COUNT]: "the host has begun again, and lacks some of what it said",
+const GONE = [Status.LINK_NO_SESSION, Status.LINK_WRONG_COUNT]; // reasons of a host that lacks the session, or some of it
+/** Why no connection comes any more, by the host's reason. */
+const LOST = {
+  [Status.LINK_OTHER_VERSION]: "the host knows another version of the link",
+  [Status.LINK_NO_SESSION]: "the session is not there any more",
+  [Status.LINK_OTHER_SESSION]: "another page has the session",
+  [Status.LINK_WRONG_COUNT]: "the host has begun again, and lacks some of what it said",
 };
 
 const DECODER = new TextDecoder();
-const MESSAGES = 1; // the version of the session's messages
-const OTHER_MESSAGES = "samhost there is of another version: page and host have to be of one release";
 
-function joined(first, second) {
-  const all = new Uint8Array(first.length + second.length);
-  all.set(first);
-  all.set(second, first.length);
-  return all;
+/** The time, in whole milliseconds. */
+function now() {
+  return Math.floor(performance.now());
 }
 
-/** Where the mark of a hello begins; -1 where it isn't there whole. */
-function findMark(bytes) {
-  for (let at = bytes.indexOf(MARK[0]); at >= 0; at = bytes.indexOf(MARK[0], at + 1)) {
-    if (MARK.every((byte, more) => bytes[at + more] === byte)) return at;
+/** Returns whether there was memory for a call. */
+function isMade(call) {
+  try {
+    call();
+    return true;
+  } catch (error) {
+    if (error instanceof NoMemory) return false;
+    throw error;
   }
-  return -1;
 }
 
 /** A message of the host; null for one that only a later version knows. */
@@ -64,41 +57,31 @@ function read(bytes) {
 export class Line {
   #heard = null;
   #untold = []; // events that nobody has heard: each with the name of its call
-  #end;
-  #ways; // how a session is sought, the likeliest first, until a connection is welcomed
-  #takesOver;
-  #early = []; // what was put before a connection was welcomed, as what puts it into an end
-  #unput = []; // what the end had no memory for yet, in order, likewise
-  #lastTold = "";
-  #missingSince = null; // since when no host finds the session
+  #line = null; // the library's
+  #names = []; // of sessions that may be taken over, the likeliest first
+  #verb = ""; // by which the newest connection of the library's line was asked for; "" before the first
+  #failures = 0; // of sessions, one after another, whose first connection broke, and which the host doesn't have
+  #made = first.connection; // a connection that nobody has used
   #connection = null; // the newest connection; null between two
-  #attempt = 0;
-  #begun = new Uint8Array(0); // what has come of a connection before it was welcomed
-  #due = 0; // up to which byte of ours an answer is wanted
-  #asked = 0; // where the last question stands
-  #askedAt = 0;
-  #heardAt = 0;
-  #calledAt = 0;
-  #againAt = 0;
-  #lostAt = null; // since when there is no line
-  #failures = 0;
-  #connecting = TIME_TO_CONNECT;
-  #isMeasured = true; // the answer to the last question has come
-  #hasBegun = false; // a connection was welcomed
+  #attempt = 0; // its number
+  #early = []; // what was put before a host welcomed the line, as what puts it
+  #unput = []; // what there was no memory for yet, in order, likewise
+  #lastTold = "";
+  #isMissing = false; // no host finds the session, and that is told
   #isNamed = false; // the first message has come
   #timer = 0;
 
   up = 0; // bytes that have gone each way
   down = 0;
-  roundTrip = 0; // milliseconds that the last question took
   isLost = false; // no connection comes any more
   why = "";
+  isGone = false; // because the host lacks the session, or some of it
   endedWith = null; // the status with which the session has ended
 
   /** Goes on with the first connection: it begins a session, or takes the one of this address over. */
   constructor() {
-    this.#makeEnd(first.id, first.names);
-    this.#call(first.connection);
+    this.#begin(first.id, first.names);
+    this.#goOn();
   }
 
   /** From now on has `heard.bytes` called, `heard.told` for each line for people, `heard.named` once the session has a name, `heard.note`
@@ -118,76 +101,90 @@ export class Line {
     this.#lastTold = words;
   }
 
-  #makeEnd(id, taken) {
-    this.#end = new Link(Link.TERMINAL, id);
+  // ---- Sessions
+
+  /** Begins the library's line of another session, which may take one of these names over. So many connections count as failed before. */
+  #begin(id, names, failures = 0) {
+    const [old, time] = [this.#line, now()];
+    this.#line = new LibraryLine(id, names.length > 0, time);
+    for (let failed = 0; failed < failures; failed++) this.#line.broken(this.#line.connected(time), time);
+    old?.free();
     this.name = nameOf(id);
-    // A session that is taken over is named anew: if the first connection broke then, it is found by its new name.
-    this.#ways = taken.length > 0 ? [...taken.map((name) => ["take", name]), ["attach", this.name]] : [["serve", this.name]];
-    this.#takesOver = taken.length > 0;
+    this.#names = names;
+    this.#verb = "";
+    this.#unput.unshift(...this.#early.splice(0));
+  }
+
+  /** The host has no session of the name that it was asked for. */
+  #seek() {
+    if (this.#verb === "serve") this.#lose(CANT_BEGIN);
+    else if (this.#verb === "take") this.#seekNext();
+    else this.#seekAgain();
+  }
+
+  /** The session is sought by the next name. Where it is nowhere, another one begins. */
+  #seekNext() {
+    this.#beginAnew(this.#names.slice(1));
+    const isGone = this.#names.length === 0 && first.names.length > 0;
+    if (isGone) this.#tell("told", "samweb: the session is not there any more; another one begins");
+  }
+
+  /** The first connection broke. What it asked for may still be about to begin, so that is sought first. */
+  #seekAgain() {
+    this.#failures = Math.min(this.#failures + 1, MOST_FAILURES);
+    this.#beginAnew([this.name, ...this.#names], this.#failures);
+  }
+
+  #beginAnew(names, failures) {
+    this.#begin(newId(), names, failures);
+    keepNames(this.name, ...names); // the session may be named anew before the page hears of it
   }
 
   // ---- Connections
 
-  #call(connection = null) {
-    const way = this.#hasBegun ? ["attach", this.name] : this.#ways[0];
-    this.#attempt = this.#end.call(this.#takesOver);
-    this.#begun = new Uint8Array(0);
-    this.#calledAt = this.#heardAt = performance.now();
-    this.#connection = connection ?? new Connection(...way);
-    this.#connection.hear({ open: () => this.#push(), message: (data) => this.#take(data), close: (code) => this.#closed(code) });
-    this.#push();
-    this.#wait();
-  }
-
-  /** Tries another connection now. */
-  connect() {
-    if (this.isLost || this.isOpen) return;
-    this.#drop();
-    this.#call();
+  #connect() {
+    const [name] = this.#names;
+    if (this.#verb !== "") this.#verb = "attach";
+    else this.#verb = name === undefined ? "serve" : "take";
+    this.#attempt = this.#line.connected(now());
+    this.#connection = this.#made ?? new Connection(this.#verb, this.#verb === "take" ? name : this.name);
+    this.#made = null;
+    this.#connection.hear({ open: () => this.#goOn(), message: (data) => this.#take(data), close: (code) => this.#closed(code) });
   }
 
   /** Ends the newest connection. */
   #drop() {
-    const connection = this.#connection;
+    this.#connection?.end();
     this.#connection = null;
-    if (connection === null) return;
-    this.#end.broken(this.#attempt);
-    connection.end();
+    this.#line.broken(this.#attempt, now());
   }
 
   #closed(code) {
     const status = code - CLOSED_WITH;
     if (code === UNKNOWN) this.#tellOnce("samweb: it has another address by now: open the one that it prints");
-    if (!this.#hasBegun && status === STATUS_NO_SESSION) this.#seek();
-    else if (!this.#hasBegun && status > 0 && status < 128) this.#lose("the host can't begin");
-    else this.#break();
-  }
-
-  /** No session was found: it is sought by the next name. Where it is nowhere, another one begins, to which goes what was put so far. */
-  #seek() {
-    this.#ways.shift();
+    if (!this.#details.isKnown && status > 0 && status <= MOST_STATUS && !PASSING.includes(status)) this.#lose(CANT_BEGIN);
     this.#drop();
-    if (this.#ways.length === 0) {
-      const old = this.#end;
-      this.#makeEnd(newId(), []);
-      old.free();
-      this.#unput.unshift(...this.#early.splice(0));
-      this.#due = this.#asked = 0;
-      this.#putAll();
-      this.#tell("told", "samweb: the session is not there any more; another one begins");
-    }
-    this.#call();
-  }
-
-  /** The newest connection is broken: another is tried after a pause. */
-  #break() {
-    const now = performance.now();
-    this.#isMeasured = true;
-    this.#lostAt ??= this.#isAnswerDue ? Math.max(this.#askedAt, this.#heardAt) : now;
-    this.#drop();
-    this.#againAt = now + PAUSES[Math.min(this.#failures++, PAUSES.length - 1)];
-    this.#wait();
+    this.#goOn();
     this.#tell("changed");
+  }
+
+  /** Tries another connection now, where one is waited for. */
+  connect() {
+    if (this.isLost || this.#connection !== null) return;
+    this.#connect();
+    this.#goOn();
+  }
+
+  /** The browser is in another network: a connection that stands is doubted, and one that is being made is made anew. */
+  meetNetwork() {
+    if (this.isLost) return;
+    if (this.#isOpen) {
+      this.#line.addressChanged(now());
+    } else {
+      this.#drop();
+      this.#connect();
+    }
+    this.#goOn();
   }
 
   #lose(why) {
@@ -198,113 +195,76 @@ export class Line {
     this.#tell("changed");
   }
 
-  /** The page is left: nothing is tried any more. */
-  stop() {
-    clearTimeout(this.#timer);
-    this.isLost = true;
-    this.#drop();
+  // ---- What is due
+
+  /** Does what the library's line says, and sends what goes. */
+  #goOn() {
+    for (let tick = this.#tick(); tick !== Tick.NOTHING && tick !== Tick.ASK; tick = this.#tick()) {
+      if (tick === Tick.CONNECT) this.#connect();
+      else this.#drop();
+      this.#tell("changed");
+    }
+    this.#send();
   }
 
-  // ---- What is due by the clock
-
-  #goOn() {
-    const now = performance.now();
-    if (this.isLost) return;
-    if (this.#connection === null) {
-      if (now >= this.#againAt) this.#call();
-    } else if (this.isOpen) {
-      if (this.#isAnswerDue && now - Math.max(this.#askedAt, this.#heardAt) >= SILENCE_TO_BREAK) this.#break();
-    } else if (now - this.#calledAt >= this.#connecting) {
-      this.#connecting = Math.min(2 * this.#connecting, MOST_TO_CONNECT);
-      this.#break();
-    }
-    this.#goOnPutting();
-    this.#wait();
+  #tick() {
+    return this.isLost ? Tick.NOTHING : this.#line.tick(now());
   }
 
   /** Has the clock wake this when the next thing is due. */
   #wait() {
     clearTimeout(this.#timer);
-    const wait = this.#delay();
-    if (wait !== null) this.#timer = setTimeout(() => this.#goOn(), Math.max(0, wait));
+    const wait = this.isLost ? null : this.#delay;
+    if (wait !== null) this.#timer = setTimeout(() => this.#goOn(), wait);
   }
 
-  #delay() {
-    const now = performance.now();
-    if (this.isLost) return null;
-    if (this.#unput.length > 0) return LOOK_AGAIN;
-    if (this.#connection === null) return this.#againAt - now;
-    if (this.#connection.waiting >= MOST_BUFFERED) return LOOK_AGAIN;
-    if (!this.isOpen) return this.#calledAt + this.#connecting - now;
-    return this.#isAnswerDue ? Math.max(this.#askedAt, this.#heardAt) + SILENCE_TO_BREAK - now : null;
+  get #delay() {
+    return this.#unput.length > 0 || this.#isFull ? LOOK_AGAIN : this.#line.dueIn(now());
   }
 
   // ---- Bytes
 
-  /** Sends bytes of the terminal's stream, as many as go; the others wait in the end. */
+  /** Sends bytes of the terminal's stream, as many as go; the others wait in the library's line. */
   send(bytes) {
-    if (bytes.length > 0) this.#put((end) => end.put(bytes));
-    this.#goOnPutting();
-  }
-
-  /** Puts something behind all that was put before: where memory is out it waits, and nothing overtakes it. */
-  #put(put) {
-    this.#unput.push(put);
-    this.#putAll();
-  }
-
-  #putAll() {
-    while (this.#unput.length > 0) {
-      const [put] = this.#unput;
-      try {
-        put(this.#end);
-      } catch (error) {
-        if (!(error instanceof NoMemory)) throw error;
-        return;
-      }
-      this.#unput.shift();
-      this.#due = this.#end.putCount;
-      if (!this.#hasBegun) this.#early.push(put);
-    }
-  }
-
-  #goOnPutting() {
-    try {
-      this.#putAll();
-      this.#ask();
-    } catch (error) {
-      if (!(error instanceof NoMemory)) throw error;
-    }
-    this.#push();
+    if (bytes.length > 0) this.#unput.push((line) => line.put(bytes, now()));
+    this.#send();
   }
 
   /** Sends a message, in its order with the stream. One whose path is too long is refused by a `SamError`. */
   putNote(note) {
     const bytes = writeNote(note);
-    this.#put((end) => end.putNote(bytes));
-    this.#goOnPutting();
+    this.#unput.push((line) => line.putNote(bytes, now()));
+    this.#send();
   }
 
-  /** Asks whether all has come, unless such a question is under way. */
-  #ask() {
-    const acknowledged = this.#end.acknowledged;
-    if (acknowledged >= this.#due || this.#asked > acknowledged) return;
-    this.#end.ask();
-    this.#asked = this.#end.putCount;
-    this.#askedAt = performance.now();
-    this.#isMeasured = false;
+  #send() {
+    this.#putAll();
+    isMade(() => this.#line.ask(now()));
+    this.#push();
+    this.#wait();
+  }
+
+  /** Puts what waits for that: where memory is out it goes on waiting, and nothing overtakes it. */
+  #putAll() {
+    while (this.#unput.length > 0) {
+      const [put] = this.#unput;
+      if (!isMade(() => put(this.#line))) return;
+      this.#unput.shift();
+      if (!this.#details.isKnown) this.#early.push(put);
+    }
+  }
+
+  get #isFull() {
+    return this.#connection?.waiting >= MOST_BUFFERED;
   }
 
   #push() {
-    const connection = this.#connection;
-    if (!connection?.isOpen || this.#end.phase === Link.DOWN) return;
-    while (connection.waiting < MOST_BUFFERED) {
-      const bytes = this.#end.takeOut(this.#attempt, PIECE);
-      if (bytes.length === 0) break;
-      connection.send(bytes);
+    while (this.#connection?.isOpen && !this.#isFull) {
+      const bytes = this.#line.takeOut(this.#attempt);
+      if (bytes.length === 0) return;
+      this.#connection.send(bytes);
       this.up += bytes.length;
     }
-    this.#wait();
   }
 
   #take(data) {
@@ -313,79 +273,49 @@ export class Line {
       return;
     }
     this.#lastTold = "";
-    const bytes = new Uint8Array(data);
-    this.down += bytes.length;
-    this.#heardAt = performance.now();
-    if (this.isOpen) this.#feed(bytes);
-    else this.#greet(bytes);
+    this.down += data.byteLength;
+    this.#receive(new Uint8Array(data));
     this.#handOn();
-    this.#goOnPutting();
+    this.#goOn();
     this.#tell("changed");
   }
 
-  /** Bytes of a connection that is not welcomed yet. Other programs may have written something before the hello, as a `.bashrc` does. */
-  #greet(bytes) {
-    this.#begun = joined(this.#begun, bytes);
-    const at = findMark(this.#begun);
-    if (at > MOST_NOISE || (at < 0 && this.#begun.length > MOST_NOISE)) this.#break();
-    if (at < 0 || this.#begun.length < at + HELLO_BYTES) return;
-    const hello = this.#begun.subarray(at, at + HELLO_BYTES);
-    const rest = this.#begun.slice(at + HELLO_BYTES);
-    let what = 0;
+  #receive(bytes) {
     try {
-      what = readHello(hello).what;
-      this.#end.welcomed(hello);
+      this.#line.receive(this.#attempt, bytes, now());
     } catch (error) {
       if (!(error instanceof SamError)) throw error;
-      if (what === What.NO_SESSION && !this.#hasBegun) this.#seek();
-      else if (what === What.NO_SESSION && this.#mayComeBack()) this.#break();
-      else if (what in REFUSED) this.#lose(REFUSED[what]);
-      else this.#break();
-      return;
+      this.#meetFault(error.code);
     }
-    this.#hasBegun = true;
-    this.#missingSince = null;
+    if (!this.#isOpen) return;
     this.#early = [];
-    this.#failures = 0;
-    this.#connecting = TIME_TO_CONNECT;
-    this.#lostAt = null;
-    this.#askedAt = performance.now();
-    this.#feed(rest);
+    this.#isMissing = false;
   }
 
-  /** Whether a session that was there, and that the host doesn't find, may be found later. The first time that is told. */
-  #mayComeBack() {
-    const now = performance.now();
-    if (this.#missingSince === null) {
-      this.#missingSince = now;
-      this.#tell("told", `samweb: the host doesn't find the session. It is tried for ${TIME_MISSING / 1000} s`);
-    }
-    return now - this.#missingSince < TIME_MISSING;
-  }
-
-  #feed(bytes) {
-    try {
-      this.#end.feed(this.#attempt, bytes);
-    } catch (error) {
-      if (!(error instanceof SamError)) throw error;
-      this.#break(); // the packet is wrong, or memory is out: what it brought comes again
-      return;
-    }
-    if (!this.#isMeasured && this.#end.acknowledged >= this.#asked) {
-      this.#isMeasured = true;
-      this.roundTrip = performance.now() - this.#askedAt;
+  /** What came has ended the connection, or the line. Where memory is out it comes again, on another connection. */
+  #meetFault(code) {
+    const { state, isKnown } = this.#details;
+    this.#drop();
+    if (state === LibraryLine.LOST && code === Status.LINK_NO_SESSION && !isKnown) {
+      this.#seek();
+    } else if (state === LibraryLine.LOST) {
+      this.isGone = GONE.includes(code);
+      this.#lose(LOST[code]);
+    } else if (code === Status.LINK_NO_SESSION && !this.#isMissing) {
+      this.#isMissing = true;
+      this.#tell("told", "samweb: the host doesn't find the session. It is tried for a minute");
     }
   }
 
   /** Hands on what of the host's stream is here: bytes, and notes between them. */
   #handOn() {
     for (;;) {
-      const bytes = this.#end.takeIn(PIECE);
+      const bytes = this.#line.takeIn();
       if (bytes.length > 0) {
         this.#tell("bytes", bytes);
         continue;
       }
-      const note = this.#end.nextNote();
+      const note = this.#line.nextNote();
       if (note === null) return;
       this.#meet(note);
     }
@@ -405,7 +335,7 @@ export class Line {
       }
     } else if (note?.kind === NoteKind.ENDED) {
       this.endedWith = note.number;
-      this.#end.acknowledge();
+      isMade(() => this.#line.acknowledge());
       this.#push();
       this.#lose("the session has ended");
     } else if (note?.kind === NoteKind.TAKEN_OVER) {
@@ -417,33 +347,39 @@ export class Line {
 
   // ---- How the line is
 
-  get isOpen() {
-    return this.#end.phase === Link.OPEN;
+  get #details() {
+    return this.#line.describe(now());
   }
 
-  get #isAnswerDue() {
-    return this.#end.acknowledged < this.#asked;
+  get #isOpen() {
+    return [LibraryLine.OPEN, LibraryLine.LATE].includes(this.#details.state);
   }
 
   /** Whether the host is known to have all that was sent. */
   get hasAll() {
-    return this.#unput.length === 0 && this.#end.acknowledged >= this.#due;
+    return this.#unput.length === 0 && this.#details.hasAll;
   }
 
-  /** Bytes that the socket has not taken. */
+  /** Bytes that the socket has not sent; or, where no line stands, all that the host may lack. */
   get waiting() {
-    return this.#end.unsent + (this.#connection?.waiting ?? 0);
+    const { putCount, acknowledged } = this.#details;
+    return this.#isOpen ? this.#connection.waiting : putCount - acknowledged;
   }
 
-  /** For how many milliseconds nothing has come, though an answer is due. */
+  /** For how many milliseconds nothing has come, though something was due. */
   get silence() {
-    if (this.#lostAt !== null) return performance.now() - this.#lostAt;
-    return this.#isAnswerDue ? performance.now() - Math.max(this.#askedAt, this.#heardAt) : 0;
+    return this.#details.silence;
+  }
+
+  /** Milliseconds that the answer to the last question took. */
+  get roundTrip() {
+    return this.#details.roundTrip;
   }
 
   /** Whether there is no line, though there was one. */
   get isBroken() {
-    return this.#lostAt !== null;
+    const { isKnown, failures } = this.#details;
+    return !this.#isOpen && (isKnown || failures > 0);
   }
 
   /** Whether there is no line, or an answer is late: what would lock a file until the line is back is held back then. */
@@ -455,6 +391,6 @@ export class Line {
   get told() {
     const seconds = `LINE LOST ${Math.floor(this.silence / 1000)} s`;
     if (this.#connection !== null) return `${seconds}, connecting`;
-    return `${seconds}, again in ${Math.max(0, Math.round((this.#againAt - performance.now()) / 1000))} s`;
+    return `${seconds}, again in ${Math.round((this.#line.dueIn(now()) ?? 0) / 1000)} s`;
   }
 }

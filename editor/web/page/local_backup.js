@@ -23,7 +23,7 @@ export class Copies {
     else this.#putAll();
   }
 
-  /** Makes copies of all changed texts, which stay: the host could save some of them nowhere. */
+  /** Makes copies of all changed texts, which stay: the host is gone, or could save some of them nowhere. */
   keepAll() {
     this.#isLast = true;
     this.#putAll();

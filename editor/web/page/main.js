@@ -48,7 +48,8 @@ class Page {
     document.addEventListener("keydown", (event) => this.#meetKey(event));
     addEventListener("beforeunload", (event) => this.#meetLeaving(event));
     new ResizeObserver(() => this.#meetSize()).observe(part("text"));
-    for (const name of ["online", "focus"]) addEventListener(name, () => this.line?.connect());
+    addEventListener("online", () => this.line?.meetNetwork());
+    addEventListener("focus", () => this.line?.connect());
     setInterval(() => this.copies.keep(), COPY_AFTER);
   }
 
@@ -111,7 +112,7 @@ class Page {
       return;
     }
     if (line.endedWith !== null) keepNames();
-    if (line.endedWith === STATUS_LOST) this.copies.keepAll();
+    if (line.isGone || line.endedWith === STATUS_LOST) this.copies.keepAll();
     editor.lose(line.why);
   }
 

@@ -10,10 +10,10 @@ BINARY = b"\x82"  # begins a message of the host's bytes; samweb's own are of AS
 
 
 class Carried:
-    """A WebSocket's two connections, and whether the host has answered."""
+    """A WebSocket's two connections, whether the host has answered, and whether what comes is dropped."""
 
     def __init__(self, near, far):
-        self.near, self.far, self.is_answered = near, far, False
+        self.near, self.far, self.is_answered, self.is_swallowed = near, far, False, False
 
 
 class Proxy:
@@ -53,15 +53,19 @@ class Proxy:
                         self.lines = [line for line in self.lines if line is not carried]
 
     def _pump(self, carried):
+        """Carries what comes, until an end is closed. Of one that is swallowed the other end hears nothing any more."""
         near, far = carried.near, carried.far
-        other = {near: far, far: near}
-        while True:
-            for ready in select.select([near, far], [], [], 60)[0]:
+        other, ends = {near: far, far: near}, [near, far]
+        while ends:
+            for ready in select.select(ends, [], [], 60)[0]:
                 data = ready.recv(PIECE)
-                if not data:
-                    return
                 carried.is_answered |= ready is far and BINARY in data
-                other[ready].sendall(data)
+                if not data and not carried.is_swallowed:
+                    return
+                if not data:
+                    ends.remove(ready)
+                elif not carried.is_swallowed:
+                    other[ready].sendall(data)
 
     def has_line(self, is_answered):
         """Whether a WebSocket is there; with `is_answered` one over which the host has answered."""
@@ -77,6 +81,13 @@ class Proxy:
                 with contextlib.suppress(OSError):
                     end.shutdown(socket.SHUT_RDWR)
         return len(lines)
+
+    def swallow(self):
+        """Has nothing go through the WebSockets that are there any more, though they stay open. Returns how many."""
+        with self.lock:
+            for line in self.lines:
+                line.is_swallowed = True
+            return len(self.lines)
 
     def close(self):
         self.listener.close()
