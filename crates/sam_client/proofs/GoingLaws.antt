@@ -1,0 +1,302 @@
+-- What each part of going on answers.
+use Rattle.std.proofs.Common.{◌≡◌, ◌⊎◌, inl, inr, ℕ, ◌<◌, ◌≤◌, ◌^◌, zero, suc, List, [], ◌∷◌, length, drop, take, min, Bool, true, false, Option, Some, None, Result, Ok, Err, refl, sym, ap, subst, ◌∙◌, arith, if◌then◌else◌}
+use Rattle.std.proofs.Common.{◌+◌, ◌==◌, ◌&&◌, not, nat_lt, ltb-true, ltb-false, MatchBool}
+use Rattle.std.proofs.lemmas.Bool.{and_parts}
+use Rattle.std.specs.Prelude.{slice_get, is_some, is_ok, option_map}
+use Rattle.sam_link.specs.Calls.{Does as LinkDoes}
+use Rattle.sam_link.specs.Calls.Call.{Ask as LinkAsk}
+use Rattle.sam_link.specs.End.{End}
+use Rattle.sam_link.specs.declared.keeping.PutFault.{PutFault as SendFault}
+use Rattle.sam_line.specs.Calls.{LineDoes}
+use Rattle.sam_line.specs.Calls.LineCall.{Ask}
+use Rattle.sam_line.specs.Line.{asked_by, at, is_to_ask}
+use Rattle.sam_runes.specs.Slots.{Slots, slot}
+use Rattle.sam_link.specs.Inbox.{Waiting, left_of, note_of, ready}
+use Rattle.sam_pending.specs.Cells.{Cell, PartialText, shown_of}
+use Rattle.sam_pending.specs.Layers.{Layer, cells_over}
+use Rattle.sam_term.specs.declared.fault.Refusal.{Refusal}
+use Rattle.sam_term.specs.Term.{PlainTerminal, is_open, rasp_at, window_at}
+use Rattle.sam_term.specs.Windows.{known_in}
+use Rattle.sam_term.specs.declared.records.KnownFile.{KnownFile}
+use Rattle.sam_endpoint.specs.TermEndpoints.{PlainTermEndpoint}
+use Rattle.sam_endpoint.specs.TermStepping.{IsReady, Steps}
+use Rattle.sam_endpoint.specs.declared.fault.EndpointFault.{EndpointFault}
+use Rattle.sam_endpoint.specs.declared.fault.TermStop.{TermStop}
+use Rattle.sam_endpoint.specs.declared.step.BringFault.{BringFault}
+use Rattle.sam_endpoint.specs.declared.step.TermStep.{TermStep}
+use Rattle.sam_endpoint.specs.declared.step.TermStep.TheVariants.{Acted, Idle, Locked, Received, Refused, Wrote}
+use Rattle.sam_overlay.specs.Calls.{IsFree, PlainOverlay, Puts, cells_at, shown_at}
+use Rattle.sam_overlay.specs.Outcomes.{cells_in}
+use Rattle.sam_overlay.specs.declared.fault.PutFault.{PutFault}
+use Rattle.sam_overlay.specs.declared.fault.PutFault.TheVariants as unput
+use Rattle.sam_overlay.specs.declared.shown_change.OverlayStep.{OverlayStep}
+use Rattle.sam_overlay.specs.declared.shown_change.Put.{Put as Became}
+use Rattle.sam_overlay.specs.declared.shown_change.Put.TheVariants as put
+use Rattle.sam_overlay.proofs.CallLaws.{rests_show}
+use Rattle.sam_line.specs.declared.line.Line.{Line}
+use Rattle.sam_client.specs.Clients.{Act, Does, StepsOver}
+use Rattle.sam_client.specs.Clients.Act.{AskHost, Bring, Fetch, FetchNote, PutEdit, Send, Step, TellRefusal}
+use Rattle.sam_client.specs.Going.{AllPut, EditIdle, EditsIdle, EndIdle, EndRests, GoesOn, HasNoBytes, IfIdle, InIdle, IsMove, IsPut, Moves, OutIdle, Rests, Still, event_of, is_told, step_event, tells}
+use Rattle.sam_client.specs.Faults.{bring_fault, put_fault, send_fault, step_fault}
+use Rattle.sam_client.specs.Packets.{next_bytes, next_note, without_bytes}
+use Rattle.sam_client.specs.declared.client.Client.{Client}
+use Rattle.sam_client.specs.declared.event.Event.{Event}
+use Rattle.sam_client.specs.declared.event.Event.TheVariants as tell
+use Rattle.sam_client.specs.declared.fault.GoOnFault.{GoOnFault}
+use Rattle.sam_client.proofs.Moves.{goes_busy, goes_fails, goes_idle, goes_then, goes_told, moves_none, moves_one, moves_then, went_idle}
+
+-- ## The terminal's end
+
+step_tells : (x : OverlayStep) (s : TermStep) → x.step ≡ s → tells (Step (Ok x)) ≡ (if is_told s then Some (Ok (tell.Stepped x)) else None)
+step_tells x s is = ap (λ (t : TermStep). if is_told t then Some (Ok (tell.Stepped x)) else None) is
+
+quiet_step : (now : ℕ) (c m n : Client) (x : OverlayStep) → Moves now c m → tells (Step (Ok x)) ≡ None → Does m (Step (Ok x)) n → Moves now c n
+quiet_step now c m n x moves none does = moves_then now c m n moves (moves_one now m n (Step (Ok x)) tt none does)
+
+goes_stepped : (now : ℕ) (c m n : Client) (x : OverlayStep) (s : TermStep) → Moves now c m → x.step ≡ s → Does m (Step (Ok x)) n
+    → GoesOn now c (Ok (event_of s x)) n
+goes_stepped now c m n x Idle moves is does = goes_idle now c n (quiet_step now c m n x moves (step_tells x Idle is) does)
+goes_stepped now c m n x Locked moves is does = goes_idle now c n (quiet_step now c m n x moves (step_tells x Locked is) does)
+goes_stepped now c m n x Wrote moves is does = goes_busy now c n (quiet_step now c m n x moves (step_tells x Wrote is) does)
+goes_stepped now c m n x (Received kind tag change) moves is does =
+    goes_told now c m n (Step (Ok x)) (Ok (tell.Stepped x)) tt moves tt (step_tells x (Received kind tag change) is) does
+goes_stepped now c m n x (Acted number tag change) moves is does =
+    goes_told now c m n (Step (Ok x)) (Ok (tell.Stepped x)) tt moves tt (step_tells x (Acted number tag change) is) does
+goes_stepped now c m n x (Refused number why) moves is does =
+    goes_busy now c n (quiet_step now c m n x moves (step_tells x (Refused number why) is) does)
+
+none_left : (refusals : List (ℕ × Refusal)) → None ≡ slice_get refusals 0 → drop 1 refusals ≡ []
+none_left [] none = refl
+none_left (first ∷ rest) none = absurd (cc)
+
+-- a step that did nothing leaves nothing to tell
+rests_by : (e m n : PlainTermEndpoint) (s : TermStep) (x : OverlayStep) → m.refusals ≡ [] → Steps m (Ok s) n → IfIdle (Ok (event_of s x)) (EndRests n)
+rests_by e m n Idle x none (ready, idle, same) =
+    subst EndRests (sym same) (record { ready = ready; quiet = inl idle; told = none })
+rests_by e m n Locked x none (ready, locked, same) =
+    subst EndRests (sym same) (record { ready = ready; quiet = inr locked; told = none })
+rests_by e m n Wrote x none steps = tt
+rests_by e m n (Received kind tag change) x none steps = tt
+rests_by e m n (Acted number tag change) x none steps = tt
+rests_by e m n (Refused number why) x none steps = tt
+
+idle_with : (answer : Result Event GoOnFault) (P Q R : Type 0) → (P → Q → R) → IfIdle answer P → Q → IfIdle answer R
+idle_with (Ok tell.Idle) P Q R both p q = both p q
+idle_with (Ok tell.Busy) P Q R both p q = tt
+idle_with (Ok tell.Note) P Q R both p q = tt
+idle_with (Ok (tell.Refused number why)) P Q R both p q = tt
+idle_with (Ok (tell.Stepped x)) P Q R both p q = tt
+idle_with (Err why) P Q R both p q = tt
+
+-- the end was asked for a refusal, told none, and made a step
+pub end_goes : (now : ℕ) (c m n : Client) (x : OverlayStep) → Does c (TellRefusal None) m → Does m (Step (Ok x)) n → GoesOn now c (Ok (step_event x)) n
+end_goes now c m n x none does = goes_stepped now c m n x x.step (moves_one now c m (TellRefusal None) tt refl none) refl does
+
+pub end_idle : (c m n : Client) (x : OverlayStep) → Does c (TellRefusal None) m → Does m (Step (Ok x)) n → IfIdle (Ok (step_event x)) (EndIdle n)
+end_idle c m n x (none, told) ((steps, cells, putting, leads), others) =
+    idle_with (Ok (step_event x)) (EndRests n.overlay.end) (n.overlay.putting ≡ None) (EndIdle n) (λ rests none. record { rests = rests; putting = none })
+    (rests_by m.overlay.end m.overlay.end n.overlay.end x.step x
+    (ap (λ (k : Client). k.overlay.end.refusals) told ∙ none_left c.overlay.end.refusals none) steps)
+    putting
+
+-- ## Edits that wait
+
+pub put_still : (o n : PlainOverlay) (f : ℕ) → Still o n → IsPut o f → IsPut n f
+put_still o n f still (inl shown) =
+    inl (ap shown_of (still.cells f) ∙ shown ∙ ap (λ (e : PlainTermEndpoint). rasp_at e.term f) (sym still.end))
+put_still o n f still (inr (l, cells, full)) =
+    inr (l, still.cells f ∙ cells ∙ ap (λ (e : PlainTermEndpoint). cells_over (rasp_at e.term f) l) (sym still.end), full)
+
+still_same : (o n : PlainOverlay) → n ≡ o → Still o n
+still_same o n same = record {
+  end = ap (λ (x : PlainOverlay). x.end) same;
+  putting = ap (λ (x : PlainOverlay). x.putting) same;
+  cells = λ f. ap (λ (x : PlainOverlay). cells_at x f) same;
+}
+
+pub still_then : (o m n : PlainOverlay) → Still o m → Still m n → Still o n
+still_then o m n first more = record {
+  end = more.end ∙ first.end;
+  putting = more.putting ∙ first.putting;
+  cells = λ f. more.cells f ∙ first.cells f;
+}
+
+-- nothing waits over the file
+pub edit_nothing : (c n : Client) (f : ℕ) → Does c (PutEdit f (Ok put.Nothing)) n → EditIdle f c n
+edit_nothing c n f ((rests, end, putting, none, cells), others) =
+    record { still = record { end = end; putting = putting; cells = cells }; put = λ no free. inl (rests_show n.overlay f none) }
+
+-- no edit can act
+pub edit_not_free : (c n : Client) (f : ℕ) → Does c (PutEdit f (Ok put.NotFree)) n → EditIdle f c n
+edit_not_free c n f ((same, not), others) = record {
+  still = still_same c.overlay n.overlay same;
+  put = λ none free. absurd (not (sym (ap (λ (x : PlainOverlay). x.putting) same) ∙ none)
+      (subst (λ (x : PlainOverlay). IsFree x.end f) same free));
+}
+
+-- the text has no room for it
+pub edit_too_long : (c n : Client) (f : ℕ) → Does c (PutEdit f (Err unput.TooLong)) n → EditIdle f c n
+edit_too_long c n f ((l, waits, full, same), others) = record {
+  still = still_same c.overlay n.overlay same;
+  put = λ none free. subst (λ (x : PlainOverlay). IsPut x f) (sym same)
+      (inr (l, ap (cells_in (rasp_at c.overlay.end.term f)) waits, full));
+}
+
+-- ## All tags
+
+lt-or-eq : (f n : ℕ) → f < n + 1 → (f < n) ⊎ (f ≡ n)
+lt-or-eq f n below = elim (nat_lt f n) as (λ b. nat_lt f n ≡ b → (f < n) ⊎ (f ≡ n)) [
+  | true ↦ λ is. inl (ltb-true f n is)
+  | false ↦ λ is. inr (omega (arith, below, ltb-false f n is))
+] refl
+
+window_inside : (files : Slots KnownFile) (f : ℕ) → is_some (known_in files f).window ≡ true → f < length files
+window_inside [] f is = absurd (cc)
+window_inside (file ∷ files) zero is = omega arith
+window_inside (file ∷ files) (suc f) is = omega (arith, window_inside files f is)
+
+free_inside : (e : PlainTermEndpoint) (f : ℕ) → IsFree e f → f < length e.term.files
+free_inside e f free =
+    let t = e.term in
+    let first = and_parts (not t.has_exited && not t.command_lock && is_open t f && not (f == 0)) ((window_at t f).locks == 0) free.free in
+    let named = and_parts (not t.has_exited && not t.command_lock && is_open t f) (not (f == 0)) first.0 in
+    window_inside t.files f (and_parts (not t.has_exited && not t.command_lock) (is_open t f) named.0).1
+
+-- the first so many files were looked at
+pub record EditsSoFar (c n : Client) (count : ℕ) : Type 0 where
+  pub moves : (now : ℕ) → Moves now c n
+  pub still : Still c.overlay n.overlay
+  pub put : (f : ℕ) → f < count → n.overlay.putting ≡ None → IsFree n.overlay.end f → IsPut n.overlay f
+
+pub none_so_far : (c : Client) → EditsSoFar c c 0
+none_so_far c = record {
+  moves = λ now. moves_none now c;
+  still = still_same c.overlay c.overlay refl;
+  put = λ f below none free. absurd (omega (arith, below));
+}
+
+-- one more has nothing that can be put
+pub one_more_so_far : (c m n : Client) (index : ℕ) → EditsSoFar c m index → ((now : ℕ) → GoesOn now m (Ok tell.Idle) n) → EditIdle index m n
+    → EditsSoFar c n (index + 1)
+one_more_so_far c m n index before goes now_idle = record {
+  moves = λ now. moves_then now c m n (before.moves now) (went_idle now m n (goes now));
+  still = still_then c.overlay m.overlay n.overlay before.still now_idle.still;
+  put = λ f below none free.
+      elim (lt-or-eq f index below) [
+        | inl less ↦ put_still m.overlay n.overlay f now_idle.still (before.put f less (sym now_idle.still.putting ∙ none)
+            (subst (λ (e : PlainTermEndpoint). IsFree e f) now_idle.still.end free))
+        | inr same ↦ subst (IsPut n.overlay) (sym same) (now_idle.put none (subst (IsFree n.overlay.end) same free))
+      ];
+}
+
+-- each of the first tags is put, and no other is a file
+pub all_so_far : (c n : Client) (count index : ℕ) → count ≡ min (length c.overlay.end.term.files) 65536 → count ≤ index → EditsSoFar c n index
+    → EditsIdle c n
+all_so_far c n count index is done all = record {
+  still = all.still;
+  put = λ none f tag free.
+      let inside : f < length n.overlay.end.term.files = free_inside n.overlay.end f free in
+      let files : length n.overlay.end.term.files ≡ length c.overlay.end.term.files =
+      ap (λ (e : PlainTermEndpoint). length e.term.files) all.still.end in
+      all.put f (omega (arith, is, done, inside, files, tag)) none free;
+}
+
+-- ## All together
+
+pub all_rest : (b e o n : Client) → EndIdle b → EditsIdle b e → OutIdle e o → InIdle o n → Rests n
+all_rest b e o n end edits out ins =
+    let same : n.overlay ≡ e.overlay = ins.overlay ∙ ap (λ (x : Client). x.overlay) out.same in
+    let putting : e.overlay.putting ≡ None = edits.still.putting ∙ end.putting in
+    record {
+      end = subst (λ (x : PlainOverlay). EndRests x.end) (sym same) (subst EndRests (sym edits.still.end) end.rests);
+      putting = ap (λ (x : PlainOverlay). x.putting) same ∙ putting;
+      put = subst AllPut (sym same) (edits.put putting);
+      sent = ap (λ (x : PlainOverlay). x.end.pending_bytes) same ∙ out.sent;
+      received = ins.received;
+      bytes = ins.bytes;
+      notes = ins.notes;
+    }
+
+-- ## What each part answers
+
+pub end_refused : (now : ℕ) (c m : Client) (number : ℕ) (why : Refusal) → Does c (TellRefusal (Some (number, why))) m
+    → GoesOn now c (Ok (tell.Refused number why)) m
+end_refused now c m number why does =
+    goes_told now c c m (TellRefusal (Some (number, why))) (Ok (tell.Refused number why)) tt (moves_none now c) tt refl does
+
+pub end_fails : (now : ℕ) (c m n : Client) (why : EndpointFault TermStop) → Does c (TellRefusal None) m → Does m (Step (Err why)) n
+    → GoesOn now c (Err (step_fault why)) n
+end_fails now c m n why none does =
+    goes_told now c m n (Step (Err why)) (Err (step_fault why)) tt (moves_one now c m (TellRefusal None) tt refl none) tt refl does
+
+quiet_edit : (now : ℕ) (c n : Client) (f : ℕ) (answer : Result Became PutFault) → tells (PutEdit f answer) ≡ None → Does c (PutEdit f answer) n
+    → Moves now c n
+quiet_edit now c n f answer none does = moves_one now c n (PutEdit f answer) tt none does
+
+pub edit_goes : (now : ℕ) (c n : Client) (f : ℕ) → Does c (PutEdit f (Ok put.Edit)) n → GoesOn now c (Ok tell.Busy) n
+edit_goes now c n f does = goes_busy now c n (quiet_edit now c n f (Ok put.Edit) refl does)
+
+pub edit_rests : (now : ℕ) (c n : Client) (f : ℕ) (answer : Result Became PutFault) → tells (PutEdit f answer) ≡ None → Does c (PutEdit f answer) n
+    → GoesOn now c (Ok tell.Idle) n
+edit_rests now c n f answer none does = goes_idle now c n (quiet_edit now c n f answer none does)
+
+pub edit_fails : (now : ℕ) (c n : Client) (f : ℕ) (why : PutFault) (fault : GoOnFault) → put_fault why ≡ Some fault
+    → Does c (PutEdit f (Err why)) n → GoesOn now c (Err fault) n
+edit_fails now c n f why fault is does = goes_fails now c n (PutEdit f (Err why)) fault tt (ap (option_map Err) is) does
+
+pub edit_no_room : (c n : Client) (f : ℕ) (why : PutFault) → put_fault why ≡ None → Does c (PutEdit f (Err why)) n → EditIdle f c n
+edit_no_room c n f (unput.Stopped why) none does = absurd (cc)
+edit_no_room c n f unput.TooLong none does = edit_too_long c n f does
+edit_no_room c n f unput.CountFull none does = absurd (cc)
+edit_no_room c n f unput.OutOfMemory none does = absurd (cc)
+
+pub out_goes : (now : ℕ) (c n : Client) (bytes : List ℕ) → Does c (Send bytes now (Ok tt)) n → GoesOn now c (Ok tell.Busy) n
+out_goes now c n bytes does = goes_busy now c n (moves_one now c n (Send bytes now (Ok tt)) refl refl does)
+
+pub out_fails : (now : ℕ) (c n : Client) (bytes : List ℕ) (why : SendFault) → Does c (Send bytes now (Err why)) n
+    → GoesOn now c (Err (send_fault why)) n
+out_fails now c n bytes why does = goes_fails now c n (Send bytes now (Err why)) (send_fault why) refl refl does
+
+pub bring_goes : (now : ℕ) (c n : Client) (bytes : List ℕ) → Does c (Bring bytes (Ok tt)) n → GoesOn now c (Ok tell.Busy) n
+bring_goes now c n bytes does = goes_busy now c n (moves_one now c n (Bring bytes (Ok tt)) tt refl does)
+
+pub bring_fails : (now : ℕ) (c n : Client) (bytes : List ℕ) (why : BringFault TermStop) → Does c (Bring bytes (Err why)) n
+    → GoesOn now c (Err (bring_fault why)) n
+bring_fails now c n bytes why does = goes_fails now c n (Bring bytes (Err why)) (bring_fault why) tt refl does
+
+pub fetch_goes : (now : ℕ) (c n : Client) (bytes : List ℕ) → Does c (Fetch bytes) n → GoesOn now c (Ok tell.Busy) n
+fetch_goes now c n bytes does = goes_busy now c n (moves_one now c n (Fetch bytes) tt refl does)
+
+pub note_goes : (now : ℕ) (c k n : Client) (bytes note : List ℕ) → Does c (Fetch bytes) k → Does k (FetchNote (Some note)) n
+    → GoesOn now c (Ok tell.Note) n
+note_goes now c k n bytes note fetch does =
+    goes_told now c k n (FetchNote (Some note)) (Ok tell.Note) tt (moves_one now c k (Fetch bytes) tt refl fetch) tt refl does
+
+ask_after : (now : ℕ) (c k m : Client) (bytes : List ℕ) → Does c (Fetch bytes) k → Does k (FetchNote None) m → Moves now c m
+ask_after now c k m bytes fetch note =
+    moves_then now c k m (moves_one now c k (Fetch bytes) tt refl fetch) (moves_one now k m (FetchNote None) tt refl note)
+
+pub ask_goes : (now : ℕ) (c k m n : Client) (bytes : List ℕ) → Does c (Fetch bytes) k → Does k (FetchNote None) m → Does m (AskHost now (Ok tt)) n
+    → GoesOn now c (Ok tell.Idle) n
+ask_goes now c k m n bytes fetch note does =
+    goes_idle now c n (moves_then now c m n (ask_after now c k m bytes fetch note) (moves_one now m n (AskHost now (Ok tt)) refl refl does))
+
+pub ask_fails : (now : ℕ) (c k m n : Client) (bytes : List ℕ) (why : SendFault) → Does c (Fetch bytes) k → Does k (FetchNote None) m
+    → Does m (AskHost now (Err why)) n → GoesOn now c (Err (send_fault why)) n
+ask_fails now c k m n bytes why fetch note does =
+    goes_told now c m n (AskHost now (Err why)) (Err (send_fault why)) tt (ask_after now c k m bytes fetch note) refl refl does
+
+-- ## What an event says
+
+pub not_idle : (event : Event) (p : Type 0) → (event ≡ tell.Idle → ⊥) → IfIdle (Ok event) p
+not_idle tell.Idle p none = absurd (none refl)
+not_idle tell.Busy p none = tt
+not_idle tell.Note p none = tt
+not_idle (tell.Refused number why) p none = tt
+not_idle (tell.Stepped x) p none = tt
+
+pub at_idle : (event : Event) (p : Type 0) → event ≡ tell.Idle → IfIdle (Ok event) p → p
+at_idle event p is holds = subst (λ (e : Event). IfIdle (Ok e) p) is holds
+
+pub goes_at : (now : ℕ) (c n : Client) (event other : Event) → event ≡ other → GoesOn now c (Ok event) n → GoesOn now c (Ok other) n
+goes_at now c n event other is goes = subst (λ (e : Event). GoesOn now c (Ok e) n) is goes

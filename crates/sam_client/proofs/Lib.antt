@@ -1,0 +1,4 @@
+pub mod Packets
+pub mod Acts
+pub mod Moves
+pub mod GoingLaws

@@ -1,0 +1,133 @@
+-- A client, and what it does with its two parts: a terminal's end with edits that wait, and its line to the host.
+use Rattle.std.specs.Prelude.{◌≡◌, ◌≢◌, ◌⊎◌, ℕ, List, [], ◌∷◌, drop, slice_get, Bool, true, false, if◌then◌else◌, Option, Some, None, Result, Ok, Err}
+use Rattle.sam_runes.specs.Checks.{first_of_checks}
+use Rattle.sam_term.specs.declared.event.UserEvent.{UserEvent}
+use Rattle.sam_term.specs.declared.fault.Refusal.{Refusal}
+use Rattle.sam_endpoint.specs.TermStepping.{IsReady, Steps}
+use Rattle.sam_endpoint.specs.declared.fault.EndpointFault.{EndpointFault}
+use Rattle.sam_endpoint.specs.declared.fault.TermStop.{TermStop}
+use Rattle.sam_endpoint.specs.declared.step.BringFault.{BringFault}
+use Rattle.sam_link.specs.declared.fault.NoteFault.{NoteFault}
+use Rattle.sam_link.specs.declared.keeping.PutFault.{PutFault as SendFault}
+use Rattle.sam_link.specs.declared.hello.Id.{Id}
+use Rattle.sam_line.specs.Calls.{LineCall, LineDoes}
+use Rattle.sam_line.specs.Calls.LineCall.{Acknowledge, AddressChanged, Ask, Broken, Connected, Expect, NextNote, NotConnected, Put, PutNote, Receive, TakeIn, TakeOut, TickAt}
+use Rattle.sam_line.specs.Line as lines
+use Rattle.sam_line.specs.declared.line.Line.{Line}
+use Rattle.sam_overlay.specs.Calls.{Asks, Brings, CellsGo, Keeps, PlainOverlay, Puts, cells_at, new_overlay, replace_checks, shown_at}
+use Rattle.sam_overlay.specs.Outcomes.{Leads, Replaces}
+use Rattle.sam_overlay.specs.Overlays.{StopsOnly, told_at}
+use Rattle.sam_overlay.specs.declared.fault.PutFault.{PutFault}
+use Rattle.sam_overlay.specs.declared.fault.ReplaceFault.{ReplaceFault}
+use Rattle.sam_overlay.specs.declared.fault.ReplaceFault.TheVariants as refuses
+use Rattle.sam_overlay.specs.declared.shown_change.OverlayStep.{OverlayStep}
+use Rattle.sam_overlay.specs.declared.shown_change.Put.{Put as Became}
+use Rattle.sam_client.specs.Packets.{GivesNote, next_bytes, without_bytes}
+use Rattle.sam_client.specs.declared.client.Client.{Client}
+
+abbrev pub new_client : Id → Bool → ℕ → Client
+new_client id take_over now =
+    record { overlay = new_overlay; line = lines.begun id take_over now; held = []; note = [] }
+
+-- ## The parts
+
+abbrev pub with_line : Client → Line → Client
+with_line c l = record c { line = l }
+
+abbrev pub with_overlay : Client → PlainOverlay → Client
+with_overlay c o = record c { overlay = o }
+
+-- the overlay, of whose composed bytes none is left
+abbrev pub emptied : PlainOverlay → PlainOverlay
+emptied o = record o { end = record o.end { pending_bytes = [] } }
+
+-- the overlay, of whose refusals the oldest is told
+abbrev pub told : PlainOverlay → PlainOverlay
+told o = record o { end = record o.end { refusals = drop 1 o.end.refusals } }
+
+-- the runes are in the place of what was shown of the file from p to q, and nothing else is otherwise; or why not
+abbrev pub Edits : PlainOverlay → ℕ → ℕ → ℕ → List ℕ → Result (Unit {0}) ReplaceFault → PlainOverlay → Type 0
+Edits o f p q s (Ok done) n =
+    (first_of_checks (replace_checks o f p q s) ≡ None) × Replaces (cells_at o f) p q s (cells_at n f)
+    × ((g : ℕ) → g ≢ f → cells_at n g ≡ cells_at o g) × (n.end ≡ o.end) × (n.putting ≡ o.putting)
+Edits o f p q s (Err why) n =
+    ((first_of_checks (replace_checks o f p q s) ≡ Some why)
+    ⊎ ((why ≡ refuses.OutOfMemory) × (first_of_checks (replace_checks o f p q s) ≡ None)))
+    × (n ≡ o)
+
+-- the terminal's end goes on by one step, and what is shown goes with it; or why not
+abbrev pub StepsOver : PlainOverlay → Result OverlayStep (EndpointFault TermStop) → PlainOverlay → Type 0
+StepsOver o (Ok x) n =
+    Steps o.end (Ok x.step) n.end × CellsGo o x n × (n.putting ≡ None) × ((f : ℕ) → Leads (told_at x f) (shown_at o f) (shown_at n f))
+StepsOver o (Err why) n = Steps o.end (Err why) n.end × Keeps o n × StopsOnly o.end n.end
+
+-- ## What a client does
+
+-- one call of a part, or one that moves something between the two: what was given, and what came of it
+pub data Act : Type 0 where
+  OfLine : LineCall → Act  -- a call of the line that moves nothing between the two
+  Replace : ℕ → ℕ → ℕ → List ℕ → Result (Unit {0}) ReplaceFault → Act  -- an edit of the user
+  Request : UserEvent → Result (Unit {0}) (BringFault TermStop) → Act  -- an event of the user that leaves each text
+  TellRefusal : Option (ℕ × Refusal) → Act  -- the oldest refusal of an event is told, if there is one
+  Step : Result OverlayStep (EndpointFault TermStop) → Act  -- the terminal's end goes on by one step
+  PutEdit : ℕ → Result Became PutFault → Act  -- the next edit that waits over this file is put as an event
+  Send : List ℕ → ℕ → Result (Unit {0}) SendFault → Act  -- these bytes, all that the end composed, go into the line, at this time
+  SendNote : List ℕ → ℕ → Result (Unit {0}) NoteFault → Act  -- and so goes this note, behind all that was composed
+  Fetch : List ℕ → Act  -- these bytes, the next ones, leave the line, and are held
+  Bring : List ℕ → Result (Unit {0}) (BringFault TermStop) → Act  -- these bytes, the held ones, go to the end
+  FetchNote : Option (List ℕ) → Act  -- the note that is next leaves the line, if there is one
+  AskHost : ℕ → Result (Unit {0}) SendFault → Act  -- at this time the host is asked whether all has come
+
+-- a call of the line that moves nothing between the two
+abbrev pub IsAlone : LineCall → Type 0
+IsAlone (TickAt now answer) = Unit {0}
+IsAlone (Connected now answer) = Unit {0}
+IsAlone (NotConnected now) = Unit {0}
+IsAlone (Broken attempt now) = Unit {0}
+IsAlone (AddressChanged now) = Unit {0}
+IsAlone (Expect expects now) = Unit {0}
+IsAlone (Receive attempt piece now answer) = Unit {0}
+IsAlone (Put bytes now answer) = ⊥
+IsAlone (PutNote bytes now answer) = ⊥
+IsAlone (Ask now answer) = Unit {0}
+IsAlone (Acknowledge answer) = Unit {0}
+IsAlone (TakeOut attempt old answer new) = Unit {0}
+IsAlone (TakeIn old count new) = ⊥
+IsAlone (NextNote old count new) = ⊥
+
+-- all bytes that left the line are received, and nothing that the end composed is still to be written
+abbrev pub HasReceived : Client → Type 0
+HasReceived c = (c.held ≡ []) × IsReady c.overlay.end
+
+-- the act leads from one client to the other
+abbrev pub Does : Client → Act → Client → Type 0
+Does c (OfLine call) n = IsAlone call × LineDoes c.line call n.line × (n ≡ with_line c n.line)
+Does c (Replace f p q s answer) n = Edits c.overlay f p q s answer n.overlay × (n ≡ with_overlay c n.overlay)
+Does c (Request event answer) n = Asks c.overlay event answer n.overlay × (n ≡ with_overlay c n.overlay)
+Does c (TellRefusal oldest) n = (oldest ≡ slice_get c.overlay.end.refusals 0) × (n ≡ with_overlay c (told c.overlay))
+Does c (Step answer) n = StepsOver c.overlay answer n.overlay × (n ≡ with_overlay c n.overlay)
+Does c (PutEdit f answer) n = Puts c.overlay f answer n.overlay × (n ≡ with_overlay c n.overlay)
+Does c (Send bytes now (Ok done)) n =
+    (bytes ≡ c.overlay.end.pending_bytes) × LineDoes c.line (Put bytes now (Ok tt)) n.line
+    × (n ≡ record c { overlay = emptied c.overlay; line = n.line })
+Does c (Send bytes now (Err why)) n =
+    (bytes ≡ c.overlay.end.pending_bytes) × LineDoes c.line (Put bytes now (Err why)) n.line × (n ≡ with_line c n.line)
+Does c (SendNote bytes now answer) n =
+    (c.overlay.end.pending_bytes ≡ []) × LineDoes c.line (PutNote bytes now answer) n.line × (n ≡ with_line c n.line)
+Does c (Fetch bytes) n = HasReceived c × (bytes ≡ next_bytes c.line) × (n ≡ record c { line = without_bytes c.line; held = bytes })
+Does c (Bring bytes (Ok done)) n =
+    (bytes ≡ c.held) × Brings c.overlay bytes (Ok tt) n.overlay × (n ≡ record c { overlay = n.overlay; held = [] })
+Does c (Bring bytes (Err why)) n = (bytes ≡ c.held) × Brings c.overlay bytes (Err why) n.overlay × (n ≡ with_overlay c n.overlay)
+Does c (FetchNote (Some bytes)) n =
+    HasReceived c × GivesNote c.line c.note true n.line bytes × (n ≡ record c { line = n.line; note = bytes })
+Does c (FetchNote None) n = HasReceived c × GivesNote c.line c.note false n.line n.note × (n ≡ c)
+Does c (AskHost now answer) n = LineDoes c.line (Ask now answer) n.line × (n ≡ with_line c n.line)
+
+-- the note that was fetched, if there was one
+abbrev pub fetched : Bool → List ℕ → Option (List ℕ)
+fetched some bytes = if some then Some bytes else None
+
+-- these acts, one after another
+abbrev pub DoesAll : Client → List Act → Client → Type 0
+DoesAll c [] n = n ≡ c
+DoesAll c (act ∷ acts) n = (m : Client) × Does c act m × DoesAll m acts n

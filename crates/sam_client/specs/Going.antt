@@ -1,0 +1,194 @@
+-- How a client goes on.
+use Rattle.std.specs.Prelude.{◌≡◌, ◌⊎◌, ℕ, ◌^◌, ◌<◌, List, [], ◌∷◌, Bool, true, false, Option, Some, None, Result, Ok, Err, if◌then◌else◌, option_map}
+use Rattle.sam_link.specs.Inbox.{Waiting, ready}
+use Rattle.sam_line.specs.declared.line.Line.{Line}
+use Rattle.sam_pending.specs.Layers.{Layer, cells_over, next_made, rasp_length}
+use Rattle.sam_runes.specs.Texts.{max_runes}
+use Rattle.sam_term.specs.Term.{rasp_at}
+use Rattle.sam_endpoint.specs.TermEndpoints.{IsQuiet, PlainTermEndpoint}
+use Rattle.sam_endpoint.specs.TermStepping.{IsReady}
+use Rattle.sam_endpoint.specs.declared.step.TermStep.{TermStep}
+use Rattle.sam_endpoint.specs.declared.step.TermStep.TheVariants.{Acted, Idle, Locked, Received, Refused, Wrote}
+use Rattle.sam_overlay.specs.Calls.{IsFree, PlainOverlay, cells_at, shown_at}
+use Rattle.sam_overlay.specs.declared.shown_change.OverlayStep.{OverlayStep}
+use Rattle.sam_client.specs.Clients.{Act, Does, DoesAll}
+use Rattle.sam_client.specs.Clients.Act.{AskHost, Bring, Fetch, FetchNote, OfLine, PutEdit, Replace, Request, Send, SendNote, Step, TellRefusal}
+use Rattle.sam_client.specs.Faults.{bring_fault, put_fault, send_fault, step_fault}
+use Rattle.sam_client.specs.Packets.{next_note}
+use Rattle.sam_client.specs.declared.client.Client.{Client}
+use Rattle.sam_client.specs.declared.event.Event.{Event}
+use Rattle.sam_client.specs.declared.event.Event.TheVariants as tell
+use Rattle.sam_client.specs.declared.fault.GoOnFault.{GoOnFault}
+
+-- ## Moves
+
+-- an act of a client that goes on at this time
+abbrev pub IsMove : ℕ → Act → Type 0
+IsMove now (OfLine call) = ⊥
+IsMove now (Replace f p q s answer) = ⊥
+IsMove now (Request event answer) = ⊥
+IsMove now (TellRefusal oldest) = Unit {0}
+IsMove now (Step answer) = Unit {0}
+IsMove now (PutEdit f answer) = Unit {0}
+IsMove now (Send bytes time answer) = time ≡ now
+IsMove now (SendNote bytes time answer) = ⊥
+IsMove now (Fetch bytes) = Unit {0}
+IsMove now (Bring bytes answer) = Unit {0}
+IsMove now (FetchNote told) = Unit {0}
+IsMove now (AskHost time answer) = time ≡ now
+
+-- such a step is told: what is shown may have changed by it. A refusal is told by itself
+abbrev pub is_told : TermStep → Bool
+is_told Idle = false
+is_told Locked = false
+is_told Wrote = false
+is_told (Received kind tag change) = true
+is_told (Acted number tag change) = true
+is_told (Refused number why) = false
+
+-- what is told of an act
+abbrev pub tells : Act → Option (Result Event GoOnFault)
+tells (OfLine call) = None
+tells (Replace f p q s answer) = None
+tells (Request event answer) = None
+tells (TellRefusal None) = None
+tells (TellRefusal (Some (number, why))) = Some (Ok (tell.Refused number why))
+tells (Step (Ok x)) = if is_told x.step then Some (Ok (tell.Stepped x)) else None
+tells (Step (Err why)) = Some (Err (step_fault why))
+tells (PutEdit f (Ok became)) = None
+tells (PutEdit f (Err why)) = option_map Err (put_fault why)
+tells (Send bytes now (Ok done)) = None
+tells (Send bytes now (Err why)) = Some (Err (send_fault why))
+tells (SendNote bytes now answer) = None
+tells (Fetch bytes) = None
+tells (Bring bytes (Ok done)) = None
+tells (Bring bytes (Err why)) = Some (Err (bring_fault why))
+tells (FetchNote (Some note)) = Some (Ok tell.Note)
+tells (FetchNote None) = None
+tells (AskHost now (Ok done)) = None
+tells (AskHost now (Err why)) = Some (Err (send_fault why))
+
+-- a move of which nothing is told
+abbrev pub IsSilent : ℕ → Act → Type 0
+IsSilent now act = IsMove now act × (tells act ≡ None)
+
+abbrev pub AreSilent : ℕ → List Act → Type 0
+AreSilent now [] = Unit {0}
+AreSilent now (act ∷ acts) = IsSilent now act × AreSilent now acts
+
+-- such moves lead there
+pub record Moves (now : ℕ) (c n : Client) : Type 0 where
+  pub acts : List Act
+  pub silent : AreSilent now acts
+  pub does : DoesAll c acts n
+
+-- one move leads there, of which this is told
+pub record Tells (now : ℕ) (c : Client) (answer : Result Event GoOnFault) (n : Client) : Type 0 where
+  pub act : Act
+  pub move : IsMove now act
+  pub told : tells act ≡ Some answer
+  pub does : Does c act n
+
+-- ## Going on
+
+-- what is answered behind such moves
+abbrev pub Answers : ℕ → Client → Result Event GoOnFault → Client → Type 0
+Answers now m (Ok tell.Idle) n = n ≡ m
+Answers now m (Ok tell.Busy) n = n ≡ m
+Answers now m (Ok tell.Note) n = Tells now m (Ok tell.Note) n
+Answers now m (Ok (tell.Refused number why)) n = Tells now m (Ok (tell.Refused number why)) n
+Answers now m (Ok (tell.Stepped x)) n = Tells now m (Ok (tell.Stepped x)) n
+Answers now m (Err why) n = Tells now m (Err why) n
+
+-- Moves of which nothing is told, and then one of which this is told
+pub record GoesOn (now : ℕ) (c : Client) (answer : Result Event GoOnFault) (n : Client) : Type 0 where
+  pub last : Client
+  pub moves : Moves now c last
+  pub answers : Answers now last answer n
+
+-- ## Where nothing moves
+
+-- the terminal's end has nothing to do, or a lock holds its oldest event back
+pub record EndRests (e : PlainTermEndpoint) : Type 0 where
+  pub ready : IsReady e
+  pub quiet : IsQuiet e.term
+  pub told : e.refusals ≡ []
+
+-- what waits over the file is put: what is shown is its rasp; or its text has no room for the next edit
+abbrev pub IsPut : PlainOverlay → ℕ → Type 0
+IsPut o f =
+    (shown_at o f ≡ rasp_at o.end.term f)
+    ⊎ ((l : Layer) × (cells_at o f ≡ cells_over (rasp_at o.end.term f) l) × (max_runes < rasp_length (next_made l)))
+
+-- so it is with each file whose edits can act
+abbrev pub AllPut : PlainOverlay → Type 0
+AllPut o = (f : ℕ) → f < 2 ^ 16 → IsFree o.end f → IsPut o f
+
+-- no byte is left of the packet in front, if it had some
+abbrev pub HasNoBytes : Line → Type 0
+HasNoBytes l = (w : Waiting) × (l.link.waiting ≡ ready w) × ((ready w).part ≡ [])
+
+pub record Rests (c : Client) : Type 0 where
+  pub end : EndRests c.overlay.end
+  pub putting : c.overlay.putting ≡ None
+  pub put : AllPut c.overlay
+  pub sent : c.overlay.end.pending_bytes ≡ []
+  pub received : c.held ≡ []
+  pub bytes : HasNoBytes c.line
+  pub notes : next_note c.line ≡ None
+
+-- what is answered to a step that is not told as one
+abbrev pub event_of : TermStep → OverlayStep → Event
+event_of Idle x = tell.Idle
+event_of Locked x = tell.Idle
+event_of Wrote x = tell.Busy
+event_of (Received kind tag change) x = tell.Stepped x
+event_of (Acted number tag change) x = tell.Stepped x
+event_of (Refused number why) x = tell.Busy
+
+abbrev pub step_event : OverlayStep → Event
+step_event x = event_of x.step x
+
+-- ## What each part of going on leaves where it has nothing to do
+
+-- the terminal's end has nothing to do
+pub record EndIdle (n : Client) : Type 0 where
+  pub rests : EndRests n.overlay.end
+  pub putting : n.overlay.putting ≡ None
+
+-- the end is as before, and so is what is shown
+pub record Still (o n : PlainOverlay) : Type 0 where
+  pub end : n.end ≡ o.end
+  pub putting : n.putting ≡ o.putting
+  pub cells : (f : ℕ) → cells_at n f ≡ cells_at o f
+
+-- no edit of this file can be put
+pub record EditIdle (f : ℕ) (c n : Client) : Type 0 where
+  pub still : Still c.overlay n.overlay
+  pub put : n.overlay.putting ≡ None → IsFree n.overlay.end f → IsPut n.overlay f
+
+-- nor of any other
+pub record EditsIdle (c n : Client) : Type 0 where
+  pub still : Still c.overlay n.overlay
+  pub put : n.overlay.putting ≡ None → AllPut n.overlay
+
+-- nothing is composed
+pub record OutIdle (c n : Client) : Type 0 where
+  pub same : n ≡ c
+  pub sent : c.overlay.end.pending_bytes ≡ []
+
+-- nothing leaves the line
+pub record InIdle (c n : Client) : Type 0 where
+  pub overlay : n.overlay ≡ c.overlay
+  pub received : n.held ≡ []
+  pub bytes : HasNoBytes n.line
+  pub notes : next_note n.line ≡ None
+
+-- the fact holds if this is answered
+abbrev pub IfIdle : Result Event GoOnFault → Type 0 → Type 0
+IfIdle (Ok tell.Idle) p = p
+IfIdle (Ok tell.Busy) p = Unit {0}
+IfIdle (Ok tell.Note) p = Unit {0}
+IfIdle (Ok (tell.Refused number why)) p = Unit {0}
+IfIdle (Ok (tell.Stepped x)) p = Unit {0}
+IfIdle (Err why) p = Unit {0}

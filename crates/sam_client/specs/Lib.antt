@@ -1,0 +1,5 @@
+pub mod Faults
+pub mod Packets
+pub mod Clients
+pub mod Notes
+pub mod Going

@@ -1,0 +1,273 @@
+//! How a client goes on: what moves between its parts, one thing after another.
+
+ghost use Rattle.std.specs.Prelude.{◌≡◌, ℕ, []};
+ghost use Rattle.sam_endpoint.specs.TermStepping.{IsReady};
+ghost use Rattle.sam_client.specs.Clients.{Does, HasReceived, fetched};
+ghost use Rattle.sam_client.specs.Clients.Act.{AskHost, Bring, Fetch, FetchNote, PutEdit, Send, SendNote, Step, TellRefusal};
+ghost use Rattle.sam_client.specs.Going.{EditIdle, EditsIdle, EndIdle, GoesOn, IfIdle, InIdle, OutIdle, Rests, step_event};
+ghost use Rattle.sam_client.specs.Notes.{PutsNote, SendsAll, note_fault};
+
+use crate::client::Client;
+use crate::event::Event;
+use crate::fault::GoOnFault;
+use sam_endpoint::{BringFault, EndpointFault, TermStep, TermStop};
+use sam_link::{MOST_BODY, NoteFault, PutFault as SendFault};
+use sam_overlay::{OverlayStep, Put, PutFault};
+use sam_runes::ALL_TAGS;
+use sam_term::Refusal;
+
+/// So many moves at most are made by one call.
+pub const MOST_MOVES: usize = 1_000;
+
+/// Returns what is told of a step.
+fn told_of_step(step: OverlayStep) -> Event
+    ensures { result ≡ step_event step }
+{
+    match step.step {
+        TermStep::Idle | TermStep::Locked => Event::Idle,
+        TermStep::Wrote => Event::Busy,
+        TermStep::Refused { .. } => Event::Busy,
+        TermStep::Received { .. } => Event::Stepped(step),
+        TermStep::Acted { .. } => Event::Stepped(step),
+    }
+}
+
+/// Returns the fault of a note in front of which the line did not take what was composed.
+fn note_fault(why: SendFault) -> NoteFault
+    ensures { result ≡ note_fault why }
+{
+    match why {
+        SendFault::CountFull => NoteFault::CountFull,
+        SendFault::OutOfMemory => NoteFault::OutOfMemory,
+    }
+}
+
+impl Client {
+    // ---- One thing
+
+    /// Hands out the oldest refusal of an event.
+    fn tell_refusal(&mut self) -> Option<(u64, Refusal)>
+        ensures { Does self.old (TellRefusal result) self.new }
+    {
+        self.overlay.next_refusal()
+    }
+
+    /// Has the terminal's end go on by one step.
+    fn step(&mut self) -> Result<OverlayStep, EndpointFault<TermStop>>
+        ensures { Does self.old (Step result) self.new }
+    {
+        self.overlay.step()
+    }
+
+    /// Puts the next edit that waits over a file as an event.
+    fn put_edit(&mut self, tag: u16) -> Result<Put, PutFault>
+        ensures { Does self.old (PutEdit tag result) self.new }
+    {
+        self.overlay.put_next(tag)
+    }
+
+    /// Puts all that the end composed into the line.
+    fn send(&mut self, now: u64) -> Result<(), SendFault>
+        ensures { Does self.old (Send self.old.overlay.end.pending_bytes now result) self.new }
+    {
+        self.line.put(self.overlay.end().pending_bytes(), now)?;
+        let count = self.overlay.end().pending();
+        self.overlay.consume(count);
+        Ok(())
+    }
+
+    /// Puts a note into the line, where nothing is left of what the end composed.
+    fn send_note(&mut self, bytes: &[u8], now: u64) -> Result<(), NoteFault>
+        requires { self.old.overlay.end.pending_bytes ≡ [] }
+        ensures { Does self.old (SendNote bytes.now now result) self.new }
+    {
+        self.line.put_note(bytes, now)
+    }
+
+    /// Takes the bytes that leave the line next.
+    fn fetch(&mut self)
+        requires { HasReceived self.old }
+        ensures { Does self.old (Fetch self.new.held) self.new }
+    {
+        self.held.fetch(&mut self.line);
+    }
+
+    /// Brings the terminal's end the held bytes.
+    fn bring(&mut self) -> Result<(), BringFault<TermStop>>
+        ensures { Does self.old (Bring self.old.held result) self.new }
+    {
+        self.overlay.bring(self.held.bytes())?;
+        self.held.clear();
+        Ok(())
+    }
+
+    /// Takes the note that leaves the line next, and returns whether there is one.
+    fn fetch_note(&mut self) -> bool
+        requires { HasReceived self.old }
+        ensures { Does self.old (FetchNote (fetched result self.new.note)) self.new }
+    {
+        self.note.fetch_note(&mut self.line)
+    }
+
+    /// Asks the host whether all has come.
+    fn ask_host(&mut self, now: u64) -> Result<(), SendFault>
+        ensures { Does self.old (AskHost now result) self.new }
+    {
+        self.line.ask(now)
+    }
+
+    // ---- One part of going on: each answers `Idle` where it has nothing to do
+
+    /// Tells a refusal, or makes a step.
+    fn go_on_end(&mut self) -> Result<Event, GoOnFault>
+        ensures goes { (now : ℕ) → GoesOn now self.old result self.new }
+        ensures idle { IfIdle result (EndIdle self.new) }
+    {
+        if let Some((number, why)) = self.tell_refusal() {
+            return Ok(Event::Refused(number, why));
+        }
+        match self.step() {
+            Ok(step) => Ok(told_of_step(step)),
+            Err(why) => Err(GoOnFault::of_step(why)),
+        }
+    }
+
+    /// Puts the next edit of a file.
+    fn go_on_edit(&mut self, tag: u16) -> Result<Event, GoOnFault>
+        ensures goes { (now : ℕ) → GoesOn now self.old result self.new }
+        ensures idle { IfIdle result (EditIdle tag self.old self.new) }
+    {
+        match self.put_edit(tag) {
+            Ok(Put::Edit) => Ok(Event::Busy),
+            Ok(Put::Nothing) => Ok(Event::Idle),
+            Ok(Put::NotFree) => Ok(Event::Idle),
+            Err(why) => match GoOnFault::of_put(why) {
+                Some(fault) => Err(fault),
+                None => Ok(Event::Idle),
+            },
+        }
+    }
+
+    /// Puts the next edit of the first file that has one which can act.
+    #[tactic(auto, using(crate::proofs::GoingLaws::none_so_far))]
+    fn go_on_edits(&mut self) -> Result<Event, GoOnFault>
+        ensures goes { (now : ℕ) → GoesOn now self.old result self.new }
+        ensures idle { IfIdle result (EditsIdle self.old self.new) }
+    {
+        let count = self.overlay.end().term().files().len().min(ALL_TAGS);
+        'tags: for index in 0..count {
+            match self.go_on_edit(index as u16)? {
+                Event::Idle => {}
+                event => return Ok(event),
+            }
+        }
+        Ok(Event::Idle)
+    }
+
+    /// Puts what the end composed into the line.
+    fn go_on_out(&mut self, now: u64) -> Result<Event, GoOnFault>
+        ensures goes { GoesOn now self.old result self.new }
+        ensures idle { IfIdle result (OutIdle self.old self.new) }
+    {
+        if self.overlay.end().pending() == 0 {
+            return Ok(Event::Idle);
+        }
+        match self.send(now) {
+            Ok(()) => Ok(Event::Busy),
+            Err(why) => Err(GoOnFault::of_send(why)),
+        }
+    }
+
+    /// Brings the terminal's end what comes from the line, or takes a note; asks the host where there is nothing.
+    fn go_on_in(&mut self, now: u64) -> Result<Event, GoOnFault>
+        requires { IsReady self.old.overlay.end }
+        ensures goes { GoesOn now self.old result self.new }
+        ensures idle { IfIdle result (InIdle self.old self.new) }
+    {
+        if !self.held.is_empty() {
+            return match self.bring() {
+                Ok(()) => Ok(Event::Busy),
+                Err(why) => Err(GoOnFault::of_bring(why)),
+            };
+        }
+        self.fetch();
+        if !self.held.is_empty() {
+            return Ok(Event::Busy);
+        }
+        if self.fetch_note() {
+            return Ok(Event::Note);
+        }
+        match self.ask_host(now) {
+            Ok(()) => Ok(Event::Idle),
+            Err(why) => Err(GoOnFault::of_send(why)),
+        }
+    }
+
+    // ---- All
+
+    /// Goes on by what can move first.
+    #[tactic(auto, using(crate::proofs::GoingLaws::all_rest))]
+    fn advance(&mut self, now: u64) -> Result<Event, GoOnFault>
+        ensures goes { GoesOn now self.old result self.new }
+        ensures idle { IfIdle result (Rests self.new) }
+    {
+        match self.go_on_end()? {
+            Event::Idle => {}
+            event => return Ok(event),
+        }
+        match self.go_on_edits()? {
+            Event::Idle => {}
+            event => return Ok(event),
+        }
+        match self.go_on_out(now)? {
+            Event::Idle => {}
+            event => return Ok(event),
+        }
+        self.go_on_in(now)
+    }
+
+    /// Goes on until there is something to tell: bytes of the host go from the line to the terminal's end, its steps are made, edits of free
+    /// files are put, and what it composed goes into the line. Call it after each call that brought something, until it answers `Idle`. It
+    /// makes `MOST_MOVES` moves at most, and then answers `Busy`.
+    ///
+    /// Errors: `Stopped` if the terminal's end has stopped; `CountFull` if a count of bytes or events would pass 2^64-1; `OutOfMemory`. Nothing
+    /// is lost by them: the next call goes on.
+    pub fn go_on(&mut self, now: u64) -> Result<Event, GoOnFault>
+        ensures goes { GoesOn now self.old result self.new }
+        ensures idle { IfIdle result (Rests self.new) }
+    {
+        'moves: for _ in 0..MOST_MOVES {
+            match self.advance(now)? {
+                Event::Busy => {}
+                event => return Ok(event),
+            }
+        }
+        Ok(Event::Busy)
+    }
+
+    // ---- Notes
+
+    /// Puts all that the end composed into the line, if there is something.
+    fn send_all(&mut self, now: u64) -> Result<(), SendFault>
+        ensures { SendsAll self.old now result self.new }
+    {
+        if self.overlay.end().pending() == 0 {
+            return Ok(());
+        }
+        self.send(now)
+    }
+
+    /// Puts a note for the host's program, behind all that was composed. Errors, in this order: `TooLong` for more than 4,096 bytes, after
+    /// which all is as before; `CountFull`, `OutOfMemory`, after which the note is not put.
+    pub fn put_note(&mut self, bytes: &[u8], now: u64) -> Result<(), NoteFault>
+        ensures { PutsNote self.old bytes.now now result self.new }
+    {
+        if bytes.len() > MOST_BODY {
+            return Err(NoteFault::TooLong);
+        }
+        match self.send_all(now) {
+            Ok(()) => self.send_note(bytes, now),
+            Err(why) => Err(note_fault(why)),
+        }
+    }
+}

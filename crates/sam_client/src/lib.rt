@@ -1,0 +1,14 @@
+//! The terminal's side of a session, without input, output or clock: a terminal's end with edits that wait, and its line to the host. Begin
+//! with `Client`.
+#![tactic(auto)]
+
+mod client;
+mod event;
+mod fault;
+mod going;
+mod packet;
+
+pub use client::Client;
+pub use event::Event;
+pub use fault::GoOnFault;
+pub use going::MOST_MOVES;
