@@ -139,7 +139,7 @@ With IS-PAUSING what was typed is sent, too."
               (sulgrevad--write-next)
               (when is-pausing (sulgrevad--flush-now sulgrevad--term))
               (sulgrevad--send)
-              (sulgrevad-line-expect sulgrevad--line (sulgrevad--is-answer-due))
+              (sulgrevad--expect)
               (sulgrevad--keep-meanwhile))))
       (sulgrevad-no-memory (message "Sulgrevad: %s" (cadr why))
                            (sulgrevad--pump-after sulgrevad-retry))
@@ -195,13 +195,16 @@ Return whether there was any."
 
 (defun sulgrevad--is-answer-due ()
   "Whether an answer of the host is waited for, by a command or a lock."
-  (and (or sulgrevad--is-waiting
-           (sulgrevad--command-locked sulgrevad--term)
-           (< 0 (sulgrevad--held sulgrevad--term))
-           (cl-loop for buffer in sulgrevad--buffers
-                    for tag = (and (buffer-live-p buffer) (buffer-local-value 'sulgrevad--tag buffer))
-                    thereis (and tag (sulgrevad--locked sulgrevad--term tag))))
-       t))
+  (or sulgrevad--is-waiting
+      (sulgrevad--command-locked sulgrevad--term)
+      (< 0 (sulgrevad--held sulgrevad--term))
+      (cl-loop for buffer in sulgrevad--buffers
+               for tag = (and (buffer-live-p buffer) (buffer-local-value 'sulgrevad--tag buffer))
+               thereis (and tag (sulgrevad--locked sulgrevad--term tag)))))
+
+(defun sulgrevad--expect ()
+  "Have the line know whether an answer is waited for."
+  (when sulgrevad--term (sulgrevad-line-expect sulgrevad--line (and (sulgrevad--is-answer-due) t))))
 
 (defun sulgrevad--meet (note)
   "Do as a NOTE of the host has told."
@@ -260,17 +263,20 @@ one gap after the other where a command line brings many."
 Give up where the session is over; after MOST seconds where that is a
 number; where it is nil, once the host is silent for
 `sulgrevad-patience'.  Meanwhile TELL is called now and then."
-  (let ((begun (float-time)) (told (float-time)) (sulgrevad--is-waiting t) found)
-    (sulgrevad--pump t)
-    (while (and sulgrevad--term (not (setq found (funcall is-there))) (not sulgrevad--is-pumping)
-                (sulgrevad--has-patience most begun))
-      (when (sulgrevad-line-question sulgrevad--line) (sulgrevad-line-answer sulgrevad--line))
-      (accept-process-output nil 0.05)
-      (when (<= (+ told sulgrevad-untold) (float-time))
-        (setq told (float-time))
-        (funcall (or tell #'sulgrevad--tell-of-waiting)))
-      (sulgrevad--pump t))
-    found))
+  (let ((begun (float-time)) (told (float-time)) found)
+    (unwind-protect
+        (let ((sulgrevad--is-waiting t))
+          (sulgrevad--pump t)
+          (while (and sulgrevad--term (not (setq found (funcall is-there))) (not sulgrevad--is-pumping)
+                      (sulgrevad--has-patience most begun))
+            (when (sulgrevad-line-question sulgrevad--line) (sulgrevad-line-answer sulgrevad--line))
+            (accept-process-output nil 0.05)
+            (when (<= (+ told sulgrevad-untold) (float-time))
+              (setq told (float-time))
+              (funcall (or tell #'sulgrevad--tell-of-waiting)))
+            (sulgrevad--pump t))
+          found)
+      (sulgrevad--expect))))
 
 (defun sulgrevad--has-patience (most begun)
   "Whether to wait on, for MOST as `sulgrevad--wait' has it, since BEGUN."

@@ -200,7 +200,8 @@ static void waits(void)
     WANT(READ(sam_line_expect(&line, true, 20000)), SAM_OK);
     WANT(tick_of(&line, 35000), SAM_TICK_ASK);
     WANT(tick_of(&line, 50000), SAM_TICK_DROP);
-    WANT(say(&line, SAM_LINK_WELCOME, connect(&line, 50000), 50000), SAM_OK);
+    WANT(connect(&line, 50000), 2);
+    WANT(sam_line_receive(&line, 2, BYTES(HELLO("\4", "\2", "\3")), 50000), SAM_OK);
     WANT(due_in(&line, 50000), 15000); /* over all connections */
     WANT(sam_line_free(&line), SAM_OK);
 }
