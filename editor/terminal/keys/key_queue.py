@@ -60,6 +60,13 @@ def last_of(key: Input) -> Input:
     return Text(key.runes[-1:]) if isinstance(key, Text) else key
 
 
+def name_of(key: Input) -> str:
+    """What the user is told that a key is."""
+    if isinstance(key, (Text, Paste)):
+        return "Enter" if key.runes == "\n" else key.runes
+    return key.name if isinstance(key, Key) else "the mouse"
+
+
 def goes_by_screen(binding: Binding) -> bool:
     """Whether a key goes by how the screen is shared."""
     return binding is SCROLLING or (binding.order == FILE and binding.needs in BY_ROWS)
@@ -446,11 +453,13 @@ class KeyQueue:
             return False
         key = first.key
         indents = key == TAB and first.window is not None and first.window.is_settled and first.window.targets.may_indent()
-        if isinstance(key, (Text, Paste)) and not indents:
-            return self._is_line_refused(key, first.window or self.focus)
+        is_for_menu = first.window is None and self._is_for_menu(key)
+        is_again_of_menu = is_for_menu and first.is_again  # it would hold all keys back, also the one that closes the menu
+        if isinstance(key, (Text, Paste)) and not indents and not is_again_of_menu:
+            return not is_for_menu and self._is_line_refused(key, first.window or self.focus)
         del self.deferred[self._at]
         self.notes.take(first.has_read)
-        name = "Tab" if indents else key.name if isinstance(key, Key) else "the mouse"
+        name = "Tab" if indents else name_of(key)
         if self.action_of(key) == "write":
             self.write_later((first.window or self.active).tag, is_sure=False)
         else:

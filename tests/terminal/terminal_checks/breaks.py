@@ -13,7 +13,7 @@ from pathlib import Path
 from checks import Skipped
 
 from .fuzz import Run
-from .messages import NoteCode, not_saved, replacing
+from .messages import NoteCode, NoteKind, not_saved, replacing
 from .model import Model
 from .pairs import LONG as MANY_LINES
 from .pairs import Line, in_a_small_window, loads_of, opened
@@ -91,6 +91,30 @@ def check_keys_of_a_short_break(folder):
         expect(texts[0] == texts[1], f"{keys}: over a break of {seconds} s {texts[1]}, else {texts[0]}")
 
 
+def check_enter_of_a_menu_on_a_lost_line(folder):
+    """Enter in the menu of files, which waits for a write, says that it can't act once the line is known to be lost, wherever keys go; and
+    keys act again. Over a short break it opens the path once the write is answered."""
+    for goes_to_commands, seconds in ((False, 4), (True, 4), (False, 2), (True, 2)):
+        pair, editor, key, text, line = with_line("one\n")
+        editor.take(text("x"))
+        if goes_to_commands:
+            pair.press(key("Esc"))
+        for each in (key("^W"), key("F2"), text("two.txt"), text("\n")):
+            editor.take(each)
+        expect(len(editor.deferred) == 1, f"this test is wrong: {editor.deferred}")
+        line.is_broken = True
+        pair.wait(seconds)
+        is_refused = "Enter can't act until the line is back" == editor.message
+        expect(is_refused == (seconds > 3) == (not editor.deferred), f"after {seconds} s: {editor.message!r}, {editor.deferred}")
+        if is_refused:
+            editor.take(key("Esc"))
+            expect(editor.menu is None and not editor.deferred, f"Esc waits: {editor.deferred}")
+        line.is_broken = False
+        pair.finish()
+        opened_paths = [note.path for note in line.notes if note.kind == NoteKind.OPEN]
+        expect(opened_paths == ([] if is_refused else [b"two.txt"]), f"after {seconds} s it opens {opened_paths}")
+
+
 def check_nothing_is_loaded_without_a_line(folder):
     """While the line is lost nothing is asked for, and a key that needs text which isn't loaded says so."""
     pair, editor, key, text = in_a_small_window(True)
@@ -155,6 +179,7 @@ class BrokenRun(Run):
     """Random keys against the model, while the line breaks again and again."""
 
     HOW = (signal.SIGKILL, signal.SIGTERM, signal.SIGSTOP)
+    LONG_PAUSE, STEADY = 4, 1.0  # seconds: after such a pause a connection stands for so long, so that pauses begin anew
     REFUSED = "can't act until the line is back"  # what samterm says of a key that asks the host, once the line is lost for seconds
 
     def __init__(self, seed):
@@ -170,9 +195,18 @@ class BrokenRun(Run):
         numbers, is_over = random.Random(f"{self.seed} {self.breaks}"), threading.Event()
 
         def go_on():
+            is_long, back_at = False, 0.0
             while not is_over.wait(numbers.random() * 0.7):
-                if session.shows("LINE LOST") or session.shows("no answer"):
+                screen = " ".join(session.screen())
+                pause = re.search(r"LINE LOST \d+ s, again in (\d+) s", screen)
+                is_long = is_long or (pause is not None and int(pause[1]) >= self.LONG_PAUSE)
+                if "LINE LOST" in screen or "no answer" in screen:
+                    back_at = 0.0
                     continue  # a break of some seconds is no short one
+                back_at = back_at or time.monotonic()
+                if is_long and time.monotonic() - back_at < self.STEADY:
+                    continue
+                is_long = False
                 relay = session.relay()
                 with contextlib.suppress(ProcessLookupError, TypeError):
                     how = numbers.choice(self.HOW)

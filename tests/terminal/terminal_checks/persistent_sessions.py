@@ -104,7 +104,7 @@ class OneSession(BrokenRun):
 
     def could_not(self, session):
         """Whether it says that a file can't be opened before the line is back."""
-        return session.shows("opened when the line is back") or session.shows("done when the line is back")
+        return any(session.shows(f"{words} the line is back") for words in ("opened when", "done when", "can't act until"))
 
     def session(self, folder):
         return Session(folder, FILES[0], width=self.width, height=self.height, stays=True)
@@ -320,8 +320,8 @@ def check_killed_at_random(folder):
 
 
 def check_failed_write_through_breaks(folder):
-    """A write that failed leaves the file marked, also after a break, a kill of samhost, and for who takes the session over. One that doesn't
-    fail takes the mark away."""
+    """A write that failed leaves the file marked, also after a break, a kill of samhost, and for who takes the session over. One that
+    doesn't fail takes the mark away."""
     place = folder / "gone"
     place.mkdir()
     with Session(folder, "gone/a.txt", stays=True, width=120) as session:
