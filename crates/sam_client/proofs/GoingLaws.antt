@@ -1,49 +1,37 @@
 -- What each part of going on answers.
-use Rattle.std.proofs.Common.{◌≡◌, ◌⊎◌, inl, inr, ℕ, ◌<◌, ◌≤◌, ◌^◌, zero, suc, List, [], ◌∷◌, length, drop, take, min, Bool, true, false, Option, Some, None, Result, Ok, Err, refl, sym, ap, subst, ◌∙◌, arith, if◌then◌else◌}
-use Rattle.std.proofs.Common.{◌+◌, ◌==◌, ◌&&◌, not, nat_lt, ltb-true, ltb-false, MatchBool}
+use Rattle.std.proofs.Common.{◌≡◌, ◌⊎◌, inl, inr, ℕ, ◌<◌, ◌≤◌, zero, suc, List, [], ◌∷◌, length, min, true, false, Some, None, Result, Ok, Err, refl, sym, ap, subst, ◌∙◌, arith, if◌then◌else◌}
+use Rattle.std.proofs.Common.{◌+◌, ◌==◌, ◌&&◌, not, nat_lt, ltb-true, ltb-false}
 use Rattle.std.proofs.lemmas.Bool.{and_parts}
-use Rattle.std.specs.Prelude.{slice_get, is_some, is_ok, option_map}
-use Rattle.sam_link.specs.Calls.{Does as LinkDoes}
-use Rattle.sam_link.specs.Calls.Call.{Ask as LinkAsk}
-use Rattle.sam_link.specs.End.{End}
+use Rattle.std.specs.Prelude.{is_some, option_map}
 use Rattle.sam_link.specs.declared.keeping.PutFault.{PutFault as SendFault}
-use Rattle.sam_line.specs.Calls.{LineDoes}
-use Rattle.sam_line.specs.Calls.LineCall.{Ask}
-use Rattle.sam_line.specs.Line.{asked_by, at, is_to_ask}
-use Rattle.sam_runes.specs.Slots.{Slots, slot}
-use Rattle.sam_link.specs.Inbox.{Waiting, left_of, note_of, ready}
-use Rattle.sam_pending.specs.Cells.{Cell, PartialText, shown_of}
-use Rattle.sam_pending.specs.Layers.{Layer, cells_over}
+use Rattle.sam_runes.specs.Slots.{Slots}
+use Rattle.sam_pending.specs.Cells.{shown_of}
+use Rattle.sam_pending.specs.Layers.{cells_over}
 use Rattle.sam_term.specs.declared.fault.Refusal.{Refusal}
-use Rattle.sam_term.specs.Term.{PlainTerminal, is_open, rasp_at, window_at}
+use Rattle.sam_term.specs.Term.{is_open, rasp_at, window_at}
 use Rattle.sam_term.specs.Windows.{known_in}
 use Rattle.sam_term.specs.declared.records.KnownFile.{KnownFile}
 use Rattle.sam_endpoint.specs.TermEndpoints.{PlainTermEndpoint}
-use Rattle.sam_endpoint.specs.TermStepping.{IsReady, Steps}
 use Rattle.sam_endpoint.specs.declared.fault.EndpointFault.{EndpointFault}
 use Rattle.sam_endpoint.specs.declared.fault.TermStop.{TermStop}
 use Rattle.sam_endpoint.specs.declared.step.BringFault.{BringFault}
 use Rattle.sam_endpoint.specs.declared.step.TermStep.{TermStep}
 use Rattle.sam_endpoint.specs.declared.step.TermStep.TheVariants.{Acted, Idle, Locked, Received, Refused, Wrote}
-use Rattle.sam_overlay.specs.Calls.{IsFree, PlainOverlay, Puts, cells_at, shown_at}
-use Rattle.sam_overlay.specs.Outcomes.{cells_in}
+use Rattle.sam_overlay.specs.Calls.{IsFree, PlainOverlay, cells_at}
 use Rattle.sam_overlay.specs.declared.fault.PutFault.{PutFault}
-use Rattle.sam_overlay.specs.declared.fault.PutFault.TheVariants as unput
 use Rattle.sam_overlay.specs.declared.shown_change.OverlayStep.{OverlayStep}
 use Rattle.sam_overlay.specs.declared.shown_change.Put.{Put as Became}
 use Rattle.sam_overlay.specs.declared.shown_change.Put.TheVariants as put
 use Rattle.sam_overlay.proofs.CallLaws.{rests_show}
-use Rattle.sam_line.specs.declared.line.Line.{Line}
-use Rattle.sam_client.specs.Clients.{Act, Does, StepsOver}
+use Rattle.sam_client.specs.Clients.{Does}
 use Rattle.sam_client.specs.Clients.Act.{AskHost, Bring, Fetch, FetchNote, PutEdit, Send, Step, TellRefusal}
-use Rattle.sam_client.specs.Going.{AllPut, EditIdle, EditsIdle, EndIdle, EndRests, GoesOn, HasNoBytes, IfIdle, InIdle, IsMove, IsPut, Moves, OutIdle, Rests, Still, event_of, is_told, step_event, tells}
+use Rattle.sam_client.specs.Going.{AllPut, EditIdle, EditsIdle, EndIdle, EndRests, GoesOn, IfIdle, InIdle, IsPut, Moves, OutIdle, Rests, Still, event_of, is_told, step_event, tells}
 use Rattle.sam_client.specs.Faults.{bring_fault, put_fault, send_fault, step_fault}
-use Rattle.sam_client.specs.Packets.{next_bytes, next_note, without_bytes}
 use Rattle.sam_client.specs.declared.client.Client.{Client}
 use Rattle.sam_client.specs.declared.event.Event.{Event}
 use Rattle.sam_client.specs.declared.event.Event.TheVariants as tell
 use Rattle.sam_client.specs.declared.fault.GoOnFault.{GoOnFault}
-use Rattle.sam_client.proofs.Moves.{goes_busy, goes_fails, goes_idle, goes_then, goes_told, moves_none, moves_one, moves_then, went_idle}
+use Rattle.sam_client.proofs.Moves.{goes_busy, goes_fails, goes_idle, goes_told, moves_none, moves_one, moves_then, went_idle}
 
 -- ## The terminal's end
 
@@ -65,39 +53,9 @@ goes_stepped now c m n x (Acted number tag change) moves is does =
 goes_stepped now c m n x (Refused number why) moves is does =
     goes_busy now c n (quiet_step now c m n x moves (step_tells x (Refused number why) is) does)
 
-none_left : (refusals : List (ℕ × Refusal)) → None ≡ slice_get refusals 0 → drop 1 refusals ≡ []
-none_left [] none = refl
-none_left (first ∷ rest) none = absurd (cc)
-
--- a step that did nothing leaves nothing to tell
-rests_by : (e m n : PlainTermEndpoint) (s : TermStep) (x : OverlayStep) → m.refusals ≡ [] → Steps m (Ok s) n → IfIdle (Ok (event_of s x)) (EndRests n)
-rests_by e m n Idle x none (ready, idle, same) =
-    subst EndRests (sym same) (record { ready = ready; quiet = inl idle; told = none })
-rests_by e m n Locked x none (ready, locked, same) =
-    subst EndRests (sym same) (record { ready = ready; quiet = inr locked; told = none })
-rests_by e m n Wrote x none steps = tt
-rests_by e m n (Received kind tag change) x none steps = tt
-rests_by e m n (Acted number tag change) x none steps = tt
-rests_by e m n (Refused number why) x none steps = tt
-
-idle_with : (answer : Result Event GoOnFault) (P Q R : Type 0) → (P → Q → R) → IfIdle answer P → Q → IfIdle answer R
-idle_with (Ok tell.Idle) P Q R both p q = both p q
-idle_with (Ok tell.Busy) P Q R both p q = tt
-idle_with (Ok tell.Note) P Q R both p q = tt
-idle_with (Ok (tell.Refused number why)) P Q R both p q = tt
-idle_with (Ok (tell.Stepped x)) P Q R both p q = tt
-idle_with (Err why) P Q R both p q = tt
-
 -- the end was asked for a refusal, told none, and made a step
 pub end_goes : (now : ℕ) (c m n : Client) (x : OverlayStep) → Does c (TellRefusal None) m → Does m (Step (Ok x)) n → GoesOn now c (Ok (step_event x)) n
 end_goes now c m n x none does = goes_stepped now c m n x x.step (moves_one now c m (TellRefusal None) tt refl none) refl does
-
-pub end_idle : (c m n : Client) (x : OverlayStep) → Does c (TellRefusal None) m → Does m (Step (Ok x)) n → IfIdle (Ok (step_event x)) (EndIdle n)
-end_idle c m n x (none, told) ((steps, cells, putting, leads), others) =
-    idle_with (Ok (step_event x)) (EndRests n.overlay.end) (n.overlay.putting ≡ None) (EndIdle n) (λ rests none. record { rests = rests; putting = none })
-    (rests_by m.overlay.end m.overlay.end n.overlay.end x.step x
-    (ap (λ (k : Client). k.overlay.end.refusals) told ∙ none_left c.overlay.end.refusals none) steps)
-    putting
 
 -- ## Edits that wait
 
@@ -125,22 +83,6 @@ still_then o m n first more = record {
 pub edit_nothing : (c n : Client) (f : ℕ) → Does c (PutEdit f (Ok put.Nothing)) n → EditIdle f c n
 edit_nothing c n f ((rests, end, putting, none, cells), others) =
     record { still = record { end = end; putting = putting; cells = cells }; put = λ no free. inl (rests_show n.overlay f none) }
-
--- no edit can act
-pub edit_not_free : (c n : Client) (f : ℕ) → Does c (PutEdit f (Ok put.NotFree)) n → EditIdle f c n
-edit_not_free c n f ((same, not), others) = record {
-  still = still_same c.overlay n.overlay same;
-  put = λ none free. absurd (not (sym (ap (λ (x : PlainOverlay). x.putting) same) ∙ none)
-      (subst (λ (x : PlainOverlay). IsFree x.end f) same free));
-}
-
--- the text has no room for it
-pub edit_too_long : (c n : Client) (f : ℕ) → Does c (PutEdit f (Err unput.TooLong)) n → EditIdle f c n
-edit_too_long c n f ((l, waits, full, same), others) = record {
-  still = still_same c.overlay n.overlay same;
-  put = λ none free. subst (λ (x : PlainOverlay). IsPut x f) (sym same)
-      (inr (l, ap (cells_in (rasp_at c.overlay.end.term f)) waits, full));
-}
 
 -- ## All tags
 
@@ -243,12 +185,6 @@ edit_rests now c n f answer none does = goes_idle now c n (quiet_edit now c n f 
 pub edit_fails : (now : ℕ) (c n : Client) (f : ℕ) (why : PutFault) (fault : GoOnFault) → put_fault why ≡ Some fault
     → Does c (PutEdit f (Err why)) n → GoesOn now c (Err fault) n
 edit_fails now c n f why fault is does = goes_fails now c n (PutEdit f (Err why)) fault tt (ap (option_map Err) is) does
-
-pub edit_no_room : (c n : Client) (f : ℕ) (why : PutFault) → put_fault why ≡ None → Does c (PutEdit f (Err why)) n → EditIdle f c n
-edit_no_room c n f (unput.Stopped why) none does = absurd (cc)
-edit_no_room c n f unput.TooLong none does = edit_too_long c n f does
-edit_no_room c n f unput.CountFull none does = absurd (cc)
-edit_no_room c n f unput.OutOfMemory none does = absurd (cc)
 
 pub out_goes : (now : ℕ) (c n : Client) (bytes : List ℕ) → Does c (Send bytes now (Ok tt)) n → GoesOn now c (Ok tell.Busy) n
 out_goes now c n bytes does = goes_busy now c n (moves_one now c n (Send bytes now (Ok tt)) refl refl does)

@@ -1,4 +1,3 @@
 pub mod Packets
-pub mod Acts
 pub mod Moves
 pub mod GoingLaws

@@ -1,7 +1,7 @@
 -- Moves of a client, one after another.
-use Rattle.std.proofs.Common.{◌≡◌, ℕ, List, [], ◌∷◌, ◌++◌, Option, Some, None, Result, Ok, Err, refl, sym, ap, subst, ◌∙◌}
+use Rattle.std.proofs.Common.{◌≡◌, ℕ, List, [], ◌∷◌, ◌++◌, Some, None, Result, Ok, Err, refl, sym, subst}
 use Rattle.sam_client.specs.Clients.{Act, Does, DoesAll}
-use Rattle.sam_client.specs.Going.{Answers, AreSilent, GoesOn, IsMove, IsSilent, Moves, Tells, tells}
+use Rattle.sam_client.specs.Going.{Answers, AreSilent, GoesOn, IsMove, Moves, Tells, tells}
 use Rattle.sam_client.specs.declared.client.Client.{Client}
 use Rattle.sam_client.specs.declared.event.Event.{Event}
 use Rattle.sam_client.specs.declared.event.Event.TheVariants as tell

@@ -109,24 +109,24 @@ impl Client {
         self.line.expect(expects, now);
     }
 
-    /// Takes the next piece of the connection of this number, all of it or nothing, as `Line::receive` does. Then go on. Errors are those of
-    /// that call, in its order.
+    /// Takes the next piece of the connection of this number, all of it or nothing, as `Line::receive` does. Then go on. Errors are those
+    /// of that call, in its order.
     pub fn receive(&mut self, attempt: u64, piece: &[u8], now: u64) -> Result<(), ReceiveFault>
         ensures { Does self.old (OfLine (Receive attempt piece.now now result)) self.new }
     {
         self.line.receive(attempt, piece, now)
     }
 
-    /// Moves the next bytes for the connection of this number into the buffer, and returns how many, as `Line::take_out` does. Go on before,
-    /// so that all is there. The error is `NotOpen`. It takes no memory.
+    /// Moves the next bytes for the connection of this number into the buffer, and returns how many, as `Line::take_out` does. Go on
+    /// before, so that all is there. The error is `NotOpen`. It takes no memory.
     pub fn take_out(&mut self, attempt: u64, into: &mut [u8]) -> Result<usize, NotOpen>
         ensures { Does self.old (OfLine (TakeOut attempt into.old result into.new)) self.new }
     {
         self.line.take_out(attempt, into)
     }
 
-    /// Tells the host how many of its bytes have come, as `Line::acknowledge` does. Errors, in this order: `CountFull`, `OutOfMemory`, after
-    /// which all is as before.
+    /// Tells the host how many of its bytes have come, as `Line::acknowledge` does. Errors, in this order: `CountFull`, `OutOfMemory`,
+    /// after which all is as before.
     pub fn acknowledge(&mut self) -> Result<(), PutFault>
         ensures { Does self.old (OfLine (Acknowledge result)) self.new }
     {
@@ -145,7 +145,8 @@ impl Client {
     }
 
     /// Takes an event of the user that leaves each text but that of the command file (`is_request` of sam_overlay), as
-    /// `Overlay::bring_event` does. It acts as the client goes on. Errors are those of that call, in its order; after each all is as before.
+    /// `Overlay::bring_event` does. It acts as the client goes on. Errors are those of that call, in its order; after each all is as
+    /// before.
     pub fn bring_event(&mut self, event: UserEvent) -> Result<(), BringFault<TermStop>>
         requires { IsTrue (is_request event) }
         ensures { Does self.old (Request event result) self.new }

@@ -8,8 +8,8 @@ use sam_term::Refusal;
 pub enum Event {
     /// The terminal's end received a frame of the host, or an event of the user acted; what is shown may have changed by it.
     Stepped(OverlayStep),
-    /// `(number, why)`: the terminal refused the request of this number, counted from 1 over all events that were taken, edits that were put
-    /// among them.
+    /// `(number, why)`: the terminal refused the request of this number, counted from 1 over all events that were taken, edits that were
+    /// put among them.
     Refused(u64, Refusal),
     /// A note of the host's program came, which `Client::note` lends. All bytes in front of it are received.
     Note,

@@ -226,12 +226,12 @@ impl Client {
         self.go_on_in(now)
     }
 
-    /// Goes on until there is something to tell: bytes of the host go from the line to the terminal's end, its steps are made, edits of free
-    /// files are put, and what it composed goes into the line. Call it after each call that brought something, until it answers `Idle`. It
-    /// makes `MOST_MOVES` moves at most, and then answers `Busy`.
+    /// Goes on until there is something to tell: bytes of the host go from the line to the terminal's end, its steps are made, edits of
+    /// free files are put, and what it composed goes into the line. Call it after each call that brought something, until it answers
+    /// `Idle`. It makes `MOST_MOVES` moves at most, and then answers `Busy`.
     ///
-    /// Errors: `Stopped` if the terminal's end has stopped; `CountFull` if a count of bytes or events would pass 2^64-1; `OutOfMemory`. Nothing
-    /// is lost by them: the next call goes on.
+    /// Errors: `Stopped` if the terminal's end has stopped; `CountFull` if a count of bytes or events would pass 2^64-1; `OutOfMemory`.
+    /// Nothing is lost by them: the next call goes on.
     pub fn go_on(&mut self, now: u64) -> Result<Event, GoOnFault>
         ensures goes { GoesOn now self.old result self.new }
         ensures idle { IfIdle result (Rests self.new) }
