@@ -57,8 +57,8 @@ impl DurableServer {
     }
 
     /// Lends the effect that is to be done now: nothing behind it is handled before; `None` if there is none. A file is written only once
-    /// all records that were handed out are durable, and then `effect_done` says how that ended. What is said or marked before that goes out
-    /// in front of the answer to a write.
+    /// all records that were handed out are durable, and then `effect_done` says how that ended. Until then the answer to a write waits:
+    /// what is said meanwhile goes out in front of it, and a mark of a file behind it, with it.
     pub fn next_effect(&self) -> Option<&Effect>
         ensures { option_map plain_effect (option_copied result) ≡ self.now.turn.server.effect }
     {
