@@ -1,6 +1,9 @@
 -- A client, and what it does with its two parts: a terminal's end with edits that wait, and its line to the host.
-use Rattle.std.specs.Prelude.{◌≡◌, ◌≢◌, ◌⊎◌, ℕ, List, [], ◌∷◌, drop, slice_get, Bool, true, false, if◌then◌else◌, Option, Some, None, Result, Ok, Err}
+use Rattle.std.specs.Prelude.{◌≡◌, ◌≢◌, ◌⊎◌, ℕ, List, [], ◌∷◌, drop, slice_get, Bool, true, false, if◌then◌else◌, Option, Some, None, IfSome, Result, Ok, Err, IfOk}
 use Rattle.sam_runes.specs.Checks.{first_of_checks}
+use Rattle.sam_pending.specs.Cells.{IsTakenBack}
+use Rattle.sam_pending.specs.declared.fault.PendingFault.{PendingFault}
+use Rattle.sam_pending.specs.declared.told.Dropped.{Dropped}
 use Rattle.sam_term.specs.declared.event.UserEvent.{UserEvent}
 use Rattle.sam_term.specs.declared.fault.Refusal.{Refusal}
 use Rattle.sam_endpoint.specs.TermStepping.{IsReady, Steps}
@@ -14,7 +17,7 @@ use Rattle.sam_line.specs.Calls.{LineCall, LineDoes}
 use Rattle.sam_line.specs.Calls.LineCall.{Acknowledge, AddressChanged, Ask, Broken, Connected, Expect, NextNote, NotConnected, Put, PutNote, Receive, TakeIn, TakeOut, TickAt}
 use Rattle.sam_line.specs.Line as lines
 use Rattle.sam_line.specs.declared.line.Line.{Line}
-use Rattle.sam_overlay.specs.Calls.{Asks, Brings, CellsGo, Keeps, PlainOverlay, Puts, cells_at, new_overlay, replace_checks, shown_at}
+use Rattle.sam_overlay.specs.Calls.{Asks, Brings, CellsGo, Drops, Keeps, PlainOverlay, Puts, cells_at, new_overlay, replace_checks, shown_at}
 use Rattle.sam_overlay.specs.Outcomes.{Leads, Replaces}
 use Rattle.sam_overlay.specs.Overlays.{StopsOnly, told_at}
 use Rattle.sam_overlay.specs.declared.fault.PutFault.{PutFault}
@@ -61,6 +64,12 @@ StepsOver o (Ok x) n =
     Steps o.end (Ok x.step) n.end × CellsGo o x n × (n.putting ≡ None) × ((f : ℕ) → Leads (told_at x f) (shown_at o f) (shown_at n f))
 StepsOver o (Err why) n = Steps o.end (Err why) n.end × Keeps o n × StopsOnly o.end n.end
 
+-- the next runes that wait over the file and have no room are taken back, and so they go from what is shown; or all is as before
+abbrev pub TakesBack : PlainOverlay → ℕ → Result (Option Dropped) PendingFault → PlainOverlay → Type 0
+TakesBack o f answer n =
+    Drops o f answer n
+    × IfOk answer (λ taken. IfSome taken (λ d. IsTakenBack (cells_at o f) d.place d.count d.text (cells_at n f)))
+
 -- ## What a client does
 
 -- one call of a part, or one that moves something between the two: what was given, and what came of it
@@ -68,6 +77,7 @@ pub data Act : Type 0 where
   OfLine : LineCall → Act  -- a call of the line that moves nothing between the two
   Replace : ℕ → ℕ → ℕ → List ℕ → Result (Unit {0}) ReplaceFault → Act  -- an edit of the user
   Request : UserEvent → Result (Unit {0}) (BringFault TermStop) → Act  -- an event of the user that leaves each text
+  TakeBack : ℕ → Result (Option Dropped) PendingFault → Act  -- runes for which this file has no room are taken back
   TellRefusal : Option (ℕ × Refusal) → Act  -- the oldest refusal of an event is told, if there is one
   Step : Result OverlayStep (EndpointFault TermStop) → Act  -- the terminal's end goes on by one step
   PutEdit : ℕ → Result Became PutFault → Act  -- the next edit that waits over this file is put as an event
@@ -104,6 +114,7 @@ abbrev pub Does : Client → Act → Client → Type 0
 Does c (OfLine call) n = IsAlone call × LineDoes c.line call n.line × (n ≡ with_line c n.line)
 Does c (Replace f p q s answer) n = Edits c.overlay f p q s answer n.overlay × (n ≡ with_overlay c n.overlay)
 Does c (Request event answer) n = Asks c.overlay event answer n.overlay × (n ≡ with_overlay c n.overlay)
+Does c (TakeBack f answer) n = TakesBack c.overlay f answer n.overlay × (n ≡ with_overlay c n.overlay)
 Does c (TellRefusal oldest) n = (oldest ≡ slice_get c.overlay.end.refusals 0) × (n ≡ with_overlay c (told c.overlay))
 Does c (Step answer) n = StepsOver c.overlay answer n.overlay × (n ≡ with_overlay c n.overlay)
 Does c (PutEdit f answer) n = Puts c.overlay f answer n.overlay × (n ≡ with_overlay c n.overlay)

@@ -12,7 +12,7 @@ use Rattle.sam_endpoint.specs.declared.step.TermStep.TheVariants.{Acted, Idle, L
 use Rattle.sam_overlay.specs.Calls.{IsFree, PlainOverlay, cells_at, shown_at}
 use Rattle.sam_overlay.specs.declared.shown_change.OverlayStep.{OverlayStep}
 use Rattle.sam_client.specs.Clients.{Act, Does, DoesAll}
-use Rattle.sam_client.specs.Clients.Act.{AskHost, Bring, Fetch, FetchNote, OfLine, PutEdit, Replace, Request, Send, SendNote, Step, TellRefusal}
+use Rattle.sam_client.specs.Clients.Act.{AskHost, Bring, Fetch, FetchNote, OfLine, PutEdit, Replace, Request, Send, SendNote, Step, TakeBack, TellRefusal}
 use Rattle.sam_client.specs.Faults.{bring_fault, put_fault, send_fault, step_fault}
 use Rattle.sam_client.specs.Packets.{next_note}
 use Rattle.sam_client.specs.declared.client.Client.{Client}
@@ -27,6 +27,7 @@ abbrev pub IsMove : ℕ → Act → Type 0
 IsMove now (OfLine call) = ⊥
 IsMove now (Replace f p q s answer) = ⊥
 IsMove now (Request event answer) = ⊥
+IsMove now (TakeBack f answer) = ⊥
 IsMove now (TellRefusal oldest) = Unit {0}
 IsMove now (Step answer) = Unit {0}
 IsMove now (PutEdit f answer) = Unit {0}
@@ -51,6 +52,7 @@ abbrev pub tells : Act → Option (Result Event GoOnFault)
 tells (OfLine call) = None
 tells (Replace f p q s answer) = None
 tells (Request event answer) = None
+tells (TakeBack f answer) = None
 tells (TellRefusal None) = None
 tells (TellRefusal (Some (number, why))) = Some (Ok (tell.Refused number why))
 tells (Step (Ok x)) = if is_told x.step then Some (Ok (tell.Stepped x)) else None

@@ -6,13 +6,14 @@ ghost use Rattle.sam_line.specs.Clock as clocks;
 ghost use Rattle.sam_line.specs.Line.{is_due};
 ghost use Rattle.sam_overlay.specs.Overlays.{is_request};
 ghost use Rattle.sam_client.specs.Clients.{Does, new_client};
-ghost use Rattle.sam_client.specs.Clients.Act.{OfLine, Replace, Request};
+ghost use Rattle.sam_client.specs.Clients.Act.{OfLine, Replace, Request, TakeBack};
 
 use crate::packet::Packet;
 use sam_endpoint::{BringFault, TermStop};
 use sam_line::{Line, ReceiveFault, Tick};
 use sam_link::{CallFault, Id, NotOpen, PutFault};
 use sam_overlay::{Overlay, ReplaceFault};
+use sam_pending::{Dropped, PendingFault};
 use sam_term::UserEvent;
 use std::alloc::Global;
 
@@ -152,6 +153,15 @@ impl Client {
         ensures { Does self.old (Request event result) self.new }
     {
         self.overlay.bring_event(event)
+    }
+
+    /// Takes back the next runes that wait over a file for which its text has no room, as `Overlay::drop_next` does, and returns them and
+    /// where they stood. `None` if there are none, or no edit of the file can act at once. So a program asks where the client is idle and
+    /// edits wait over a free file. The only error is `OutOfMemory`, after which all is as before.
+    pub fn drop_next(&mut self, tag: u16) -> Result<Option<Dropped>, PendingFault>
+        ensures { Does self.old (TakeBack tag result) self.new }
+    {
+        self.overlay.drop_next(tag)
     }
 
     // ---- Readers
