@@ -5,7 +5,7 @@ from types import SimpleNamespace
 
 from .pairs import opened
 from .stalled_line import OnTerminal
-from .support import Session, expect, expect_sleep, made, wait_for_text, wait_until
+from .support import LONG_LOAD, Session, expect, expect_sleep, made, wait_for_text, wait_until
 
 
 def check_runes(folder):
@@ -105,8 +105,8 @@ def check_large(folder):
 
 def check_gaps(folder):
     """What is not loaded is drawn as a shade, and fills."""
-    made(folder, a="".join(f"line {number}\n" for number in range(2000)))
-    with Session(folder, "a.txt") as session:
+    made(folder, a="".join(f"line {number}\n" for number in range(80_000)))
+    with Session(folder, "a.txt", slow=LONG_LOAD) as session:
         session.wait_for("line 14")
         session.wait_for_quiet()
         with session.stopped_host():
@@ -114,7 +114,7 @@ def check_gaps(folder):
             session.wait_for("░░░░░")
         wait_until(lambda: not session.shows("░"), "the shade never fills")
         rows = session.rows("a.txt")
-        expect("line 1999" in rows and all(re.fullmatch(r"(line \d+)?", row) for row in rows), f"rows {rows}")
+        expect("line 79999" in rows and all(re.fullmatch(r"(line \d+)?", row) for row in rows), f"rows {rows}")
         session.leave()
 
 

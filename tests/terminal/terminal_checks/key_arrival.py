@@ -206,7 +206,7 @@ def check_esc_behind_any_key(folder):
             wait_until(lambda: not session.goes_to(COMMAND_WINDOW), "it shows the command window")
             session.keys("F2", "Down", "Escape", "Escape")
             session.wait_to_go_to(COMMAND_WINDOW)
-            wait_until(lambda: session.held() > 10, "nothing waits: this test is wrong")
+            wait_until(lambda: session.held() > 10, lambda: "nothing waits: this test is wrong\n" + "\n".join(session.screen()))
         session.wait_for("N")
         session.wait_for_quiet()
         session.wait_to_go_to(COMMAND_WINDOW)

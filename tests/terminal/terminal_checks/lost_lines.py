@@ -8,7 +8,8 @@ from checks import times_longer
 from .pairs import in_a_small_window, opened
 from .local_backup import Kept
 from .messages import NoteCode, aside
-from .support import LINK, SAMHOST, STATE, Session, expect, made, stat_of, wait_for_text, wait_until
+from .support import LINK, LONG_LOAD, SAMHOST, SAMHOST_WORD, SLOW_WORD, STATE, Session, expect, host_that, made, stat_of, wait_for_text
+from .support import wait_until
 
 LINES = [f"line {number} {'x' * 60}\n" for number in range(1, 2001)]
 SECONDS_TO_SAVE = 2.5  # after a message, as long as no other comes
@@ -506,12 +507,14 @@ def check_gaps_are_filled(folder):
 def check_what_waited_is_taken_by_itself(folder):
     """What was typed behind a lock when the host was lost is in a file of its own, and in no text: F9 brings the text with all that it
     lacked at its end, and has `^V` paste what waited."""
-    text = "".join(LINES)
+    text, slow = "".join(LINES), folder / "slow"
     (path,) = made(folder, a=text)
-    with Session(folder, "a.txt") as session:
+    slow.touch()
+    program = host_that(folder, f'[ ! -e {slow} ] || exec {SLOW_WORD} {LONG_LOAD} {SAMHOST_WORD} "$@"', f'exec {SAMHOST_WORD} "$@"')
+    with Session(folder, "a.txt", host=program) as session:
         session.wait_for("line 10 ")
-        session.wait_for_quiet()
-        with session.stopped_host() as host:
+        slow.unlink()
+        with session.stopped_host_at_rest() as host:
             session.type("typed ")
             session.wait_for("typed line 1 ")
             session.keys("C-d")
@@ -528,7 +531,7 @@ def check_what_waited_is_taken_by_itself(folder):
     expect(kept.startswith("typed line 1 ") and kept.endswith("characters that were not loaded]"), f"it keeps {kept[-90:]!r}")
     expect(typed.read_text() == "waits ", f"what waited is {typed.read_text()!r}")
     (folder / "status").unlink()
-    with Session(folder, "a.txt", width=200) as session:
+    with Session(folder, "a.txt", host=program, width=200) as session:
         session.wait_for("what was typed and not put in is in")
         session.read()
         open_left(session, "what was typed and not put in: written here")

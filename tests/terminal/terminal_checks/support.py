@@ -21,6 +21,7 @@ LINK = 300  # milliseconds each way
 COMMAND_WINDOW = "~~sam~~"  # its title
 NOBODY = 65534  # a user who may not do what root may
 STATE = ".state"  # the folder for what can't stand beside its file
+LONG_LOAD = "0 2000"  # a line on which 120 KB take a minute, as tools/delay has it: so no machine is so busy that all is there
 READ_AFTER = 0.7  # seconds after which a key answers a question that stands on the screen
 
 
@@ -171,6 +172,17 @@ class Session:
         """The host stands still meanwhile, as behind a line that is as slow as a check needs: it takes nothing, and answers nothing."""
         return stopped(self.processes()[SAMHOST.name], "the host")
 
+    @contextlib.contextmanager
+    def stopped_host_at_rest(self):
+        """The same from a moment on at which nothing is loaded ahead: for two seconds after a key nothing is."""
+        while True:
+            self.keys("Left")
+            self.wait_for_quiet()
+            with self.stopped_host() as host:
+                if self.is_quiet():
+                    yield host
+                    return
+
     def rename(self, name):
         """Names the file that was used last."""
         self.command(f"f {name}")
@@ -186,13 +198,12 @@ class Session:
         wait_until(lambda: self.shows(text), lambda: f"no {text!r} on the screen:\n" + "\n".join(self.screen()), seconds)
 
     def wait_for_quiet(self):
-        """Waits until no lock is held, nothing waits, and no message is told of as on the way."""
+        wait_until(self.is_quiet, lambda: "it never gets quiet:\n" + "\n".join(self.screen()))
 
-        def is_quiet():
-            line = self.status()
-            return "free" in line and not any(word in line for word in ("held", "unsent", "on the way"))
-
-        wait_until(is_quiet, lambda: "it never gets quiet:\n" + "\n".join(self.screen()))
+    def is_quiet(self):
+        """Whether no lock is held, nothing waits, and no message is told of as on the way."""
+        line = self.status()
+        return "free" in line and not any(word in line for word in ("held", "unsent", "on the way"))
 
     def rows(self, name):
         """The rows of the window with a title; none while it isn't drawn."""
