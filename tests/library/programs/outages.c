@@ -8,7 +8,7 @@
 
 #include <string.h>
 
-enum { FLIGHT = 400000, MOST_PUT = 3000, ROUNDS = 200 };
+enum { FLIGHT = 400000, MOST_PUT = 3000, ROUNDS = 2000 }; /* a hello alone arrives whole in one round of 43 */
 
 static sam_line line;
 static sam_link host;
