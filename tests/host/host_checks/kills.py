@@ -9,7 +9,7 @@ import subprocess
 import time
 from pathlib import Path
 
-from checks import Failed, Skipped, expect
+from checks import Failed, Skipped, expect, times_longer
 
 from .support import (
     IDLE, LATE, LONGEST_UNSAVED, OPEN, SAMHOST, WRITE, Session, expect_equal, made, message, names_in, on_file, run_host, text_of, typed,
@@ -167,7 +167,7 @@ class Typist:
         self.sent.append((time.monotonic(), self.texts[-1]))
 
     def check(self, bound):
-        """Nothing is torn, and nothing is lost that was given to the host longer ago."""
+        """Nothing is torn, and nothing is lost that was given to the host longer ago: on a busy machine, as many times longer as work takes."""
         names, typed_texts = names_in(self.folder), set(self.texts)
         copies = [text_of(self.folder / name) for name in names if name.startswith("a.txt.sam-saved")]
         olds = [text_of(self.folder / name) for name in names if name.startswith("a.txt.sam-old")]
@@ -175,9 +175,14 @@ class Typist:
         expect(text in self.written or any(old in self.written for old in olds), f"the file is torn: it ends in {text[-40:]!r}")
         for copy in (*copies, *olds):
             expect(copy in typed_texts, f"a copy is torn: it ends in {copy[-40:]!r}")
-        wanted = max((len(sent) for at, sent in self.sent if at < self.killed - bound - LATE), default=0)
         newest = max(len(found) for found in [text, *copies, *olds] if found in typed_texts)
-        expect(newest >= wanted, f"{wanted - newest} characters are lost that are older than {bound} s")
+        if newest < self.given(bound):
+            bound *= times_longer()
+            expect(newest >= self.given(bound), f"{self.given(bound) - newest} characters are lost that are older than {bound:.1f} s")
+
+    def given(self, bound):
+        """How many characters the host was given longer ago than that, before it was killed."""
+        return max((len(sent) for at, sent in self.sent if at < self.killed - bound - LATE), default=0)
 
 
 def check_kill_at_random(folder):
