@@ -265,9 +265,10 @@ class Editor(WindowLayout, KeyQueue, Actions):
         return self.is_leaving or self.joining.is_asking or self.is_lock_held
 
     def pause(self) -> None:
-        """The user pauses: sends what was typed."""
+        """The user pauses: sends what was typed. While he types nothing new is waited for, and to ask would cost each key a call."""
+        if self.way.line.expects or self.clock() - self._edited_at >= BUSY:
+            self.way.line.expect(self.is_answer_due)
         self.way.send()
-        self.way.line.expect(self.is_answer_due)
 
     def has_command_file(self) -> bool:
         """Whether the command file is open. If not, the host is asked for it, unless its answers are late: no key acts for that round

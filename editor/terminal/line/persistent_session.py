@@ -89,7 +89,7 @@ class PersistentSession:
         self._tells: List[str] = []  # what is to be told of connections
         self._is_named = False  # the host has said the first message
         self._is_missing = False  # no host finds the session, and that is told
-        self._expects = False  # an answer of the host is waited for
+        self.expects = False  # an answer of the host is waited for
         self._details, self._quiet_at = self._line.describe(self._now), 0.0
         self._due_at: Optional[float] = None  # when the line may have something to say: never later than it has
         self._line.tick(self._now)
@@ -176,8 +176,8 @@ class PersistentSession:
 
     def expect(self, expects: bool) -> None:
         """Notes whether an answer of the host is waited for: the line may die once it has acknowledged what was asked."""
-        if expects != self._expects:
-            self._expects = expects
+        if expects != self.expects:
+            self.expects = expects
             self._line.expect(expects, self._now)
             self._note()
 
@@ -422,7 +422,7 @@ class PersistentSession:
     @property
     def silence(self) -> float:
         """For how many seconds nothing has come, though something was due."""
-        is_quiet = self._details.state == Line.OPEN and self._details.has_all and not self._expects
+        is_quiet = self._details.state == Line.OPEN and self._details.has_all and not self.expects
         return 0.0 if is_quiet else self.clock() - self._quiet_at
 
     @property
