@@ -14,7 +14,7 @@ from typing import Callable, Deque, Dict, List, Optional, Sequence, Tuple, Union
 from ..keys.bindings import SAM
 from .host_process import SECONDS_TO_END, HostProcess, wait_for
 from .network import Network
-from sulgrevad import Line, LineDetails, Note, NoteKind, SamError, Status, Tick, read_note, write_note
+from sulgrevad import Line, Note, NoteKind, SamError, Status, Tick, read_note, write_note
 
 ID_BYTES, NAME_BYTES = 16, 8  # of a session; of its name the first ones, in hexadecimal digits
 LEAST_PIECE, PIECE = 4_096, 65_536  # bytes that are taken at once: first so many, and then more
