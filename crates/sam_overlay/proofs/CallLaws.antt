@@ -1,12 +1,12 @@
 -- What the calls of an overlay rest on.
 use Rattle.std.proofs.Common.{Option, Result, ◌≡◌, ◌≢◌, refl, sym, ap, ◌∙◌, subst, ℕ, ◌+◌, ◌-◌, ◌≤◌, ◌<◌, ◌⊎◌, inl, inr, Bool, true, false, not, nat_eq, if◌then◌else◌, List, [], ◌∷◌, ◌++◌, length, map, take, drop, Some, None, Ok, Err, arith, option_map, is_some, length-take, length-take-le, length-drop, take-append-drop}
-use Rattle.std.specs.Prelude.{All, MatchOption, OnOk, set}
+use Rattle.std.specs.Prelude.{All, MatchOption, OnOk, max, set, slice_index_or}
 use Rattle.std.proofs.lemmas.Bool.Decides.{eqb_tells}
 use Rattle.sam_runes.specs.Checks.{first_of_checks}
 use Rattle.sam_runes.specs.Slots.{Slots, slot}
 use Rattle.sam_runes.specs.Texts.{max_runes}
 use Rattle.sam_runes.specs.declared.edit.Edit.{Edit}
-use Rattle.sam_pending.specs.Cells.{PartialText, IsNewest, IsTakenBack, in_rasp, rasp_of, replaced, resting, shown_of}
+use Rattle.sam_pending.specs.Cells.{PartialText, Cell, IsNewest, IsUpTo, IsTakenBack, in_rasp, rasp_of, replaced, resting, shown_of}
 use Rattle.sam_pending.specs.Layers.{Layer, IsOver, cells_over, first_dropped, next_edit, next_made, rasp_length, shown_length, shown_members}
 use Rattle.sam_pending.specs.Runs.{cells_of, edit_at, held, runes_of, typed_by, first_due, is_due, made_first, made_run, next_deed, rests, room, rooms}
 use Rattle.sam_pending.specs.declared.run.Deed.{Deed}
@@ -27,9 +27,10 @@ use Rattle.sam_endpoint.specs.declared.step.BringFault.{BringFault}
 use Rattle.sam_endpoint.specs.declared.step.BringFault.TheVariants as bring
 use Rattle.sam_endpoint.specs.declared.step.TermStep.{TermStep}
 use Rattle.sam_overlay.specs.Calls.{HoldsOnly, IsFree, IsShownFrom, IsSound, RestsShow, is_free}
-use Rattle.sam_overlay.specs.Outcomes.{IsOverRasp, LayerDrops, LayerReplaces, Leads, Replaces, TypedShows, cells_in, has_edit}
+use Rattle.sam_overlay.specs.Outcomes.{IsOverRasp, LayerDrops, LayerReplaces, Leads, Replaces, ReplacesFrom, TypedShows, cells_in, has_edit}
 use Rattle.sam_overlay.specs.Overlays.{AreOver, AreRequests, Brought, cells_of_file, edit_event, is_request, told_at}
 use Rattle.sam_overlay.specs.Setting.{Sets}
+use Rattle.sam_overlay.specs.declared.layers.Place.{Place}
 use Rattle.sam_overlay.specs.declared.shown_change.OverlayStep.{OverlayStep}
 use Rattle.sam_overlay.specs.declared.shown_change.Told.TheVariants as told
 use Rattle.sam_overlay.proofs.SlotSteps.{slot-set_same}
@@ -37,17 +38,32 @@ use Rattle.sam_overlay.proofs.StepLaws.{told-nothing}
 
 -- ## Edits of the user
 
-pub replaces_layer : (l k : Layer) (g n p q : ℕ) (s : List ℕ) → ((r : PartialText) → All (IsNewest g) (cells_over r l))
-    → ((r : PartialText) → IsOver r l → cells_over r k ≡ replaced g p q s (cells_over r l)) → rasp_length k ≡ rasp_length l
-    → LayerReplaces n (Some l) p q s (Some k)
-replaces_layer l k g n p q s newest cells size r many over = (size ∙ over, record { group = g; newest = newest r; cells = cells r over })
+newer : (g h : ℕ) (o : Option ℕ) → IsUpTo g o → IsUpTo (max g h) o
+newer g h None is = tt
+newer g h (Some b) is = omega (arith, is)
 
-pub new_replaces : (l k : Layer) (n p q : ℕ) (s : List ℕ) → rasp_length l ≡ n → ((r : PartialText) → IsOver r l → cells_over r l ≡ resting r)
-    → ((m : ℕ) → LayerReplaces m (Some l) p q s (Some k)) → LayerReplaces n None p q s (Some k)
-new_replaces l k n p q s size rests made r many over =
+newer-cell : (g h : ℕ) (c : Cell) → IsNewest g c → IsNewest (max g h) c
+newer-cell g h c is = (newer g h c.born is.0, newer g h c.died is.1)
+
+pub newer-all : (g h : ℕ) (cs : List Cell) → All (IsNewest g) cs → All (IsNewest (max g h)) cs
+newer-all g h cs all k c l = newer-cell g h (slice_index_or cs k c) (all k c l)
+
+pub replaces_layer : (l k : Layer) (g n : ℕ) (e : Place) (s : List ℕ) → ((r : PartialText) → All (IsNewest g) (cells_over r l))
+    → ((r : PartialText) → IsOver r l → cells_over r k ≡ replaced (max g e.group) e.p e.q s (cells_over r l)) → rasp_length k ≡ rasp_length l
+    → LayerReplaces n (Some l) e s (Some k)
+replaces_layer l k g n e s newest cells size r many over =
+    (size ∙ over, record { group = max g e.group; from = omega arith; newest = newer-all g e.group (cells_over r l) (newest r); cells = cells r over })
+
+pub new_replaces : (l k : Layer) (n : ℕ) (e : Place) (s : List ℕ) → rasp_length l ≡ n → ((r : PartialText) → IsOver r l → cells_over r l ≡ resting r)
+    → ((m : ℕ) → LayerReplaces m (Some l) e s (Some k)) → LayerReplaces n None e s (Some k)
+new_replaces l k n e s size rests made r many over =
     let over_l : IsOver r l = size ∙ sym many in
     let x = made n r many over_l in
-    (x.0, subst (λ cs. Replaces cs p q s (cells_over r k)) (rests r over_l) x.1)
+    (x.0, subst (λ cs. ReplacesFrom e.group cs e.p e.q s (cells_over r k)) (rests r over_l) x.1)
+
+pub any_replaces : {E : Type 0} (result : Result (Unit {0}) E) (g p q : ℕ) (s : List ℕ) (cs ds : List Cell) → OnOk result (ReplacesFrom g cs p q s ds) → OnOk result (Replaces cs p q s ds)
+any_replaces (Ok done) g p q s cs ds h = record { group = h.group; newest = h.newest; cells = h.cells }
+any_replaces (Err why) g p q s cs ds h = tt
 
 -- ## Requests
 
@@ -55,22 +71,22 @@ more-requests : (es : List UserEvent) (x : UserEvent) → AreRequests es → is_
 more-requests [] x all is = (is, tt)
 more-requests (e ∷ es) x all is = (all.0, more-requests es x all.1 is)
 
-pub asked_sound : (e g : PlainTermEndpoint) (ls : Slots Layer) (p : Option ℕ) (x : UserEvent) (result : Result (Unit {0}) (BringFault TermStop))
-    → p ≡ None → slot ls 0 ≡ None → HoldsOnly e ls p → AreOver e.term ls → is_request x ≡ true → BringsEvent e x result g
-    → IsSound (record { end = g; layers = ls; putting = p })
-asked_sound e g ls p x result none command holds over is brings =
-    subst (λ o. IsSound (record { end = g; layers = ls; putting = o })) (sym none) (go result brings)
+pub asked_sound : (e g : PlainTermEndpoint) (ls : Slots Layer) (p m : Option ℕ) (x : UserEvent) (result : Result (Unit {0}) (BringFault TermStop))
+    → p ≡ None → slot ls 0 ≡ None → HoldsOnly e ls m p → AreOver e.term ls → is_request x ≡ true → BringsEvent e x result g
+    → IsSound (record { end = g; layers = ls; putting = p; limit = m })
+asked_sound e g ls p m x result none command holds over is brings =
+    subst (λ o. IsSound (record { end = g; layers = ls; putting = o; limit = m })) (sym none) (go result brings)
   where
     all : AreRequests e.term.held
-    all = subst (HoldsOnly e ls) none holds
+    all = subst (HoldsOnly e ls m) none holds
 
-    as_before : g ≡ e → IsSound (record { end = g; layers = ls; putting = None })
+    as_before : g ≡ e → IsSound (record { end = g; layers = ls; putting = None; limit = m })
     as_before same =
-        subst (λ (h : PlainTermEndpoint). IsSound (record { end = h; layers = ls; putting = None })) (sym same) (record { over = over; command = command; holds = all })
+        subst (λ (h : PlainTermEndpoint). IsSound (record { end = h; layers = ls; putting = None; limit = m })) (sym same) (record { over = over; command = command; holds = all })
 
-    go : (result : Result (Unit {0}) (BringFault TermStop)) → BringsEvent e x result g → IsSound (record { end = g; layers = ls; putting = None })
+    go : (result : Result (Unit {0}) (BringFault TermStop)) → BringsEvent e x result g → IsSound (record { end = g; layers = ls; putting = None; limit = m })
     go (Ok done) b =
-        subst (λ (h : PlainTermEndpoint). IsSound (record { end = h; layers = ls; putting = None })) (sym b.1)
+        subst (λ (h : PlainTermEndpoint). IsSound (record { end = h; layers = ls; putting = None; limit = m })) (sym b.1)
         (record { over = over; command = command; holds = more-requests e.term.held x all is })
     go (Err (bring.Stopped why)) b = as_before b.1
     go (Err bring.Waiting) b = absurd b
@@ -79,10 +95,10 @@ asked_sound e g ls p x result none command holds over is brings =
 
 -- ## Steps of an edit
 
-pub brought_told : (e g : PlainTermEndpoint) (ls ks : Slots Layer) (h : ℕ) (step : TermStep) (x : OverlayStep) (f : ℕ) → Brought e ls h g ks
+pub brought_told : (e g : PlainTermEndpoint) (ls ks : Slots Layer) (m : Option ℕ) (h : ℕ) (step : TermStep) (x : OverlayStep) (f : ℕ) → Brought e ls m h g ks
     → x ≡ record { step = step; tag = 0; told = told.Nothing }
     → Leads (told_at x f) (shown_of (cells_of_file e.term ls f)) (shown_of (cells_of_file g.term ks f))
-brought_told e g ls ks h step x f b is =
+brought_told e g ls ks m h step x f b is =
     subst (λ (y : OverlayStep). Leads (told_at y f) (shown_of (cells_of_file e.term ls f)) (shown_of (cells_of_file g.term ks f))) (sym is)
     (subst (λ y. Leads y (shown_of (cells_of_file e.term ls f)) (shown_of (cells_of_file g.term ks f))) (sym (told-nothing step 0 f)) (go (eqb_tells h f)))
   where
@@ -134,41 +150,41 @@ edit-size : (t : List ℕ) (n : ℕ) (x : Run) → ((edit_at t n x).p ≤ (edit_
 edit-size t n (Held k d) = (omega arith, omega arith, omega arith, omega arith)
 edit-size t n (Typed s g d) = (omega arith, omega arith, omega arith, omega (arith, length-take s.count (drop s.start t)))
 
-record Fits (l : Layer) (e : Edit) : Type 0 where
+record Fits (m : Option ℕ) (l : Layer) (e : Edit) : Type 0 where
   up : e.p ≤ e.q
   within : e.q ≤ rasp_length l
-  room : rasp_length l - (e.q - e.p) + length e.text ≤ rasp_length (next_made l)
+  room : rasp_length l - (e.q - e.p) + length e.text ≤ rasp_length (next_made m l)
 
-next-fits : (l : Layer) (e : Edit) → next_edit l ≡ Some e → Fits l e
-next-fits l e is = go (first_due (next_deed l.runs) 0 l.runs) refl is
+next-fits : (m : Option ℕ) (l : Layer) (e : Edit) → next_edit m l ≡ Some e → Fits m l e
+next-fits m l e is = go (first_due (next_deed m l.runs) 0 l.runs) refl is
   where
-    go : (o : Option (Run × ℕ)) → first_due (next_deed l.runs) 0 l.runs ≡ o → option_map (λ x. edit_at l.text x.1 x.0) o ≡ Some e → Fits l e
+    go : (o : Option (Run × ℕ)) → first_due (next_deed m l.runs) 0 l.runs ≡ o → option_map (λ x. edit_at l.text x.1 x.0) o ≡ Some e → Fits m l e
     go None due q = absurd cc
     go (Some x) due q =
         let same : edit_at l.text x.1 x.0 ≡ e = grind (arith, q) in
-        let m = made-rooms (next_deed l.runs) l.runs 0 x.0 x.1 due in
+        let d = made-rooms (next_deed m l.runs) l.runs 0 x.0 x.1 due in
         let s = edit-size l.text x.1 x.0 in
-        subst (Fits l) same
+        subst (Fits m l) same
         (record {
           up = s.0;
-          within = omega (arith, s.1, m.1);
-          room = omega (arith, s.2, s.3, m.0, m.1);
+          within = omega (arith, s.1, d.1);
+          room = omega (arith, s.2, s.3, d.0, d.1);
         })
 
 -- a free file takes the next edit of what waits over it
-free-takes : (t : PlainTerminal) (f : ℕ) (l : Layer) (x : Edit) → is_free t f ≡ true → IsOver (rasp_at t f) l → Fits l x → rasp_length (next_made l) ≤ max_runes
+free-takes : (t : PlainTerminal) (f : ℕ) (m : Option ℕ) (l : Layer) (x : Edit) → is_free t f ≡ true → IsOver (rasp_at t f) l → Fits m l x → rasp_length (next_made m l) ≤ max_runes
     → first_of_checks (event_checks t (edit_event f x)) ≡ None
-free-takes t f l x free over fits most =
+free-takes t f m l x free over fits most =
     let up : x.p ≤ x.q = fits.up in
     let within : x.q ≤ length (rasp_at t f) = omega (arith, over, fits.within) in
     let size : length (rasp_at t f) - (x.q - x.p) + length x.text ≤ max_runes = omega (arith, over, fits.room, most) in
     grind (arith, free, up, within, size)
 
-pub put_sound : (e g : PlainTermEndpoint) (ls : Slots Layer) (f : ℕ) (l : Layer) (x : Edit) → IsFree e f → slot ls 0 ≡ None → AreOver e.term ls → slot ls f ≡ Some l
-    → next_edit l ≡ Some x → rasp_length (next_made l) ≤ max_runes → g ≡ with_event e (edit_event f x)
-    → IsSound (record { end = g; layers = ls; putting = Some f })
-put_sound e g ls f l x free command over waits next room is =
-    subst (λ (h : PlainTermEndpoint). IsSound (record { end = h; layers = ls; putting = Some f })) (sym is)
+pub put_sound : (e g : PlainTermEndpoint) (ls : Slots Layer) (f : ℕ) (m : Option ℕ) (l : Layer) (x : Edit) → IsFree e f → slot ls 0 ≡ None → AreOver e.term ls → slot ls f ≡ Some l
+    → next_edit m l ≡ Some x → rasp_length (next_made m l) ≤ max_runes → g ≡ with_event e (edit_event f x)
+    → IsSound (record { end = g; layers = ls; putting = Some f; limit = m })
+put_sound e g ls f m l x free command over waits next room is =
+    subst (λ (h : PlainTermEndpoint). IsSound (record { end = h; layers = ls; putting = Some f; limit = m })) (sym is)
     (record {
       over = over;
       command = command;
@@ -181,7 +197,7 @@ put_sound e g ls f l x free command over waits next room is =
         held = ap (λ es. es ++ edit_event f x ∷ []) free.none_held;
         waiting = free.done.0.waiting;
         unwritten = free.done.0.unwritten;
-        free = free-takes e.term f l x free.free (subst (IsOverRasp (rasp_at e.term f)) waits (over f)) (next-fits l x next) room;
+        free = free-takes e.term f m l x free.free (subst (IsOverRasp (rasp_at e.term f)) waits (over f)) (next-fits m l x next) room;
       };
     })
 
@@ -256,11 +272,11 @@ free_by t f = go (window_of t f)
     go None = refl
     go (Some w) = refl
 
-pub replaced_at : {E : Type 0} (ss : Slots Layer) (f n p q : ℕ) (s : List ℕ) (o k : Option Layer) (result : Result (Unit {0}) E) → f < length ss → slot ss f ≡ o
-    → OnOk result ((m : ℕ) → LayerReplaces m o p q s k) → OnOk result (LayerReplaces n (slot ss f) p q s (slot (set ss f k) f))
-replaced_at ss f n p q s o k (Ok done) l is h =
-    subst (λ z. LayerReplaces n z p q s (slot (set ss f k) f)) (sym is) (subst (λ z. LayerReplaces n o p q s z) (sym (slot-set_same ss f k l)) (h n))
-replaced_at ss f n p q s o k (Err why) l is h = tt
+pub replaced_at : {E : Type 0} (ss : Slots Layer) (f n : ℕ) (e : Place) (s : List ℕ) (o k : Option Layer) (result : Result (Unit {0}) E) → f < length ss → slot ss f ≡ o
+    → OnOk result ((m : ℕ) → LayerReplaces m o e s k) → OnOk result (LayerReplaces n (slot ss f) e s (slot (set ss f k) f))
+replaced_at ss f n e s o k (Ok done) l is h =
+    subst (λ z. LayerReplaces n z e s (slot (set ss f k) f)) (sym is) (subst (λ z. LayerReplaces n o e s z) (sym (slot-set_same ss f k l)) (h n))
+replaced_at ss f n e s o k (Err why) l is h = tt
 
 pub command_rests : (t : PlainTerminal) (ls : Slots Layer) → slot ls 0 ≡ None → cells_of_file t ls 0 ≡ resting (rasp_at t 0)
 command_rests t ls none = ap (cells_in (rasp_at t 0)) none
@@ -295,10 +311,10 @@ rests_cells t ls f over none = go (slot ls f) (over f) none
 
 -- ## Runes that are taken back
 
-pub dropped_sound : (e : PlainTermEndpoint) (ls ks : Slots Layer) (f : ℕ) (d : Dropped) → HoldsOnly e ls None → slot ls 0 ≡ None → AreOver e.term ls
-    → LayerDrops (slot ls f) (Ok (Some d)) (slot ks f) → ((g : ℕ) → g ≢ f → slot ks g ≡ slot ls g)
-    → IsSound (record { end = e; layers = ks; putting = None })
-dropped_sound e ls ks f d holds command over drops others = record { over = over_all; command = first; holds = holds }
+pub dropped_sound : (e : PlainTermEndpoint) (ls ks : Slots Layer) (f : ℕ) (m u : Option ℕ) (d : Dropped) → HoldsOnly e ls m None → slot ls 0 ≡ None → AreOver e.term ls
+    → LayerDrops u (slot ls f) (Ok (Some d)) (slot ks f) → ((g : ℕ) → g ≢ f → slot ks g ≡ slot ls g)
+    → IsSound (record { end = e; layers = ks; putting = None; limit = m })
+dropped_sound e ls ks f m u d holds command over drops others = record { over = over_all; command = first; holds = holds }
   where
     first : slot ks 0 ≡ None
     first = go (eqb_tells 0 f)
@@ -315,7 +331,7 @@ dropped_sound e ls ks f d holds command over drops others = record { over = over
     l : Layer
     l = drops.1.0
 
-    there : IsOver r (first_dropped l)
+    there : IsOver r (first_dropped u l)
     there = drops.1.2.over r (subst (IsOverRasp r) drops.1.1 (over f))
 
     over_all : AreOver e.term ks
@@ -326,9 +342,9 @@ dropped_sound e ls ks f d holds command over drops others = record { over = over
             subst (λ h. IsOverRasp (rasp_at e.term h) (slot ks h)) (sym is) (subst (IsOverRasp r) (sym drops.1.3) there)
         go (inr (b, other)) = subst (IsOverRasp (rasp_at e.term g)) (sym (others g other)) (over g)
 
-pub dropped_cells : (t : PlainTerminal) (ls ks : Slots Layer) (f : ℕ) (d : Dropped) → AreOver t ls → LayerDrops (slot ls f) (Ok (Some d)) (slot ks f)
+pub dropped_cells : (t : PlainTerminal) (ls ks : Slots Layer) (f : ℕ) (u : Option ℕ) (d : Dropped) → AreOver t ls → LayerDrops u (slot ls f) (Ok (Some d)) (slot ks f)
     → IsTakenBack (cells_of_file t ls f) d.place d.count d.text (cells_of_file t ks f)
-dropped_cells t ls ks f d over drops =
+dropped_cells t ls ks f u d over drops =
     let r : PartialText = rasp_at t f in
     let l : Layer = drops.1.0 in
     subst (λ o. IsTakenBack (cells_in r o) d.place d.count d.text (cells_of_file t ks f)) (sym drops.1.1)
@@ -338,3 +354,5 @@ dropped_cells t ls ks f d over drops =
 pub ruleset drop_facts = (dropped_sound, dropped_cells)
 
 pub ruleset put_facts = (put_sound, command_freed)
+
+pub ruleset fact_laws = (rasp_of_file, command_rests, rests_cells)

@@ -4,3 +4,6 @@ pub mod EffectLaws
 pub mod StepLaws
 pub mod GapLaws
 pub mod CallLaws
+pub mod RequestLaws
+pub mod QueueLaws
+pub mod OrderLaws

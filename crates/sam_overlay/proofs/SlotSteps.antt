@@ -1,10 +1,11 @@
 -- Slots as the code reads and writes them.
-use Rattle.std.proofs.Common.{◌≡◌, ◌⊎◌, inl, inr, refl, sym, subst, ap, ℕ, suc, ◌+◌, ◌<◌, ◌≤◌, ◌≢◌, Bool, true, false, nat_eq, nat_le, min, [], ◌∷◌, ◌++◌, set, length, replicate, Option, None, arith}
+use Rattle.std.proofs.Common.{◌≡◌, ◌⊎◌, inl, inr, refl, sym, subst, ap, ℕ, suc, ◌+◌, ◌<◌, ◌≤◌, ◌≢◌, Bool, true, false, nat_eq, nat_le, min, [], ◌∷◌, ◌++◌, set, length, replicate, Option, Some, None, arith}
+use Rattle.std.specs.Prelude.{is_some}
 use Rattle.std.proofs.lemmas.Bool.{leb-true}
 use Rattle.std.proofs.lemmas.Bool.Decides.{eqb_tells, leb_tells}
 use Rattle.sam_runes.specs.Slots.{Slots, slot}
 use Rattle.sam_pending.specs.Layers.{Layer}
-use Rattle.sam_overlay.specs.Outcomes.{NoneWaits, has_edit}
+use Rattle.sam_overlay.specs.Outcomes.{NoneKept, NoneWaits, has_edit}
 use Rattle.sam_runes.proofs.SlotLaws.{slot-read, slot_given, slot_past}
 
 pub slot-more : {X : Type 0} (ss : Slots X) (n f : ℕ) → slot (ss ++ replicate n None) f ≡ slot ss f
@@ -37,6 +38,28 @@ none_past ls from n most none past f a b = go (nat_le (length ls) f) refl
         none f a (omega (arith, within, b, past))
 
 pub ruleset waiting_facts = (none_more, none_past)
+
+none_there : {X : Type 0} (o : Option X) → is_some o ≡ false → o ≡ None
+none_there None none = refl
+none_there (Some x) none = absurd (cc)
+
+pub kept_more : (ls : Slots Layer) (from n : ℕ) → NoneKept ls from n → is_some (slot ls n) ≡ false → NoneKept ls from (n + 1)
+kept_more ls from n none here f a b = go (eqb_tells f n)
+  where
+    go : ((nat_eq f n ≡ true) × (f ≡ n)) ⊎ ((nat_eq f n ≡ false) × (f ≢ n)) → slot ls f ≡ None
+    go (inl (t, is)) = subst (λ g. slot ls g ≡ None) (sym is) (none_there (slot ls n) here)
+    go (inr (t, other)) = none f a (omega (arith, b, other))
+
+pub kept_past : (ls : Slots Layer) (from n most : ℕ) → NoneKept ls from n → min (length ls) most ≤ n → NoneKept ls from most
+kept_past ls from n most none past f a b = go (nat_le (length ls) f) refl
+  where
+    go : (t : Bool) → nat_le (length ls) f ≡ t → slot ls f ≡ None
+    go true is = slot_past ls f (leb-true (length ls) f is)
+    go false is =
+        let within : f < length ls = grind (arith, is, leb_tells) in
+        none f a (omega (arith, within, b, past))
+
+pub ruleset kept_facts = (kept_more, kept_past)
 
 pub ruleset slot_facts = (slot-read, slot_given, slot_past)
 

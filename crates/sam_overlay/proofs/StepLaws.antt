@@ -9,6 +9,7 @@ use Rattle.sam_mesg.specs.declared.hmesg.HFrame.{HFrame}
 use Rattle.sam_mesg.specs.declared.tmesg.Tmesg.{Tmesg}
 use Rattle.sam_rasp.specs.Rasp.{del_cells, ins_cells}
 use Rattle.sam_pending.specs.Cells.{PartialText, IsMade, put, shown_of}
+use Rattle.sam_pending.specs.Groups.{IsMadeBy}
 use Rattle.sam_pending.specs.Layers.{Layer, IsOver, cells_over, next_made}
 use Rattle.sam_pending.specs.Runs.{edit_change}
 use Rattle.sam_pending.proofs.CellLaws.{shown_resting}
@@ -42,7 +43,7 @@ use Rattle.sam_endpoint.proofs.ChangeLaws.{kept_tells_change}
 use Rattle.sam_endpoint.proofs.TermChanges.{acts_keep}
 use Rattle.sam_endpoint.proofs.TermEndpointHeld.{event_keeps, take_held}
 use Rattle.sam_overlay.specs.Effects.{Effect, FitsIn, Stays, cells_after, effect, members_after, plan_at, plan_of}
-use Rattle.sam_overlay.specs.Outcomes.{Follows, IsNextMade, IsOverRasp, Leads, Meets, cells_in, change_told, event_told, layer_after}
+use Rattle.sam_overlay.specs.Outcomes.{Follows, IsNextMade, IsNextMadeBy, IsOverRasp, Leads, Meets, cells_in, change_told, event_told, layer_after}
 use Rattle.sam_overlay.specs.Overlays.{AreOver, AreRequests, Brought, IsPutting, Stepped, StopsOnly, cells_of_file, edit_event, end_step, first_effect, is_received, is_request, step_effect, told_at}
 use Rattle.sam_overlay.specs.Setting.{Sets}
 use Rattle.sam_overlay.specs.declared.frame_plan.FilePlan.{FilePlan}
@@ -514,28 +515,28 @@ act-free t u acted x held free act =
     (is.0, made.1, is.1)
 
 -- the terminal after the edit acted
-edit-acts : (e g : PlainTermEndpoint) (ls : Slots Layer) (f : ℕ) (step : TermStep) (h : IsPutting e ls f) → Steps e (Ok step) g
+edit-acts : (e g : PlainTermEndpoint) (ls : Slots Layer) (f : ℕ) (m : Option ℕ) (step : TermStep) (h : IsPutting e ls m f) → Steps e (Ok step) g
     → g.term ≡ (event_outcome (record e.term { held = [] }) (edit_event f h.edit)).0
-edit-acts e g ls f did.Idle h s =
+edit-acts e g ls f m did.Idle h s =
     let done = act-free e.term e.term become.Idle (edit_event f h.edit) h.held h.free s.1 in
     let wrong : become.Idle ≡ become.Done done.1 = done.2 in
     absurd cc
-edit-acts e g ls f did.Locked h s =
+edit-acts e g ls f m did.Locked h s =
     let done = act-free e.term e.term become.Locked (edit_event f h.edit) h.held h.free s.1 in
     let wrong : become.Locked ≡ become.Done done.1 = done.2 in
     absurd cc
-edit-acts e g ls f did.Wrote h s =
+edit-acts e g ls f m did.Wrote h s =
     let some : 0 < length e.unwritten = s.1 in
     absurd (omega (arith, some, ap length h.unwritten))
-edit-acts e g ls f (did.Received kind tag change) h s =
+edit-acts e g ls f m (did.Received kind tag change) h s =
     let first = s.1.first in
     let both : first.frame ∷ first.rest ≡ [] = sym first.waited ∙ h.waiting in
     absurd cc
-edit-acts e g ls f (did.Acted number tag change) h s =
+edit-acts e g ls f m (did.Acted number tag change) h s =
     let first = s.1.first in
     ap (λ (x : PlainTermEndpoint). x.term) first.after
     ∙ (act-free e.term first.term first.acted (edit_event f h.edit) h.held h.free first.acts).0
-edit-acts e g ls f (did.Refused number why) h s =
+edit-acts e g ls f m (did.Refused number why) h s =
     let first = s.1.first in
     let done = act-free e.term first.term first.acted (edit_event f h.edit) h.held h.free first.acts in
     let wrong : become.Refused why ≡ become.Done done.1 = sym s.1.refused ∙ done.2 in
@@ -554,22 +555,25 @@ other-stays t f h x r n = go (eqb_tells f h)
     go (inl (b, here)) = absurd (n (sym here))
     go (inr (b, other)) = grind (arith, b)
 
-pub edit_brought : (e g : PlainTermEndpoint) (ls ks : Slots Layer) (f : ℕ) (step : TermStep) → IsPutting e ls f → Steps e (Ok step) g
-    → AreOver e.term ls → slot ls 0 ≡ None → ((l : Layer) → slot ls f ≡ Some l → IsNextMade l)
-    → Sets ls f (option_map next_made (slot ls f)) ks → Brought e ls f g ks
-edit_brought e g ls ks f step h s over none made sets =
+pub edit_brought : (e g : PlainTermEndpoint) (ls ks : Slots Layer) (f : ℕ) (m : Option ℕ) (step : TermStep) → IsPutting e ls m f → Steps e (Ok step) g
+    → AreOver e.term ls → slot ls 0 ≡ None → ((l : Layer) → slot ls f ≡ Some l → IsNextMade m l) → ((l : Layer) → slot ls f ≡ Some l → IsNextMadeBy m l)
+    → Sets ls f (option_map (next_made m) (slot ls f)) ks → Brought e ls m f g ks
+edit_brought e g ls ks f m step h s over none made groups sets =
     record {
       command = go-command (eqb_tells f 0);
       change = edit_change h.edit;
       made = subst (λ (z : PartialText × Option Layer). IsMade (cells_of_file e.term ls f) (edit_change h.edit) (cells_in z.0 z.1)) (sym (pair-is here now))
-          (subst (λ o. IsMade (cells_in r o) (edit_change h.edit) (cells_over (put r (edit_change h.edit)) (next_made h.layer))) (sym h.waits) comes.0);
+          (subst (λ o. IsMade (cells_in r o) (edit_change h.edit) (cells_over (put r (edit_change h.edit)) (next_made m h.layer))) (sym h.waits) comes.0);
+      by = λ b is. subst (λ (z : PartialText × Option Layer). IsMadeBy b (cells_of_file e.term ls f) (edit_change h.edit) (cells_in z.0 z.1)) (sym (pair-is here now))
+          (subst (λ o. IsMadeBy b (cells_in r o) (edit_change h.edit) (cells_over (put r (edit_change h.edit)) (next_made m h.layer))) (sym h.waits)
+          (groups h.layer h.waits b r h.edit is (subst (IsOverRasp r) h.waits (over f)) h.next));
       others = λ k n. ap (λ v. cells_in v (slot ks k)) (elsewhere k n) ∙ ap (cells_in (rasp_at e.term k)) (sets.1 k n);
       over = all-over;
       requests = subst (λ (v : PlainTerminal). AreRequests v.held) (sym acts) (subst AreRequests (sym (event_keeps after (edit_event f h.edit))) tt);
     }
   where
     go-command : ((nat_eq f 0 ≡ true) × (f ≡ 0)) ⊎ ((nat_eq f 0 ≡ false) × (f ≢ 0)) → slot ks 0 ≡ None
-    go-command (inl (b, is)) = subst (λ g. slot ks g ≡ None) is (sets.0 ∙ (ap (λ g. option_map next_made (slot ls g)) is ∙ ap (option_map next_made) none))
+    go-command (inl (b, is)) = subst (λ g. slot ks g ≡ None) is (sets.0 ∙ (ap (λ g. option_map (next_made m) (slot ls g)) is ∙ ap (option_map (next_made m)) none))
     go-command (inr (b, other)) = sets.1 0 (λ q. other (sym q)) ∙ none
 
     r : PartialText
@@ -579,7 +583,7 @@ edit_brought e g ls ks f step h s over none made sets =
     after = record e.term { held = [] }
 
     acts : g.term ≡ (event_outcome after (edit_event f h.edit)).0
-    acts = edit-acts e g ls f step h s
+    acts = edit-acts e g ls f m step h s
 
     pair-is : {v w : PartialText} {o n : Option Layer} → v ≡ w → o ≡ n → ◌≡◌ {A = PartialText × Option Layer} (v, o) (w, n)
     pair-is a b = grind (arith, a, b)
@@ -590,10 +594,10 @@ edit_brought e g ls ks f step h s over none made sets =
     here : rasp_at g.term f ≡ put r (edit_change h.edit)
     here = ap (λ v. rasp_at v f) acts ∙ edit_text after f h.edit.p h.edit.q h.edit.text at.0 at.1
 
-    now : slot ks f ≡ Some (next_made h.layer)
-    now = sets.0 ∙ ap (option_map next_made) h.waits
+    now : slot ks f ≡ Some (next_made m h.layer)
+    now = sets.0 ∙ ap (option_map (next_made m)) h.waits
 
-    comes : IsMade (cells_over r h.layer) (edit_change h.edit) (cells_over (put r (edit_change h.edit)) (next_made h.layer)) × IsOver (put r (edit_change h.edit)) (next_made h.layer)
+    comes : IsMade (cells_over r h.layer) (edit_change h.edit) (cells_over (put r (edit_change h.edit)) (next_made m h.layer)) × IsOver (put r (edit_change h.edit)) (next_made m h.layer)
     comes = made h.layer h.waits r h.edit (subst (IsOverRasp r) h.waits (over f)) h.next
 
     elsewhere : (k : ℕ) → k ≢ f → rasp_at g.term k ≡ rasp_at e.term k
@@ -610,8 +614,8 @@ edit_brought e g ls ks f step h s over none made sets =
             subst (λ v. IsOverRasp v (slot ks k)) (sym (elsewhere k other)) (subst (λ o. IsOverRasp (rasp_at e.term k) o) (sym (sets.1 k other)) (over k))
 
 -- the layer that is put has room for its next edit
-pub put-room : (e : PlainTermEndpoint) (ls : Slots Layer) (f : ℕ) (h : IsPutting e ls f) (l : Layer) → slot ls f ≡ Some l → h.layer ≡ l
-put-room e ls f h l is =
+pub put-room : (e : PlainTermEndpoint) (ls : Slots Layer) (f : ℕ) (m : Option ℕ) (h : IsPutting e ls m f) (l : Layer) → slot ls f ≡ Some l → h.layer ≡ l
+put-room e ls f m h l is =
     let same : Some h.layer ≡ Some l = sym h.waits ∙ is in
     grind (arith, same)
 

@@ -1,11 +1,12 @@
 -- An overlay, and what its calls do.
-use Rattle.std.specs.Prelude.{◌≡◌, ◌≢◌, ℕ, ◌+◌, ◌-◌, ◌^◌, ◌<◌, Bool, true, false, not, ◌&&◌, ◌||◌, ◌==◌, nat_lt, List, [], ◌∷◌, length, take, drop, Option, Some, None, is_some, option_map, Result, Ok, Err}
+use Rattle.std.specs.Prelude.{◌≡◌, ◌≢◌, ℕ, ◌+◌, ◌-◌, ◌^◌, ◌<◌, ◌≤◌, Bool, true, false, not, ◌&&◌, ◌||◌, ◌==◌, nat_lt, List, [], ◌∷◌, length, take, drop, Option, Some, None, is_some, option_map, Result, Ok, Err}
 use Rattle.sam_runes.specs.Checks.{Checks}
 use Rattle.sam_runes.specs.Slots.{Slots, slot}
 use Rattle.sam_runes.specs.Texts.{is_empty, max_runes}
 use Rattle.sam_runes.specs.declared.edit.Edit.{Edit}
 use Rattle.sam_rasp.specs.Rasp.{first_gaps}
-use Rattle.sam_pending.specs.Cells.{PartialText, Cell, Change, IsMade, shown_of}
+use Rattle.sam_pending.specs.Cells.{PartialText, Cell, Change, IsMade, shown_of, text_at}
+use Rattle.sam_pending.specs.Groups.{IsPutUpTo}
 use Rattle.sam_pending.specs.Layers.{Layer, next_edit, next_made, rasp_length, waiting_length}
 use Rattle.sam_pending.specs.declared.fault.PendingFault.{PendingFault}
 use Rattle.sam_pending.specs.declared.fault.PendingFault.TheVariants as failed
@@ -18,8 +19,9 @@ use Rattle.sam_endpoint.specs.declared.fault.TermStop.{TermStop}
 use Rattle.sam_endpoint.specs.declared.step.BringFault.{BringFault}
 use Rattle.sam_endpoint.specs.declared.step.BringFault.TheVariants as bring
 use Rattle.sam_overlay.specs.Effects.{cells_after}
-use Rattle.sam_overlay.specs.Outcomes.{LacksRoom, LayerDrops, has_edit}
+use Rattle.sam_overlay.specs.Outcomes.{IsBehind, LacksRoom, LayerDrops, has_edit}
 use Rattle.sam_overlay.specs.Overlays.{AreOver, AreRequests, IsPutting, cells_of_file, edit_event, is_received, step_effect}
+use Rattle.sam_overlay.specs.Requests.{concerns}
 use Rattle.sam_overlay.specs.declared.fault.ReplaceFault.{ReplaceFault}
 use Rattle.sam_overlay.specs.declared.fault.ReplaceFault.TheVariants as refuses
 use Rattle.sam_overlay.specs.declared.fault.PutFault.{PutFault}
@@ -33,13 +35,14 @@ pub record PlainOverlay : Type 0 where
   pub end : PlainTermEndpoint
   pub layers : Slots Layer  -- what waits over the rasp of each file, by tag
   pub putting : Option ℕ  -- the file whose next edit was put and has not acted yet
+  pub limit : Option ℕ  -- of that edit, the newest group of which it could be
 
 -- the overlay as contracts see it
 abbrev pub seen : Inside → PlainOverlay
-seen a = record { end = a.end; layers = a.layers; putting = a.putting }
+seen a = record { end = a.end; layers = a.layers; putting = a.putting; limit = a.limit }
 
 abbrev pub new_overlay : PlainOverlay
-new_overlay = record { end = new_term_endpoint; layers = []; putting = None }
+new_overlay = record { end = new_term_endpoint; layers = []; putting = None; limit = None }
 
 -- the cells of a file: its rasp, with what waits over it
 abbrev pub cells_at : PlainOverlay → ℕ → List Cell
@@ -66,21 +69,21 @@ abbrev pub has_edit_at : PlainOverlay → ℕ → Bool
 has_edit_at o f = has_edit (slot o.layers f)
 
 -- requests alone are held, or the edit that was put
-abbrev pub HoldsOnly : PlainTermEndpoint → Slots Layer → Option ℕ → Type 0
-HoldsOnly e ls None = AreRequests e.term.held
-HoldsOnly e ls (Some f) = IsPutting e ls f
+abbrev pub HoldsOnly : PlainTermEndpoint → Slots Layer → Option ℕ → Option ℕ → Type 0
+HoldsOnly e ls m None = AreRequests e.term.held
+HoldsOnly e ls m (Some f) = IsPutting e ls m f
 
 -- what is true of each overlay
 pub record IsSound (o : PlainOverlay) : Type 0 where
   pub over : AreOver o.end.term o.layers
   pub command : slot o.layers 0 ≡ None
-  pub holds : HoldsOnly o.end o.layers o.putting
+  pub holds : HoldsOnly o.end o.layers o.limit o.putting
 
 -- ## The host's stream, and requests
 
 -- what waits, and what was put, is as before
 abbrev pub Keeps : PlainOverlay → PlainOverlay → Type 0
-Keeps o n = (n.layers ≡ o.layers) × (n.putting ≡ o.putting)
+Keeps o n = (n.layers ≡ o.layers) × (n.putting ≡ o.putting) × (n.limit ≡ o.limit)
 
 -- an edit that was put has to act first
 abbrev pub IsNotNow : PlainTermEndpoint → BringFault TermStop → Type 0
@@ -122,6 +125,12 @@ CellsGo o x n = When o.putting
     When (Some g) =
         (e : Change) × IsMade (cells_at o g) e (cells_at n g) × ((f : ℕ) → f ≢ g → cells_at n f ≡ cells_at o f)
 
+-- the edit that was put is of the groups up to its limit: the text that a request of the group at the limit, or of a later one, comes to
+-- stays
+abbrev pub KeepsTexts : PlainOverlay → PlainOverlay → Type 0
+KeepsTexts o n =
+    (f g h k : ℕ) → o.putting ≡ Some f → o.limit ≡ Some g → g ≤ h → text_at h (cells_at n k) ≡ text_at h (cells_at o k)
+
 -- ## What the user does
 
 -- how many runes wait
@@ -156,28 +165,59 @@ pub record IsFree (e : PlainTermEndpoint) (f : ℕ) : Type 0 where
   pub none_held : e.term.held ≡ []
   pub free : is_free e.term f ≡ true
 
--- what to put an edit that waits over file f leads to: nothing waits over it; or an edit can't act at once; or the next edit was put,
--- alone, and the next step has it act; or why it isn't, and all is as before
-abbrev pub Puts : PlainOverlay → ℕ → Result Put PutFault → PlainOverlay → Type 0
-Puts o f (Ok put.Nothing) n =
-    (has_edit_at o f ≡ false) × (n.end ≡ o.end) × (n.putting ≡ o.putting) × (slot n.layers f ≡ None) × ((g : ℕ) → cells_at n g ≡ cells_at o g)
-Puts o f (Ok put.NotFree) n = (n ≡ o) × ((o.putting ≡ None) → IsFree o.end f → ⊥)
-Puts o f (Ok put.Edit) n =
-    (l : Layer) × (e : Edit) × (slot o.layers f ≡ Some l) × (next_edit l ≡ Some e) × BringsEvent o.end (edit_event f e) (Ok tt) n.end
-    × (n.layers ≡ o.layers) × (n.putting ≡ Some f)
-Puts o f (Err (unput.Stopped why)) n = (o.end.stop ≡ Some why) × (n ≡ o)
-Puts o f (Err unput.TooLong) n = (l : Layer) × (slot o.layers f ≡ Some l) × (max_runes < rasp_length (next_made l)) × (n ≡ o)
-Puts o f (Err unput.CountFull) n = (o.end.events ≡ 2 ^ 64 - 1) × (n ≡ o)
-Puts o f (Err unput.OutOfMemory) n = n ≡ o
+-- the end has nothing else to do
+pub record IsIdle (o : PlainOverlay) : Type 0 where
+  pub putting : o.putting ≡ None
+  pub going : o.end.stop ≡ None
+  pub done : IsDone o.end
+  pub none_held : o.end.term.held ≡ []
 
--- what to take back the next runes that wait over file f leads to: they went, since an edit could act at once and they have no room; or
--- all is as before, since one can't or they have
-abbrev pub Drops : PlainOverlay → ℕ → Result (Option Dropped) PendingFault → PlainOverlay → Type 0
-Drops o f (Ok None) n = (n ≡ o) × ((o.putting ≡ None) → IsFree o.end f → LacksRoom (slot o.layers f) → ⊥)
-Drops o f (Ok (Some d)) n =
-    (o.putting ≡ None) × IsFree o.end f × LayerDrops (slot o.layers f) (Ok (Some d)) (slot n.layers f)
+-- of file f no edit up to group g is left to put, and no lock holds the user out of it
+pub record IsReady (o : PlainOverlay) (f g : ℕ) : Type 0 where
+  pub clear : IsPutUpTo g (cells_at o f)
+  pub free : (o.end.term.command_lock || nat_lt 0 (window_at o.end.term f).locks) ≡ false
+
+-- an event that stands behind the edits up to group g can act at once: the end has nothing else to do, and the files that it concerns are
+-- ready
+pub record CanAct (o : PlainOverlay) (event : UserEvent) (g : ℕ) : Type 0 where
+  pub idle : IsIdle o
+  pub unlocked : o.end.term.command_lock ≡ false
+  pub ready : (f : ℕ) → f < 2 ^ 16 → concerns event f ≡ true → IsReady o f g
+
+-- the rasp of each file that an event concerns is the text that a request of group g comes to
+abbrev pub FindsText : PlainOverlay → UserEvent → ℕ → Type 0
+FindsText o event g = (f : ℕ) → f < 2 ^ 16 → concerns event f ≡ true → rasp_at o.end.term f ≡ text_at g (cells_at o f)
+
+-- what to put an edit that waits over file f, of the groups up to a limit, leads to: nothing waits over it; or an edit can't act at once,
+-- or what waits stands behind the limit; or the next edit was put, alone, and the next step has it act; or why it isn't, and all is as
+-- before
+abbrev pub PutsUpTo : Option ℕ → PlainOverlay → ℕ → Result Put PutFault → PlainOverlay → Type 0
+PutsUpTo m o f (Ok put.Nothing) n =
+    (has_edit_at o f ≡ false) × (n.end ≡ o.end) × (n.putting ≡ o.putting) × (slot n.layers f ≡ None)
+    × ((g : ℕ) → cells_at n g ≡ cells_at o g)
+PutsUpTo m o f (Ok put.NotFree) n = (n ≡ o) × ((o.putting ≡ None) → IsFree o.end f → IsBehind m (slot o.layers f))
+PutsUpTo m o f (Ok put.Edit) n =
+    (l : Layer) × (e : Edit) × (slot o.layers f ≡ Some l) × (next_edit m l ≡ Some e) × BringsEvent o.end (edit_event f e) (Ok tt) n.end
+    × (n.layers ≡ o.layers) × (n.putting ≡ Some f)
+PutsUpTo m o f (Err (unput.Stopped why)) n = (o.end.stop ≡ Some why) × (n ≡ o)
+PutsUpTo m o f (Err unput.TooLong) n = (l : Layer) × (slot o.layers f ≡ Some l) × (max_runes < rasp_length (next_made m l)) × (n ≡ o)
+PutsUpTo m o f (Err unput.CountFull) n = (o.end.events ≡ 2 ^ 64 - 1) × (n ≡ o)
+PutsUpTo m o f (Err unput.OutOfMemory) n = n ≡ o
+
+abbrev pub Puts : PlainOverlay → ℕ → Result Put PutFault → PlainOverlay → Type 0
+Puts o f result n = PutsUpTo None o f result n
+
+-- what to take back the next runes that wait over file f, of the groups up to a limit, leads to: they went, since an edit could act at
+-- once and they have no room; or all is as before, since one can't or they have
+abbrev pub DropsUpTo : Option ℕ → PlainOverlay → ℕ → Result (Option Dropped) PendingFault → PlainOverlay → Type 0
+DropsUpTo m o f (Ok None) n = (n ≡ o) × ((o.putting ≡ None) → IsFree o.end f → LacksRoom m (slot o.layers f) → ⊥)
+DropsUpTo m o f (Ok (Some d)) n =
+    (o.putting ≡ None) × IsFree o.end f × LayerDrops m (slot o.layers f) (Ok (Some d)) (slot n.layers f)
     × ((g : ℕ) → g ≢ f → slot n.layers g ≡ slot o.layers g) × (n.end ≡ o.end) × (n.putting ≡ o.putting)
-Drops o f (Err why) n = (why ≡ failed.OutOfMemory) × (n ≡ o)
+DropsUpTo m o f (Err why) n = (why ≡ failed.OutOfMemory) × (n ≡ o)
+
+abbrev pub Drops : PlainOverlay → ℕ → Result (Option Dropped) PendingFault → PlainOverlay → Type 0
+Drops o f result n = DropsUpTo None o f result n
 
 -- ## Laws
 

@@ -4,4 +4,6 @@ pub mod Outcomes
 pub mod Frames
 pub mod Overlays
 pub mod Faults
+pub mod Requests
 pub mod Calls
+pub mod Ordered

@@ -1,11 +1,12 @@
 -- What a change of the host's does to what waits over one rasp, and to what is shown.
-use Rattle.std.specs.Prelude.{◌≡◌, ◌≤◌, ◌<◌, ◌^◌, ◌+◌, ◌==◌, ◌&&◌, if◌then◌else◌, ℕ, Bool, true, false, not, List, ◌++◌, map, take, drop, length, reverse, Option, Some, None, option_map, Result, Ok, Err, All}
+use Rattle.std.specs.Prelude.{◌≡◌, ◌↔◌, ◌≤◌, ◌<◌, ◌^◌, ◌+◌, ◌==◌, ◌&&◌, if◌then◌else◌, ℕ, Bool, true, false, max, not, List, [], ◌∷◌, ◌++◌, map, take, drop, length, reverse, Option, Some, None, option_map, is_some, Result, Ok, Err, All}
 use Rattle.sam_runes.specs.Slots.{Slots, slot}
 use Rattle.sam_runes.specs.Texts.{max_runes}
 use Rattle.sam_runes.specs.declared.edit.Edit.{Edit}
 use Rattle.sam_pending.specs.Cells.{PartialText, Cell, IsMade, IsNewest, all_put, put, rasp_of, replaced, resting, shown_of}
-use Rattle.sam_pending.specs.Layers.{Layer, DropsNext, IsLayer, IsOver, cells_over, first_dropped, next_edit, next_made, rasp_length, with_runs}
-use Rattle.sam_pending.specs.Runs.{edit_change, filling_changes, removal_changes, rests}
+use Rattle.sam_pending.specs.Groups.{IsMadeBy, IsPutUpTo}
+use Rattle.sam_pending.specs.Layers.{Layer, DropsNext, IsLayer, IsOver, cells_over, first_dropped, newest_group, next_edit, next_made, rasp_length, with_runs}
+use Rattle.sam_pending.specs.Runs.{edit_change, filling_changes, has_next, removal_changes, rests}
 use Rattle.sam_pending.specs.declared.fault.PendingFault.{PendingFault}
 use Rattle.sam_pending.specs.declared.fault.PendingFault.TheVariants as failed
 use Rattle.sam_pending.specs.declared.run.Run.{Run}
@@ -18,6 +19,7 @@ use Rattle.sam_overlay.specs.declared.frame_plan.Plan.{Plan}
 use Rattle.sam_overlay.specs.declared.outcome.LayerChange.{LayerChange}
 use Rattle.sam_overlay.specs.declared.outcome.LayerChange.TheVariants as change
 use Rattle.sam_overlay.specs.declared.outcome.Outcome.{Outcome}
+use Rattle.sam_overlay.specs.declared.layers.Place.{Place}
 use Rattle.sam_overlay.specs.declared.shown_change.Told.{Told}
 use Rattle.sam_overlay.specs.declared.shown_change.Told.TheVariants as told
 
@@ -82,12 +84,18 @@ pub record Follows (o : Option Layer) (plan : Plan) (x : Outcome) : Type 0 where
 abbrev pub TellsRasp : Plan → Told → Type 0
 TellsRasp plan x = (r : PartialText) (e : Effect) → Meets None plan r e → Leads x r (members_after e r)
 
--- over whatever rasp, the next edit of the layer leads from its cells to those of the layer that it leaves
-abbrev pub IsNextMade : Layer → Type 0
-IsNextMade l =
-    (r : PartialText) (e : Edit) → IsOver r l → next_edit l ≡ Some e
-    → IsMade (cells_over r l) (edit_change e) (cells_over (put r (edit_change e)) (next_made l))
-    × IsOver (put r (edit_change e)) (next_made l)
+-- over whatever rasp, the next edit of the layer, of the groups up to a limit, leads from its cells to those of the layer that it leaves
+abbrev pub IsNextMade : Option ℕ → Layer → Type 0
+IsNextMade m l =
+    (r : PartialText) (e : Edit) → IsOver r l → next_edit m l ≡ Some e
+    → IsMade (cells_over r l) (edit_change e) (cells_over (put r (edit_change e)) (next_made m l))
+    × IsOver (put r (edit_change e)) (next_made m l)
+
+-- the same of the groups up to the limit: the edit is one of these
+abbrev pub IsNextMadeBy : Option ℕ → Layer → Type 0
+IsNextMadeBy m l =
+    (g : ℕ) (r : PartialText) (e : Edit) → m ≡ Some g → IsOver r l → next_edit m l ≡ Some e
+    → IsMadeBy g (cells_over r l) (edit_change e) (cells_over (put r (edit_change e)) (next_made m l))
 
 -- ## What waits
 
@@ -105,16 +113,48 @@ abbrev pub IsNextWaiting : Slots Layer → ℕ → Option ℕ → Type 0
 IsNextWaiting ls from None = NoneWaits ls from (2 ^ 16)
 IsNextWaiting ls from (Some f) = (from ≤ f) × (has_edit (slot ls f) ≡ true) × NoneWaits ls from f
 
--- the rasp has no room for the next edit
-abbrev pub LacksRoom : Option Layer → Type 0
-LacksRoom None = ⊥
-LacksRoom (Some l) = max_runes < rasp_length (next_made l)
+-- no list of edits is kept for the files from one tag on up to another
+abbrev pub NoneKept : Slots Layer → ℕ → ℕ → Type 0
+NoneKept ls from to = (f : ℕ) → from ≤ f → f < to → slot ls f ≡ None
+
+-- the first file from that tag on for which one is kept, with edits that wait or with none left, or there is none
+abbrev pub IsNextKept : Slots Layer → ℕ → Option ℕ → Type 0
+IsNextKept ls from None = NoneKept ls from (2 ^ 16)
+IsNextKept ls from (Some f) = (from ≤ f) × (is_some (slot ls f) ≡ true) × NoneKept ls from f
+
+-- an edit of the groups up to a limit waits
+abbrev pub has_edit_to : Option ℕ → Option Layer → Bool
+has_edit_to m None = false
+has_edit_to m (Some l) = has_next m l.runs
+
+-- over whatever rasp, none of these is left to put exactly if that is so of each cell
+abbrev pub SaysLeft : ℕ → Option Layer → Bool → Type 0
+SaysLeft g o is_left = (r : PartialText) → IsOverRasp r o → (is_left ≡ false) ↔ IsPutUpTo g (cells_in r o)
+
+-- edits wait, and all of them stand behind the limit
+abbrev pub IsBehind : Option ℕ → Option Layer → Type 0
+IsBehind None o = ⊥
+IsBehind (Some g) o = (has_edit o ≡ true) × (has_edit_to (Some g) o ≡ false)
+
+-- the newest group that waits over any file; 0 where none does
+abbrev pub newest_in : Option Layer → ℕ
+newest_in None = 0
+newest_in (Some l) = newest_group l
+
+abbrev pub newest_over : Slots Layer → ℕ
+newest_over [] = 0
+newest_over (o ∷ ls) = max (newest_in o) (newest_over ls)
+
+-- the rasp has no room for the next edit of the groups up to a limit
+abbrev pub LacksRoom : Option ℕ → Option Layer → Type 0
+LacksRoom m None = ⊥
+LacksRoom m (Some l) = max_runes < rasp_length (next_made m l)
 
 -- where it has none the runes of that edit are taken back; else all stays
-abbrev pub LayerDrops : Option Layer → Result (Option Dropped) PendingFault → Option Layer → Type 0
-LayerDrops o (Ok None) k = (k ≡ o) × (LacksRoom o → ⊥)
-LayerDrops o (Ok (Some d)) k = LacksRoom o × ((l : Layer) × (o ≡ Some l) × DropsNext l d × (k ≡ Some (first_dropped l)))
-LayerDrops o (Err why) k = (k ≡ o) × (why ≡ failed.OutOfMemory)
+abbrev pub LayerDrops : Option ℕ → Option Layer → Result (Option Dropped) PendingFault → Option Layer → Type 0
+LayerDrops m o (Ok None) k = (k ≡ o) × (LacksRoom m o → ⊥)
+LayerDrops m o (Ok (Some d)) k = LacksRoom m o × ((l : Layer) × (o ≡ Some l) × DropsNext m l d × (k ≡ Some (first_dropped m l)))
+LayerDrops m o (Err why) k = (k ≡ o) × (why ≡ failed.OutOfMemory)
 
 -- ## What the user does
 
@@ -124,10 +164,18 @@ pub record Replaces (cs : List Cell) (p q : ℕ) (s : List ℕ) (ds : List Cell)
   pub newest : All (IsNewest group) cs
   pub cells : ds ≡ replaced group p q s cs
 
+-- the same, by a group that is not older than that one either
+pub record ReplacesFrom (least : ℕ) (cs : List Cell) (p q : ℕ) (s : List ℕ) (ds : List Cell) : Type 0 where
+  pub group : ℕ
+  pub from : least ≤ group
+  pub newest : All (IsNewest group) cs
+  pub cells : ds ≡ replaced group p q s cs
+
 -- over whatever rasp of n members
-abbrev pub LayerReplaces : ℕ → Option Layer → ℕ → ℕ → List ℕ → Option Layer → Type 0
-LayerReplaces n o p q s k =
-    (r : PartialText) → length r ≡ n → IsOverRasp r o → IsOverRasp r k × Replaces (cells_in r o) p q s (cells_in r k)
+abbrev pub LayerReplaces : ℕ → Option Layer → Place → List ℕ → Option Layer → Type 0
+LayerReplaces n o at s k =
+    (r : PartialText) → length r ≡ n → IsOverRasp r o
+    → IsOverRasp r k × ReplacesFrom at.group (cells_in r o) at.p at.q s (cells_in r k)
 
 -- what is typed is shown, and the rasp stays
 abbrev pub TypedShows : Type 0

@@ -1,11 +1,12 @@
 -- A terminal end over whose rasps edits wait, and what its calls do.
-use Rattle.std.specs.Prelude.{◌≡◌, ◌≢◌, ◌≤◌, ℕ, Bool, true, false, if◌then◌else◌, ◌==◌, List, [], ◌∷◌, Some, None, Result, Ok, Err}
+use Rattle.std.specs.Prelude.{◌≡◌, ◌≢◌, ◌≤◌, ℕ, Bool, true, false, if◌then◌else◌, ◌==◌, List, [], ◌∷◌, Option, Some, None, Result, Ok, Err}
 use Rattle.sam_runes.specs.Checks.{first_of_checks}
 use Rattle.sam_runes.specs.Slots.{Slots, slot}
 use Rattle.sam_runes.specs.Texts.{max_runes}
 use Rattle.sam_runes.specs.declared.edit.Edit.{Edit}
 use Rattle.sam_mesg.specs.declared.hmesg.HFrame.{HFrame}
 use Rattle.sam_pending.specs.Cells.{Cell, Change, IsMade, shown_of}
+use Rattle.sam_pending.specs.Groups.{IsMadeBy}
 use Rattle.sam_pending.specs.Layers.{Layer, next_edit, next_made, rasp_length}
 use Rattle.sam_term.specs.Term.{PlainTerminal, event_checks, rasp_at}
 use Rattle.sam_term.specs.declared.event.UserEvent.{UserEvent}
@@ -71,13 +72,14 @@ AreRequests (e ∷ es) = (is_request e ≡ true) × AreRequests es
 abbrev pub edit_event : ℕ → Edit → UserEvent
 edit_event f e = event.Edit f e.p e.q e.text
 
--- the next edit of what waits over file f was put: it is the one event that is held, and nothing stands against it
-pub record IsPutting (e : PlainTermEndpoint) (ls : Slots Layer) (f : ℕ) : Type 0 where
+-- the next edit of what waits over file f, of the groups up to a limit, was put: it is the one event that is held, and nothing stands
+-- against it
+pub record IsPutting (e : PlainTermEndpoint) (ls : Slots Layer) (m : Option ℕ) (f : ℕ) : Type 0 where
   pub layer : Layer
   pub edit : Edit
   pub waits : slot ls f ≡ Some layer
-  pub next : next_edit layer ≡ Some edit
-  pub room : rasp_length (next_made layer) ≤ max_runes
+  pub next : next_edit m layer ≡ Some edit
+  pub room : rasp_length (next_made m layer) ≤ max_runes
   pub held : e.term.held ≡ edit_event f edit ∷ []
   pub waiting : e.waiting ≡ []
   pub unwritten : e.unwritten ≡ []
@@ -123,13 +125,15 @@ pub record Stepped (e : PlainTermEndpoint) (ls : Slots Layer) (x : OverlayStep) 
   pub over : AreOver g.term ks
   pub command : slot ks 0 ≡ None
   pub requests : AreRequests g.term.held
-  pub cells : (f : ℕ) → (f ≡ 0 → is_received x.step ≡ true) → cells_of_file g.term ks f ≡ cells_after (step_effect e x.step f) (cells_of_file e.term ls f)
+  pub cells : (f : ℕ) → (f ≡ 0 → is_received x.step ≡ true)
+      → cells_of_file g.term ks f ≡ cells_after (step_effect e x.step f) (cells_of_file e.term ls f)
   pub told : (f : ℕ) → Leads (told_at x f) (shown_of (cells_of_file e.term ls f)) (shown_of (cells_of_file g.term ks f))
 
--- by a step the edit that was put came to the rasp of file f; nothing that is shown moved
-pub record Brought (e : PlainTermEndpoint) (ls : Slots Layer) (f : ℕ) (g : PlainTermEndpoint) (ks : Slots Layer) : Type 0 where
+-- by a step the edit that was put, of the groups up to a limit, came to the rasp of file f; nothing that is shown moved
+pub record Brought (e : PlainTermEndpoint) (ls : Slots Layer) (m : Option ℕ) (f : ℕ) (g : PlainTermEndpoint) (ks : Slots Layer) : Type 0 where
   pub change : Change
   pub made : IsMade (cells_of_file e.term ls f) change (cells_of_file g.term ks f)
+  pub by : (b : ℕ) → m ≡ Some b → IsMadeBy b (cells_of_file e.term ls f) change (cells_of_file g.term ks f)
   pub others : (h : ℕ) → h ≢ f → cells_of_file g.term ks h ≡ cells_of_file e.term ls h
   pub over : AreOver g.term ks
   pub command : slot ks 0 ≡ None

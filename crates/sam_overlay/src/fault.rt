@@ -52,6 +52,23 @@ pub enum PutFault {
     OutOfMemory,
 }
 
+/// Why a request is not taken in, in the order of the tests. After each all is as before. No lock is among them.
+#[derive(Clone, Copy, Debug, PartialEq, Eq, Drop, Error)]
+pub enum AskFault {
+    /// An edit that was put has to act first: go on by steps.
+    #[error("an edit has to act first")]
+    Waiting,
+    /// `MOST_REQUESTS` wait.
+    #[error("too many requests wait")]
+    TooMany,
+    /// 2^32-1 groups of edits were closed while edits or requests waited.
+    #[error("a count is full")]
+    CountFull,
+    /// A request for memory was refused.
+    #[error("out of memory")]
+    OutOfMemory,
+}
+
 impl PutFault {
     /// Returns the fault of an event that the end did not take.
     pub(crate) fn of(why: BringFault<TermStop>) -> PutFault

@@ -2,6 +2,7 @@
 
 ghost use Rattle.sam_overlay.specs.Effects.{CellsFollow, WaitingStays};
 ghost use Rattle.sam_overlay.specs.Calls.{RestsShow};
+ghost use Rattle.sam_overlay.specs.Requests.{RequestsFindTheirText};
 ghost use Rattle.sam_overlay.specs.Outcomes.{TypedShows};
 ghost use Rattle.sam_overlay.specs.Frames.{FramesMoveRasps};
 
@@ -34,4 +35,11 @@ pub fn typed_shows()
 #[tactic(auto, using(crate::proofs::CallLaws::rests_show))]
 pub fn rests_show()
     ensures { RestsShow }
+{}
+
+/// States that a request finds the text that was shown as it was asked for, with the host's changes since: once no edit before it is left
+/// to put, the rasp is that text. `sam_pending::laws::requests_find_what_was_shown` says what changes it meanwhile.
+#[tactic(auto, using(crate::proofs::RequestLaws::requests_find_their_text))]
+pub fn requests_find_their_text()
+    ensures { RequestsFindTheirText }
 {}

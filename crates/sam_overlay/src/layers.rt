@@ -3,7 +3,7 @@
 ghost use Rattle.std.specs.Prelude.{◌≡◌, ◌++◌, ◌+◌, ◌-◌, ◌<◌, ◌≤◌, ◌^◌, ℕ, [], length, OnErr, OnOk, IfOk, Ok, Some, None, IsTrue, ◌≢◌, is_some, option_copied, option_map, List, replicate, vec_len, vec_capacity};
 ghost use Rattle.sam_runes.specs.Slots.{slot};
 ghost use Rattle.sam_pending.specs.Layers.{Layer, IsLayer, with_runs, next_made, rasp_length};
-ghost use Rattle.sam_overlay.specs.Outcomes.{IsNextMade, IsNextWaiting, LayerDrops, LayerReplaces, NoneWaits, has_edit, layer_after};
+ghost use Rattle.sam_overlay.specs.Outcomes.{IsNextKept, IsNextMade, IsNextWaiting, LayerDrops, LayerReplaces, IsNextMadeBy, NoneWaits, SaysLeft, has_edit, layer_after, newest_in, newest_over};
 ghost use Rattle.sam_overlay.specs.Setting.{Sets};
 ghost use Rattle.sam_pending.specs.declared.run.Run.{Run};
 ghost use Rattle.sam_runes.specs.Texts.{max_runes};
@@ -15,6 +15,17 @@ use std::marker::Model;
 
 /// How many tags there are.
 const TAGS: usize = 65_536;
+
+/// Where an edit of the user stands: in the place of what is shown from place `p` to place `q`.
+#[derive(Clone, Copy)]
+pub(crate) struct Place {
+    /// The oldest group that the edit may be put into.
+    pub group: u32,
+    /// The place where what goes begins.
+    pub p: u32,
+    /// The place where it ends.
+    pub q: u32,
+}
 
 /// What waits over the rasps of files, by tag: nothing over most. Contracts see a list of slots, whose index is the tag.
 #[derive(Drop)]
@@ -68,6 +79,31 @@ impl Layers {
         }
     }
 
+    /// Returns how many slots there are.
+    pub fn len(&self) -> usize
+        ensures { result ≡ length self.now }
+    {
+        self.slots.len()
+    }
+
+    /// Returns whether an edit of the group `up_to`, or of one before it, waits over a file.
+    #[tactic(auto, using(crate::proofs::QueueLaws::none_left))]
+    pub fn is_left(&self, tag: u16, up_to: u32) -> bool
+        ensures { SaysLeft up_to (slot self.now tag) result }
+    {
+        match self.at(tag) {
+            Some(pending) => pending.has_next(Some(up_to)),
+            None => false,
+        }
+    }
+
+    /// Returns the newest group that waits over any file; 0 if none does.
+    pub fn newest(&self) -> u32
+        ensures { result ≡ newest_over self.now }
+    {
+        newest_over(self.slots.as_slice())
+    }
+
     /// Returns the first file from that tag on over which an edit waits; `None` if there is none.
     #[tactic(auto, using(crate::proofs::SlotSteps::waiting_facts))]
     pub fn next_waiting(&self, from: u16) -> Option<u16>
@@ -83,26 +119,50 @@ impl Layers {
         None
     }
 
-    /// Puts `runes` in the place of what is shown of a file from place `p` to place `q`, where its rasp has `len` members. Errors are those
-    /// of `Pending::new` and of `Pending::replace`; after an error all is unchanged.
+    /// Returns whether a list of edits is kept for a file, with edits that wait or with none left.
+    fn is_kept(&self, tag: u16) -> bool
+        ensures { result ≡ is_some (slot self.now tag) }
+    {
+        match self.at(tag) {
+            Some(_) => true,
+            None => false,
+        }
+    }
+
+    /// Returns the first file from that tag on for which a list of edits is kept; `None` if there is none.
+    #[tactic(auto, using(crate::proofs::SlotSteps::kept_facts))]
+    pub fn next_kept(&self, from: u16) -> Option<u16>
+        ensures { IsNextKept self.now from result }
+    {
+        let end = self.slots.len().min(TAGS);
+        for index in from as usize..end {
+            let tag = index as u16;
+            if self.is_kept(tag) {
+                return Some(tag);
+            }
+        }
+        None
+    }
+
+    /// Puts `runes` at a place of what is shown of a file whose rasp has `len` members. Errors are those of `Pending::new` and of
+    /// `Pending::replace`; after an error all is unchanged.
     #[tactic(auto, using(crate::proofs::SlotSteps::set_facts))]
     pub fn replace(
         &mut self,
         tag: u16,
         len: u32,
-        p: u32,
-        q: u32,
+        at: Place,
         runes: &[char],
     ) -> Result<(), PendingFault>
-        ensures ok { OnOk result (LayerReplaces len (slot self.old tag) p q runes.now (slot self.new tag)) }
+        ensures ok { OnOk result (LayerReplaces len (slot self.old tag) at runes.now (slot self.new tag)) }
         ensures others { OnOk result ((f : ℕ) → f ≢ tag → slot self.new f ≡ slot self.old f) }
         ensures err { OnErr result (self.new ≡ self.old) }
     {
         let index = tag as usize;
         if index < self.slots.len() && self.slots[index].is_some() {
-            return replace_in(&mut self.slots[index], p, q, runes);
+            return replace_in(&mut self.slots[index], at, runes);
         }
-        let layer = new_layer(self.alloc, len, p, q, runes)?;
+        let layer = new_layer(self.alloc, len, at, runes)?;
         self.reserve(tag)?;
         self.put(tag, Some(layer));
         Ok(())
@@ -170,33 +230,39 @@ impl Layers {
         }
     }
 
-    /// Takes back the runes of the next edit of what waits over a file, if its rasp has no room for them. The only error is `OutOfMemory`;
-    /// after it all is unchanged.
+    /// Takes back the runes of the next edit of what waits over a file, of the groups up to a limit, if its rasp has no room for them. The
+    /// only error is `OutOfMemory`; after it all is unchanged.
     #[tactic(auto, using(crate::proofs::SlotSteps::set_facts))]
-    pub fn drop_next(&mut self, tag: u16) -> Result<Option<Dropped>, PendingFault>
-        ensures dropped { LayerDrops (slot self.old tag) result (slot self.new tag) }
+    pub fn drop_next(
+        &mut self,
+        tag: u16,
+        up_to: Option<u32>,
+    ) -> Result<Option<Dropped>, PendingFault>
+        ensures dropped { LayerDrops up_to (slot self.old tag) result (slot self.new tag) }
         ensures others { (f : ℕ) → f ≢ tag → slot self.new f ≡ slot self.old f }
         ensures none { result ≡ Ok None → self.new ≡ self.old }
         ensures err { OnErr result (self.new ≡ self.old) }
     {
         let index = tag as usize;
         if index < self.slots.len() {
-            drop_next(&mut self.slots[index])
+            drop_next(&mut self.slots[index], up_to)
         } else {
             Ok(None)
         }
     }
 
-    /// Takes on that the next edit of what waits over a file was made in its rasp. Nothing is done if nothing waits.
+    /// Takes on that the next edit of what waits over a file, of the groups up to a limit, was made in its rasp. Nothing is done if nothing
+    /// waits.
     #[tactic(auto, using(crate::proofs::SlotSteps::set_facts))]
-    pub fn make_next(&mut self, tag: u16)
-        requires { (l : Layer) → slot self.old tag ≡ Some l → rasp_length (next_made l) ≤ max_runes }
-        ensures layers { Sets self.old tag (option_map next_made (slot self.old tag)) self.new }
-        ensures made { (l : Layer) → slot self.old tag ≡ Some l → IsNextMade l }
+    pub fn make_next(&mut self, tag: u16, up_to: Option<u32>)
+        requires { (l : Layer) → slot self.old tag ≡ Some l → rasp_length (next_made up_to l) ≤ max_runes }
+        ensures layers { Sets self.old tag (option_map (next_made up_to) (slot self.old tag)) self.new }
+        ensures made { (l : Layer) → slot self.old tag ≡ Some l → IsNextMade up_to l }
+        ensures groups { (l : Layer) → slot self.old tag ≡ Some l → IsNextMadeBy up_to l }
     {
         let index = tag as usize;
         if index < self.slots.len() {
-            make_next(&mut self.slots[index]);
+            make_next(&mut self.slots[index], up_to);
         }
     }
 }
@@ -213,52 +279,57 @@ fn push_slots(slots: &mut Vec<Option<Pending>>, more: usize)
     }
 }
 
-/// Returns a layer over a rasp of `len` members, in which these runes are in the place of what is shown.
+/// Returns a layer over a rasp of `len` members, in which the runes are put at that place.
 #[tactic(auto, using(crate::proofs::CallLaws::new_replaces))]
-fn new_layer(
-    alloc: Global,
-    len: u32,
-    p: u32,
-    q: u32,
-    runes: &[char],
-) -> Result<Pending, PendingFault>
-    ensures { IfOk result (λ l. LayerReplaces len None p q runes.now (Some l)) }
+fn new_layer(alloc: Global, len: u32, at: Place, runes: &[char]) -> Result<Pending, PendingFault>
+    ensures { IfOk result (λ l. LayerReplaces len None at runes.now (Some l)) }
 {
     let mut pending = Pending::new(alloc, len)?;
-    replace_pending(&mut pending, p, q, runes)?;
+    replace_pending(&mut pending, at, runes)?;
     Ok(pending)
 }
 
-/// Puts runes in the place of what is shown, where something waits.
-fn replace_in(
-    layer: &mut Option<Pending>,
-    p: u32,
-    q: u32,
-    runes: &[char],
-) -> Result<(), PendingFault>
+/// Puts runes at a place of what is shown, where something waits.
+fn replace_in(layer: &mut Option<Pending>, at: Place, runes: &[char]) -> Result<(), PendingFault>
     requires { IsTrue (is_some layer.old) }
-    ensures ok { OnOk result ((n : ℕ) → LayerReplaces n layer.old p q runes.now layer.new) }
+    ensures ok { OnOk result ((n : ℕ) → LayerReplaces n layer.old at runes.now layer.new) }
     ensures err { OnErr result (layer.new ≡ layer.old) }
 {
     match layer {
-        Some(pending) => replace_pending(pending, p, q, runes),
+        Some(pending) => replace_pending(pending, at, runes),
         None => Ok(()),
     }
 }
 
-/// Puts runes in the place of what is shown, by the newest group.
+/// Puts runes at a place of what is shown, by the newest group, or by that of the place if it is newer.
 #[tactic(auto, using(crate::proofs::CallLaws::replaces_layer))]
-fn replace_pending(
-    pending: &mut Pending,
-    p: u32,
-    q: u32,
-    runes: &[char],
-) -> Result<(), PendingFault>
-    ensures ok { OnOk result ((n : ℕ) → LayerReplaces n (Some pending.old) p q runes.now (Some pending.new)) }
+fn replace_pending(pending: &mut Pending, at: Place, runes: &[char]) -> Result<(), PendingFault>
+    ensures ok { OnOk result ((n : ℕ) → LayerReplaces n (Some pending.old) at runes.now (Some pending.new)) }
     ensures err { OnErr result (pending.new ≡ pending.old) }
 {
-    let group = pending.newest();
-    pending.replace(group, p, q, runes)
+    let group = pending.newest().max(at.group);
+    pending.replace(group, at.p, at.q, runes)
+}
+
+/// Returns the newest group of these slots; 0 if nothing waits.
+fn newest_over(slots: &[Option<Pending>]) -> u32
+    ensures { result ≡ newest_over slots.now }
+{
+    let mut newest: u32 = 0;
+    for layer in slots {
+        newest = newest.max(newest_in(layer));
+    }
+    newest
+}
+
+/// Returns the newest group that waits, where something does; 0 where nothing does.
+fn newest_in(layer: &Option<Pending>) -> u32
+    ensures { result ≡ newest_in layer.now }
+{
+    match layer {
+        Some(pending) => pending.newest(),
+        None => 0,
+    }
 }
 
 /// Makes a change of the host's that was prepared, if something waits.
@@ -272,24 +343,28 @@ fn take_on(layer: &mut Option<Pending>, change: Prepared)
 }
 
 /// Takes back the runes of the next edit, if something waits and the rasp has no room for them.
-fn drop_next(layer: &mut Option<Pending>) -> Result<Option<Dropped>, PendingFault>
-    ensures dropped { LayerDrops layer.old result layer.new }
+fn drop_next(
+    layer: &mut Option<Pending>,
+    up_to: Option<u32>,
+) -> Result<Option<Dropped>, PendingFault>
+    ensures dropped { LayerDrops up_to layer.old result layer.new }
     ensures none { result ≡ Ok None → layer.new ≡ layer.old }
     ensures err { OnErr result (layer.new ≡ layer.old) }
 {
     match layer {
-        Some(pending) => pending.drop_next(),
+        Some(pending) => pending.drop_next(up_to),
         None => Ok(None),
     }
 }
 
 /// Takes on that the next edit was made, if something waits.
-fn make_next(layer: &mut Option<Pending>)
-    requires { (l : Layer) → layer.old ≡ Some l → rasp_length (next_made l) ≤ max_runes }
-    ensures layer { layer.new ≡ option_map next_made layer.old }
-    ensures made { (l : Layer) → layer.old ≡ Some l → IsNextMade l }
+fn make_next(layer: &mut Option<Pending>, up_to: Option<u32>)
+    requires { (l : Layer) → layer.old ≡ Some l → rasp_length (next_made up_to l) ≤ max_runes }
+    ensures layer { layer.new ≡ option_map (next_made up_to) layer.old }
+    ensures made { (l : Layer) → layer.old ≡ Some l → IsNextMade up_to l }
+    ensures groups { (l : Layer) → layer.old ≡ Some l → IsNextMadeBy up_to l }
 {
     if let Some(pending) = layer {
-        pending.make_next();
+        pending.make_next(up_to);
     }
 }

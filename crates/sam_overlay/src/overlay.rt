@@ -5,22 +5,23 @@ ghost use Rattle.sam_runes.specs.Checks.{first_of_checks};
 ghost use Rattle.sam_runes.specs.Texts.{max_runes};
 ghost use Rattle.sam_pending.specs.Layers.{IsOver, cells_over, next_edit, next_made, rasp_length, shown_members};
 ghost use Rattle.sam_pending.specs.Cells.{IsTakenBack, PartialText, rasp_of, resting, shown_of};
-ghost use Rattle.sam_pending.specs.Runs.{rests};
+ghost use Rattle.sam_pending.specs.Runs.{has_next};
 ghost use Rattle.sam_endpoint.specs.TermEndpoints.{IsDone};
 ghost use Rattle.sam_endpoint.specs.TermStepping.{Steps};
-ghost use Rattle.sam_overlay.specs.Calls.{Asks, Brings, CellsGo, Drops, IsFree, IsNotNow, Keeps, is_free, Puts, IsShownFrom, cells_at, gap_from, gap_in, has_edit_at, new_overlay, replace_checks, shown_at, waiting_at};
-ghost use Rattle.sam_overlay.specs.Outcomes.{IsNextWaiting, Leads, Replaces};
+ghost use Rattle.sam_overlay.specs.Calls.{Asks, Brings, CanAct, CellsGo, FindsText, IsIdle, IsReady, KeepsTexts, Drops, DropsUpTo, IsFree, IsNotNow, Keeps, is_free, Puts, PutsUpTo, IsShownFrom, cells_at, gap_from, gap_in, has_edit_at, new_overlay, replace_checks, shown_at, waiting_at};
+ghost use Rattle.sam_overlay.specs.Outcomes.{IsNextKept, IsNextWaiting, Leads, Replaces, ReplacesFrom, newest_over};
 ghost use Rattle.sam_overlay.specs.Overlays.{StopsOnly, end_step, is_request, told_at};
 ghost use Rattle.sam_term.specs.Term.{is_known, is_open, rasp_at};
 
 use crate::fault::{PutFault, ReplaceFault};
-use crate::layers::Layers;
+use crate::layers::{Layers, Place};
+use crate::request::concerns;
 use crate::shown_change::{OverlayStep, Put};
 use crate::steps::{quiet, step_edit, step_over};
 use sam_endpoint::{BringFault, EndpointFault, FinishFault, TermEndpoint, TermStop};
 use sam_pending::{Dropped, Pending, PendingFault, Shown};
 use sam_rasp::Rasp;
-use sam_runes::{Edit, MAX_RUNES};
+use sam_runes::{ALL_TAGS, Edit, MAX_RUNES};
 use sam_term::{Refusal, Terminal, UserEvent};
 use std::alloc::Global;
 use std::marker::Model;
@@ -47,6 +48,8 @@ pub struct Overlay {
     layers: Layers,
     /// The file whose next edit was put and has not acted yet: memory was refused, or no step was made since.
     putting: Option<u16>,
+    /// Of that edit, the newest group of which it could be.
+    limit: Option<u32>,
 }
 
 impl Model for Overlay {
@@ -69,6 +72,7 @@ impl Overlay {
             end: TermEndpoint::new(alloc),
             layers: Layers::new(alloc),
             putting: None,
+            limit: None,
         }
     }
 
@@ -144,6 +148,14 @@ impl Overlay {
         self.layers.next_waiting(from)
     }
 
+    /// Returns the first file from tag `from` on for which a list of edits is kept; `None` if there is none. One of which all edits have
+    /// acted is kept until `put_next` is called, which lets it go. To find all, go on behind each.
+    pub fn next_kept(&self, from: u16) -> Option<u16>
+        ensures { IsNextKept self.now.layers from result }
+    {
+        self.layers.next_kept(from)
+    }
+
     /// Takes out the first `count` bytes for the host, or all if there are fewer, as `TermEndpoint::consume` does. All else stays.
     pub fn consume(&mut self, count: usize)
         ensures { self.new ≡ record self.old { end = record self.old.end { pending_bytes = drop count self.old.end.pending_bytes } } }
@@ -160,12 +172,13 @@ impl Overlay {
         self.end.next_refusal()
     }
 
-    /// States what is true of every overlay: the cells of a file that no edit which waits put in are its rasp, and nothing waits over the
-    /// command file. It does nothing when the program runs.
-    #[tactic(auto, using(crate::proofs::CallLaws::rasp_of_file, crate::proofs::CallLaws::command_rests))]
+    /// States what is true of every overlay: the cells of a file that no edit which waits put in are its rasp, and all of them where none
+    /// waits; and nothing waits over the command file. It does nothing when the program runs.
+    #[tactic(auto, using(crate::proofs::CallLaws::fact_laws))]
     pub fn facts(&self)
         ensures command { cells_at self.now 0 ≡ resting (rasp_at self.now.end.term 0) }
         ensures rasp { (f : ℕ) → rasp_of (cells_at self.now f) ≡ rasp_at self.now.end.term f }
+        ensures rests { (f : ℕ) → has_edit_at self.now f ≡ false → cells_at self.now f ≡ resting (rasp_at self.now.end.term f) }
     {
         let _ = &self.alloc;
     }
@@ -214,6 +227,7 @@ impl Overlay {
         ensures cells { IfOk result (λ x. CellsGo self.old x self.new) }
         ensures put { OnOk result (self.new.putting ≡ None) }
         ensures told { IfOk result (λ x. (f : ℕ) → Leads (told_at x f) (shown_at self.old f) (shown_at self.new f)) }
+        ensures texts { OnOk result (KeepsTexts self.old self.new) }
         ensures err { OnErr result (Keeps self.old self.new × StopsOnly self.old.end self.new.end) }
     {
         if let Some(why) = self.end.stopped() {
@@ -222,7 +236,7 @@ impl Overlay {
         match self.putting {
             None => step_over(&mut self.end, &mut self.layers, self.alloc),
             Some(tag) => {
-                let step = step_edit(&mut self.end, &mut self.layers, tag)?;
+                let step = step_edit(&mut self.end, &mut self.layers, tag, self.limit)?;
                 self.putting = None;
                 Ok(quiet(step))
             }
@@ -236,7 +250,7 @@ impl Overlay {
     /// `BadPosition` if `q` is less than `p` or past the end of what is shown; `TooLong` if there are runes, and these, the rasp and all
     /// that waits over it (with what goes) are more than `MAX_RUNES`; `OutOfMemory`, also while an edit of the file was put that has not
     /// acted: go on by steps. No lock is an error.
-    #[tactic(auto, using(crate::proofs::CallLaws::replace_facts))]
+    #[tactic(auto, using(crate::proofs::CallLaws::any_replaces))]
     pub fn replace(&mut self, tag: u16, p: u32, q: u32, runes: &[char]) -> Result<(), ReplaceFault>
         ensures tests { OnOk result (first_of_checks (replace_checks self.old tag p q runes.now) ≡ None) }
         ensures refused { IfErr result (λ why. (first_of_checks (replace_checks self.old tag p q runes.now) ≡ Some why)
@@ -246,14 +260,36 @@ impl Overlay {
         ensures end { (self.new.end ≡ self.old.end) × (self.new.putting ≡ self.old.putting) }
         ensures err { OnErr result (self.new ≡ self.old) }
     {
-        if let Some(why) = self.refusal(tag, p, q, runes) {
+        let at = Place { group: 0, p, q };
+        self.replace_at(tag, at, runes)
+    }
+
+    /// As `replace`, where the place says into which group the edit is put, if no newer one waits.
+    #[tactic(auto, using(crate::proofs::CallLaws::replace_facts))]
+    pub(crate) fn replace_at(
+        &mut self,
+        tag: u16,
+        at: Place,
+        runes: &[char],
+    ) -> Result<(), ReplaceFault>
+        ensures tests { OnOk result (first_of_checks (replace_checks self.old tag at.p at.q runes.now) ≡ None) }
+        ensures refused { IfErr result (λ why. (first_of_checks (replace_checks self.old tag at.p at.q runes.now) ≡ Some why)
+            ⊎ ((why ≡ ReplaceFault.OutOfMemory)
+            × (first_of_checks (replace_checks self.old tag at.p at.q runes.now) ≡ None))) }
+        ensures replaced { OnOk result
+            (ReplacesFrom at.group (cells_at self.old tag) at.p at.q runes.now (cells_at self.new tag)) }
+        ensures others { OnOk result ((f : ℕ) → f ≢ tag → cells_at self.new f ≡ cells_at self.old f) }
+        ensures end { (self.new.end ≡ self.old.end) × (self.new.putting ≡ self.old.putting) }
+        ensures err { OnErr result (self.new ≡ self.old) }
+    {
+        if let Some(why) = self.refusal(tag, at.p, at.q, runes) {
             return Err(why);
         }
         if self.putting == Some(tag) {
             return Err(ReplaceFault::OutOfMemory);
         }
         let len = rasp_len(self.end.term(), tag);
-        match self.layers.replace(tag, len, p, q, runes) {
+        match self.layers.replace(tag, len, at, runes) {
             Ok(()) => Ok(()),
             Err(_) => Err(ReplaceFault::OutOfMemory),
         }
@@ -290,14 +326,71 @@ impl Overlay {
         None
     }
 
+    /// Returns whether an edit was put that has not acted.
+    pub(crate) fn is_putting(&self) -> bool
+        ensures { result ≡ is_some self.now.putting }
+    {
+        self.putting.is_some()
+    }
+
+    /// Returns the newest group that waits over any file; 0 if none does.
+    pub(crate) fn newest(&self) -> u32
+        ensures { result ≡ newest_over self.now.layers }
+    {
+        self.layers.newest()
+    }
+
+    /// Returns whether an event that stands behind the edits up to a group can act at once; then it finds the text that a request of that
+    /// group comes to. The cost goes by the number of files.
+    #[tactic(auto)]
+    pub(crate) fn can_act(&self, event: &UserEvent, group: u32) -> bool
+        ensures can { IsTrue result ↔ CanAct self.now event.now group }
+        ensures finds { IsTrue result → FindsText self.now event.now group }
+    {
+        if !self.is_idle() || self.end.term().command_locked() {
+            return false;
+        }
+        let count = self.end.term().files().len().max(self.layers.len());
+        for index in 0..count.min(ALL_TAGS) {
+            let tag = index as u16;
+            if concerns(event, tag) && !self.is_ready(tag, group) {
+                return false;
+            }
+        }
+        true
+    }
+
+    /// Returns whether the end has nothing else to do.
+    #[tactic(auto, using(crate::proofs::CallLaws::held_none))]
+    fn is_idle(&self) -> bool
+        ensures { IsTrue result ↔ IsIdle self.now }
+    {
+        self.putting.is_none() && is_done(&self.end) && self.end.term().held() == 0
+    }
+
+    /// Returns whether no edit up to a group is left to put over a file, and no lock holds the user out of it.
+    #[tactic(auto)]
+    fn is_ready(&self, tag: u16, group: u32) -> bool
+        ensures { IsTrue result ↔ IsReady self.now tag group }
+    {
+        !self.layers.is_left(tag, group) && !self.end.term().locked(tag)
+    }
+
     /// Puts the next edit of what waits over a file as an event, if it can act at once: the next `step` has it act. All that waits over a
     /// file comes to the rasp so, one edit at a time, and nothing that is shown moves by it.
     ///
     /// Errors, in this order, after which all is as before: `Stopped`; `TooLong` if the rasp would have more than `MAX_RUNES` members,
     /// because the host put more in meanwhile; `CountFull` if 2^64-1 events were taken before; `OutOfMemory`.
-    #[tactic(auto, using(crate::proofs::CallLaws::put_facts))]
     pub fn put_next(&mut self, tag: u16) -> Result<Put, PutFault>
         ensures { Puts self.old tag result self.new }
+    {
+        self.put_up_to(tag, None)
+    }
+
+    /// As `put_next`, of the edits of the groups up to a limit. `NotFree` also says that all that waits stands behind it.
+    #[tactic(auto, using(crate::proofs::CallLaws::put_facts))]
+    pub(crate) fn put_up_to(&mut self, tag: u16, up_to: Option<u32>) -> Result<Put, PutFault>
+        ensures { PutsUpTo up_to self.old tag result self.new }
     {
         if let Some(why) = self.end.stopped() {
             return Err(PutFault::Stopped(why));
@@ -312,13 +405,17 @@ impl Overlay {
             self.layers.free(tag);
             return Ok(Put::Nothing);
         }
-        let edit = next_edit(pending)?;
+        if !pending.has_next(up_to) {
+            return Ok(Put::NotFree);
+        }
+        let edit = next_edit(pending, up_to)?;
         match self
             .end
             .bring_event(UserEvent::Edit(tag, edit.p, edit.q, edit.text))
         {
             Ok(()) => {
                 self.putting = Some(tag);
+                self.limit = up_to;
                 Ok(Put::Edit)
             }
             Err(why) => Err(PutFault::of(why)),
@@ -329,21 +426,34 @@ impl Overlay {
     /// Returns the runes, and which part of the shown text went. `None` wherever `put_next` answers otherwise; then all is as before.
     ///
     /// The only error is `OutOfMemory`; after it all is as before.
-    #[tactic(auto, using(crate::proofs::CallLaws::drop_facts))]
     pub fn drop_next(&mut self, tag: u16) -> Result<Option<Dropped>, PendingFault>
         ensures drops { Drops self.old tag result self.new }
+        ensures cells { IfOk result (λ x. IfSome x (λ d.
+            IsTakenBack (cells_at self.old tag) d.place d.count d.text (cells_at self.new tag))) }
+    {
+        self.drop_up_to(tag, None)
+    }
+
+    /// As `drop_next`, of the edits of the groups up to a limit.
+    #[tactic(auto, using(crate::proofs::CallLaws::drop_facts))]
+    pub(crate) fn drop_up_to(
+        &mut self,
+        tag: u16,
+        up_to: Option<u32>,
+    ) -> Result<Option<Dropped>, PendingFault>
+        ensures drops { DropsUpTo up_to self.old tag result self.new }
         ensures cells { IfOk result (λ x. IfSome x (λ d.
             IsTakenBack (cells_at self.old tag) d.place d.count d.text (cells_at self.new tag))) }
     {
         if self.putting.is_some() || !is_free(&self.end, tag) {
             return Ok(None);
         }
-        self.layers.drop_next(tag)
+        self.layers.drop_next(tag, up_to)
     }
 }
 
-/// Returns whether `Overlay::bring_event` takes an event: it leaves each text as it is, but for that of the command file. So typing, cutting
-/// and pasting are taken there alone, and no `Edit` is, since the command file takes none.
+/// Returns whether `Overlay::bring_event` takes an event: it leaves each text as it is, but for that of the command file. So typing,
+/// cutting and pasting are taken there alone, and no `Edit` is, since the command file takes none.
 pub fn is_request(event: &UserEvent) -> bool
     ensures { result ≡ is_request event.now }
 {
@@ -520,15 +630,15 @@ fn is_unlocked(term: &Terminal, tag: u16) -> bool
     term.rasp(tag).is_some()
 }
 
-/// Returns the next edit of what waits, where something does.
-fn next_edit(pending: &Pending) -> Result<Edit, PutFault>
-    requires { rests pending.now.runs ≡ false }
-    ensures edit { IfOk result (λ e. next_edit pending.now ≡ Some e) }
-    ensures room { OnOk result (rasp_length (next_made pending.now) ≤ max_runes) }
-    ensures err { IfErr result (λ why. ((why ≡ PutFault.TooLong) × (max_runes < rasp_length (next_made pending.now)))
+/// Returns the next edit of what waits, of the groups up to a limit, where there is one.
+fn next_edit(pending: &Pending, up_to: Option<u32>) -> Result<Edit, PutFault>
+    requires { IsTrue (has_next up_to pending.now.runs) }
+    ensures edit { IfOk result (λ e. next_edit up_to pending.now ≡ Some e) }
+    ensures room { OnOk result (rasp_length (next_made up_to pending.now) ≤ max_runes) }
+    ensures err { IfErr result (λ why. ((why ≡ PutFault.TooLong) × (max_runes < rasp_length (next_made up_to pending.now)))
         ⊎ (why ≡ PutFault.OutOfMemory)) }
 {
-    match pending.next_edit() {
+    match pending.next_edit(up_to) {
         Ok(Some(edit)) => Ok(edit),
         Ok(None) => unreachable!(),
         Err(PendingFault::TooLong) => Err(PutFault::TooLong),

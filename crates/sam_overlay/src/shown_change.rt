@@ -15,8 +15,8 @@ pub enum Told {
     Went(Vec<Removal>),
     /// The runes of these stretches came in the place of what stood there, in ascending places. Nothing moved.
     Filled(Vec<Filling>),
-    /// `(place, gone, came)`: so many runes or gaps from the place on gave way to so many others. An event did this to the command file, over
-    /// which nothing waits.
+    /// `(place, gone, came)`: so many runes or gaps from the place on gave way to so many others. An event did this to the command file,
+    /// over which nothing waits.
     Changed(u32, u32, u32),
     /// It is empty now, since the file was opened or closed, and with a file that is closed goes what waited.
     Emptied,
@@ -38,8 +38,19 @@ pub struct OverlayStep {
 pub enum Put {
     /// Nothing waits over the file.
     Nothing,
-    /// It waits on: the end has something else to do, or a lock holds the user out.
+    /// It waits on: the end has something else to do, or a lock holds the user out, or it stands behind a request of an `OrderedOverlay`.
     NotFree,
     /// It was put as an event, and the next step has it act.
     Edit,
+}
+
+/// What became of the oldest request as it was to act.
+#[derive(Clone, Copy, Debug, PartialEq, Eq, Drop)]
+pub enum Turn {
+    /// None waits.
+    Nothing,
+    /// It waits on: edits before it are left to put, the end has something else to do, or a lock is in its way.
+    NotYet,
+    /// The end holds it, and the next step has it act or refuses it.
+    Request,
 }

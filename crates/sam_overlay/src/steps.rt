@@ -102,22 +102,23 @@ pub(crate) fn quiet(step: TermStep) -> OverlayStep
     }
 }
 
-/// Has the edit act that was put, which is the next one of what waits over the file.
+/// Has the edit act that was put, which is the next one of what waits over the file, of the groups up to a limit.
 #[tactic(auto, using(crate::proofs::StepLaws::edit_facts))]
 pub(crate) fn step_edit(
     end: &mut TermEndpoint,
     layers: &mut Layers,
     tag: u16,
+    limit: Option<u32>,
 ) -> Result<TermStep, EndpointFault<TermStop>>
     requires going { end.old.stop ≡ None }
     requires over { AreOver end.old.term layers.old }
     requires command { slot layers.old 0 ≡ None }
-    requires putting { IsPutting end.old layers.old tag }
+    requires putting { IsPutting end.old layers.old limit tag }
     ensures step { Steps end.old result end.new }
-    ensures brought { OnOk result (Brought end.old layers.old tag end.new layers.new) }
+    ensures brought { OnOk result (Brought end.old layers.old limit tag end.new layers.new) }
     ensures err { OnErr result ((layers.new ≡ layers.old) × StopsOnly end.old end.new) }
 {
     let step = end.step()?;
-    layers.make_next(tag);
+    layers.make_next(tag, limit);
     Ok(step)
 }

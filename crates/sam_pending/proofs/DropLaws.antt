@@ -1,23 +1,19 @@
 -- Runes that wait are taken back.
 use Rattle.std.proofs.Common.{◌≡◌, refl, sym, ap, ◌∙◌, subst, ℕ, suc, ◌+◌, ◌≤◌, ◌<◌, Bool, true, false, not, cond, List, [], ◌∷◌, ◌++◌, map, length, take, drop, Option, Some, None, arith, append_assoc, append-nil, length-append, length-drop, IsTrue}
 use Rattle.std.specs.Prelude.{option_map}
-use Rattle.std.specs.List.{All, filter}
-use Rattle.std.proofs.lemmas.List.{length-map}
+use Rattle.std.specs.List.{All}
 use Rattle.std.proofs.lemmas.List.Elements.{All-map}
-use Rattle.sam_runes.specs.Texts.{max_runes}
 use Rattle.sam_runes.specs.declared.edit.Edit.{Edit}
 use Rattle.sam_pending.specs.Cells.{PartialText, Cell, IsTakenBack, rasp_of, shown_of, in_rasp, is_shown}
-use Rattle.sam_pending.specs.Runs.{held, typed_by, runes_of, room, rooms, wait, waits, above, cells, cells_of, reach, Within, is_due, first_due, first_typed, without_typed, edit_at, made_run, made_first, next_deed}
-use Rattle.sam_pending.specs.Layers.{Layer, IsLayer, IsOver, DropsNext, cells_over, first_dropped, next_edit, next_made, rasp_length, waiting_length}
+use Rattle.sam_pending.specs.Runs.{typed_by, runes_of, room, rooms, wait, waits, above, cells, cells_of, reach, Within, is_due, first_due, first_typed, without_typed, edit_at, made_run, made_first, has_due, next_deed}
+use Rattle.sam_pending.specs.Layers.{Layer, IsLayer, DropsNext, first_dropped, next_edit}
 use Rattle.sam_pending.specs.declared.told.Dropped.{Dropped}
-use Rattle.sam_pending.specs.declared.run.Stretch.{Stretch}
 use Rattle.sam_pending.specs.declared.run.Run.{Run}
 use Rattle.sam_pending.specs.declared.run.Run.TheVariants.{Held, Typed}
-use Rattle.sam_pending.specs.declared.run.Deed.{Deed}
 use Rattle.sam_pending.specs.declared.run.Deed.TheVariants.{Removes, Inserts}
 use Rattle.sam_pending.proofs.CellLaws.{members-append, members-three}
-use Rattle.sam_pending.proofs.RunLaws.{runes-size, take-front, drop-front}
-use Rattle.sam_pending.proofs.SendLaws.{above_shown, shown-typed}
+use Rattle.sam_pending.proofs.RunLaws.{take-front, drop-front}
+use Rattle.sam_pending.proofs.SendLaws.{above_shown}
 use Rattle.sam_pending.proofs.DueLaws.{members-typed}
 
 -- ## What it does to the two texts
@@ -57,32 +53,32 @@ shown-one : (x : Run) (text : List ℕ) (r : PartialText) → reach x ≤ length
 shown-one x text r w l =
     ap (λ y. length (shown_of y)) (sym (append-nil (cells text r x))) ∙ above_shown (x ∷ []) text r (w, tt) (omega (arith, l))
 
-takes-here : (x : Run) (xs : List Run) (text : List ℕ) (r : PartialText) (n : ℕ) (a : List Cell) → is_due Inserts x ≡ true → reach x ≤ length text
+takes-here : (m : Option ℕ) (x : Run) (xs : List Run) (text : List ℕ) (r : PartialText) (n : ℕ) (a : List Cell) → is_due (Inserts m) x ≡ true → reach x ≤ length text
     → n ≡ length (shown_of a)
     → IsTakenBack (a ++ cells_of text r (x ∷ xs)) n (above (x ∷ [])) (edit_at text 0 x).text (a ++ cells_of text r xs)
-takes-here (Held k d) xs text r n a due w len = absurd cc
-takes-here (Typed s b d) xs text r n a due w len =
-    let m = runes_of text s in
-    let h = map (typed_by b d) m in
+takes-here m (Held k d) xs text r n a due w len = absurd cc
+takes-here m (Typed s b d) xs text r n a due w len =
+    let t = runes_of text s in
+    let h = map (typed_by b d) t in
     record {
       before = a;
       stretch = h;
       behind = cells_of text r xs;
       old = sym (append_assoc a h (cells_of text r xs));
       new = refl;
-      all = All-map (λ c. IsTrue (not (in_rasp c))) (typed_by b d) m (λ j y i. refl);
-      runes = sym (members-typed b d m);
+      all = All-map (λ c. IsTrue (not (in_rasp c))) (typed_by b d) t (λ j y i. refl);
+      runes = sym (members-typed b d t);
       place = len;
       count = sym (shown-one (Typed s b d) text r w (omega arith));
     }
 
-pub takes_back : (xs : List Run) (text : List ℕ) (r : PartialText) (n : ℕ) (x : Run) (at : ℕ) (a : List Cell) → Within (length text) xs → rooms xs ≤ length r
-    → n ≡ length (shown_of a) → first_typed n xs ≡ Some (x, at)
-    → IsTakenBack (a ++ cells_of text r xs) at (above (x ∷ [])) (edit_at text 0 x).text (a ++ cells_of text r (without_typed xs))
-takes_back [] text r n x at a w l len f = absurd cc
-takes_back (y ∷ xs) text r n x at a w l len f =
-    step (is_due Inserts y) refl f
-    (λ g. takes_back xs text (drop (room y) r) (n + above (y ∷ [])) x at (a ++ cells text r y) w.1 (omega (arith, l, length-drop (room y) r)) further g)
+pub takes_back : (m : Option ℕ) (xs : List Run) (text : List ℕ) (r : PartialText) (n : ℕ) (x : Run) (at : ℕ) (a : List Cell) → Within (length text) xs → rooms xs ≤ length r
+    → n ≡ length (shown_of a) → first_typed m n xs ≡ Some (x, at)
+    → IsTakenBack (a ++ cells_of text r xs) at (above (x ∷ [])) (edit_at text 0 x).text (a ++ cells_of text r (without_typed m xs))
+takes_back m [] text r n x at a w l len f = absurd cc
+takes_back m (y ∷ xs) text r n x at a w l len f =
+    step (is_due (Inserts m) y) refl f
+    (λ g. takes_back m xs text (drop (room y) r) (n + above (y ∷ [])) x at (a ++ cells text r y) w.1 (omega (arith, l, length-drop (room y) r)) further g)
   where
     further : n + above (y ∷ []) ≡ length (shown_of (a ++ cells text r y))
     further =
@@ -94,109 +90,111 @@ takes_back (y ∷ xs) text r n x at a w l len f =
           shown-one y text r w.0 (omega (arith, l)),
         )
 
-    step : (t : Bool) → is_due Inserts y ≡ t → cond t (Some (y, n)) (first_typed (n + above (y ∷ [])) xs) ≡ Some (x, at)
-        → (first_typed (n + above (y ∷ [])) xs ≡ Some (x, at)
-        → IsTakenBack (a ++ cells text r y ++ cells_of text (drop (room y) r) xs) at (above (x ∷ [])) (edit_at text 0 x).text (a ++ cells text r y ++ cells_of text (drop (room y) r) (without_typed xs)))
-        → IsTakenBack (a ++ cells_of text r (y ∷ xs)) at (above (x ∷ [])) (edit_at text 0 x).text (a ++ cells_of text r (cond t xs (y ∷ without_typed xs)))
+    step : (t : Bool) → is_due (Inserts m) y ≡ t → cond t (Some (y, n)) (first_typed m (n + above (y ∷ [])) xs) ≡ Some (x, at)
+        → (first_typed m (n + above (y ∷ [])) xs ≡ Some (x, at)
+        → IsTakenBack (a ++ cells text r y ++ cells_of text (drop (room y) r) xs) at (above (x ∷ [])) (edit_at text 0 x).text (a ++ cells text r y ++ cells_of text (drop (room y) r) (without_typed m xs)))
+        → IsTakenBack (a ++ cells_of text r (y ∷ xs)) at (above (x ∷ [])) (edit_at text 0 x).text (a ++ cells_of text r (cond t xs (y ∷ without_typed m xs)))
     step true t g next =
         let both : (y, n) ≡ (x, at) = cc in
         let one : y ≡ x = ap (λ (p : Run × ℕ). p.0) both in
         let two : n ≡ at = ap (λ (p : Run × ℕ). p.1) both in
         subst (λ z. IsTakenBack (a ++ cells_of text r (y ∷ xs)) at (above (z ∷ [])) (edit_at text 0 z).text (a ++ cells_of text r xs)) one
-        (subst (λ z. IsTakenBack (a ++ cells_of text r (y ∷ xs)) z (above (y ∷ [])) (edit_at text 0 y).text (a ++ cells_of text r xs)) two (takes-here y xs text r n a t w.0 len))
+        (subst (λ z. IsTakenBack (a ++ cells_of text r (y ∷ xs)) z (above (y ∷ [])) (edit_at text 0 y).text (a ++ cells_of text r xs)) two (takes-here m y xs text r n a t w.0 len))
     step false t g next =
-        subst (λ z. IsTakenBack z at (above (x ∷ [])) (edit_at text 0 x).text (a ++ cells_of text r (y ∷ without_typed xs))) (append_assoc a (cells text r y) (cells_of text (drop (room y) r) xs))
-        (subst (λ z. IsTakenBack (a ++ cells text r y ++ cells_of text (drop (room y) r) xs) at (above (x ∷ [])) (edit_at text 0 x).text z) (append_assoc a (cells text r y) (cells_of text (drop (room y) r) (without_typed xs))) (next g))
+        subst (λ z. IsTakenBack z at (above (x ∷ [])) (edit_at text 0 x).text (a ++ cells_of text r (y ∷ without_typed m xs))) (append_assoc a (cells text r y) (cells_of text (drop (room y) r) xs))
+        (subst (λ z. IsTakenBack (a ++ cells text r y ++ cells_of text (drop (room y) r) xs) at (above (x ∷ [])) (edit_at text 0 x).text z) (append_assoc a (cells text r y) (cells_of text (drop (room y) r) (without_typed m xs))) (next g))
 
-pub typed_reach : (xs : List Run) (n k : ℕ) (x : Run) (at : ℕ) → Within n xs → first_typed k xs ≡ Some (x, at) → reach x ≤ n
-typed_reach [] n k x at w f = absurd cc
-typed_reach (y ∷ xs) n k x at w f = step (is_due Inserts y) f (λ g. typed_reach xs n (k + above (y ∷ [])) x at w.1 g)
+pub typed_reach : (m : Option ℕ) (xs : List Run) (n k : ℕ) (x : Run) (at : ℕ) → Within n xs → first_typed m k xs ≡ Some (x, at) → reach x ≤ n
+typed_reach m [] n k x at w f = absurd cc
+typed_reach m (y ∷ xs) n k x at w f = step (is_due (Inserts m) y) f (λ g. typed_reach m xs n (k + above (y ∷ [])) x at w.1 g)
   where
-    step : (t : Bool) → cond t (Some (y, k)) (first_typed (k + above (y ∷ [])) xs) ≡ Some (x, at)
-        → (first_typed (k + above (y ∷ [])) xs ≡ Some (x, at) → reach x ≤ n) → reach x ≤ n
+    step : (t : Bool) → cond t (Some (y, k)) (first_typed m (k + above (y ∷ [])) xs) ≡ Some (x, at)
+        → (first_typed m (k + above (y ∷ [])) xs ≡ Some (x, at) → reach x ≤ n) → reach x ≤ n
     step true g next =
         let both : (y, k) ≡ (x, at) = cc in
         let one : y ≡ x = ap (λ (p : Run × ℕ). p.0) both in
         subst (λ z. reach z ≤ n) one w.0
     step false g next = next g
 
-without-rooms : (xs : List Run) → rooms (without_typed xs) ≡ rooms xs
-without-rooms [] = refl
-without-rooms (x ∷ xs) = step (is_due Inserts x) refl (without-rooms xs)
+without-rooms : (m : Option ℕ) (xs : List Run) → rooms (without_typed m xs) ≡ rooms xs
+without-rooms m [] = refl
+without-rooms m (x ∷ xs) = step (is_due (Inserts m) x) refl (without-rooms m xs)
   where
-    none : (y : Run) → is_due Inserts y ≡ true → room y ≡ 0
+    none : (y : Run) → is_due (Inserts m) y ≡ true → room y ≡ 0
     none (Held k d) due = absurd cc
     none (Typed s b d) due = refl
 
-    step : (t : Bool) → is_due Inserts x ≡ t → rooms (without_typed xs) ≡ rooms xs → rooms (cond t xs (x ∷ without_typed xs)) ≡ room x + rooms xs
+    step : (t : Bool) → is_due (Inserts m) x ≡ t → rooms (without_typed m xs) ≡ rooms xs → rooms (cond t xs (x ∷ without_typed m xs)) ≡ room x + rooms xs
     step true due h = omega (arith, none x due)
     step false due h = omega (arith, h)
 
-without-waits : (xs : List Run) → waits (without_typed xs) ≤ waits xs
-without-waits [] = omega arith
-without-waits (x ∷ xs) = step (is_due Inserts x) (without-waits xs)
+without-waits : (m : Option ℕ) (xs : List Run) → waits (without_typed m xs) ≤ waits xs
+without-waits m [] = omega arith
+without-waits m (x ∷ xs) = step (is_due (Inserts m) x) (without-waits m xs)
   where
-    step : (t : Bool) → waits (without_typed xs) ≤ waits xs → waits (cond t xs (x ∷ without_typed xs)) ≤ wait x + waits xs
+    step : (t : Bool) → waits (without_typed m xs) ≤ waits xs → waits (cond t xs (x ∷ without_typed m xs)) ≤ wait x + waits xs
     step true h = omega arith
     step false h = omega (arith, h)
 
-without-within : (n : ℕ) (xs : List Run) → Within n xs → Within n (without_typed xs)
-without-within n [] w = tt
-without-within n (x ∷ xs) w = step (is_due Inserts x) (without-within n xs w.1)
+without-within : (m : Option ℕ) (n : ℕ) (xs : List Run) → Within n xs → Within n (without_typed m xs)
+without-within m n [] w = tt
+without-within m n (x ∷ xs) w = step (is_due (Inserts m) x) (without-within m n xs w.1)
   where
-    step : (t : Bool) → Within n (without_typed xs) → Within n (cond t xs (x ∷ without_typed xs))
+    step : (t : Bool) → Within n (without_typed m xs) → Within n (cond t xs (x ∷ without_typed m xs))
     step true h = w.1
     step false h = (w.0, h)
 
-pub dropped_layer : (l : Layer) → IsLayer l → IsLayer (first_dropped l)
-dropped_layer l h = record {
+pub dropped_layer : (m : Option ℕ) (l : Layer) → IsLayer l → IsLayer (first_dropped m l)
+dropped_layer m l h = record {
   text = h.text;
-  within = without-within (length l.text) l.runs h.within;
-  rasp = omega (arith, without-rooms l.runs, h.rasp);
-  waiting = omega (arith, without-waits l.runs, h.waiting);
+  within = without-within m (length l.text) l.runs h.within;
+  rasp = omega (arith, without-rooms m l.runs, h.rasp);
+  waiting = omega (arith, without-waits m l.runs, h.waiting);
 }
 
 -- ## The next edit, where it has no room
 
-removes-less : (xs : List Run) → rooms (made_first Removes xs) ≤ rooms xs
-removes-less [] = omega arith
-removes-less (x ∷ xs) = step (is_due Removes x) refl (removes-less xs)
+removes-less : (m : Option ℕ) (xs : List Run) → rooms (made_first (Removes m) xs) ≤ rooms xs
+removes-less m [] = omega arith
+removes-less m (x ∷ xs) = step (is_due (Removes m) x) refl (removes-less m xs)
   where
-    none : (y : Run) → is_due Removes y ≡ true → room (made_run y) ≡ 0
+    none : (y : Run) → is_due (Removes m) y ≡ true → room (made_run y) ≡ 0
     none (Held k d) due = refl
     none (Typed s b d) due = absurd cc
 
-    step : (t : Bool) → is_due Removes x ≡ t → rooms (made_first Removes xs) ≤ rooms xs → rooms (cond t (made_run x ∷ xs) (x ∷ made_first Removes xs)) ≤ room x + rooms xs
+    step : (t : Bool) → is_due (Removes m) x ≡ t → rooms (made_first (Removes m) xs) ≤ rooms xs → rooms (cond t (made_run x ∷ xs) (x ∷ made_first (Removes m) xs)) ≤ room x + rooms xs
     step true due h = omega (arith, none x due)
     step false due h = omega (arith, h)
 
-none-typed : (xs : List Run) (n : ℕ) → first_typed n xs ≡ None → rooms (made_first Inserts xs) ≡ rooms xs
-none-typed [] n f = refl
-none-typed (x ∷ xs) n f = step (is_due Inserts x) f (λ g. none-typed xs (n + above (x ∷ [])) g)
+none-typed : (m : Option ℕ) (xs : List Run) (n : ℕ) → first_typed m n xs ≡ None → rooms (made_first (Inserts m) xs) ≡ rooms xs
+none-typed m [] n f = refl
+none-typed m (x ∷ xs) n f = step (is_due (Inserts m) x) f (λ g. none-typed m xs (n + above (x ∷ [])) g)
   where
-    step : (t : Bool) → cond t (Some (x, n)) (first_typed (n + above (x ∷ [])) xs) ≡ None
-        → (first_typed (n + above (x ∷ [])) xs ≡ None → rooms (made_first Inserts xs) ≡ rooms xs)
-        → rooms (cond t (made_run x ∷ xs) (x ∷ made_first Inserts xs)) ≡ room x + rooms xs
+    step : (t : Bool) → cond t (Some (x, n)) (first_typed m (n + above (x ∷ [])) xs) ≡ None
+        → (first_typed m (n + above (x ∷ [])) xs ≡ None → rooms (made_first (Inserts m) xs) ≡ rooms xs)
+        → rooms (cond t (made_run x ∷ xs) (x ∷ made_first (Inserts m) xs)) ≡ room x + rooms xs
     step true g next = absurd cc
     step false g next = omega (arith, next g)
 
-full-inserts : (xs : List Run) → rooms xs < rooms (made_first (next_deed xs) xs) → next_deed xs ≡ Inserts
-full-inserts xs more = go (next_deed xs) refl
+full-inserts : (m : Option ℕ) (xs : List Run) → rooms xs < rooms (made_first (next_deed m xs) xs) → next_deed m xs ≡ Inserts m
+full-inserts m xs more = step (has_due (Removes m) xs) refl
   where
-    go : (w : Deed) → next_deed xs ≡ w → w ≡ Inserts
-    go Inserts is = refl
-    go Removes is = absurd (omega (arith, more, ap (λ w. rooms (made_first w xs)) is, removes-less xs))
+    step : (t : Bool) → has_due (Removes m) xs ≡ t → cond t (Removes m) (Inserts m) ≡ Inserts m
+    step false is = refl
+    step true is =
+        let removes : next_deed m xs ≡ Removes m = ap (λ t. cond t (Removes m) (Inserts m)) is in
+        absurd (omega (arith, more, ap (λ w. rooms (made_first w xs)) removes, removes-less m xs))
 
 -- some runes wait
-pub full_waits : (xs : List Run) → rooms xs < rooms (made_first (next_deed xs) xs) → first_typed 0 xs ≡ None → ⊥
-full_waits xs more none = omega (arith, more, ap (λ w. rooms (made_first w xs)) (full-inserts xs more), none-typed xs 0 none)
+pub full_waits : (m : Option ℕ) (xs : List Run) → rooms xs < rooms (made_first (next_deed m xs) xs) → first_typed m 0 xs ≡ None → ⊥
+full_waits m xs more none = omega (arith, more, ap (λ w. rooms (made_first w xs)) (full-inserts m xs more), none-typed m xs 0 none)
 
-due-same : (xs : List Run) (n m : ℕ) → option_map (λ (z : Run × ℕ). z.0) (first_due Inserts m xs) ≡ option_map (λ (z : Run × ℕ). z.0) (first_typed n xs)
-due-same [] n m = refl
-due-same (y ∷ xs) n m = step (is_due Inserts y) (due-same xs (n + above (y ∷ [])) (m + room y))
+due-same : (m : Option ℕ) (xs : List Run) (n k : ℕ) → option_map (λ (z : Run × ℕ). z.0) (first_due (Inserts m) k xs) ≡ option_map (λ (z : Run × ℕ). z.0) (first_typed m n xs)
+due-same m [] n k = refl
+due-same m (y ∷ xs) n k = step (is_due (Inserts m) y) (due-same m xs (n + above (y ∷ [])) (k + room y))
   where
-    step : (t : Bool) → option_map (λ (z : Run × ℕ). z.0) (first_due Inserts (m + room y) xs) ≡ option_map (λ (z : Run × ℕ). z.0) (first_typed (n + above (y ∷ [])) xs)
-        → option_map (λ (z : Run × ℕ). z.0) (cond t (Some (y, m)) (first_due Inserts (m + room y) xs)) ≡ option_map (λ (z : Run × ℕ). z.0) (cond t (Some (y, n)) (first_typed (n + above (y ∷ [])) xs))
+    step : (t : Bool) → option_map (λ (z : Run × ℕ). z.0) (first_due (Inserts m) (k + room y) xs) ≡ option_map (λ (z : Run × ℕ). z.0) (first_typed m (n + above (y ∷ [])) xs)
+        → option_map (λ (z : Run × ℕ). z.0) (cond t (Some (y, k)) (first_due (Inserts m) (k + room y) xs)) ≡ option_map (λ (z : Run × ℕ). z.0) (cond t (Some (y, n)) (first_typed m (n + above (y ∷ [])) xs))
     step true h = refl
     step false h = h
 
@@ -204,16 +202,16 @@ edit-text : (t : List ℕ) (n : ℕ) (x : Run) → (edit_at t n x).text ≡ (edi
 edit-text t n (Held k d) = refl
 edit-text t n (Typed s b d) = refl
 
-next-text : (l : Layer) (x : Run) (at : ℕ) → next_deed l.runs ≡ Inserts → first_typed 0 l.runs ≡ Some (x, at)
-    → option_map (λ (e : Edit). e.text) (next_edit l) ≡ Some (edit_at l.text 0 x).text
-next-text l x at deed f = go (first_due (next_deed l.runs) 0 l.runs) refl
+next-text : (m : Option ℕ) (l : Layer) (x : Run) (at : ℕ) → next_deed m l.runs ≡ Inserts m → first_typed m 0 l.runs ≡ Some (x, at)
+    → option_map (λ (e : Edit). e.text) (next_edit m l) ≡ Some (edit_at l.text 0 x).text
+next-text m l x at deed f = go (first_due (next_deed m l.runs) 0 l.runs) refl
   where
-    first : option_map (λ (z : Run × ℕ). z.0) (first_due (next_deed l.runs) 0 l.runs) ≡ Some x
+    first : option_map (λ (z : Run × ℕ). z.0) (first_due (next_deed m l.runs) 0 l.runs) ≡ Some x
     first =
         ap (λ w. option_map (λ (z : Run × ℕ). z.0) (first_due w 0 l.runs)) deed
-        ∙ (due-same l.runs 0 0 ∙ ap (option_map (λ (z : Run × ℕ). z.0)) f)
+        ∙ (due-same m l.runs 0 0 ∙ ap (option_map (λ (z : Run × ℕ). z.0)) f)
 
-    go : (o : Option (Run × ℕ)) → first_due (next_deed l.runs) 0 l.runs ≡ o
+    go : (o : Option (Run × ℕ)) → first_due (next_deed m l.runs) 0 l.runs ≡ o
         → option_map (λ (e : Edit). e.text) (option_map (λ (z : Run × ℕ). edit_at l.text z.1 z.0) o) ≡ Some (edit_at l.text 0 x).text
     go None is =
         let wrong : None ≡ Some x = ap (option_map (λ (z : Run × ℕ). z.0)) (sym is) ∙ first in
@@ -223,14 +221,14 @@ next-text l x at deed f = go (first_due (next_deed l.runs) 0 l.runs) refl
         let here : z.0 ≡ x = cc in
         ap Some (edit-text l.text z.1 z.0 ∙ ap (λ y. (edit_at l.text 0 y).text) here)
 
-pub drops_next : (l : Layer) (x : Run) (at : ℕ) (d : Dropped) → IsLayer l → rooms l.runs < rooms (made_first (next_deed l.runs) l.runs)
-    → first_typed 0 l.runs ≡ Some (x, at) → d.place ≡ at → d.count ≡ above (x ∷ []) → d.text ≡ (edit_at l.text 0 x).text
-    → DropsNext l d
-drops_next l x at d h more f place count text = record {
-  next = next-text l x at (full-inserts l.runs more) f ∙ ap Some (sym text);
+pub drops_next : (m : Option ℕ) (l : Layer) (x : Run) (at : ℕ) (d : Dropped) → IsLayer l → rooms l.runs < rooms (made_first (next_deed m l.runs) l.runs)
+    → first_typed m 0 l.runs ≡ Some (x, at) → d.place ≡ at → d.count ≡ above (x ∷ []) → d.text ≡ (edit_at l.text 0 x).text
+    → DropsNext m l d
+drops_next m l x at d h more f place count text = record {
+  next = next-text m l x at (full-inserts m l.runs more) f ∙ ap Some (sym text);
   cells = λ r o.
-      rw (place, count, text) (takes_back l.runs l.text r 0 x at [] h.within (omega (arith, o)) refl f);
-  over = λ r o. without-rooms l.runs ∙ o;
+      rw (place, count, text) (takes_back m l.runs l.text r 0 x at [] h.within (omega (arith, o)) refl f);
+  over = λ r o. without-rooms m l.runs ∙ o;
 }
 
 pub ruleset drop_facts = (dropped_layer, full_waits, drops_next)

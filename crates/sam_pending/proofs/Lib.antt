@@ -9,4 +9,6 @@ pub mod FillLaws
 pub mod SpotLaws
 pub mod DueLaws
 pub mod DropLaws
+pub mod UpToLaws
+pub mod PutUpToLaws
 pub mod LayerLaws

@@ -1,8 +1,9 @@
 -- What waits over a rasp: runs, and the text of the runes in them. The rasp itself stands elsewhere.
-use Rattle.std.specs.Prelude.{◌≡◌, ◌≤◌, ℕ, List, [], ◌∷◌, length, take, drop, map, reverse, Option, Some, option_map}
+use Rattle.std.specs.Prelude.{◌≡◌, ◌≤◌, ◌↔◌, ℕ, Bool, false, List, [], ◌∷◌, length, take, drop, map, reverse, Option, Some, option_map}
 use Rattle.sam_runes.specs.Texts.{max_runes, most_in_message}
 use Rattle.sam_runes.specs.declared.edit.Edit.{Edit}
 use Rattle.sam_pending.specs.Cells.{PartialText, Cell, IsTakenBack, all_put}
+use Rattle.sam_pending.specs.Groups.{IsPutUpTo}
 use Rattle.sam_pending.specs.Runs.{runes_of, cells_of, rooms, waits, above, newest_of, Within, sent_runs, removal_changes, edit_changes, first_due, edit_at, made_first, next_deed, without_typed}
 use Rattle.sam_pending.specs.declared.run.Run.{Run}
 use Rattle.sam_pending.specs.declared.run.Run.TheVariants.{Held, Typed}
@@ -70,23 +71,27 @@ abbrev pub AreShort : List Edit → Type 0
 AreShort [] = Unit {0}
 AreShort (e ∷ es) = (length e.text ≤ most_in_message) × AreShort es
 
--- the next edit by which what waits comes to the rasp; none where nothing waits
-abbrev pub next_edit : Layer → Option Edit
-next_edit l = option_map (λ x. edit_at l.text x.1 x.0) (first_due (next_deed l.runs) 0 l.runs)
+-- the next edit by which what waits comes to the rasp, of the groups up to that limit, if there is one; none where none of them waits
+abbrev pub next_edit : Option ℕ → Layer → Option Edit
+next_edit m l = option_map (λ x. edit_at l.text x.1 x.0) (first_due (next_deed m l.runs) 0 l.runs)
 
 -- the layer once that edit is made
-abbrev pub next_made : Layer → Layer
-next_made l = record l { runs = made_first (next_deed l.runs) l.runs }
+abbrev pub next_made : Option ℕ → Layer → Layer
+next_made m l = record l { runs = made_first (next_deed m l.runs) l.runs }
 
--- the layer once the first runes that wait are taken back
-abbrev pub first_dropped : Layer → Layer
-first_dropped l = record l { runs = without_typed l.runs }
+-- the layer once the first runes of these groups that wait are taken back
+abbrev pub first_dropped : Option ℕ → Layer → Layer
+first_dropped m l = record l { runs = without_typed m l.runs }
 
 -- over whatever rasp, so the runes of the layer's next edit are taken back
-pub record DropsNext (l : Layer) (d : Dropped) : Type 0 where
-  pub next : option_map (λ (e : Edit). e.text) (next_edit l) ≡ Some d.text
-  pub cells : (r : PartialText) → IsOver r l → IsTakenBack (cells_over r l) d.place d.count d.text (cells_over r (first_dropped l))
-  pub over : (r : PartialText) → IsOver r l → IsOver r (first_dropped l)
+pub record DropsNext (m : Option ℕ) (l : Layer) (d : Dropped) : Type 0 where
+  pub next : option_map (λ (e : Edit). e.text) (next_edit m l) ≡ Some d.text
+  pub cells : (r : PartialText) → IsOver r l → IsTakenBack (cells_over r l) d.place d.count d.text (cells_over r (first_dropped m l))
+  pub over : (r : PartialText) → IsOver r l → IsOver r (first_dropped m l)
+
+-- over whatever rasp, an edit of these groups is left to put exactly if that is so of some cell
+abbrev pub SaysLeft : ℕ → Layer → Bool → Type 0
+SaysLeft g l is_left = (r : PartialText) → IsOver r l → (is_left ≡ false) ↔ IsPutUpTo g (cells_over r l)
 
 -- the layer with those runs
 abbrev pub with_runs : Layer → List Run → Layer

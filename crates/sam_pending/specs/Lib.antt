@@ -1,4 +1,5 @@
 pub mod Cells
+pub mod Groups
 pub mod Runs
 pub mod Layers
 pub mod Faults

@@ -256,13 +256,18 @@ rests (x ∷ xs) = run_rests x && rests xs
 
 -- ## The next edit by which what waits comes to the rasp
 
--- the edit is due at the run: there are members of the rasp in it that a group removes, or runes that wait
+-- the group is not newer than the last one that is to come to the rasp, if there is a last one
+abbrev pub is_up_to : Option ℕ → ℕ → Bool
+is_up_to None h = true
+is_up_to (Some g) h = nat_le h g
+
+-- the edit is due at the run: there are members of the rasp in it that such a group removes, or runes that wait
 abbrev pub is_due : Deed → Run → Bool
-is_due Removes (Held n None) = false
-is_due Removes (Held n (Some g)) = nat_lt 0 n
-is_due Removes (Typed s b d) = false
-is_due Inserts (Held n d) = false
-is_due Inserts (Typed s b d) = nat_lt 0 s.count
+is_due (Removes m) (Held n None) = false
+is_due (Removes m) (Held n (Some g)) = nat_lt 0 n && is_up_to m g
+is_due (Removes m) (Typed s b d) = false
+is_due (Inserts m) (Held n d) = false
+is_due (Inserts m) (Typed s b d) = nat_lt 0 s.count && is_up_to m b
 
 -- the first run at which it is due, and how many members of the rasp stand before it, where n stand before these runs
 abbrev pub first_due : Deed → ℕ → List Run → Option (Run × ℕ)
@@ -288,19 +293,23 @@ abbrev pub has_due : Deed → List Run → Bool
 has_due w [] = false
 has_due w (x ∷ xs) = is_due w x || has_due w xs
 
--- the first run whose runes wait, and how many shown cells stand before it, where n stand before these runs
-abbrev pub first_typed : ℕ → List Run → Option (Run × ℕ)
-first_typed n [] = None
-first_typed n (x ∷ xs) = if is_due Inserts x then Some (x, n) else first_typed (n + above (x ∷ [])) xs
+-- the first run whose runes are due, and how many shown cells stand before it, where n stand before these runs
+abbrev pub first_typed : Option ℕ → ℕ → List Run → Option (Run × ℕ)
+first_typed m n [] = None
+first_typed m n (x ∷ xs) = if is_due (Inserts m) x then Some (x, n) else first_typed m (n + above (x ∷ [])) xs
 
 -- the runs without it
-abbrev pub without_typed : List Run → List Run
-without_typed [] = []
-without_typed (x ∷ xs) = if is_due Inserts x then xs else x ∷ without_typed xs
+abbrev pub without_typed : Option ℕ → List Run → List Run
+without_typed m [] = []
+without_typed m (x ∷ xs) = if is_due (Inserts m) x then xs else x ∷ without_typed m xs
 
 -- all removals come before the first insertion
-abbrev pub next_deed : List Run → Deed
-next_deed xs = if has_due Removes xs then Removes else Inserts
+abbrev pub next_deed : Option ℕ → List Run → Deed
+next_deed m xs = if has_due (Removes m) xs then Removes m else Inserts m
+
+-- some edit is due
+abbrev pub has_next : Option ℕ → List Run → Bool
+has_next m xs = has_due (Removes m) xs || has_due (Inserts m) xs
 
 -- ## What the code says of changes
 

@@ -1,7 +1,7 @@
 //! The next edit by which what waits comes to the rasp.
 
 ghost use Rattle.std.specs.Prelude.{◌≡◌, ◌≤◌, ◌<◌, ◌+◌, ◌^◌, length, IfOk};
-ghost use Rattle.sam_pending.specs.Runs.{rooms, room, waits, reach, above, first_due, first_typed, next_deed, edit_at, made_first, without_typed};
+ghost use Rattle.sam_pending.specs.Runs.{rooms, room, waits, reach, above, first_due, first_typed, has_due, has_next, next_deed, edit_at, made_first, without_typed};
 
 use crate::run::{Deed, Run};
 use sam_runes::{Edit, Runes};
@@ -22,16 +22,34 @@ pub(crate) fn first_due(runs: &[Run], deed: Deed) -> Option<(Run, u32)>
     None
 }
 
-/// Returns what the next edit does: it inserts only if nothing is to be removed.
-pub(crate) fn next_deed(runs: &[Run]) -> Deed
-    ensures { result ≡ next_deed runs.now }
+/// Returns whether such an edit is due at some run.
+pub(crate) fn has_due(runs: &[Run], deed: Deed) -> bool
+    ensures { result ≡ has_due deed runs.now }
 {
     for run in runs {
-        if run.is_due(Deed::Removes) {
-            return Deed::Removes;
+        if run.is_due(deed) {
+            return true;
         }
     }
-    Deed::Inserts
+    false
+}
+
+/// Returns what the next edit of the groups up to a limit does: it inserts only if nothing is to be removed.
+pub(crate) fn next_deed(runs: &[Run], up_to: Option<u32>) -> Deed
+    ensures { result ≡ next_deed up_to runs.now }
+{
+    if has_due(runs, Deed::Removes(up_to)) {
+        Deed::Removes(up_to)
+    } else {
+        Deed::Inserts(up_to)
+    }
+}
+
+/// Returns whether an edit of the groups up to a limit is due.
+pub(crate) fn has_next(runs: &[Run], up_to: Option<u32>) -> bool
+    ensures { result ≡ has_next up_to runs.now }
+{
+    has_due(runs, Deed::Removes(up_to)) || has_due(runs, Deed::Inserts(up_to))
 }
 
 /// Returns how many members of the rasp the runs hold once the edit at the first run is made at which it is due.
@@ -74,15 +92,15 @@ pub(crate) fn edit_at(alloc: Global, text: &[char], run: Run, at: u32) -> Result
     }
 }
 
-/// Returns the first run whose runes wait, and how many shown cells stand before it; `None` if none wait.
+/// Returns the first run whose runes are due, of the groups up to a limit, and how many shown cells stand before it; `None` if none are.
 #[tactic(auto, using(crate::proofs::DropLaws::above_one))]
-pub(crate) fn first_typed(runs: &[Run]) -> Option<(Run, u32)>
+pub(crate) fn first_typed(runs: &[Run], up_to: Option<u32>) -> Option<(Run, u32)>
     requires { above runs.now < 2 ^ 32 }
-    ensures { result ≡ first_typed 0 runs.now }
+    ensures { result ≡ first_typed up_to 0 runs.now }
 {
     let mut at = 0;
     for run in runs {
-        if run.is_due(Deed::Inserts) {
+        if run.is_due(Deed::Inserts(up_to)) {
             return Some((*run, at));
         }
         at += run.shown();
@@ -90,15 +108,19 @@ pub(crate) fn first_typed(runs: &[Run]) -> Option<(Run, u32)>
     None
 }
 
-/// Returns the runs without the first one whose runes wait. The only error is out of memory.
+/// Returns the runs without the first one whose runes are due, of the groups up to a limit. The only error is out of memory.
 #[tactic(auto, using(crate::proofs::RunLaws::gone_facts))]
-pub(crate) fn without_typed(alloc: Global, runs: &[Run]) -> Result<Vec<Run>, AllocError>
-    ensures { IfOk result (λ left. left.items ≡ without_typed runs.now) }
+pub(crate) fn without_typed(
+    alloc: Global,
+    runs: &[Run],
+    up_to: Option<u32>,
+) -> Result<Vec<Run>, AllocError>
+    ensures { IfOk result (λ left. left.items ≡ without_typed up_to runs.now) }
 {
     let mut left = Vec::with_capacity(alloc, runs.len())?;
     let mut is_taken = false;
     for run in runs {
-        if !is_taken && run.is_due(Deed::Inserts) {
+        if !is_taken && run.is_due(Deed::Inserts(up_to)) {
             is_taken = true;
         } else {
             left.push(*run)?;

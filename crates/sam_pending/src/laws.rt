@@ -1,6 +1,7 @@
 //! Laws of the definitions in specs/. Each is the contract of a function that does nothing; a caller's proof may use what it says.
 
 ghost use Rattle.std.specs.Prelude.{◌≡◌, ◌<◌, ◌≤◌, ◌+◌, ◌-◌, ◌++◌, ℕ, List, length, map, take, drop, reverse, Some, All};
+ghost use Rattle.sam_pending.specs.Groups.{EditsKeepText, PutIsText, RemovalsGoOutOfText};
 ghost use Rattle.sam_pending.specs.Cells.{Cell, PartialText, Change, put, all_put, members, in_rasp, is_shown, rasp_of, shown_of, waiting_of, resting, part_by, take_by, drop_by, shown_place, replaced, inserted, removed, filled, sent, changes_of, gone_from, IsOf, text_at, place_at, IsOldest, IsNewest, IsMade, IsTakenBack};
 
 /// States that what is typed is what is seen: `s` in place of what was shown from `p` to `q`. While the edit waits the rasp stays.
@@ -93,4 +94,13 @@ pub fn runes_are_taken_back()
 pub fn edits_come_one_by_one()
     ensures shown { (cs ds : List Cell) (e : Change) → IsMade cs e ds → shown_of ds ≡ shown_of cs }
     ensures rasp { (cs ds : List Cell) (e : Change) → IsMade cs e ds → rasp_of ds ≡ put (rasp_of cs) e }
+{}
+
+/// States that a request finds what was shown as it was asked for, with the host's changes since, once the edits of its group and of those
+/// before it came to the rasp: none of them changes the text that it comes to, and that is then the rasp. The host's removals go out of
+/// it; `requests_come_to_what_was_shown` says the same of insertions.
+pub fn requests_find_what_was_shown()
+    ensures keep { EditsKeepText }
+    ensures put { PutIsText }
+    ensures removed { RemovalsGoOutOfText }
 {}

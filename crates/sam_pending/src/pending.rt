@@ -1,10 +1,11 @@
 //! `Pending`: edits of one file that wait, over its rasp.
 
-ghost use Rattle.std.specs.Prelude.{◌≡◌, ◌⊎◌, ◌<◌, ◌≤◌, ◌+◌, ◌-◌, ◌++◌, ◌↔◌, IsTrue, ℕ, List, [], ◌∷◌, length, take, drop, map, reverse, Some, None, Ok, Err, IfOk, IfSome, OnOk, OnErr, MatchOption, All};
+ghost use Rattle.std.specs.Prelude.{◌≡◌, ◌⊎◌, ◌<◌, ◌≤◌, ◌+◌, ◌-◌, ◌++◌, ◌↔◌, IsTrue, ℕ, List, [], ◌∷◌, false, length, take, drop, map, reverse, Some, None, Ok, Err, IfOk, IfSome, OnOk, OnErr, MatchOption, All};
 ghost use Rattle.sam_runes.specs.Texts.{max_runes};
 ghost use Rattle.sam_pending.specs.Cells.{PartialText, IsMade, all_put, put, rasp_of, shown_of, shown_place, waiting_of, IsNewest, resting, replaced, inserted, removed, filled, sent};
-ghost use Rattle.sam_pending.specs.Runs.{rests, edit_change, removal_changes, filling_changes};
-ghost use Rattle.sam_pending.specs.Layers.{cells_over, rasp_length, waiting_length, shown_length, newest_group, sent_length, sent_text, shown_members, next_edit, next_made, DropsNext, first_dropped, with_runs, IsLayer, IsOver, IsTidied, AreShort, most_kept};
+ghost use Rattle.sam_pending.specs.Groups.{IsMadeBy};
+ghost use Rattle.sam_pending.specs.Runs.{rests, has_next, edit_change, removal_changes, filling_changes};
+ghost use Rattle.sam_pending.specs.Layers.{cells_over, rasp_length, waiting_length, shown_length, newest_group, sent_length, sent_text, shown_members, next_edit, next_made, DropsNext, first_dropped, with_runs, IsLayer, IsOver, IsTidied, AreShort, SaysLeft, most_kept};
 ghost use Rattle.sam_runes.specs.declared.edit.Edit.{Edit};
 
 use crate::fault::PendingFault;
@@ -377,22 +378,33 @@ impl Pending {
         })
     }
 
-    /// Returns the next edit by which what waits comes to the rasp; `None` if nothing waits. It takes members out that edits remove, or
-    /// puts runes in that wait; it puts none in while members are to be taken out, so no rasp is longer than it has to be. Groups that wait
-    /// beside one another aren't told apart.
+    /// Returns whether an edit is left to bring to the rasp, of the groups up to a limit, or of any group. While none is left the rasp is
+    /// the text that a request of the group at the limit comes to (`laws::requests_find_what_was_shown`).
+    #[tactic(auto, using(crate::proofs::DueLaws::next_facts, crate::proofs::PutUpToLaws::left_facts))]
+    pub fn has_next(&self, up_to: Option<u32>) -> bool
+        ensures value { result ≡ has_next up_to self.now.runs }
+        ensures all { (up_to ≡ None) → (result ≡ false) ↔ IsTrue (rests self.now.runs) }
+        ensures cells { (g : ℕ) → up_to ≡ Some g → SaysLeft g self.now result }
+    {
+        due::has_next(self.runs.as_slice(), up_to)
+    }
+
+    /// Returns the next edit by which what waits comes to the rasp, of the groups up to a limit, or of any group; `None` if none of them
+    /// waits. It takes members out that edits remove, or puts runes in that wait; it puts none in while members are to be taken out, so no
+    /// rasp is longer than it has to be. Groups within the limit aren't told apart.
     ///
     /// Errors, in this order: `TooLong` if the rasp would have more than `MAX_RUNES` members, because the host put more in meanwhile;
     /// `OutOfMemory`.
     #[tactic(auto, using(crate::proofs::DueLaws::next_facts))]
-    pub fn next_edit(&self) -> Result<Option<Edit>, PendingFault>
-        ensures edit { IfOk result (λ x. x ≡ next_edit self.now) }
-        ensures none { IfOk result (λ x. (x ≡ None) ↔ IsTrue (rests self.now.runs)) }
-        ensures room { OnOk result (rasp_length (next_made self.now) ≤ max_runes) }
-        ensures long { (result ≡ Err PendingFault.TooLong) ↔ (max_runes < rasp_length (next_made self.now)) }
+    pub fn next_edit(&self, up_to: Option<u32>) -> Result<Option<Edit>, PendingFault>
+        ensures edit { IfOk result (λ x. x ≡ next_edit up_to self.now) }
+        ensures none { IfOk result (λ x. (x ≡ None) ↔ (has_next up_to self.now.runs ≡ false)) }
+        ensures room { OnOk result (rasp_length (next_made up_to self.now) ≤ max_runes) }
+        ensures long { (result ≡ Err PendingFault.TooLong) ↔ (max_runes < rasp_length (next_made up_to self.now)) }
         ensures err { OnErr result ((result ≡ Err PendingFault.TooLong) ⊎ (result ≡ Err PendingFault.OutOfMemory)) }
     {
         let runs = self.runs.as_slice();
-        let deed = due::next_deed(runs);
+        let deed = due::next_deed(runs, up_to);
         if due::made_len(runs, deed) > MAX_RUNES {
             return Err(PendingFault::TooLong);
         }
@@ -403,40 +415,43 @@ impl Pending {
         Ok(Some(edit))
     }
 
-    /// Takes on that the next edit was made in the rasp. What is shown stays. It takes no memory.
+    /// Takes on that the next edit of the groups up to that limit was made in the rasp. What is shown stays. It takes no memory.
     #[tactic(auto, using(crate::proofs::DueLaws::make_facts))]
-    pub fn make_next(&mut self)
-        requires { rasp_length (next_made self.old) ≤ max_runes }
-        ensures made { self.new ≡ next_made self.old }
-        ensures cells { (r : PartialText) (e : Edit) → IsOver r self.old → next_edit self.old ≡ Some e
+    pub fn make_next(&mut self, up_to: Option<u32>)
+        requires { rasp_length (next_made up_to self.old) ≤ max_runes }
+        ensures made { self.new ≡ next_made up_to self.old }
+        ensures cells { (r : PartialText) (e : Edit) → IsOver r self.old → next_edit up_to self.old ≡ Some e
             → IsMade (cells_over r self.old) (edit_change e) (cells_over (put r (edit_change e)) self.new)
             × IsOver (put r (edit_change e)) self.new }
+        ensures groups { (g : ℕ) (r : PartialText) (e : Edit) → up_to ≡ Some g → IsOver r self.old → next_edit up_to self.old ≡ Some e
+            → IsMadeBy g (cells_over r self.old) (edit_change e) (cells_over (put r (edit_change e)) self.new) }
     {
-        let deed = due::next_deed(self.runs.as_slice());
+        let deed = due::next_deed(self.runs.as_slice(), up_to);
         due::make_first(&mut self.runs, deed);
     }
 
-    /// Takes back the runes of the next edit, for which the host left no room in the rasp: they are in no cell any more. Returns them, and
-    /// where they stood in what is shown; `None` if the next edit has room, or if nothing waits.
+    /// Takes back the runes of the next edit of the groups up to that limit, for which the host left no room in the rasp: they are in no
+    /// cell any more. Returns them, and where they stood in what is shown; `None` if that edit has room, or if none waits.
     ///
     /// The only error is `OutOfMemory`; after it all is unchanged.
     #[tactic(auto, using(crate::proofs::DropLaws::drop_facts))]
-    pub fn drop_next(&mut self) -> Result<Option<Dropped>, PendingFault>
-        ensures none { (result ≡ Ok None) ↔ (rasp_length (next_made self.old) ≤ max_runes) }
+    pub fn drop_next(&mut self, up_to: Option<u32>) -> Result<Option<Dropped>, PendingFault>
+        ensures none { (result ≡ Ok None) ↔ (rasp_length (next_made up_to self.old) ≤ max_runes) }
         ensures same { result ≡ Ok None → self.new ≡ self.old }
-        ensures dropped { IfOk result (λ x. IfSome x (λ d. (self.new ≡ first_dropped self.old) × DropsNext self.old d)) }
+        ensures dropped { IfOk result (λ x. IfSome x (λ d.
+            (self.new ≡ first_dropped up_to self.old) × DropsNext up_to self.old d)) }
         ensures err { OnErr result ((self.new ≡ self.old) × (result ≡ Err PendingFault.OutOfMemory)) }
     {
         let runs = self.runs.as_slice();
-        let deed = due::next_deed(runs);
+        let deed = due::next_deed(runs, up_to);
         if due::made_len(runs, deed) <= MAX_RUNES {
             return Ok(None);
         }
-        let Some((run, place)) = due::first_typed(runs) else {
+        let Some((run, place)) = due::first_typed(runs, up_to) else {
             unreachable!()
         };
         let edit = due::edit_at(self.alloc, self.text.as_slice(), run, 0)?;
-        let left = due::without_typed(self.alloc, runs)?;
+        let left = due::without_typed(self.alloc, runs, up_to)?;
         self.runs = left;
         Ok(Some(Dropped {
             place,

@@ -1,7 +1,7 @@
 //! Stretches of cells of one sort.
 
 ghost use Rattle.std.specs.Prelude.{◌≡◌, ◌≤◌, ◌<◌, ◌^◌, ◌∷◌, [], IfSome};
-ghost use Rattle.sam_pending.specs.Runs.{above, run_counts, size, head_of, tail_of, room, wait, newest_run, run_rests, reach, IsSame, is_due, made_run};
+ghost use Rattle.sam_pending.specs.Runs.{above, run_counts, size, head_of, tail_of, room, wait, newest_run, run_rests, reach, IsSame, is_due, is_up_to, made_run};
 ghost use Rattle.sam_pending.specs.declared.run.Run.TheVariants.{Held, Typed};
 
 /// Where runes stand in the text of those that wait.
@@ -31,13 +31,23 @@ pub enum Side {
     Above,
 }
 
-/// What an edit of what waits does to the rasp.
+/// What an edit of what waits does to the rasp, and the newest group of which it may be; of any, if there is none.
 #[derive(Clone, Copy)]
 pub enum Deed {
     /// It takes members out.
-    Removes,
+    Removes(Option<u32>),
     /// It puts runes in.
-    Inserts,
+    Inserts(Option<u32>),
+}
+
+/// Returns whether a group is not newer than the last one that is to come to the rasp, if there is a last one.
+fn is_up_to(limit: Option<u32>, group: u32) -> bool
+    ensures { result ≡ is_up_to limit group }
+{
+    match limit {
+        None => true,
+        Some(last) => group <= last,
+    }
 }
 
 impl Run {
@@ -128,14 +138,14 @@ impl Run {
         match self {
             Run::Held(count, died) => match died {
                 None => false,
-                Some(_) => match deed {
-                    Deed::Removes => count > 0,
-                    Deed::Inserts => false,
+                Some(group) => match deed {
+                    Deed::Removes(limit) => count > 0 && is_up_to(limit, group),
+                    Deed::Inserts(_) => false,
                 },
             },
-            Run::Typed(runes, _, _) => match deed {
-                Deed::Removes => false,
-                Deed::Inserts => runes.count > 0,
+            Run::Typed(runes, born, _) => match deed {
+                Deed::Removes(_) => false,
+                Deed::Inserts(limit) => runes.count > 0 && is_up_to(limit, born),
             },
         }
     }

@@ -1,4 +1,4 @@
-use Rattle.std.proofs.Common.{◌<◌, ◌∷◌, ◌+◌, arith, length, ◌≡◌, ◌∙◌, ap, sym, drop}
+use Rattle.std.proofs.Common.{◌<◌, ◌∷◌, ◌+◌, arith, length, ◌∙◌, ap, sym, drop}
 use Rattle.std.proofs.lemmas.List.{drop_more}
 use Rattle.sam_pending.specs.Runs.{made_first}
 use Rattle.sam_pending.proofs.DueLaws.{made_at}

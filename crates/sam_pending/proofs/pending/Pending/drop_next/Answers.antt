@@ -1,6 +1,6 @@
-use Rattle.std.proofs.Common.{arith, ◌≡◌, ◌<◌, ◌∙◌, refl, ap, sym, subst, length, List, Some}
-use Rattle.sam_pending.specs.Layers.{Layer, DropsNext, first_dropped}
-use Rattle.sam_pending.specs.Runs.{above, first_typed, made_first, next_deed, rooms, without_typed}
+use Rattle.std.proofs.Common.{arith, ◌≡◌, ◌<◌, ◌∙◌, refl, ap, sym, length, List, Some}
+use Rattle.sam_pending.specs.Layers.{Layer}
+use Rattle.sam_pending.specs.Runs.{first_typed, made_first, next_deed, rooms}
 use Rattle.sam_pending.specs.declared.run.Run.{Run}
 use Rattle.sam_pending.proofs.DropLaws.{dropped_layer, drops_next, typed_reach}
 use Rattle.sam_pending.proofs.LayerLaws.{above-most}
@@ -13,26 +13,26 @@ first_typed-requires c =
 pub edit_at-requires-clause-within : goal.edit_at-requires-clause-within
 edit_at-requires-clause-within c =
     rw c.as_slice.ensures.value
-    (typed_reach c.self.inside.runs.items (length c.self.inside.text.items) 0 c.in-Some.run' c.in-Some.place c.self.invariant.within
-    (ap (first_typed 0) (sym c.as_slice-runs.ensures.value) ∙ (sym c.first_typed.ensures ∙ c.in-Some.is)))
+    (typed_reach c.args.up_to c.self.inside.runs.items (length c.self.inside.text.items) 0 c.in-Some.run' c.in-Some.place c.self.invariant.within
+    (ap (first_typed c.args.up_to 0) (sym c.as_slice-runs.ensures.value) ∙ (sym c.first_typed.ensures ∙ c.in-Some.is)))
 
 pub invariant_of-self : goal.invariant_of-self
 invariant_of-self c =
     let l : Layer = record { text = c.self.inside.text.items; runs = c.self.inside.runs.items } in
-    rw (c.in_ok-left.ensures, c.as_slice-runs.ensures.value) (dropped_layer l c.self.invariant)
+    rw (c.in_ok-left.ensures, c.as_slice-runs.ensures.value) (dropped_layer c.args.up_to l c.self.invariant)
 
 pub returns-clause-dropped : goal.returns-clause-dropped
 returns-clause-dropped c =
     let l : Layer = record { text = c.self.inside.text.items; runs = c.self.inside.runs.items } in
     let xs : List Run = c.self.inside.runs.items in
     let runs = c.as_slice-runs.ensures.value in
-    let found : first_typed 0 xs ≡ Some (c.in-Some.run', c.in-Some.place) = ap (first_typed 0) (sym runs) ∙ (sym c.first_typed.ensures ∙ c.in-Some.is) in
-    let deed : c.next_deed-deed.result ≡ next_deed xs = c.next_deed-deed.ensures ∙ ap next_deed runs in
-    let made : c.made_len.result ≡ rooms (made_first (next_deed xs) xs) =
-    c.made_len.ensures ∙ (ap (λ w. rooms (made_first w c.as_slice-runs.result.now)) deed ∙ ap (λ (ys : List Run). rooms (made_first (next_deed xs) ys)) runs) in
-    let more : rooms xs < rooms (made_first (next_deed xs) xs) = omega (arith, made, c.if-made_len-le-MAX_RUNES.false, c.self.invariant.rasp) in
+    let found : first_typed c.args.up_to 0 xs ≡ Some (c.in-Some.run', c.in-Some.place) = ap (first_typed c.args.up_to 0) (sym runs) ∙ (sym c.first_typed.ensures ∙ c.in-Some.is) in
+    let deed : c.next_deed-deed.result ≡ next_deed c.args.up_to xs = c.next_deed-deed.ensures ∙ ap (next_deed c.args.up_to) runs in
+    let made : c.made_len.result ≡ rooms (made_first (next_deed c.args.up_to xs) xs) =
+    c.made_len.ensures ∙ (ap (λ w. rooms (made_first w c.as_slice-runs.result.now)) deed ∙ ap (λ (ys : List Run). rooms (made_first (next_deed c.args.up_to xs) ys)) runs) in
+    let more : rooms xs < rooms (made_first (next_deed c.args.up_to xs) xs) = omega (arith, made, c.if-made_len-le-MAX_RUNES.false, c.self.invariant.rasp) in
     rw (← c.self.view_is, c.in_ok-left.ensures, runs) (
       refl,
-      drops_next l c.in-Some.run' c.in-Some.place (record { place = c.in-Some.place; count = c.shown.result; text = c.in_ok-edit.edit.text }) c.self.invariant more found refl
+      drops_next c.args.up_to l c.in-Some.run' c.in-Some.place (record { place = c.in-Some.place; count = c.shown.result; text = c.in_ok-edit.edit.text }) c.self.invariant more found refl
           c.shown.ensures (grind (arith, c.in_ok-edit.ensures, c.as_slice.ensures.value)),
     )

@@ -1,5 +1,5 @@
-use Rattle.std.proofs.Common.{arith, ◌≡◌, ◌∙◌, ap, sym, length, Some}
-use Rattle.sam_pending.specs.Runs.{first_due, next_deed}
+use Rattle.std.proofs.Common.{arith, ◌∙◌, ap, sym, length}
+use Rattle.sam_pending.specs.Runs.{first_due}
 use Rattle.sam_pending.proofs.DueLaws.{due_reach}
 use Rattle.sam_pending.proofs.pending.Pending.next_edit.Goals as goal
 

@@ -1,0 +1,232 @@
+//! `OrderedOverlay`: an overlay whose requests stand in one order with the edits.
+
+ghost use Rattle.std.specs.Prelude.{◌≡◌, ◌≢◌, ◌⊎◌, ◌↔◌, ◌<◌, ◌≤◌, ◌^◌, ◌-◌, ℕ, [], drop, length, slice_get, IsTrue, is_some, true, Some, None, Ok, Err, IfErr, IfOk, OnErr, OnOk};
+ghost use Rattle.sam_runes.specs.Checks.{first_of_checks};
+ghost use Rattle.sam_endpoint.specs.TermStepping.{Steps};
+ghost use Rattle.sam_overlay.specs.Calls.{Brings, CellsGo, DropsUpTo, Keeps, KeepsTexts, PutsUpTo, cells_at, new_overlay, shown_at};
+ghost use Rattle.sam_overlay.specs.Ordered.{ActsNext, Asked, NoneFinds, closing_group, most_requests, ordered_checks};
+ghost use Rattle.sam_overlay.specs.Outcomes.{Leads, Replaces};
+ghost use Rattle.sam_overlay.specs.Overlays.{StopsOnly, end_step, is_request, told_at};
+ghost use Rattle.sam_overlay.specs.Requests.{put_limit};
+
+use crate::fault::{AskFault, PutFault, ReplaceFault};
+use crate::layers::Place;
+use crate::overlay::Overlay;
+use crate::request::{Request, RequestQueue};
+use crate::shown_change::{OverlayStep, Put, Turn};
+use sam_endpoint::{BringFault, EndpointFault, TermStop};
+use sam_pending::{Dropped, PendingFault};
+use sam_term::{Refusal, UserEvent};
+use std::alloc::Global;
+
+/// The most requests that wait.
+pub const MOST_REQUESTS: usize = 1_000;
+
+/// An overlay whose requests stand in one order with the edits. A request is what isn't an edit of a text: a write, a close, a search, a
+/// command line. It is taken in at once, also while a file is locked, and finds the text that was shown when it was asked for, with the
+/// host's changes since: all edits made before it are put before it acts, and none made after it is.
+///
+/// Requests act in the order in which they were asked for, over all files. One waits for the edits before it of the file that it names; one
+/// that takes the command lock waits for those of all files. Edits wait for no other file, unless a request that concerns theirs stands
+/// before them.
+///
+/// ```rust
+/// front.replace(1, 0, 0, &['a'])?;
+/// front.ask(UserEvent::Write(1))?; // it will write the `a`, though the file is locked
+/// front.replace(1, 1, 1, &['b'])?; // `ab` is shown, and the `b` is not written
+/// // once the file is free:
+/// front.put_next(1)?; // `Put::Edit`: the `a`; it acts by the next step
+/// front.put_next(1)?; // `Put::NotFree`: the `b` stands behind the write
+/// front.act_next()?; // `Turn::Request`: the write is held, and acts by the next step
+/// ```
+#[derive(Drop)]
+pub struct OrderedOverlay {
+    /// What gives the memory.
+    alloc: Global,
+    /// The edits that wait, and the terminal end.
+    overlay: Overlay,
+    /// The requests that wait.
+    queue: RequestQueue,
+}
+
+impl OrderedOverlay {
+    /// Makes one over a terminal that knows no file. It takes no memory.
+    pub fn new(alloc: Global) -> OrderedOverlay
+        ensures overlay { result.overlay ≡ new_overlay }
+        ensures queue { result.queue ≡ [] }
+    {
+        OrderedOverlay {
+            alloc,
+            overlay: Overlay::new(alloc),
+            queue: RequestQueue::new(alloc),
+        }
+    }
+
+    /// Returns the overlay, to be read.
+    pub fn overlay(&self) -> &Overlay
+        ensures { result.now ≡ self.now.overlay }
+    {
+        &self.overlay
+    }
+
+    /// Returns how many requests wait.
+    pub fn waiting(&self) -> usize
+        ensures { result ≡ length self.now.queue }
+    {
+        self.queue.len()
+    }
+
+    /// Puts `runes` in the place of what is shown of a file from place `p` to place `q`, behind all requests that wait. That is shown at
+    /// once, as by `Overlay::replace`; none of these requests finds it.
+    ///
+    /// Errors, in this order, after which all is as before: `Exited` if a request waits that leaves; `NotOpen` if one waits that closes the
+    /// file; those of `Overlay::replace`.
+    #[tactic(auto, using(crate::proofs::OrderLaws::replace_facts))]
+    pub fn replace(&mut self, tag: u16, p: u32, q: u32, runes: &[char]) -> Result<(), ReplaceFault>
+        ensures tests { OnOk result (first_of_checks (ordered_checks self.old tag p q runes.now) ≡ None) }
+        ensures refused { IfErr result (λ why. (first_of_checks (ordered_checks self.old tag p q runes.now) ≡ Some why)
+            ⊎ ((why ≡ ReplaceFault.OutOfMemory) × (first_of_checks (ordered_checks self.old tag p q runes.now) ≡ None))) }
+        ensures replaced { OnOk result (Replaces (cells_at self.old.overlay tag) p q runes.now (cells_at self.new.overlay tag)) }
+        ensures finds { OnOk result (NoneFinds self.old.queue (cells_at self.old.overlay tag) (cells_at self.new.overlay tag)) }
+        ensures others { OnOk result ((f : ℕ) → f ≢ tag → cells_at self.new.overlay f ≡ cells_at self.old.overlay f) }
+        ensures end { (self.new.overlay.end ≡ self.old.overlay.end) × (self.new.overlay.putting ≡ self.old.overlay.putting) }
+        ensures queue { self.new.queue ≡ self.old.queue }
+        ensures err { OnErr result (self.new ≡ self.old) }
+    {
+        if self.queue.leaves() {
+            return Err(ReplaceFault::Exited);
+        }
+        if self.queue.closes(tag) {
+            return Err(ReplaceFault::NotOpen);
+        }
+        let group = self.queue.next_group();
+        self.overlay.replace_at(tag, Place { group, p, q }, runes)
+    }
+
+    /// Takes a request in behind the others. It finds what is shown now. Paste, cut and text of files but the command file are no requests
+    /// (see `is_request`). A place that it names is one of the text that it finds, and does not move with the host's changes.
+    ///
+    /// Errors, in this order, after which all is as before: `Waiting` while an edit that was put has not acted: go on by steps; `TooMany` if
+    /// `MOST_REQUESTS` wait; `CountFull` if 2^32-1 groups of edits were closed while edits or requests waited; `OutOfMemory`.
+    #[tactic(auto, using(crate::proofs::OrderLaws::ask_facts))]
+    pub fn ask(&mut self, event: UserEvent) -> Result<(), AskFault>
+        requires { IsTrue (is_request event) }
+        ensures asked { OnOk result (Asked self.old event self.new) }
+        ensures waiting { (result ≡ Err AskFault.Waiting) ↔ (is_some self.old.overlay.putting ≡ true) }
+        ensures many { (result ≡ Err AskFault.TooMany) ↔ ((self.old.overlay.putting ≡ None) × (most_requests ≤ length self.old.queue)) }
+        ensures full { (result ≡ Err AskFault.CountFull) ↔ ((self.old.overlay.putting ≡ None) × (length self.old.queue < most_requests)
+            × (2 ^ 32 - 1 ≤ closing_group self.old)) }
+        ensures err { OnErr result (self.new ≡ self.old) }
+    {
+        if self.overlay.is_putting() {
+            return Err(AskFault::Waiting);
+        }
+        if self.queue.len() >= MOST_REQUESTS {
+            return Err(AskFault::TooMany);
+        }
+        let group = self.overlay.newest().max(self.queue.next_group());
+        if group == u32::MAX {
+            return Err(AskFault::CountFull);
+        }
+        match self.queue.push(Request { event, group }) {
+            Ok(()) => Ok(()),
+            Err(_) => Err(AskFault::OutOfMemory),
+        }
+    }
+
+    /// Has the oldest request act, if all edits before it are put and no lock holds it out: it leaves the queue, and is the one event that
+    /// the end holds. So the next `step` has it act, or refuses it, unless a frame is brought before; no edit is put meanwhile. Else it
+    /// waits on, and the others with it.
+    ///
+    /// Errors, in this order, after which all is as before: `Stopped`; `CountFull` if 2^64-1 events were taken before; `OutOfMemory`.
+    pub fn act_next(&mut self) -> Result<Turn, PutFault>
+        ensures { ActsNext self.old result self.new }
+    {
+        if let Some(why) = self.overlay.end().stopped() {
+            return Err(PutFault::Stopped(why));
+        }
+        let Some(request) = self.queue.first() else {
+            return Ok(Turn::Nothing);
+        };
+        if !self.overlay.can_act(&request.event, request.group) {
+            return Ok(Turn::NotYet);
+        }
+        let Ok(event) = request.event.copy(self.alloc) else {
+            return Err(PutFault::OutOfMemory);
+        };
+        match self.overlay.bring_event(event) {
+            Ok(()) => {
+                self.queue.drop_first();
+                Ok(Turn::Request)
+            }
+            Err(why) => Err(PutFault::of(why)),
+        }
+    }
+
+    /// Puts the next edit of what waits over a file as an event, as `Overlay::put_next` does, but none that stands behind a request which
+    /// concerns the file: then the answer is `NotFree`.
+    ///
+    /// Errors are those of that call, in its order.
+    pub fn put_next(&mut self, tag: u16) -> Result<Put, PutFault>
+        ensures puts { PutsUpTo (put_limit self.old.queue tag) self.old.overlay tag result self.new.overlay }
+        ensures queue { self.new.queue ≡ self.old.queue }
+    {
+        let limit = self.queue.limit(tag);
+        self.overlay.put_up_to(tag, limit)
+    }
+
+    /// Takes back runes for which the host left no room, as `Overlay::drop_next` does, but none that stand behind a request which concerns
+    /// the file.
+    ///
+    /// The only error is `OutOfMemory`; after it all is as before.
+    pub fn drop_next(&mut self, tag: u16) -> Result<Option<Dropped>, PendingFault>
+        ensures drops { DropsUpTo (put_limit self.old.queue tag) self.old.overlay tag result self.new.overlay }
+        ensures queue { self.new.queue ≡ self.old.queue }
+    {
+        let limit = self.queue.limit(tag);
+        self.overlay.drop_up_to(tag, limit)
+    }
+
+    /// Goes on by one step, as `Overlay::step` does. An edit that was put changes no text that a request behind it comes to.
+    pub fn step(&mut self) -> Result<OverlayStep, EndpointFault<TermStop>>
+        ensures step { Steps self.old.overlay.end (end_step result) self.new.overlay.end }
+        ensures cells { IfOk result (λ x. CellsGo self.old.overlay x self.new.overlay) }
+        ensures put { OnOk result (self.new.overlay.putting ≡ None) }
+        ensures told { IfOk result (λ x. (f : ℕ)
+            → Leads (told_at x f) (shown_at self.old.overlay f) (shown_at self.new.overlay f)) }
+        ensures texts { OnOk result (KeepsTexts self.old.overlay self.new.overlay) }
+        ensures queue { self.new.queue ≡ self.old.queue }
+        ensures err { OnErr result (Keeps self.old.overlay self.new.overlay × StopsOnly self.old.overlay.end self.new.overlay.end) }
+    {
+        self.overlay.step()
+    }
+
+    /// Takes a piece of the host's stream, as `Overlay::bring` does. Errors are those of that call, in its order.
+    pub fn bring(&mut self, piece: &[u8]) -> Result<(), BringFault<TermStop>>
+        ensures brings { Brings self.old.overlay piece.now result self.new.overlay }
+        ensures queue { self.new.queue ≡ self.old.queue }
+    {
+        self.overlay.bring(piece)
+    }
+
+    /// Takes out the first `count` bytes for the host, or all if there are fewer, as `Overlay::consume` does. All else stays.
+    pub fn consume(&mut self, count: usize)
+        ensures overlay { self.new.overlay ≡ record self.old.overlay {
+          end = record self.old.overlay.end { pending_bytes = drop count self.old.overlay.end.pending_bytes };
+        } }
+        ensures queue { self.new.queue ≡ self.old.queue }
+    {
+        self.overlay.consume(count);
+    }
+
+    /// Hands out the oldest refusal that was not handed out before, as `Overlay::next_refusal` does. All else stays.
+    pub fn next_refusal(&mut self) -> Option<(u64, Refusal)>
+        ensures told { result ≡ slice_get self.old.overlay.end.refusals 0 }
+        ensures rest { self.new.overlay ≡ record self.old.overlay {
+          end = record self.old.overlay.end { refusals = drop 1 self.old.overlay.end.refusals };
+        } }
+        ensures queue { self.new.queue ≡ self.old.queue }
+    {
+        self.overlay.next_refusal()
+    }
+}

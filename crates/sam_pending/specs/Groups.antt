@@ -1,0 +1,39 @@
+-- Edits of a group and of those before it come to the rasp one by one, before a request of that group acts.
+use Rattle.std.specs.Prelude.{◌≡◌, ◌⊎◌, ◌<◌, ◌≤◌, ℕ, Bool, false, if◌then◌else◌, List, ◌++◌, length, take, drop, IsTrue}
+use Rattle.std.specs.List.{All}
+use Rattle.sam_pending.specs.Cells.{Cell, Change, IsBrought, IsTaken, by, in_rasp, part_by, place_at, rasp_of, removed, text_at, waiting_of}
+
+-- group g, or one before it, takes the cell out of the rasp, or puts it in
+abbrev pub is_due_by : ℕ → Cell → Bool
+is_due_by g c = if in_rasp c then by g c.died else by g c.born
+
+-- nothing is left to put of these groups
+abbrev pub IsPutUpTo : ℕ → List Cell → Type 0
+IsPutUpTo g cs = All (λ c. is_due_by g c ≡ false) cs
+
+-- by that change of the rasp the cells cs became ds: a stretch of them went or came that these groups have to put
+pub record IsMadeBy (g : ℕ) (cs : List Cell) (e : Change) (ds : List Cell) : Type 0 where
+  pub before : List Cell
+  pub stretch : List Cell
+  pub behind : List Cell
+  pub old : cs ≡ before ++ stretch ++ behind
+  pub some : 0 < length stretch
+  pub due : All (λ c. IsTrue (is_due_by g c)) stretch
+  pub made : IsTaken before stretch behind e ds ⊎ IsBrought before stretch behind e ds
+
+-- ## The laws
+
+-- while they come to the rasp, the text that a request of group g comes to stays
+abbrev pub EditsKeepText : Type 0
+EditsKeepText = (g : ℕ) (cs ds : List Cell) (e : Change) → IsMadeBy g cs e ds → text_at g ds ≡ text_at g cs
+
+-- once nothing is left of them the rasp is that text: the request finds what was shown as it was asked for, with the host's changes since
+abbrev pub PutIsText : Type 0
+PutIsText = (g : ℕ) (cs : List Cell) → IsPutUpTo g cs → rasp_of cs ≡ text_at g cs
+
+-- a removal of the host goes out of it too, but for what stood between
+abbrev pub RemovalsGoOutOfText : Type 0
+RemovalsGoOutOfText =
+    (g p q : ℕ) (cs : List Cell) → p ≤ q
+    → text_at g (removed p q cs)
+    ≡ take (place_at g p cs) (text_at g cs) ++ text_at g (waiting_of (part_by in_rasp p q cs)) ++ drop (place_at g q cs) (text_at g cs)
