@@ -9,3 +9,5 @@ pub mod Turning
 pub mod Entries
 pub mod Remaking
 pub mod Serving
+pub mod Recoveries
+pub mod Programs

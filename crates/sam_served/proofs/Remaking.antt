@@ -6,7 +6,7 @@ use Rattle.sam_link.specs.End.{End}
 use Rattle.sam_link.specs.Keeping.{HasRoom, Keeps, put}
 use Rattle.sam_link.specs.Packets.{Packet}
 use Rattle.sam_link.specs.Putting.{data_stream}
-use Rattle.std.proofs.Common.{length}
+use Rattle.std.proofs.Common.{◌<◌, arith, length}
 use Rattle.sam_endpoint.specs.HostEndpoints.{Adds, Marks, PlainHostEndpoint}
 use Rattle.sam_served.specs.Crashes.{Repeats, all_given, over, went_out}
 use Rattle.sam_server.specs.Servers.{Acknowledged, Asked, Called, Came, Done, Effect, Handles, Joined, Makes, Marked, Pauses, PlainRecord, Said, Server, Takes, given, waits_for}
@@ -147,13 +147,14 @@ takes_again (Done ending) s t z fine same (e, was, handles) = done_again ending 
 
 -- ## A front of the records
 
-pub record Fronted (n : ℕ) (xs : List Alt) (s t : Server) (e : End) : Type 0 where
+pub record Fronted (n : ℕ) (xs : List Alt) (s t z : Server) (e : End) : Type 0 where
   pub made : Server
   pub makes : Makes t (take n (records_in (log_of xs))) made
   pub alt : Server
   pub logged : Logged s (alt_left n xs) alt
   pub link_is : alt.link ≡ e
   pub same : Same alt made
+  pub whole : length (records_in (log_of xs)) < n → alt ≡ z
 
 pub record Outs (xs : List Alt) (s t : Server) (e : End) : Type 0 where
   pub logged : Logged s xs (record s { link = e })
@@ -190,7 +191,7 @@ outs (Turned r cs hs ∷ xs) s t e fine back all = outs xs s t e fine back all
 outs (Went c ∷ xs) s t e fine back all = outs_by c xs s t e (either c) fine back (λ k. outs xs k t e) all
 
 pub front : (n : ℕ) (xs : List Alt) (s t z : Server) (e : End) → Fine s.link → Same s t → Logged s xs z
-    → DoesAll s.link (all_calls (alt_left n xs)) e → Fronted n xs s t e
+    → DoesAll s.link (all_calls (alt_left n xs)) e → Fronted n xs s t z e
 front zero xs s t z e fine same logged all =
     let o = outs xs s t e fine same.back all in
     record {
@@ -200,6 +201,7 @@ front zero xs s t z e fine same logged all =
       logged = o.logged;
       link_is = refl;
       same = record { back = o.back; host = same.host; effect = same.effect };
+      whole = λ less. absurd (omega (arith, less));
     }
 front (suc n) [] s t z e fine same logged all = record {
   made = t;
@@ -208,6 +210,7 @@ front (suc n) [] s t z e fine same logged all = record {
   logged = refl;
   link_is = sym all;
   same = same;
+  whole = λ less. sym logged;
 }
 front (suc n) (Turned r cs hs ∷ xs) s t z e fine same (m, turn, rest) all =
     let p = does_parts cs (all_calls (alt_left n xs)) s.link e all in
@@ -223,6 +226,7 @@ front (suc n) (Turned r cs hs ∷ xs) s t z e fine same (m, turn, rest) all =
       logged = (m, turn, f.logged);
       link_is = f.link_is;
       same = f.same;
+      whole = λ less. f.whole (omega (arith, less));
     }
 front (suc n) (Went c ∷ xs) s t z e fine same (l, does, did, rest) (k, does_too, all) =
     let here : k ≡ l = one_does c s.link k l does_too does in
@@ -236,4 +240,5 @@ front (suc n) (Went c ∷ xs) s t z e fine same (l, does, did, rest) (k, does_to
       logged = (l, does, did, f.logged);
       link_is = f.link_is;
       same = f.same;
+      whole = λ less. f.whole less;
     }

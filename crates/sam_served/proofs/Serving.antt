@@ -300,7 +300,7 @@ module _ (id : Id) (w : Served) (x : Holds id w) where
       }
 
   -- the end that a crash now would leave, and what would be made of the records
-  fronted : (n : ℕ) (e : End) → LedTo id (left (size n x.xs) (all_calls x.xs)) e → Fronted n x.xs (new_server id) (new_server id) e
+  fronted : (n : ℕ) (e : End) → LedTo id (left (size n x.xs) (all_calls x.xs)) e → Fronted n x.xs (new_server id) (new_server id) x.alt e
   fronted n e made = front n x.xs (new_server id) (new_server id) x.alt e (first_fine id) (new_same id) x.logged
       (subst (λ l. DoesAll (fresh Host id) l e) (sym (calls_left n x.xs (new_server id) x.alt x.logged)) made)
 
@@ -537,7 +537,26 @@ marks_are_right id events w mark leads attempt put =
       put ∙ ap put_count same,
     )
 
-is_one_connection : (a b : ℕ) → (a == b) ≡ true → a ≡ b
+-- and it has its effect
+pub effect_stands : (id : Id) (events : List Event) (w : Served) → LeadsServed id (new_served id) events w
+    → (m : Server) × Makes (new_server id) (records_in w.log) m × (m.effect ≡ w.server.effect)
+effect_stands id events w leads =
+    let x = all_holds id events (new_served id) w (first_holds id) leads in
+    let all = records_in w.log in
+    let n = suc (length all) + w.durable in
+    let fewer : length (records_in (log_of x.xs)) < n = omega (arith, ap (λ (l : List Entry). length (records_in l)) x.log_is) in
+    let f = x.stands.fronts (size n x.xs) (size_grows w.durable n x.xs (omega arith)) in
+    let made =
+    made_of id (with_host (durable_session_of w x.xs x.alt).session (left (size n x.xs) (all_calls x.xs)) f.host) f.steps f.leads in
+    let r = fronted id w x n f.host made in
+    let makes : Makes (new_server id) (take n all) r.made = subst (λ l. Makes (new_server id) (take n (records_in l)) r.made) x.log_is
+    r.makes in (
+      r.made,
+      subst (λ l. Makes (new_server id) l r.made) (take_all n all (omega arith)) makes,
+      sym r.same.effect ∙ ap (λ (s : Server). s.effect) (r.whole fewer) ∙ sym x.effect,
+    )
+
+pub is_one_connection : (a b : ℕ) → (a == b) ≡ true → a ≡ b
 is_one_connection a b same = elim (eqb_tells a b) [ inl one ↦ one.1 | inr other ↦ absurd (true≢false (sym same ∙ other.0)) ]
 
 kept_by : (id : Id) (w : Served) (gate : PlainGate) (is_one : Bool) (attempt count hello gone : ℕ) (old new : List ℕ)

@@ -1,10 +1,12 @@
 //! The laws of a session whose host may crash, stated by the clauses of functions that do nothing.
 //!
 //! The first four speak of the calls of a link, the others of a server: a host endpoint with its end of a link, and with records of what it
-//! was given.
+//! was given. The last speaks of the calls of a program.
 ghost use Rattle.sam_served.specs.Crashes.{CrashesAreBreaks, EndsAreMade};
 ghost use Rattle.sam_served.specs.Gates.{GateIsCounted};
 ghost use Rattle.sam_served.specs.Marks.{GatesKeepTheRule, MarksAreRight};
+ghost use Rattle.sam_served.specs.Programs.{ProgramsAreServed};
+ghost use Rattle.sam_served.specs.Recoveries.{RecoveriesAreCrashes, RecoveriesGoOn};
 ghost use Rattle.sam_served.specs.Serving.{ServedAreMade, ServedAreSessions};
 ghost use Rattle.sam_served.specs.Sessions.{CrashedAreOneRun, CrashesCarry, ServedAreOneRun, ServedFindNoFault};
 ghost use Rattle.sam_served.specs.Turns.{TurnsAreCalls};
@@ -53,8 +55,21 @@ pub fn served_are_sessions()
     ensures made { ServedAreMade }
 {}
 
+/// States that a server which `Recovery` makes of the bodies of the first records of such a session, all durable ones among them, is the
+/// server of the definition after that crash; and that none of these bodies is refused but for memory.
+pub fn recoveries_are_crashes()
+    ensures crashes { RecoveriesAreCrashes }
+    ensures go_on { RecoveriesGoOn }
+{}
+
 /// States that no hello is refused for a wrong count, and that two ends of such a session are where one run of a world leaves them.
 pub fn served_are_one_run()
     ensures hellos { ServedFindNoFault }
     ensures one_run { ServedAreOneRun }
+{}
+
+/// States that a program whose calls are those of `DurableServer` and `Recovery`, in any order, over connections that break, and which may be
+/// killed at any moment, is a server of the definition: so all that the laws say of its sessions holds of the program's.
+pub fn programs_are_served()
+    ensures { ProgramsAreServed }
 {}

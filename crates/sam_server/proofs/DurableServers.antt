@@ -16,7 +16,7 @@ use Rattle.sam_link.specs.declared.phase.Role.TheVariants.{Host, Terminal}
 use Rattle.sam_server.specs.Records.{Called, Came, Done, Joined, Marked, PlainRecord, record_bytes}
 use Rattle.sam_endpoint.specs.HostEndpoints.{Adds, Marks, PlainHostEndpoint, with_file}
 use Rattle.sam_server.specs.Servers.{Effect, Handles, IsPausedAt, Pauses, PutsAnswers, Server, Takes, Work, with_work}
-use Rattle.sam_server.specs.DurableServers.{Finishing, GoesOn, GoesOnNow, IsOwing, IsWell, Leads, Left, LeftAt, PlainDurableServer, RefusesPiece, TakesRecord, gone_to, recorded, told_of_feed}
+use Rattle.sam_server.specs.DurableServers.{Finishing, GoesOn, GoesOnNow, IsOwing, IsWell, Leads, LeadsNowhereBy, Left, LeftAt, PlainDurableServer, RefusesPiece, TakesRecord, begun, due_before, gone_to, recorded, told_of_feed}
 use Rattle.sam_server.specs.Servers.{new_server}
 use Rattle.sam_server.specs.Turns.{DroppedEffect, Finishes, IsResting, Nears, PlainTurn, hosted, linked, with_effect, work_of}
 use Rattle.sam_server.specs.declared.fault.CallFault.{CallFault}
@@ -26,6 +26,7 @@ use Rattle.sam_server.specs.declared.fault.GoOnFault.TheVariants as go_on
 use Rattle.sam_server.specs.declared.server.Stage.{Stage}
 use Rattle.sam_server.specs.declared.server.Stage.TheVariants.{Answering, Recording, Settled, Stopped}
 use Rattle.sam_server.specs.declared.turn.Stop.{Stop}
+use Rattle.sam_server.proofs.One.{one_does}
 use Rattle.sam_server.proofs.Turns.{paused_on, paused_stays, ready_joined, ready_marked, whole}
 
 -- what is left to work on, where nothing is held
@@ -43,6 +44,17 @@ pub came_leads : (t : PlainTurn) (l : End) (attempt : ℕ) (piece : List ℕ) (z
 came_leads t l attempt piece z rests does ends =
     (l, does, handles_left t l t.server.effect z rests.handed.held ends)
 
+-- and all that its record leads to is left
+pub came_back : (t : PlainTurn) (l : End) (attempt : ℕ) (piece : List ℕ) (z : Server) → IsResting t
+    → Does t.server.link (Feed attempt piece (Ok tt)) l → Takes t.server (Came attempt piece) z → Finishes (linked t l) z
+came_back t l attempt piece z rests does (k, does_too, (m, pauses, puts)) =
+    let same : k ≡ l = one_does (Feed attempt piece (Ok tt)) t.server.link k l does_too does in (
+      m,
+      subst (λ (h : List Packet). Pauses (rest_of t l h t.server.effect) m) (sym rests.handed.held)
+          (subst (λ (x : End). Pauses (rest_of t x [] t.server.effect) m) same pauses),
+      subst (λ (x : End). PutsAnswers (with_work x m) z) same puts,
+    )
+
 effect_of : (x : Option Effect) → x ≢ None → (e : Effect) × (x ≡ Some e)
 effect_of None some = absurd (some refl)
 effect_of (Some e) some = (e, refl)
@@ -53,6 +65,15 @@ pub done_leads : (t u : PlainTurn) (ending : ℕ) (z : Server) → IsResting t �
 done_leads t u ending z rests (some, is) ends =
     let x = effect_of t.server.effect some in
     (x.0, x.1, handles_left t t.server.link None z rests.handed.held (subst (λ (y : PlainTurn). Finishes y z) is ends))
+
+pub done_back : (t u : PlainTurn) (ending : ℕ) (z : Server) → IsResting t → DroppedEffect t true u → Takes t.server (Done ending) z
+    → Finishes u z
+done_back t u ending z rests (some, is) (e, effect, (m, pauses, puts)) =
+    subst (λ (y : PlainTurn). Finishes y z) (sym is) (
+      m,
+      subst (λ (h : List Packet). Pauses (rest_of t t.server.link h None) m) (sym rests.handed.held) pauses,
+      puts,
+    )
 
 -- ## What is left
 
@@ -123,8 +144,8 @@ finished_then d m e (Err go_on.Unfinished) is (ends, at) (owing, still, leads, s
     )
 finished_then d m e (Err (go_on.Stopped why)) is (ends, at) (inl (stops, same)) =
     stopped_not _ m.stage why (subst IsOwing (sym (ap (λ (x : PlainDurableServer). x.stage) at)) tt) stops
-finished_then d m e (Err (go_on.Stopped why)) is (ends, at) (inr (owing, same)) =
-    inr (owing_answers d.stage is, same ∙ ap (λ (x : PlainDurableServer). gone_to x e.turn (Stopped why) x.owed) at)
+finished_then d m e (Err (go_on.Stopped why)) is (ends, at) (inr (owing, nowhere, same)) =
+    absurd (nowhere m.turn.server (left_recording m (ap (λ (x : PlainDurableServer). x.stage) at)))
 
 pub finished_not : (d e : PlainDurableServer) (why : GoOnFault) → d.stage ≡ Answering → Finishing d (Err why) e → GoesOn d (Err why) e
 finished_not d e go_on.Unfinished is (near, at) =
@@ -134,7 +155,8 @@ finished_not d e go_on.Unfinished is (near, at) =
       near_leads d e is stage near,
       at ∙ ap (λ (s : Stage). gone_to d e.turn s d.owed) (sym stage),
     )
-finished_not d e (go_on.Stopped why) is at = inr (owing_answers d.stage is, at)
+finished_not d e (go_on.Stopped why) is (nowhere, at) =
+    inr (owing_answers d.stage is, (λ z left. nowhere z (subst (λ (s : Stage). LeftAt s d.turn z) is left)), at)
 
 pub stage_of : (d m : PlainDurableServer) → Finishing d (Ok tt) m → m.stage ≡ Recording
 stage_of d m (ends, at) = ap (λ (x : PlainDurableServer). x.stage) at
@@ -154,28 +176,32 @@ pub ruleset nothing_facts = (goes_nowhere, stays_stopped)
 -- the call is made, and its record is owed
 pub taken : {F : Type 0} (d m e : PlainDurableServer) (t : PlainTurn) (stage : Stage) (r : PlainRecord)
     (refuses : F → PlainDurableServer → Type 0) (result : Result (Unit {0}) (CallFault F)) → d.stage ≡ Settled
-    → m ≡ gone_to d t stage (record_bytes r) → IsOwing stage → ((z : Server) → LeftAt stage t z → Takes d.turn.server r z)
-    → GoesOnNow m result e → TakesRecord d r refuses result e
-taken d m e t stage r refuses (Ok done) settled at owing leads (inl (is, same)) =
+    → m ≡ gone_to (begun d r) t stage (record_bytes r) → IsOwing stage → ((z : Server) → LeftAt stage t z → Takes d.turn.server r z)
+    → (((z : Server) → LeftAt stage t z → ⊥) → LeadsNowhereBy d.turn.server r) → GoesOnNow m result e → TakesRecord d r refuses result e
+taken d m e t stage r refuses (Ok done) settled at owing leads stops (inl (is, same)) =
     settled_not _ m.stage (subst IsOwing (sym (ap (λ (x : PlainDurableServer). x.stage) at)) owing) is
-taken d m e t stage r refuses (Ok done) settled at owing leads (inr (still, left, same)) = (
+taken d m e t stage r refuses (Ok done) settled at owing leads stops (inr (still, left, same)) = (
   settled,
   leads e.turn.server (subst (λ (x : PlainDurableServer). Left x e.turn.server) at left),
   same ∙ ap (λ (x : PlainDurableServer). recorded x e.turn x.owed) at,
 )
-taken d m e t stage r refuses (Err fault.Unfinished) settled at owing leads (was, still, more, same) = (
+taken d m e t stage r refuses (Err fault.Unfinished) settled at owing leads stops (was, still, more, same) = (
   settled,
   still,
   record { leads = λ z left. leads z (subst (λ (x : PlainDurableServer). Left x z) at (more.leads z left)) },
   same ∙ ap (λ (x : PlainDurableServer). gone_to x e.turn e.stage x.owed) at,
 )
-taken d m e t stage r refuses (Err (fault.Stopped why)) settled at owing leads (inl (is, same)) =
+taken d m e t stage r refuses (Err (fault.Stopped why)) settled at owing leads stops (inl (is, same)) =
     stopped_not _ m.stage why (subst IsOwing (sym (ap (λ (x : PlainDurableServer). x.stage) at)) owing) is
-taken d m e t stage r refuses (Err (fault.Stopped why)) settled at owing leads (inr (was, same)) =
-    inr (settled, same ∙ ap (λ (x : PlainDurableServer). gone_to x e.turn (Stopped why) x.owed) at)
-taken d m e t stage r refuses (Err fault.Waiting) settled at owing leads goes = absurd goes
-taken d m e t stage r refuses (Err fault.OutOfMemory) settled at owing leads goes = absurd goes
-taken d m e t stage r refuses (Err (fault.Refused why)) settled at owing leads goes = absurd goes
+taken d m e t stage r refuses (Err (fault.Stopped why)) settled at owing leads stops (inr (was, nowhere, same)) =
+    inr (
+      settled,
+      stops (λ z left. nowhere z (subst (λ (x : PlainDurableServer). Left x z) (sym at) left)),
+      same ∙ ap (λ (x : PlainDurableServer). gone_to x e.turn (Stopped why) x.owed) at,
+    )
+taken d m e t stage r refuses (Err fault.Waiting) settled at owing leads stops goes = absurd goes
+taken d m e t stage r refuses (Err fault.OutOfMemory) settled at owing leads stops goes = absurd goes
+taken d m e t stage r refuses (Err (fault.Refused why)) settled at owing leads stops goes = absurd goes
 
 pub new_rests : (id : Id) → IsResting (record { server = new_server id; held = [] })
 new_rests id = record {
@@ -233,7 +259,7 @@ pub accept_takes : {F : Type 0} (d e : PlainDurableServer) (t : PlainTurn) (h : 
 accept_takes d e t h body refuses result settled body_is is does goes =
     taken d (gone_to d t Recording body) e t Recording (Called h) refuses result settled
     (ap (λ (b : List ℕ). gone_to d t Recording b) body_is) tt
-    (λ z left. (t.server.link, does, left ∙ ap (λ (x : PlainTurn). x.server) is)) goes
+    (λ z left. (t.server.link, does, left ∙ ap (λ (x : PlainTurn). x.server) is)) (λ nowhere. absurd (nowhere t.server refl)) goes
 
 pub receive_takes : {F : Type 0} (d e : PlainDurableServer) (t : PlainTurn) (attempt : ℕ) (piece body : List ℕ)
     (refuses : F → PlainDurableServer → Type 0) (result : Result (Unit {0}) (CallFault F)) → d.stage ≡ Settled → IsWell d.stage d.turn
@@ -244,7 +270,9 @@ receive_takes d e t attempt piece body refuses result settled well body_is is do
     taken d (gone_to d t Answering body) e t Answering (Came attempt piece) refuses result settled
     (ap (λ (b : List ℕ). gone_to d t Answering b) body_is) tt
     (λ z left. came_leads d.turn t.server.link attempt piece z (resting d.stage d.turn settled well) does
-    (subst (λ (x : PlainTurn). Finishes x z) is left)) goes
+    (subst (λ (x : PlainTurn). Finishes x z) is left))
+    (λ nowhere z takes. nowhere z (subst (λ (x : PlainTurn). Finishes x z) (sym is)
+    (came_back d.turn t.server.link attempt piece z (resting d.stage d.turn settled well) does takes))) goes
 
 -- the piece is not taken
 pub refuses_piece : (d : PlainDurableServer) (t : PlainTurn) (attempt : ℕ) (piece : List ℕ) (why : FeedFault) → d.stage ≡ Settled
@@ -263,33 +291,36 @@ refuses_piece d t attempt piece feeds.AckAhead settled is does =
 
 -- a record that is done at once
 pub single_takes : {F : Type 0} (d e : PlainDurableServer) (t : PlainTurn) (r : PlainRecord) (body : List ℕ)
-    (refuses : F → PlainDurableServer → Type 0) (result : Result (Unit {0}) (CallFault F)) → d.stage ≡ Settled → body ≡ record_bytes r
-    → Takes d.turn.server r t.server → GoesOnNow (gone_to d t Recording body) result e → TakesRecord d r refuses result e
-single_takes d e t r body refuses result settled body_is takes goes =
+    (refuses : F → PlainDurableServer → Type 0) (result : Result (Unit {0}) (CallFault F)) → d.stage ≡ Settled → due_before r d.due ≡ d.due
+    → body ≡ record_bytes r → Takes d.turn.server r t.server
+    → GoesOnNow (gone_to d t Recording body) result e → TakesRecord d r refuses result e
+single_takes d e t r body refuses result settled due body_is takes goes =
     taken d (gone_to d t Recording body) e t Recording r refuses result settled
-    (ap (λ (b : List ℕ). gone_to d t Recording b) body_is) tt
-    (λ z left. subst (λ (x : Server). Takes d.turn.server r x) (sym left) takes) goes
+    (λ i. gone_to (record d { due = sym due i }) t Recording (body_is i)) tt
+    (λ z left. subst (λ (x : Server). Takes d.turn.server r x) (sym left) takes) (λ nowhere. absurd (nowhere t.server refl)) goes
 
 -- a file joined
 pub joined_takes : (t u : PlainTurn) (name text : List ℕ) (tag : ℕ) → u ≡ hosted t u.server.host
     → Adds t.server.host name text (Ok tag) u.server.host → Takes t.server (Joined name text) u.server
 joined_takes t u name text tag is adds = (tag, u.server.host, adds, ap (λ (x : PlainTurn). x.server) is)
 
-pub joined_well : (d : PlainDurableServer) (u : PlainTurn) (name text : List ℕ) (tag : ℕ) → d.stage ≡ Settled → IsWell d.stage d.turn
-    → u ≡ hosted d.turn u.server.host → Adds d.turn.server.host name text (Ok tag) u.server.host → IsResting u
-joined_well d u name text tag settled well is adds =
-    let rests = resting d.stage d.turn settled well in
-    let shape : u ≡ hosted d.turn (with_file d.turn.server.host name text) = is ∙ ap (hosted d.turn) adds.2 in
+pub joined_rests : (t u : PlainTurn) (name text : List ℕ) (tag : ℕ) → IsResting t → u ≡ hosted t u.server.host
+    → Adds t.server.host name text (Ok tag) u.server.host → IsResting u
+joined_rests t u name text tag rests is adds =
+    let shape : u ≡ hosted t (with_file t.server.host name text) = is ∙ ap (hosted t) adds.2 in
     subst IsResting (sym shape) (record {
       handed = record {
         held = rests.handed.held;
         paused =
-            paused_on d.turn.server.effect (work_of d.turn) (work_of (hosted d.turn (with_file d.turn.server.host name text)))
-            rests.handed.paused refl
-            (ready_joined d.turn.server.host (with_file d.turn.server.host name text) name text (Ok tag) (adds.0, adds.1, refl));
+            paused_on t.server.effect (work_of t) (work_of (hosted t (with_file t.server.host name text))) rests.handed.paused refl
+            (ready_joined t.server.host (with_file t.server.host name text) name text (Ok tag) (adds.0, adds.1, refl));
       };
       answers = rests.answers;
     })
+
+pub joined_well : (d : PlainDurableServer) (u : PlainTurn) (name text : List ℕ) (tag : ℕ) → d.stage ≡ Settled → IsWell d.stage d.turn
+    → u ≡ hosted d.turn u.server.host → Adds d.turn.server.host name text (Ok tag) u.server.host → IsResting u
+joined_well d u name text tag settled well is adds = joined_rests d.turn u name text tag (resting d.stage d.turn settled well) is adds
 
 pub said_well : (d : PlainDurableServer) (u : PlainTurn) (message : List ℕ) → d.stage ≡ Settled → IsWell d.stage d.turn
     → u ≡ linked d.turn u.server.link → Does d.turn.server.link (PutNote message (Ok tt)) u.server.link → IsResting u
@@ -301,11 +332,12 @@ said_well d u message settled well is does =
 pub done_takes : {F : Type 0} (d e : PlainDurableServer) (t : PlainTurn) (ending : ℕ) (b : Bool) (body : List ℕ)
     (refuses : F → PlainDurableServer → Type 0) (result : Result (Unit {0}) (CallFault F)) → d.stage ≡ Settled → IsWell d.stage d.turn
     → body ≡ record_bytes (Done ending) → b ≡ true → DroppedEffect d.turn b t
-    → GoesOnNow (gone_to d t Answering body) result e → TakesRecord d (Done ending) refuses result e
+    → GoesOnNow (gone_to (record d { due = None }) t Answering body) result e → TakesRecord d (Done ending) refuses result e
 done_takes d e t ending true body refuses result settled well body_is some dropped goes =
-    taken d (gone_to d t Answering body) e t Answering (Done ending) refuses result settled
-    (ap (λ (x : List ℕ). gone_to d t Answering x) body_is) tt
-    (λ z left. done_leads d.turn t ending z (resting d.stage d.turn settled well) dropped left) goes
+    taken d (gone_to (record d { due = None }) t Answering body) e t Answering (Done ending) refuses result settled
+    (ap (λ (x : List ℕ). gone_to (record d { due = None }) t Answering x) body_is) tt
+    (λ z left. done_leads d.turn t ending z (resting d.stage d.turn settled well) dropped left)
+    (λ nowhere z takes. nowhere z (done_back d.turn t ending z (resting d.stage d.turn settled well) dropped takes)) goes
 done_takes d e t ending false body refuses result settled well body_is some dropped goes = absurd (true≢false (sym some))
 
 -- ## The terminal is told
@@ -322,7 +354,7 @@ acknowledged_well d u settled well is does =
     subst IsResting (sym is)
     (linked_rests d.turn u.server.link (ap (λ (l : End). l.waiting) does.1) (resting d.stage d.turn settled well))
 
-marked_leads : (t : PlainTurn) (k : PlainHostEndpoint) (f : ℕ) (z : Server) → IsResting t → Marks t.server.host f (Ok tt) k
+pub marked_leads : (t : PlainTurn) (k : PlainHostEndpoint) (f : ℕ) (z : Server) → IsResting t → Marks t.server.host f (Ok tt) k
     → Finishes (hosted t k) z → Takes t.server (Marked f) z
 marked_leads t k f z rests marks (m, (n, pauses), puts) =
     let still : IsPausedAt t.server.effect (work_of (hosted t k)) =
@@ -334,6 +366,18 @@ marked_leads t k f z rests marks (m, (n, pauses), puts) =
           (subst (λ (w : Work). PutsAnswers (with_work t.server.link w) z) same puts),
     )
 
+pub marked_back : (t : PlainTurn) (k : PlainHostEndpoint) (f : ℕ) (z : Server) → IsResting t → Marks t.server.host f (Ok tt) k
+    → Takes t.server (Marked f) z → Finishes (hosted t k) z
+marked_back t k f z rests marks (j, marks_too, puts) =
+    let still : IsPausedAt t.server.effect (work_of (hosted t k)) =
+    paused_on t.server.effect (work_of t) (work_of (hosted t k)) rests.handed.paused refl (ready_marked t.server.host k f (Ok tt) marks) in
+    let same : j ≡ k = marks_too.2 ∙ sym marks.2 in (
+      work_of (hosted t k),
+      (0, (still, refl)),
+      subst (λ (s : Server). PutsAnswers s z) (sym (whole (hosted t k) rests.handed.held))
+          (subst (λ (x : PlainHostEndpoint). PutsAnswers (record t.server { host = x }) z) same puts),
+    )
+
 -- a file is marked, and the answers are put
 pub marked_takes : {F : Type 0} (d e : PlainDurableServer) (u : PlainTurn) (f : ℕ) (body : List ℕ)
     (refuses : F → PlainDurableServer → Type 0) (result : Result (Unit {0}) (CallFault F)) → d.stage ≡ Settled → IsWell d.stage d.turn
@@ -343,4 +387,6 @@ marked_takes d e u f body refuses result settled well body_is is marks goes =
     taken d (gone_to d u Answering body) e u Answering (Marked f) refuses result settled
     (ap (λ (b : List ℕ). gone_to d u Answering b) body_is) tt
     (λ z left. marked_leads d.turn u.server.host f z (resting d.stage d.turn settled well) marks
-    (subst (λ (x : PlainTurn). Finishes x z) is left)) goes
+    (subst (λ (x : PlainTurn). Finishes x z) is left))
+    (λ nowhere z takes. nowhere z (subst (λ (x : PlainTurn). Finishes x z) (sym is)
+    (marked_back d.turn u.server.host f z (resting d.stage d.turn settled well) marks takes))) goes

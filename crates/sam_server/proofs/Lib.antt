@@ -3,6 +3,8 @@ pub mod Gates
 pub mod HostLinks
 pub mod One
 pub mod OneMade
+pub mod OnePlace
 pub mod Pauses
 pub mod Records
+pub mod Recovering
 pub mod Turns

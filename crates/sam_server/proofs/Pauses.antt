@@ -98,7 +98,7 @@ gives_one h k j piece ms ns a b x y =
     let failed : k.failed ≡ j.failed = x.failed_is ∙ ap is_fault fault ∙ sym y.failed_is in
     (one.0, fault, λ i. record { bytes = bytes i; version = version i; offset = offset i; failed = failed i })
 
-takes_in_one : (e k j : PlainHostEndpoint) (piece : List ℕ) → TakesIn e piece k → TakesIn e piece j → k ≡ j
+pub takes_in_one : (e k j : PlainHostEndpoint) (piece : List ℕ) → TakesIn e piece k → TakesIn e piece j → k ≡ j
 takes_in_one e k j piece (ms, a, rest, gives, is) (ns, b, others, gives_too, is_too) =
     let one = gives_one e.framer rest others piece ms ns a b (read e.framer rest piece ms a gives) (read e.framer others piece ns b gives_too) in
     is ∙ (λ i. record e { framer = one.2 i; waiting = one.0 i; broken_by = one.1 i }) ∙ sym is_too
@@ -119,11 +119,11 @@ pending_now : (e g : PlainHostEndpoint) (ms : List Tmesg) (x : Answers e ms g) �
 pending_now e g ms x none =
     sym (append-nil g.pending_bytes) ∙ ap (λ (u : List HFrame). g.pending_bytes ++ stream_of host u) (sym none) ∙ x.bytes
 
-after_same : (ms a b : List Tmesg) → ms ++ a ≡ ms ++ b → a ≡ b
+pub after_same : (ms a b : List Tmesg) → ms ++ a ≡ ms ++ b → a ≡ b
 after_same ms a b same = sym (drop_at ms a (length ms) refl) ∙ ap (drop (length ms)) same ∙ drop_at ms b (length ms) refl
 
 -- an endpoint that answered these messages, and wrote the answers
-one_after : (e a b : PlainHostEndpoint) (ms : List Tmesg) → Answers e ms a → Answers e ms b → a.unwritten ≡ [] → b.unwritten ≡ []
+pub one_after : (e a b : PlainHostEndpoint) (ms : List Tmesg) → Answers e ms a → Answers e ms b → a.unwritten ≡ [] → b.unwritten ≡ []
     → a.stop ≡ None → b.stop ≡ None → a ≡ b
 one_after e a b ms x y written written_too goes goes_too =
     let same = one_service e.host (map Answered ms) x.frames y.frames x.more y.more a.host b.host x.serves y.serves in
@@ -150,7 +150,7 @@ one_after e a b ms x y written written_too goes goes_too =
 first_message : (l k g : PlainHostEndpoint) (a : AnswersFirst l k) (b : AnswersFirst l g) → (a.message ≡ b.message) × (a.rest ≡ b.rest)
 first_message l k g a b = let same : a.message ∷ a.rest ≡ b.message ∷ b.rest = sym a.waited ∙ b.waited in (cc, ap (drop 1) same)
 
-one_answer : (h g k : PlainHost) (m n : Tmesg) (a b : List HFrame) → m ≡ n → answer h m ≡ Ok (g, a) → answer h n ≡ Ok (k, b)
+pub one_answer : (h g k : PlainHost) (m n : Tmesg) (a b : List HFrame) → m ≡ n → answer h m ≡ Ok (g, a) → answer h n ≡ Ok (k, b)
     → (g ≡ k) × (a ≡ b)
 one_answer h g k m n a b same x y = grind arith
 
@@ -170,15 +170,15 @@ first_one l k g a b =
 
 -- ## It is told to write in one place
 
-none_first : (a b : List ℕ) → [] ≡ a ++ b → a ≡ []
+pub none_first : (a b : List ℕ) → [] ≡ a ++ b → a ≡ []
 none_first [] b is = refl
 none_first (x ∷ a) b is = absurd (cc)
 
-none_rest : (a b : List ℕ) → [] ≡ a ++ b → b ≡ []
+pub none_rest : (a b : List ℕ) → [] ≡ a ++ b → b ≡ []
 none_rest [] b is = sym is
 none_rest (x ∷ a) b is = absurd (cc)
 
-same_head : (x y : Tmesg) (xs ys : List Tmesg) → x ∷ xs ≡ y ∷ ys → x ≡ y
+pub same_head : (x y : Tmesg) (xs ys : List Tmesg) → x ∷ xs ≡ y ∷ ys → x ≡ y
 same_head x y xs ys same = cc
 
 -- among messages that tell the host to write nothing, none does
@@ -199,7 +199,7 @@ tells_none (a ∷ xs) (n ∷ ms) m rest h g z fx fm is (k, f1, f2, more, answere
     (subst (λ w. Serves j (map Answered ms) g2 w z) left_too serves_too))
 
 -- the first of the messages that tells it to write stands in one place
-one_front : (xs ys : List Tmesg) (m n : Tmesg) (r s : List Tmesg) (h g k : PlainHost) (fx fy : List HFrame) → xs ++ m ∷ r ≡ ys ++ n ∷ s
+pub one_front : (xs ys : List Tmesg) (m n : Tmesg) (r s : List Tmesg) (h g k : PlainHost) (fx fy : List HFrame) → xs ++ m ∷ r ≡ ys ++ n ∷ s
     → Serves h (map Answered xs) fx [] g → Serves h (map Answered ys) fy [] k → (writes_of g m ≡ [] → ⊥) → (writes_of k n ≡ [] → ⊥)
     → xs ≡ ys
 one_front [] [] m n r s h g k fx fy same x y some some_too = refl
@@ -221,52 +221,52 @@ one_front (a ∷ xs) (b ∷ ys) m n r s h g k fx fy same (j, f1, f2, more, answe
     λ t. head t ∷ rest t
 
 -- some messages were answered, and none told it to write
-record Quietly (e l : PlainHostEndpoint) : Type 0 where
-  went : Went e l
-  quiet : l.writes ≡ []
+pub record Quietly (e l : PlainHostEndpoint) : Type 0 where
+  pub went : Went e l
+  pub quiet : l.writes ≡ []
 
 none_told : (e l : PlainHostEndpoint) (q : Quietly e l) → q.went.answers.more ≡ []
 none_told e l q = none_rest e.writes q.went.answers.more (sym q.quiet ∙ q.went.answers.writes)
 
-serves_quietly : (e l : PlainHostEndpoint) (q : Quietly e l)
+pub serves_quietly : (e l : PlainHostEndpoint) (q : Quietly e l)
     → Serves e.host (map Answered q.went.messages) q.went.answers.frames [] l.host
 serves_quietly e l q =
     subst (λ w. Serves e.host (map Answered q.went.messages) q.went.answers.frames w l.host) (none_told e l q) q.went.answers.serves
 
 -- then nothing is left
-record Readied (e l : PlainHostEndpoint) : Type 0 where
-  quietly : Quietly e l
-  ready : IsReady l
+pub record Readied (e l : PlainHostEndpoint) : Type 0 where
+  pub quietly : Quietly e l
+  pub ready : IsReady l
 
 -- then the oldest message tells it to write
-record Told (e k : PlainHostEndpoint) : Type 0 where
-  middle : PlainHostEndpoint
-  quietly : Quietly e middle
-  written : middle.unwritten ≡ []
-  first : AnswersFirst middle k
-  some : k.writes ≡ [] → ⊥
+pub record Told (e k : PlainHostEndpoint) : Type 0 where
+  pub middle : PlainHostEndpoint
+  pub quietly : Quietly e middle
+  pub written : middle.unwritten ≡ []
+  pub first : AnswersFirst middle k
+  pub some : k.writes ≡ [] → ⊥
 
-all_answered : (e l : PlainHostEndpoint) (x : Readied e l) → e.waiting ≡ x.quietly.went.messages
+pub all_answered : (e l : PlainHostEndpoint) (x : Readied e l) → e.waiting ≡ x.quietly.went.messages
 all_answered e l x =
     x.quietly.went.answers.waiting ∙ ap (λ (rest : List Tmesg). x.quietly.went.messages ++ rest) x.ready.1.0.waiting
     ∙ append-nil x.quietly.went.messages
 
-one_ready : (e l k : PlainHostEndpoint) → Readied e l → Readied e k → l ≡ k
+pub one_ready : (e l k : PlainHostEndpoint) → Readied e l → Readied e k → l ≡ k
 one_ready e l k x y =
     let same : x.quietly.went.messages ≡ y.quietly.went.messages = sym (all_answered e l x) ∙ all_answered e k y in
     one_after e l k y.quietly.went.messages (subst (λ (ms : List Tmesg). Answers e ms l) same x.quietly.went.answers)
     y.quietly.went.answers x.ready.1.0.unwritten y.ready.1.0.unwritten x.ready.0 y.ready.0
 
-told_by : (e k : PlainHostEndpoint) (x : Told e k) → writes_of x.middle.host x.first.message ≡ [] → ⊥
+pub told_by : (e k : PlainHostEndpoint) (x : Told e k) → writes_of x.middle.host x.first.message ≡ [] → ⊥
 told_by e k x none =
     x.some (ap (λ (p : PlainHostEndpoint). p.writes) x.first.after
     ∙ ap (λ (w : List ℕ). w ++ writes_of x.middle.host x.first.message) x.quietly.quiet ∙ none)
 
-told_at : (e k : PlainHostEndpoint) (x : Told e k) → e.waiting ≡ x.quietly.went.messages ++ x.first.message ∷ x.first.rest
+pub told_at : (e k : PlainHostEndpoint) (x : Told e k) → e.waiting ≡ x.quietly.went.messages ++ x.first.message ∷ x.first.rest
 told_at e k x =
     x.quietly.went.answers.waiting ∙ ap (λ (rest : List Tmesg). x.quietly.went.messages ++ rest) x.first.waited
 
-one_told : (e k j : PlainHostEndpoint) → Told e k → Told e j → k ≡ j
+pub one_told : (e k j : PlainHostEndpoint) → Told e k → Told e j → k ≡ j
 one_told e k j x y =
     let front : x.quietly.went.messages ≡ y.quietly.went.messages =
     one_front x.quietly.went.messages y.quietly.went.messages x.first.message y.first.message x.first.rest y.first.rest e.host
@@ -280,7 +280,7 @@ one_told e k j x y =
     x.quietly.went.goes y.quietly.went.goes in
     first_one y.middle k j (subst (λ (p : PlainHostEndpoint). AnswersFirst p k) middle x.first) y.first
 
-not_both : (e l k : PlainHostEndpoint) → Readied e l → Told e k → ⊥
+pub not_both : (e l k : PlainHostEndpoint) → Readied e l → Told e k → ⊥
 not_both e l k x y =
     told_by e k y (tells_none y.quietly.went.messages x.quietly.went.messages y.first.message y.first.rest e.host y.middle.host l.host
     y.quietly.went.answers.frames x.quietly.went.answers.frames
@@ -289,7 +289,7 @@ not_both e l k x y =
 
 -- ## Where it pauses
 
-abbrev at : List Packet → PlainHostEndpoint → Option Effect → Work
+abbrev pub at : List Packet → PlainHostEndpoint → Option Effect → Work
 at ps e effect = record { packets = ps; host = e; effect = effect }
 
 some_none : (f : Effect) → Some f ≡ None → ⊥
@@ -301,10 +301,10 @@ at_once zero ps e f v x = x.1
 at_once (suc n) ps e f v x = absurd (some_none f x.0)
 
 -- with the packet that is next, if one is
-abbrev After : List Packet → PlainHostEndpoint → Work → Type 0
+abbrev pub After : List Packet → PlainHostEndpoint → Work → Type 0
 After ps l v = ((ps ≡ []) × (v ≡ at ps l None)) ⊎ ((m : Work) × HandsOn (at ps l None) ps m × Pauses m v)
 
-abbrev Phase : List Packet → PlainHostEndpoint → Work → Type 0
+abbrev pub Phase : List Packet → PlainHostEndpoint → Work → Type 0
 Phase ps e v =
     ((l : PlainHostEndpoint) × Readied e l × After ps l v)
     ⊎ ((k : PlainHostEndpoint) × Told e k × (v ≡ at ps (record k { writes = [] }) (to_write k.writes)))
@@ -316,7 +316,7 @@ some_left : (f : ℕ) (fs writes : List ℕ) → writes ≡ f ∷ fs → writes 
 some_left f fs writes is none = cc
 
 -- only an answer tells it to write
-told_to : (e l k : PlainHostEndpoint) (step : HostStep) (f : ℕ) (fs : List ℕ) → Quietly e l → step ≢ steps.Idle → Steps l (Ok step) k
+pub told_to : (e l k : PlainHostEndpoint) (step : HostStep) (f : ℕ) (fs : List ℕ) → Quietly e l → step ≢ steps.Idle → Steps l (Ok step) k
     → k.writes ≡ f ∷ fs → Told e k
 told_to e l k steps.Idle f fs q some does is = idle_not (Told e k) steps.Idle some refl
 told_to e l k steps.Wrote f fs q some (going, waits, same) is =
@@ -392,7 +392,7 @@ after_note bytes ps l a b (inr (m, (ready, is), pauses)) (inr (n, (ready_too, is
     at_once pauses.0 ps l (Hear bytes) a (subst (λ (w : Work). PausesBy pauses.0 w a) is pauses.1)
     ∙ sym (at_once pauses_too.0 ps l (Hear bytes) b (subst (λ (w : Work). PausesBy pauses_too.0 w b) is_too pauses_too.1))
 
-stands : (e : PlainHostEndpoint) → e.stop ≡ None → e.writes ≡ [] → Quietly e e
+pub stands : (e : PlainHostEndpoint) → e.stop ≡ None → e.writes ≡ [] → Quietly e e
 stands e goes quiet = record { went = went_nowhere e goes; quiet = quiet }
 
 after_acknowledge : (count : ℕ) (ps : List Packet) (l : PlainHostEndpoint) (a b : Work) → After (packet.Acknowledge count ∷ ps) l a
@@ -410,7 +410,7 @@ step_goes e k steps.Wrote does = does.0
 step_goes e k (steps.Edited tag count) does = does.0.0
 step_goes e k (steps.Answered kind tag) does = does.0.0
 
-goes_at : (n : ℕ) (ps : List Packet) (e : PlainHostEndpoint) (v : Work) → PausesBy n (at ps e None) v → e.stop ≡ None
+pub goes_at : (n : ℕ) (ps : List Packet) (e : PlainHostEndpoint) (v : Work) → PausesBy n (at ps e None) v → e.stop ≡ None
 goes_at zero ps e v (paused, is) = paused.0.0
 goes_at (suc n) ps e v (none, m, inl (step, k, some, does, is), more) = step_goes e k step does
 goes_at (suc n) [] e v (none, m, inr hands, more) = absurd hands
@@ -419,7 +419,7 @@ goes_at (suc n) (packet.Note bytes ∷ ps) e v (none, m, inr hands, more) = hand
 goes_at (suc n) (packet.Acknowledge count ∷ ps) e v (none, m, inr hands, more) = absurd hands
 goes_at (suc n) (packet.Ask ∷ ps) e v (none, m, inr hands, more) = absurd hands
 
-begun : (ps : List Packet) (e : PlainHostEndpoint) (v : Work) → e.writes ≡ [] → Pauses (at ps e None) v → Phase ps e v
+pub begun : (ps : List Packet) (e : PlainHostEndpoint) (v : Work) → e.writes ≡ [] → Pauses (at ps e None) v → Phase ps e v
 begun ps e v quiet (n, x) = phase n ps e e v (stands e (goes_at n ps e v x) quiet) x
 
 pauses_one : (ps : List Packet) (e : PlainHostEndpoint) (a b : Work) → e.writes ≡ [] → Pauses (at ps e None) a → Pauses (at ps e None) b

@@ -1,7 +1,7 @@
 -- What the parts of a turn do, and where what is left leads.
-use Rattle.std.proofs.Common.{◌≡◌, ◌≢◌, ◌⊎◌, inl, inr, ℕ, zero, suc, ◌+◌, ◌*◌, ◌<◌, List, [], ◌∷◌, ◌++◌, length, take, drop, Bool, true, false, true≢false, None, Some, Option, Result, Ok, Err, refl, sym, ap, ◌∙◌, subst, arith, length-append}
+use Rattle.std.proofs.Common.{◌≡◌, ◌≢◌, ◌⊎◌, inl, inr, ℕ, zero, suc, ◌+◌, ◌*◌, ◌^◌, ◌<◌, ◌≤◌, List, [], ◌∷◌, ◌++◌, length, take, drop, Bool, true, false, true≢false, None, Some, Option, Result, Ok, Err, refl, sym, ap, ◌∙◌, subst, arith, length-append}
 use Rattle.std.proofs.lemmas.List.{drop_all}
-use Rattle.std.specs.Prelude.{if◌then◌else◌, option_map, slice_get}
+use Rattle.std.specs.Prelude.{if◌then◌else◌, is_some, option_map, slice_get}
 use Rattle.sam_mesg.specs.declared.tmesg.Tmesg.{Tmesg}
 use Rattle.sam_mesg.specs.declared.tmesg.Tmesg.TheVariants.{Twrite}
 use Rattle.sam_mesg.specs.declared.hmesg.HFrame.{HFrame}
@@ -9,6 +9,13 @@ use Rattle.sam_link.specs.Calls.{Does}
 use Rattle.sam_link.specs.Calls.Call.{Put}
 use Rattle.sam_link.specs.End.{End}
 use Rattle.sam_link.specs.Inbox.{Waiting}
+use Rattle.sam_link.specs.Keeping.{HasRoom as HasRoomToKeep, Keeps}
+use Rattle.sam_link.specs.Putting.{data_stream}
+use Rattle.sam_link.specs.declared.keeping.PutFault.TheVariants as puts
+use Rattle.sam_frame.specs.Direction.{terminal}
+use Rattle.sam_frame.specs.Framing.{HasRoom, Held}
+use Rattle.sam_endpoint.specs.Streams.{Gives}
+use Rattle.sam_endpoint.specs.declared.fault.StreamFault.{StreamFault}
 use Rattle.sam_link.specs.Packets.{Packet}
 use Rattle.sam_link.specs.Packets.{Packet as packet}
 use Rattle.sam_host.specs.Host.{PlainHost}
@@ -32,17 +39,21 @@ use Rattle.sam_server.specs.declared.turn.TurnFault.TheVariants as fault
 use Rattle.sam_server.specs.declared.effect.Effect as declared
 use Rattle.sam_server.specs.declared.host_link.Next.{Next}
 use Rattle.sam_server.specs.declared.host_link.Next.TheVariants as next
+use Rattle.sam_server.proofs.OnePlace.{brings_nowhere, moved_back, no_step, stops_nowhere}
 
 pub nears_itself : (t : PlainTurn) → Nears t t
-nears_itself t = record { leads = λ z ends. ends }
+nears_itself t = record { leads = λ z ends. ends; back = λ z ends. ends }
 
 pub nears_then : (t u v : PlainTurn) → Nears t u → Nears u v → Nears t v
-nears_then t u v first second = record { leads = λ z ends. first.leads z (second.leads z ends) }
+nears_then t u v first second = record {
+  leads = λ z ends. first.leads z (second.leads z ends);
+  back = λ z ends. second.back z (first.back z ends);
+}
 
 -- where it breaks off later
 pub breaks_then : (t u v : PlainTurn) (why : TurnFault) → Nears t u → BreaksOff u why v → BreaksOff t why v
 breaks_then t u v fault.OutOfMemory near breaks = nears_then t u v near breaks
-breaks_then t u v (fault.Stopped why) near breaks = tt
+breaks_then t u v (fault.Stopped why) near breaks = λ z ends. breaks z (near.back z ends)
 
 pub goes_nowhere : (t : PlainTurn) → GoesOn t t
 goes_nowhere t = record { near = nears_itself t; link = refl; held = refl }
@@ -70,16 +81,36 @@ same_work t u work link = record {
     subst (λ (w : Work). Pauses w ends.0) work ends.1,
     subst (λ (l : End). PutsAnswers (record { link = l; host = ends.0.host; effect = ends.0.effect }) z) (link ends.0.packets) ends.2,
   );
+  back = λ z (ends : Finishes t z). (
+    ends.0,
+    subst (λ (w : Work). Pauses w ends.0) (sym work) ends.1,
+    subst (λ (l : End). PutsAnswers (record { link = l; host = ends.0.host; effect = ends.0.effect }) z) (sym (link ends.0.packets)) ends.2,
+  );
 }
 
+pauses_back : (t u : PlainTurn) (m : Work) → t.server.effect ≡ None → t.server.host.writes ≡ []
+    → StepsOn (work_of t) (work_of u) ⊎ HandsOn (work_of t) (left_in t) (work_of u) → Pauses (work_of t) m → Pauses (work_of u) m
+pauses_back t u m none quiet move pauses =
+    let here : work_of t ≡ record { packets = left_in t; host = t.server.host; effect = None } =
+    ap (λ (x : Option Effect). record { packets = left_in t; host = t.server.host; effect = x }) none in
+    moved_back (left_in t) t.server.host (work_of u) m quiet
+    (subst (λ (w : Work). StepsOn w (work_of u) ⊎ HandsOn w (left_in t) (work_of u)) here move)
+    (subst (λ (w : Work). Pauses w m) here pauses)
+
 -- one move is made
-pub moved : (t u : PlainTurn) → t.server.effect ≡ None → StepsOn (work_of t) (work_of u) ⊎ HandsOn (work_of t) (left_in t) (work_of u)
+pub moved : (t u : PlainTurn) → t.server.effect ≡ None → t.server.host.writes ≡ []
+    → StepsOn (work_of t) (work_of u) ⊎ HandsOn (work_of t) (left_in t) (work_of u)
     → ((ps : List Packet) → waits_for u.server.link ps ≡ waits_for t.server.link ps) → Nears t u
-moved t u none move link = record {
+moved t u none quiet move link = record {
   leads = λ z (ends : Finishes u z). (
     ends.0,
     (suc ends.1.0, (none, work_of u, move, ends.1.1)),
     subst (λ (l : End). PutsAnswers (record { link = l; host = ends.0.host; effect = ends.0.effect }) z) (link ends.0.packets) ends.2,
+  );
+  back = λ z (ends : Finishes t z). (
+    ends.0,
+    pauses_back t u ends.0 none quiet move ends.1,
+    subst (λ (l : End). PutsAnswers (record { link = l; host = ends.0.host; effect = ends.0.effect }) z) (sym (link ends.0.packets)) ends.2,
   );
 }
 
@@ -137,7 +168,7 @@ stepped_on t step k effect none quiet some does is =
     ≡ record { packets = left_in t; host = record k { writes = [] }; effect = to_write k.writes } =
     λ i. record { packets = left_in t; host = record k { writes = rest i }; effect = is i } in (
       record {
-        near = moved t (stepped t k effect) none (inl (step, k, some, does, work)) (λ ps. refl);
+        near = moved t (stepped t k effect) none quiet (inl (step, k, some, does, work)) (λ ps. refl);
         link = refl;
         held = refl;
       },
@@ -184,22 +215,25 @@ step_told t (Err endpoint.CountFull) k did effect none quiet does told is = absu
 
 -- what a step says that was not made
 pub step_broke : (t : PlainTurn) (r : Result HostStep (EndpointFault HostStop)) (k : PlainHostEndpoint) (why : TurnFault)
-    → Steps t.server.host r k → told_of_step r ≡ Err why → BreaksOff t why (hosted t k)
-step_broke t (Ok steps.Idle) k why does told = absurd (never false why (told_of_step (Ok steps.Idle)) refl told)
-step_broke t (Ok steps.Wrote) k why does told = absurd (never true why (told_of_step (Ok steps.Wrote)) refl told)
-step_broke t (Ok (steps.Edited tag count)) k why does told =
+    → t.server.effect ≡ None → t.server.host.writes ≡ [] → Steps t.server.host r k → told_of_step r ≡ Err why → BreaksOff t why (hosted t k)
+step_broke t (Ok steps.Idle) k why none quiet does told = absurd (never false why (told_of_step (Ok steps.Idle)) refl told)
+step_broke t (Ok steps.Wrote) k why none quiet does told = absurd (never true why (told_of_step (Ok steps.Wrote)) refl told)
+step_broke t (Ok (steps.Edited tag count)) k why none quiet does told =
     absurd (never true why (told_of_step (Ok (steps.Edited tag count))) refl told)
-step_broke t (Ok (steps.Answered kind tag)) k why does told =
+step_broke t (Ok (steps.Answered kind tag)) k why none quiet does told =
     absurd (never true why (told_of_step (Ok (steps.Answered kind tag))) refl told)
-step_broke t (Err (endpoint.Stopped stopped)) k why does told =
+step_broke t (Err (endpoint.Stopped stopped)) k why none quiet does told =
     subst (λ (w : TurnFault). BreaksOff t w (hosted t k))
-    (err_same (fault.Stopped (stop.Endpoint stopped)) why (told_of_step (Err (endpoint.Stopped stopped))) refl told) tt
-step_broke t (Err endpoint.Unfinished) k why does told =
+    (err_same (fault.Stopped (stop.Endpoint stopped)) why (told_of_step (Err (endpoint.Stopped stopped))) refl told)
+    (λ z (ends : Finishes t z).
+    stops_nowhere (left_in t) t.server.host k stopped ends.0 quiet does
+    (subst (λ (x : Option Effect). Pauses (record { packets = left_in t; host = t.server.host; effect = x }) ends.0) none ends.1))
+step_broke t (Err endpoint.Unfinished) k why none quiet does told =
     subst (λ (w : TurnFault). BreaksOff t w (hosted t k))
     (err_same fault.OutOfMemory why (told_of_step (Err endpoint.Unfinished)) refl told)
     (subst (λ (x : PlainHostEndpoint). Nears t (hosted t x)) (sym does.2) (nears_itself t))
-step_broke t (Err endpoint.OutOfMemory) k why does told = absurd does
-step_broke t (Err endpoint.CountFull) k why does told = absurd does
+step_broke t (Err endpoint.OutOfMemory) k why none quiet does told = absurd does
+step_broke t (Err endpoint.CountFull) k why none quiet does told = absurd does
 
 -- the file that is to be written is an effect
 pub some_write : (writes : List ℕ) (f : ℕ) → Some f ≡ slice_get writes 0 → Some (Write f) ≡ to_write writes
@@ -270,6 +304,10 @@ fetches t u l next.Nothing buffer goes none still quiet (empty, is) =
 pub fetches_not : (t u : PlainTurn) (e : Effect) → GoesOn t u → t.held ≡ [] → u.server.effect ≡ Some e → Fetched t (Ok false) u
 fetches_not t u e goes none some =
     (goes.near, record { held = goes.held ∙ none; paused = subst (λ (x : Option Effect). IsPausedAt x (work_of u)) (sym some) tt })
+
+pub no_effect : (x : Option declared.Effect) → false ≡ is_some x → option_map plain_effect x ≡ None
+no_effect None none = refl
+no_effect (Some e) none = absurd (cc)
 
 pub none_held : (what : Next) (buffer : List ℕ) → what ≡ next.Nothing → held_in what buffer ≡ []
 none_held what buffer is = ap (λ (w : Next). held_in w buffer) is
@@ -364,13 +402,43 @@ pub ruleset marked_facts = (hold_marked, marked_none)
 
 -- ## It is handed on
 
+gives_room : (h k : Held) (piece : List ℕ) (ms : List Tmesg) (fault : Option StreamFault) → Gives terminal h piece ms fault k
+    → HasRoom h piece
+gives_room h k piece ms None gives = gives.gave.room
+gives_room h k piece ms (Some f) gives = gives.1.gave.room
+
+stops_bringing : (e j : PlainHostEndpoint) (piece : List ℕ) (why : HostStop) → e.stop ≡ Some why → BringsIn e piece (Ok tt) j → ⊥
+stops_bringing e j piece why stops brings = cc (sym stops ∙ brings.0.0)
+
+full_bringing : (e j : PlainHostEndpoint) (piece : List ℕ) → 2 ^ 64 ≤ e.framer.offset + length e.framer.bytes + length piece
+    → BringsIn e piece (Ok tt) j → ⊥
+full_bringing e j piece full (ready, (ms, fault, rest, gives, is)) = omega (arith, full, gives_room e.framer rest piece ms fault gives)
+
 pub brought_told : (e k : PlainHostEndpoint) (piece : List ℕ) (r : Result (Unit {0}) (BringFault HostStop)) → BringsIn e piece r k
     → Brought e piece (told_of_bring r) k
 brought_told e k piece (Ok done) does = does
-brought_told e k piece (Err (bring.Stopped why)) does = does.1
-brought_told e k piece (Err bring.CountFull) does = does.2
+brought_told e k piece (Err (bring.Stopped why)) does = ((λ j brings. stops_bringing e j piece why does.0 brings), does.1)
+brought_told e k piece (Err bring.CountFull) does = ((λ j brings. full_bringing e j piece does.1 brings), does.2)
 brought_told e k piece (Err bring.Waiting) does = does.2
 brought_told e k piece (Err bring.OutOfMemory) does = does.2
+
+-- a piece that is not brought leaves the endpoint as it was
+pub brought_stays : (e k : PlainHostEndpoint) (piece : List ℕ) (why : TurnFault) → Brought e piece (Err why) k → k ≡ e
+brought_stays e k piece fault.OutOfMemory is = is
+brought_stays e k piece (fault.Stopped why) is = is.1
+
+-- the endpoint has not got what was held
+pub bring_broke : (t : PlainTurn) (k : PlainHostEndpoint) (why : TurnFault) (piece : List ℕ) → IsReady t.server.host
+    → t.server.effect ≡ None → t.held ≡ packet.Data piece ∷ [] → Brought t.server.host piece (Err why) k → BreaksOff t why (hosted t k)
+bring_broke t k fault.OutOfMemory piece ready none held same =
+    subst (λ (x : PlainHostEndpoint). Nears t (hosted t x)) (sym same) (nears_itself t)
+bring_broke t k (fault.Stopped why) piece ready none held (never, same) =
+    λ z (ends : Finishes t z).
+    let here : work_of t
+    ≡ record { packets = packet.Data piece ∷ t.server.link.waiting.packets; host = t.server.host; effect = None } =
+    λ i. record { packets = held i ++ t.server.link.waiting.packets; host = t.server.host; effect = none i } in
+    brings_nowhere ends.1.0 piece t.server.link.waiting.packets t.server.host ends.0 ready never
+    (subst (λ (w : Work). PausesBy ends.1.0 w ends.0) here ends.1.1)
 
 pub brought_none : (e k : PlainHostEndpoint) (piece : List ℕ) → e.writes ≡ [] → BringsIn e piece (Ok tt) k → k.writes ≡ []
 brought_none e k piece none (ready, (messages, broken_by, rest, gives, is)) = ap (λ (x : PlainHostEndpoint). x.writes) is ∙ none
@@ -385,25 +453,26 @@ fewer t p held =
     (omega arith)
 
 pub bring_told : (t : PlainTurn) (k : PlainHostEndpoint) (effect : Option Effect) (piece : List ℕ) → t.server.effect ≡ None
-    → effect ≡ t.server.effect → t.held ≡ packet.Data piece ∷ [] → BringsIn t.server.host piece (Ok tt) k
+    → t.server.host.writes ≡ [] → effect ≡ t.server.effect → t.held ≡ packet.Data piece ∷ [] → BringsIn t.server.host piece (Ok tt) k
     → Handed t (Ok tt) (handed_on t k effect)
-bring_told t k effect piece none same held brings =
+bring_told t k effect piece none quiet same held brings =
     let rest = t.server.link.waiting.packets in
     let work : work_of (handed_on t k effect) ≡ record { packets = rest; host = k; effect = None } =
     ap (λ (x : Option Effect). record { packets = rest; host = k; effect = x }) (same ∙ none) in (
-      moved t (handed_on t k effect) none
+      moved t (handed_on t k effect) none quiet
           (inr (subst (λ (h : List Packet). HandsOn (work_of t) (h ++ rest) (work_of (handed_on t k effect))) (sym held) (k, brings, work)))
           (λ ps. refl),
       fewer t (packet.Data piece) held,
     )
 
 pub hear_told : (t : PlainTurn) (effect : Option Effect) (message : List ℕ) → IsReady t.server.host → t.server.effect ≡ None
-    → effect ≡ Some (Hear message) → t.held ≡ packet.Note message ∷ [] → Handed t (Ok tt) (handed_on t t.server.host effect)
-hear_told t effect message ready none is held =
+    → t.server.host.writes ≡ [] → effect ≡ Some (Hear message) → t.held ≡ packet.Note message ∷ []
+    → Handed t (Ok tt) (handed_on t t.server.host effect)
+hear_told t effect message ready none quiet is held =
     let rest = t.server.link.waiting.packets in
     let work : work_of (handed_on t t.server.host effect) ≡ record { packets = rest; host = t.server.host; effect = Some (Hear message) } =
     ap (λ (x : Option Effect). record { packets = rest; host = t.server.host; effect = x }) is in (
-      moved t (handed_on t t.server.host effect) none
+      moved t (handed_on t t.server.host effect) none quiet
           (inr (subst (λ (h : List Packet). HandsOn (work_of t) (h ++ rest) (work_of (handed_on t t.server.host effect))) (sym held) (ready, work)))
           (λ ps. refl),
       fewer t (packet.Note message) held,
@@ -436,19 +505,6 @@ pub paused_on : (effect : Option Effect) (w v : Work) → IsPausedAt effect w �
     → IsPausedAt effect v
 paused_on None w v paused packets ready = (ready paused.0, packets ∙ paused.1)
 paused_on (Some effect) w v paused packets ready = tt
-
-some_messages : (ms rest : List Tmesg) → 0 < length ms → [] ≡ ms ++ rest → ⊥
-some_messages [] rest some is = omega (arith, some)
-some_messages (m ∷ ms) rest some is = cc
-
--- an endpoint that is ready makes no step
-no_step : (e k : PlainHostEndpoint) (step : HostStep) → IsReady e → step ≢ steps.Idle → Steps e (Ok step) k → ⊥
-no_step e k steps.Idle ready some does = some refl
-no_step e k steps.Wrote ready some (going, waits, is) = omega (arith, waits, ap length ready.1.0.unwritten)
-no_step e k (steps.Edited tag count) ready some (written, took) =
-    some_messages took.edits.messages took.edits.rest took.edits.some (sym ready.1.0.waiting ∙ took.edits.waited)
-no_step e k (steps.Answered kind tag) ready some (written, did) =
-    some_messages (did.first.message ∷ []) did.first.rest (omega arith) (sym ready.1.0.waiting ∙ did.first.waited)
 
 -- what pauses stays so
 pub paused_stays : (n : ℕ) (w m : Work) → IsPausedAt w.effect w → PausesBy n w m → m ≡ w
@@ -500,6 +556,14 @@ put_told t l k bytes count handed all long does host =
     subst (λ (x : PlainHostEndpoint). Finished t (Ok tt) (record t { server = record t.server { link = l; host = x } })) (sym same)
     (put_ends t l handed put, put_rests t l handed put)
 
+-- they can't be counted
+pub put_broke : (t : PlainTurn) (l : End) (bytes : List ℕ) → IsHanded t → bytes ≡ t.server.host.pending_bytes
+    → Does t.server.link (Put bytes (Err puts.CountFull)) l → (z : Server) → Finishes t z → ⊥
+put_broke t l bytes handed all does z (m, (n, pauses), (k, put, is)) =
+    let same : m ≡ work_of t = paused_stays n (work_of t) m handed.paused pauses in
+    let bytes_are : m.host.pending_bytes ≡ bytes = ap (λ (w : Work). w.host.pending_bytes) same ∙ sym all in
+    does.0.0 (subst (λ (b : List ℕ). HasRoomToKeep t.server.link.keeps (length (data_stream b))) bytes_are put.0.0)
+
 finished_near : (t v w : PlainTurn) (r : Result (Unit {0}) TurnFault) → Nears t v → Finished v r w → Finished t r w
 finished_near t v w (Ok done) near ends = (near.leads w.server ends.0, ends.1)
 finished_near t v w (Err why) near breaks = breaks_then t v w why near breaks
@@ -509,3 +573,5 @@ pub finish_told : (t u v w : PlainTurn) (b : Bool) (r : Result (Unit {0}) TurnFa
     → Finished v r w → Finished t r w
 finish_told t u v w true r near none handed ends = absurd (true≢false none)
 finish_told t u v w false r near none handed ends = finished_near t v w r (nears_then t u v near handed.0) ends
+
+pub ruleset finish_facts = (nears_then, nears_itself, breaks_then)

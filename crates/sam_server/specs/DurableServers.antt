@@ -1,5 +1,5 @@
 -- A server with its records, and what its calls do.
-use Rattle.std.specs.Prelude.{◌≡◌, ◌≢◌, ◌⊎◌, ℕ, List, [], ◌∷◌, ◌++◌, length, take, drop, min, None, Some, Result, Ok, Err}
+use Rattle.std.specs.Prelude.{◌≡◌, ◌≢◌, ◌⊎◌, ℕ, ◌+◌, ◌-◌, List, [], ◌∷◌, ◌++◌, length, take, drop, min, Bool, true, false, ◌==◌, if◌then◌else◌, Option, option_map, None, Some, Result, Ok, Err}
 use Rattle.std.specs.Global.{Vec}
 use Rattle.sam_link.specs.Calls.{Does}
 use Rattle.sam_link.specs.Calls.Call.{Acknowledge, Ask, Feed, PutNote}
@@ -17,9 +17,9 @@ use Rattle.sam_host.specs.Marking.{mark_checks}
 use Rattle.sam_host.specs.declared.fault.MarkFault.{MarkFault}
 use Rattle.sam_endpoint.specs.HostEndpoints.{IsAddFault, IsMarkFault, add_checks}
 use Rattle.sam_endpoint.specs.declared.fault.AddFault.{AddFault}
-use Rattle.sam_server.specs.Gates.{PlainGate, allowed, gone_count, new_gate, put_count}
-use Rattle.sam_server.specs.Records.{PlainRecord, record_bytes}
-use Rattle.sam_server.specs.Servers.{Server, Takes, new_server}
+use Rattle.sam_server.specs.Gates.{PlainGate, allowed, gone_count, new_gate, passed, put_count}
+use Rattle.sam_server.specs.Records.{Acknowledged, Asked, Called, Came, Done, Joined, Marked, PlainRecord, Said, record_bytes}
+use Rattle.sam_server.specs.Servers.{Effect, Server, Takes, new_server}
 use Rattle.sam_server.specs.Turns.{Finishes, IsResting, Nears, PlainTurn, linked}
 use Rattle.sam_server.specs.declared.fault.CallFault.{CallFault}
 use Rattle.sam_server.specs.declared.fault.CallFault.TheVariants as fault
@@ -36,13 +36,10 @@ pub record PlainDurableServer : Type 0 where
   pub owed : List ℕ  -- the bytes of the record of that, until it is done
   pub records : List (List ℕ)  -- the bytes of the records that the program has not got, the oldest first
   pub gate : PlainGate
+  pub due : Option ℕ  -- once a record has the effect that waits, how many records have to become durable until that one is
 
 abbrev pub bytes_in : Vec ℕ → List ℕ
 bytes_in v = v.items
-
-abbrev pub new_durable_server : Id → PlainDurableServer
-new_durable_server id =
-    record { turn = record { server = new_server id; held = [] }; stage = Settled; owed = []; records = []; gate = new_gate }
 
 -- where all is done nothing is left of a turn
 abbrev pub IsWell : Stage → PlainTurn → Type 0
@@ -57,6 +54,37 @@ IsWell (Stopped why) t = Unit {0}
 abbrev pub mark_of : End → Mark
 mark_of e = record { attempt = e.attempt; put = put_count e }
 
+-- a record has the effect that waits, if one does: the first that has it is the last of so many that are not durable
+abbrev pub due_behind : Option ℕ → Option Effect → ℕ → Option ℕ
+due_behind (Some n) effect count = Some n
+due_behind None (Some effect) count = Some count
+due_behind None None count = None
+
+-- an effect that is done is due no more
+abbrev pub due_before : PlainRecord → Option ℕ → Option ℕ
+due_before (Done ending) due = None
+due_before (Joined name text) due = due
+due_before (Marked f) due = due
+due_before (Called hello) due = due
+due_before (Came attempt piece) due = due
+due_before (Said bytes) due = due
+due_before Acknowledged due = due
+due_before Asked due = due
+
+-- so many more records are durable
+abbrev pub due_after : ℕ → Option ℕ → Option ℕ
+due_after count due = option_map (λ n. n - count) due
+
+abbrev pub durable_by : PlainDurableServer → ℕ → PlainDurableServer
+durable_by d count = record d { gate = passed count d.gate.base d.gate.waiting; due = due_after count d.due }
+
+-- nothing is left of this turn, and all records are durable
+abbrev pub settled : PlainTurn → PlainGate → PlainDurableServer
+settled t gate = record { turn = t; stage = Settled; owed = []; records = []; gate = gate; due = due_behind None t.server.effect 0 }
+
+abbrev pub new_durable_server : Id → PlainDurableServer
+new_durable_server id = settled (record { server = new_server id; held = [] }) new_gate
+
 -- the turn is done, and its record stands behind the others
 abbrev pub recorded : PlainDurableServer → PlainTurn → List ℕ → PlainDurableServer
 recorded d t bytes =
@@ -66,6 +94,7 @@ recorded d t bytes =
       owed = [];
       records = d.records ++ bytes ∷ [];
       gate = record d.gate { waiting = d.gate.waiting ++ mark_of t.server.link ∷ [] };
+      due = due_behind d.due t.server.effect (length d.gate.waiting + 1);
     }
 
 -- what is left of what was taken leads there
@@ -93,24 +122,31 @@ pub record Leads (d e : PlainDurableServer) : Type 0 where
 pub record LeadsBy (s : Server) (r : PlainRecord) (e : PlainDurableServer) : Type 0 where
   pub leads : (z : Server) → Left e z → Takes s r z
 
+-- what is left leads nowhere
+abbrev pub LeadsNowhere : PlainDurableServer → Type 0
+LeadsNowhere d = (z : Server) → Left d z → ⊥
+
+abbrev pub LeadsNowhereBy : Server → PlainRecord → Type 0
+LeadsNowhereBy s r = (z : Server) → Takes s r z → ⊥
+
 -- only the turn has gone on
 abbrev pub gone_to : PlainDurableServer → PlainTurn → Stage → List ℕ → PlainDurableServer
 gone_to d t stage owed = record d { turn = t; stage = stage; owed = owed }
 
--- going on with what was taken last
+-- going on with what was taken last; it stops only where that leads nowhere
 abbrev pub GoesOn : PlainDurableServer → Result (Unit {0}) GoOnFault → PlainDurableServer → Type 0
 GoesOn d (Ok done) e =
     ((d.stage ≡ Settled) × (e ≡ d)) ⊎ (IsOwing d.stage × Left d e.turn.server × (e ≡ recorded d e.turn d.owed))
 GoesOn d (Err go_on.Unfinished) e =
     IsOwing d.stage × IsOwing e.stage × Leads d e × (e ≡ gone_to d e.turn e.stage d.owed)
 GoesOn d (Err (go_on.Stopped why)) e =
-    ((d.stage ≡ Stopped why) × (e ≡ d)) ⊎ (IsOwing d.stage × (e ≡ gone_to d e.turn (Stopped why) d.owed))
+    ((d.stage ≡ Stopped why) × (e ≡ d)) ⊎ (IsOwing d.stage × LeadsNowhere d × (e ≡ gone_to d e.turn (Stopped why) d.owed))
 
 -- the rest of the turn
 abbrev pub Finishing : PlainDurableServer → Result (Unit {0}) GoOnFault → PlainDurableServer → Type 0
 Finishing d (Ok done) e = Finishes d.turn e.turn.server × (e ≡ gone_to d e.turn Recording d.owed)
 Finishing d (Err go_on.Unfinished) e = Nears d.turn e.turn × (e ≡ gone_to d e.turn Answering d.owed)
-Finishing d (Err (go_on.Stopped why)) e = e ≡ gone_to d e.turn (Stopped why) d.owed
+Finishing d (Err (go_on.Stopped why)) e = ((z : Server) → Finishes d.turn z → ⊥) × (e ≡ gone_to d e.turn (Stopped why) d.owed)
 
 -- going on at once with what a call took
 abbrev pub GoesOnNow : {F : Type 0} → PlainDurableServer → Result (Unit {0}) (CallFault F) → PlainDurableServer → Type 0
@@ -130,17 +166,22 @@ Prepares stage bytes (Err fault.OutOfMemory) = stage ≡ Settled
 Prepares stage bytes (Err (fault.Refused why)) = ⊥
 Prepares stage bytes (Err fault.Unfinished) = ⊥
 
+-- it begins to take the record
+abbrev pub begun : PlainDurableServer → PlainRecord → PlainDurableServer
+begun d r = record d { due = due_before r d.due }
+
 -- What a call answers that takes this record, where this is said of a refusal. If memory is refused behind it, what is left leads where the
--- record leads; else all stays
+-- record leads. It stops only where the record leads nowhere. Else all stays
 abbrev pub TakesRecord : {A F : Type 0} → PlainDurableServer → PlainRecord → (F → PlainDurableServer → Type 0)
     → Result A (CallFault F) → PlainDurableServer → Type 0
 TakesRecord d r refuses (Ok done) e =
-    (d.stage ≡ Settled) × Takes d.turn.server r e.turn.server × (e ≡ recorded d e.turn (record_bytes r))
+    (d.stage ≡ Settled) × Takes d.turn.server r e.turn.server × (e ≡ recorded (begun d r) e.turn (record_bytes r))
 TakesRecord d r refuses (Err fault.Unfinished) e =
     (d.stage ≡ Settled) × IsOwing e.stage × LeadsBy d.turn.server r e
-    × (e ≡ gone_to d e.turn e.stage (record_bytes r))
+    × (e ≡ gone_to (begun d r) e.turn e.stage (record_bytes r))
 TakesRecord d r refuses (Err (fault.Stopped why)) e =
-    ((d.stage ≡ Stopped why) × (e ≡ d)) ⊎ ((d.stage ≡ Settled) × (e ≡ gone_to d e.turn (Stopped why) (record_bytes r)))
+    ((d.stage ≡ Stopped why) × (e ≡ d))
+    ⊎ ((d.stage ≡ Settled) × LeadsNowhereBy d.turn.server r × (e ≡ gone_to (begun d r) e.turn (Stopped why) (record_bytes r)))
 TakesRecord d r refuses (Err fault.Waiting) e = IsOwing d.stage × (e ≡ d)
 TakesRecord d r refuses (Err fault.OutOfMemory) e = (d.stage ≡ Settled) × (e ≡ d)
 TakesRecord d r refuses (Err (fault.Refused why)) e = (d.stage ≡ Settled) × refuses why e
@@ -179,9 +220,18 @@ RefusesAcknowledge d why e = Does d.turn.server.link (Acknowledge (Err why)) d.t
 abbrev pub RefusesMark : PlainDurableServer → ℕ → MarkFault → PlainDurableServer → Type 0
 RefusesMark d f why e = IsMarkFault (first_of_checks (mark_checks d.turn.server.host.host f)) why × (e ≡ d)
 
--- no effect waits, and all stays
+-- the first record that has the effect is durable
+abbrev pub is_due : Option ℕ → Bool
+is_due (Some n) = n == 0
+is_due None = false
+
+-- the effect that is to be done now
+abbrev pub effect_due : PlainDurableServer → Option Effect
+effect_due d = if is_due d.due then d.turn.server.effect else None
+
+-- no effect is to be done now, and all stays
 abbrev pub RefusesEffect : PlainDurableServer → NoEffect → PlainDurableServer → Type 0
-RefusesEffect d why e = (d.turn.server.effect ≡ None) × (e ≡ d)
+RefusesEffect d why e = (effect_due d ≡ None) × (e ≡ d)
 
 -- what a call says of a piece that the link has not taken
 abbrev pub told_of_feed : FeedFault → CallFault FeedFault

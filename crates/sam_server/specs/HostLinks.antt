@@ -1,15 +1,17 @@
 -- The host's end of a link, and what it hands out.
-use Rattle.std.specs.Prelude.{◌≡◌, ℕ, ◌≤◌, List, [], ◌∷◌, length, take, Some, Result, Ok, Err}
+use Rattle.std.specs.Prelude.{◌≡◌, ℕ, ◌<◌, ◌≤◌, Bool, true, false, List, [], ◌∷◌, length, take, Some, Result, Ok, Err}
 use Rattle.sam_link.specs.Calls.{Does}
 use Rattle.sam_link.specs.Calls.Call.{Answer}
 use Rattle.sam_link.specs.End.{End, refusal_of}
 use Rattle.sam_link.specs.Inbox.{nothing}
+use Rattle.sam_link.specs.Meeting.{to_go}
 use Rattle.sam_link.specs.Packets.{Packet}
 use Rattle.sam_link.specs.Packets.{Packet as packet}
 use Rattle.sam_link.specs.declared.hello.Hello.{Hello}
 use Rattle.sam_link.specs.declared.hello.Refusal.{Refusal}
+use Rattle.sam_link.specs.declared.phase.Phase.TheVariants.{Open}
 use Rattle.sam_link.specs.declared.phase.Role.TheVariants.{Host}
-use Rattle.sam_server.specs.Servers.{waits_for}
+use Rattle.sam_server.specs.Servers.{all_given, waits_for}
 use Rattle.sam_server.specs.declared.host_link.Next.{Next}
 use Rattle.sam_server.specs.declared.host_link.Next.TheVariants as next
 
@@ -44,3 +46,8 @@ HandsOut e (next.Data count) new n =
 HandsOut e (next.Note count) new n =
     (rest : List Packet) × (count ≤ 4096) × (e.waiting.packets ≡ packet.Note (take count new) ∷ rest) × (n ≡ waits_for e rest)
 HandsOut e next.Nothing new n = (e.waiting ≡ nothing.waiting) × (n ≡ e)
+
+-- some of what is to go is taken out, and what counts as given is the same; or nothing is left to go
+abbrev pub DropsSome : End → Bool → End → Type 0
+DropsSome e true n = (n.phase ≡ Open) × (all_given n ≡ all_given e) × (to_go n < to_go e)
+DropsSome e false n = n ≡ all_given e

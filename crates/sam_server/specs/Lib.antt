@@ -1,4 +1,5 @@
 pub mod Records
+pub mod Recovering
 pub mod DurableServers
 pub mod Laws
 pub mod Gates

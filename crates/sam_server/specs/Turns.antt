@@ -64,9 +64,10 @@ work_of t = record { packets = t.held ++ t.server.link.waiting.packets; host = t
 abbrev pub Finishes : PlainTurn → Server → Type 0
 Finishes t z = (m : Work) × Pauses (work_of t) m × PutsAnswers (with_work t.server.link m) z
 
--- something of the turn is done: what is left leads where all led
+-- something of the turn is done: what is left leads where all led, and only what led nowhere leads nowhere
 pub record Nears (t u : PlainTurn) : Type 0 where
   pub leads : (z : Server) → Finishes u z → Finishes t z
+  pub back : (z : Server) → Finishes t z → Finishes u z
 
 -- the effect that waits is dropped, if there is one
 abbrev pub DroppedEffect : PlainTurn → Bool → PlainTurn → Type 0
@@ -93,10 +94,10 @@ pub record GoesOn (t u : PlainTurn) : Type 0 where
   pub link : u.server.link ≡ t.server.link
   pub held : u.held ≡ t.held
 
--- where a turn breaks off: memory was refused, and what is left leads where all led; or the server has stopped
+-- where a turn breaks off: memory was refused, and what is left leads where all led; or the server has stopped, since it leads nowhere
 abbrev pub BreaksOff : PlainTurn → TurnFault → PlainTurn → Type 0
 BreaksOff t fault.OutOfMemory u = Nears t u
-BreaksOff t (fault.Stopped why) u = Unit {0}
+BreaksOff t (fault.Stopped why) u = (z : Server) → Finishes t z → ⊥
 
 -- what a step of the endpoint says of a turn: whether something was done
 abbrev pub told_of_step : Result HostStep (EndpointFault HostStop) → Result Bool TurnFault
@@ -151,9 +152,11 @@ told_of_bring (Err bring.CountFull) = Err (fault.Stopped stop.CountFull)
 told_of_bring (Err bring.Waiting) = Err fault.OutOfMemory
 told_of_bring (Err bring.OutOfMemory) = Err fault.OutOfMemory
 
+-- the endpoint has the piece; or all is as it was, since memory was refused, or since it may never have it
 abbrev pub Brought : PlainHostEndpoint → List ℕ → Result (Unit {0}) TurnFault → PlainHostEndpoint → Type 0
 Brought e piece (Ok done) k = BringsIn e piece (Ok tt) k
-Brought e piece (Err why) k = k ≡ e
+Brought e piece (Err fault.OutOfMemory) k = k ≡ e
+Brought e piece (Err (fault.Stopped why)) k = ((j : PlainHostEndpoint) → BringsIn e piece (Ok tt) j → ⊥) × (k ≡ e)
 
 -- an effect with the message, or out of memory
 abbrev pub Heard : List ℕ → Result declared.Effect TurnFault → Type 0

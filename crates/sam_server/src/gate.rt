@@ -69,6 +69,13 @@ impl Gate {
         Ok(())
     }
 
+    /// Returns how many records wait.
+    pub(crate) fn waiting_count(&self) -> usize
+        ensures { result ≡ length self.now.waiting }
+    {
+        self.waiting.len()
+    }
+
     /// Takes the oldest record that waits as durable.
     fn pass(&mut self)
         requires { 0 < length self.old.waiting }

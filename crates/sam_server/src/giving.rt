@@ -1,7 +1,7 @@
 //! What a server's program gives it: files, messages, and how effects ended.
 
 ghost use Rattle.std.specs.Prelude.{◌≡◌, IfOk, length, option_copied, option_map};
-ghost use Rattle.sam_server.specs.DurableServers.{RefusesEffect, RefusesFile, RefusesNote, TakesRecord};
+ghost use Rattle.sam_server.specs.DurableServers.{RefusesEffect, RefusesFile, RefusesNote, TakesRecord, effect_due, is_due};
 ghost use Rattle.sam_server.specs.Records.{Done, Joined, Said};
 ghost use Rattle.sam_server.specs.Turns.{plain_effect};
 
@@ -56,13 +56,27 @@ impl DurableServer {
         self.go_on_now()
     }
 
-    /// Lends the effect that is to be done now: nothing behind it is handled before; `None` if there is none. A file is written only once
-    /// all records that were handed out are durable, and then `effect_done` says how that ended. Until then the answer to a write waits:
-    /// what is said meanwhile goes out in front of it, and a mark of a file behind it, with it.
-    pub fn next_effect(&self) -> Option<&Effect>
-        ensures { option_map plain_effect (option_copied result) ≡ self.now.turn.server.effect }
+    /// Returns whether the first record that has the effect is durable.
+    fn is_due(&self) -> bool
+        ensures { result ≡ is_due self.now.due }
     {
-        self.turn.effect()
+        match self.due {
+            Some(left) => left == 0,
+            None => false,
+        }
+    }
+
+    /// Lends the effect that is to be done now: nothing behind it is handled before; `None` if there is none. One whose record is not
+    /// durable is not lent, because a crash would forget why it was done. Then `effect_done` says how it ended. Until then the answer to a
+    /// write waits: what is said meanwhile goes out in front of it, and a mark of a file behind it, with it. After a crash it is asked for
+    /// again, unless the record of `effect_done` is durable.
+    pub fn next_effect(&self) -> Option<&Effect>
+        ensures { option_map plain_effect (option_copied result) ≡ effect_due self.now }
+    {
+        if self.is_due() {
+            return self.turn.effect();
+        }
+        None
     }
 
     /// Lends the host, to be read: a write is of the saved text of its file.
@@ -74,13 +88,15 @@ impl DurableServer {
 
     /// Takes note that the effect is done, with a number of the program's for how it ended, and handles what waited behind it.
     ///
-    /// Errors, in this order: `Stopped`; `Waiting`; `OutOfMemory`; `Refused` if there is no effect; `Unfinished`, after which it counts as
-    /// done, or `Stopped` where the terminal breaks the protocol behind it. After `Waiting`, `OutOfMemory` and `Refused` it is as it was.
+    /// Errors, in this order: `Stopped`; `Waiting`; `OutOfMemory`; `Refused` if `next_effect` lends none; `Unfinished`, after which it
+    /// counts as done, or `Stopped` where the terminal breaks the protocol behind it. After `Waiting`, `OutOfMemory` and `Refused` it is as
+    /// it was.
     pub fn effect_done(&mut self, ending: u64) -> Result<(), CallFault<NoEffect>>
         ensures { TakesRecord self.old (Done ending) (RefusesEffect self.old) result self.new }
     {
         let body = self.prepare(Record::Done(ending))?;
-        if self.turn.drop_effect() {
+        if self.is_due() && self.turn.drop_effect() {
+            self.due = None;
             self.owed = body;
             self.stage = Stage::Answering;
             return self.go_on_now();

@@ -1,12 +1,14 @@
 //! The host's end of a link, with what a gate has to know of it.
 
-ghost use Rattle.std.specs.Prelude.{◌≡◌, ◌≤◌, ◌&&◌, ◌==◌, OnErr, Ok, Some, None, false, length};
+ghost use Rattle.std.specs.Prelude.{◌≡◌, ◌<◌, ◌≤◌, ◌&&◌, ◌==◌, OnErr, Ok, Some, None, false, length};
 ghost use Rattle.sam_link.specs.Calls.{Does};
 ghost use Rattle.sam_link.specs.Calls.Call.{Acknowledge, Answer, Ask, Break, Feed, Put, PutNote, TakeOut};
 ghost use Rattle.sam_link.specs.End.{broken, fresh, is_up, refusal_of};
 ghost use Rattle.sam_link.specs.declared.phase.Role.TheVariants.{Host};
 ghost use Rattle.sam_server.specs.Gates.{gone_count, put_count};
-ghost use Rattle.sam_server.specs.HostLinks.{Answered, HandsOut};
+ghost use Rattle.sam_link.specs.declared.phase.Phase.TheVariants.{Open};
+ghost use Rattle.sam_server.specs.HostLinks.{Answered, DropsSome, HandsOut};
+ghost use Rattle.sam_server.specs.Servers.{all_given};
 
 use sam_link::{
     AnswerFault, FeedFault, HELLO_BYTES, Hello, Id, Link, NotOpen, NoteFault, Phase, PutFault,
@@ -14,6 +16,9 @@ use sam_link::{
 };
 use std::alloc::Global;
 use std::marker::Model;
+
+/// So many bytes are dropped at once.
+const SCRAP: usize = 512;
 
 /// What the link hands out next.
 #[derive(Clone, Copy, Debug, PartialEq, Eq, Drop)]
@@ -147,6 +152,39 @@ impl HostLink {
         let count = self.link.take_out(attempt, into)?;
         self.hello_left -= count.min(self.hello_left);
         Ok(count)
+    }
+
+    /// Takes out some of what is to go on the newest connection, and returns whether there was something.
+    fn drop_some(&mut self, scrap: &mut [u8]) -> bool
+        requires room { 0 < length scrap.old }
+        requires open { self.old.phase ≡ Open }
+        ensures { DropsSome self.old result self.new }
+    {
+        let attempt = self.link.attempt();
+        match self.take_out(attempt, scrap) {
+            Ok(count) => count > 0,
+            Err(_) => unreachable!(),
+        }
+    }
+
+    /// Takes out all that is to go on the newest connection.
+    fn drop_all(&mut self)
+        requires { self.old.phase ≡ Open }
+        ensures { self.new ≡ all_given self.old }
+    {
+        let mut scrap = [0; SCRAP];
+        while self.drop_some(&mut scrap) {}
+    }
+
+    /// Where a connection is up, counts all that was put as given.
+    pub(crate) fn give_all(&mut self)
+        ensures { self.new ≡ all_given self.old }
+    {
+        match self.link.phase() {
+            Phase::Down => {}
+            Phase::Asking => {}
+            Phase::Open => self.drop_all(),
+        }
     }
 
     /// Returns whether this connection is the newest, and not over.

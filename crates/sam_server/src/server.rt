@@ -2,13 +2,13 @@
 
 ghost use Rattle.std.specs.Prelude.{◌≡◌, IfOk, drop, min, option_map, slice_get};
 ghost use Rattle.sam_link.specs.End.{broken};
-ghost use Rattle.sam_server.specs.DurableServers.{Finishing, GoesOn, GoesOnNow, Prepares, RefusesHello, RefusesPiece, TakesOutDurable, TakesRecord, bytes_in, new_durable_server, out_room, told_of_feed, with_link};
-ghost use Rattle.sam_server.specs.Gates.{passed};
+ghost use Rattle.sam_server.specs.DurableServers.{Finishing, GoesOn, GoesOnNow, Prepares, RefusesHello, RefusesPiece, TakesOutDurable, TakesRecord, bytes_in, due_behind, durable_by, new_durable_server, out_room, settled, told_of_feed, with_link};
 ghost use Rattle.sam_server.specs.Records.{Called, Came, plain, record_bytes};
 ghost use Rattle.sam_server.specs.declared.server.Stage.TheVariants.{Answering, Recording};
+ghost use Rattle.sam_server.specs.Turns.{IsResting};
 
 use crate::fault::{CallFault, GoOnFault};
-use crate::gate::{Gate, Mark};
+use crate::gate::Gate;
 use crate::record::Record;
 use crate::turn::{Stop, Turn, TurnFault};
 use crate::writing::write_record;
@@ -55,6 +55,8 @@ pub struct DurableServer {
     /// The records that the program has not got, the oldest first.
     records: VecDeque<Vec<u8>>,
     gate: Gate,
+    /// Once a record has the effect that waits, how many records have to become durable until that one is.
+    pub(crate) due: Option<usize>,
 }
 
 impl Model for DurableServer {
@@ -69,6 +71,7 @@ impl Model for DurableServer {
       owed = a.owed.items;
       records = map bytes_in a.records.items;
       gate = a.gate;
+      due = a.due;
     } };
 
     ghost invariant = { λ a. IsWell a.stage a.turn };
@@ -81,6 +84,17 @@ fn told_of_feed(why: FeedFault) -> CallFault<FeedFault>
     match why {
         FeedFault::OutOfMemory => CallFault::OutOfMemory,
         why => CallFault::Refused(why),
+    }
+}
+
+/// Returns how many records have to become durable until that is which has the effect: so many, if no record before had it.
+fn due_behind(due: Option<usize>, turn: &Turn, count: usize) -> Option<usize>
+    ensures { result ≡ due_behind due turn.now.server.effect count }
+{
+    match due {
+        Some(before) => Some(before),
+        None if turn.effect().is_some() => Some(count),
+        None => None,
     }
 }
 
@@ -97,7 +111,25 @@ impl DurableServer {
             owed: Vec::new(alloc),
             records: VecDeque::new(alloc),
             gate: Gate::new(alloc),
+            due: None,
         })
+    }
+
+    /// Makes a server of a turn that is done, all of whose records are durable, and of the gate behind them.
+    pub(crate) fn of_turn(alloc: Global, turn: Turn, gate: Gate) -> DurableServer
+        requires { IsResting turn }
+        ensures { result ≡ settled turn gate }
+    {
+        let due = due_behind(None, &turn, 0);
+        DurableServer {
+            alloc,
+            turn,
+            stage: Stage::Settled,
+            owed: Vec::new(alloc),
+            records: VecDeque::new(alloc),
+            gate,
+            due,
+        }
     }
 
     /// Returns the bytes of a record that may be taken now.
@@ -125,13 +157,10 @@ impl DurableServer {
         if self.records.reserve(1).is_err() {
             return Err(GoOnFault::Unfinished);
         }
-        let mark = Mark {
-            attempt: self.turn.link.attempt(),
-            put: self.turn.link.put_count(),
-        };
-        if self.gate.record(mark).is_err() {
+        if self.gate.record(self.turn.mark()).is_err() {
             return Err(GoOnFault::Unfinished);
         }
+        self.due = due_behind(self.due, &self.turn, self.gate.waiting_count());
         let body = mem::replace(&mut self.owed, Vec::new(self.alloc));
         self.records.push_back_reserved(body);
         self.stage = Stage::Settled;
@@ -237,9 +266,12 @@ impl DurableServer {
 
     /// Takes note that so many more of the records are durable, the oldest first. They may be no more than the program got.
     pub fn durable(&mut self, count: usize)
-        ensures { self.new ≡ record self.old { gate = passed count self.old.gate.base self.old.gate.waiting } }
+        ensures { self.new ≡ durable_by self.old count }
     {
         self.gate.durable(count);
+        if let Some(left) = self.due {
+            self.due = Some(left.saturating_sub(count));
+        }
     }
 
     /// Hands out the bytes of the oldest record that was not handed out; `None` if there is none. The program puts them into its journal.

@@ -4,11 +4,13 @@ ghost use Rattle.std.specs.Prelude.{◌≡◌, [], IfOk, drop, option_copied, op
 ghost use Rattle.sam_link.specs.Calls.{Does};
 ghost use Rattle.sam_link.specs.Calls.Call.{Acknowledge, Ask, Feed, PutNote};
 ghost use Rattle.sam_endpoint.specs.HostEndpoints.{Adds, Marks};
+ghost use Rattle.sam_server.specs.DurableServers.{mark_of};
 ghost use Rattle.sam_server.specs.HostLinks.{Answered};
-ghost use Rattle.sam_server.specs.Servers.{new_server, to_write};
+ghost use Rattle.sam_server.specs.Servers.{all_given, new_server, to_write};
 ghost use Rattle.sam_server.specs.Turns.{Brought, DroppedEffect, Fetched, Finished, Handed, HandedNext, Heard, Idled, IsHanded, IsHolding, Stepped, hosted, linked, plain_effect, told_of_bring, told_of_step};
 
 use crate::effect::Effect;
+use crate::gate::Mark;
 use crate::host_link::{HostLink, Next};
 use sam_endpoint::{AddFault, BringFault, EndpointFault, HostEndpoint, HostStep, HostStop};
 use sam_host::MarkFault;
@@ -149,6 +151,23 @@ impl Turn {
         self.link.answer(hello)
     }
 
+    /// Where a connection is up, counts all that was put as given.
+    pub(crate) fn give_all(&mut self)
+        ensures { self.new ≡ linked self.old (all_given self.old.server.link) }
+    {
+        self.link.give_all()
+    }
+
+    /// Returns how the link stands.
+    pub(crate) fn mark(&self) -> Mark
+        ensures { result ≡ mark_of self.now.server.link }
+    {
+        Mark {
+            attempt: self.link.attempt(),
+            put: self.link.put_count(),
+        }
+    }
+
     /// Feeds the link a piece that a connection brought.
     pub(crate) fn feed(&mut self, attempt: u64, piece: &[u8]) -> Result<(), FeedFault>
         ensures link { Does self.old.server.link (Feed attempt piece.now result) self.new.server.link }
@@ -269,6 +288,7 @@ impl Turn {
     }
 
     /// Hands on the packet that is held.
+    #[tactic(auto, using(crate::proofs::Turns::bring_broke))]
     fn hand(&mut self) -> Result<(), TurnFault>
         requires { IsHolding self.old }
         ensures { Handed self.old result self.new }
@@ -318,7 +338,7 @@ impl Turn {
     }
 
     /// Does the rest of a turn, which ends where an effect waits. After `OutOfMemory` it goes on where it was.
-    #[tactic(auto, using(crate::proofs::Turns::nears_then, crate::proofs::Turns::nears_itself))]
+    #[tactic(auto, using(crate::proofs::Turns::finish_facts))]
     pub(crate) fn finish(&mut self) -> Result<(), TurnFault>
         ensures { Finished self.old result self.new }
     {

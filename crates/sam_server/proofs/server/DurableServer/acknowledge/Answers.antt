@@ -1,4 +1,4 @@
-use Rattle.std.proofs.Common.{◌≡◌, ap, subst, sym}
+use Rattle.std.proofs.Common.{◌≡◌, ap, refl, subst, sym}
 use Rattle.sam_server.specs.DurableServers.{PlainDurableServer, RefusesAcknowledge, TakesRecord}
 use Rattle.sam_server.specs.Records.{Acknowledged}
 use Rattle.sam_server.specs.Turns.{PlainTurn}
@@ -14,5 +14,5 @@ returns c =
     subst (λ (x : PlainDurableServer). TakesRecord x Acknowledged (RefusesAcknowledge x) c.go_on_now.result c.go_on_now.new.self)
     c.self.view_is
     (single_takes d c.go_on_now.new.self c.acknowledge.new.self Acknowledged c.in_ok-body.body.items
-    (RefusesAcknowledge d) c.go_on_now.result settled c.in_ok-body.ensures.1
+    (RefusesAcknowledge d) c.go_on_now.result settled refl c.in_ok-body.ensures.1
     (c.acknowledge.new.self.server.link, c.in-Ok.ensures.link, ap (λ (x : PlainTurn). x.server) c.acknowledge.ensures.others) c.go_on_now.ensures)

@@ -1,4 +1,4 @@
-use Rattle.std.proofs.Common.{◌≡◌, ap, subst, sym}
+use Rattle.std.proofs.Common.{◌≡◌, ap, refl, subst, sym}
 use Rattle.sam_server.specs.DurableServers.{PlainDurableServer, RefusesAsk, TakesRecord}
 use Rattle.sam_server.specs.Records.{Asked}
 use Rattle.sam_server.specs.Turns.{PlainTurn}
@@ -14,5 +14,5 @@ returns c =
     subst (λ (x : PlainDurableServer). TakesRecord x Asked (RefusesAsk x) c.go_on_now.result c.go_on_now.new.self)
     c.self.view_is
     (single_takes d c.go_on_now.new.self c.ask.new.self Asked c.in_ok-body.body.items
-    (RefusesAsk d) c.go_on_now.result settled c.in_ok-body.ensures.1
+    (RefusesAsk d) c.go_on_now.result settled refl c.in_ok-body.ensures.1
     (c.ask.new.self.server.link, c.in-Ok.ensures.link, ap (λ (x : PlainTurn). x.server) c.ask.ensures.others) c.go_on_now.ensures)

@@ -1,4 +1,4 @@
-use Rattle.std.proofs.Common.{◌≡◌, ap, subst, sym}
+use Rattle.std.proofs.Common.{◌≡◌, ap, refl, subst, sym}
 use Rattle.sam_server.specs.DurableServers.{PlainDurableServer, RefusesNote, TakesRecord}
 use Rattle.sam_server.specs.Records.{Said}
 use Rattle.sam_server.specs.Turns.{PlainTurn}
@@ -14,5 +14,5 @@ returns c =
     subst (λ (x : PlainDurableServer). TakesRecord x (Said c.args.message.now) (RefusesNote x c.args.message.now) c.go_on_now.result c.go_on_now.new.self)
     c.self.view_is
     (single_takes d c.go_on_now.new.self c.put_note.new.self (Said c.args.message.now) c.in_ok-body.body.items
-    (RefusesNote d c.args.message.now) c.go_on_now.result settled c.in_ok-body.ensures.1
+    (RefusesNote d c.args.message.now) c.go_on_now.result settled refl c.in_ok-body.ensures.1
     (c.put_note.new.self.server.link, c.in-Ok.ensures.link, ap (λ (x : PlainTurn). x.server) c.put_note.ensures.others) c.go_on_now.ensures)
