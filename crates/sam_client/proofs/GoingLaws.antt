@@ -1,16 +1,13 @@
 -- What each part of going on answers.
-use Rattle.std.proofs.Common.{◌≡◌, ◌⊎◌, inl, inr, ℕ, ◌<◌, ◌≤◌, zero, suc, List, [], ◌∷◌, length, min, true, false, Some, None, Result, Ok, Err, refl, sym, ap, subst, ◌∙◌, arith, if◌then◌else◌}
-use Rattle.std.proofs.Common.{◌+◌, ◌==◌, ◌&&◌, not, nat_lt, ltb-true, ltb-false}
-use Rattle.std.proofs.lemmas.Bool.{and_parts}
-use Rattle.std.specs.Prelude.{is_some, option_map}
+use Rattle.std.proofs.Common.{◌≡◌, ◌⊎◌, inl, inr, ℕ, ◌<◌, ◌≤◌, List, [], ◌∷◌, true, false, Some, None, Result, Ok, Err, refl, sym, ap, subst, ◌∙◌, arith, if◌then◌else◌}
+use Rattle.std.proofs.Common.{◌+◌, ◌^◌, not, nat_lt, ltb-true, ltb-false}
+use Rattle.std.specs.Prelude.{option_map}
 use Rattle.sam_link.specs.declared.keeping.PutFault.{PutFault as SendFault}
-use Rattle.sam_runes.specs.Slots.{Slots}
+use Rattle.sam_runes.specs.Texts.{is_empty}
 use Rattle.sam_pending.specs.Cells.{shown_of}
 use Rattle.sam_pending.specs.Layers.{cells_over}
 use Rattle.sam_term.specs.declared.fault.Refusal.{Refusal}
-use Rattle.sam_term.specs.Term.{is_open, rasp_at, window_at}
-use Rattle.sam_term.specs.Windows.{known_in}
-use Rattle.sam_term.specs.declared.records.KnownFile.{KnownFile}
+use Rattle.sam_term.specs.Term.{rasp_at}
 use Rattle.sam_endpoint.specs.TermEndpoints.{PlainTermEndpoint}
 use Rattle.sam_endpoint.specs.declared.fault.EndpointFault.{EndpointFault}
 use Rattle.sam_endpoint.specs.declared.fault.TermStop.{TermStop}
@@ -18,6 +15,7 @@ use Rattle.sam_endpoint.specs.declared.step.BringFault.{BringFault}
 use Rattle.sam_endpoint.specs.declared.step.TermStep.{TermStep}
 use Rattle.sam_endpoint.specs.declared.step.TermStep.TheVariants.{Acted, Idle, Locked, Received, Refused, Wrote}
 use Rattle.sam_overlay.specs.Calls.{IsFree, PlainOverlay, cells_at}
+use Rattle.sam_overlay.specs.Outcomes.{NoneKept}
 use Rattle.sam_overlay.specs.declared.fault.PutFault.{PutFault}
 use Rattle.sam_overlay.specs.declared.shown_change.OverlayStep.{OverlayStep}
 use Rattle.sam_overlay.specs.declared.shown_change.Put.{Put as Became}
@@ -25,7 +23,7 @@ use Rattle.sam_overlay.specs.declared.shown_change.Put.TheVariants as put
 use Rattle.sam_overlay.proofs.CallLaws.{rests_show}
 use Rattle.sam_client.specs.Clients.{Does}
 use Rattle.sam_client.specs.Clients.Act.{AskHost, Bring, Fetch, FetchNote, PutEdit, Send, Step, TellRefusal}
-use Rattle.sam_client.specs.Going.{AllPut, EditIdle, EditsIdle, EndIdle, EndRests, GoesOn, IfIdle, InIdle, IsPut, Moves, OutIdle, Rests, Still, event_of, is_told, step_event, tells}
+use Rattle.sam_client.specs.Going.{AllPut, EditIdle, EditsIdle, EndIdle, EndRests, GoesOn, IfIdle, InIdle, IsPut, Moves, OutIdle, Rests, Still, event_of, is_told, is_work_of_end, step_event, tells, work_in}
 use Rattle.sam_client.specs.Faults.{bring_fault, put_fault, send_fault, step_fault}
 use Rattle.sam_client.specs.declared.client.Client.{Client}
 use Rattle.sam_client.specs.declared.event.Event.{Event}
@@ -38,24 +36,28 @@ use Rattle.sam_client.proofs.Moves.{goes_busy, goes_fails, goes_idle, goes_told,
 step_tells : (x : OverlayStep) (s : TermStep) → x.step ≡ s → tells (Step (Ok x)) ≡ (if is_told s then Some (Ok (tell.Stepped x)) else None)
 step_tells x s is = ap (λ (t : TermStep). if is_told t then Some (Ok (tell.Stepped x)) else None) is
 
-quiet_step : (now : ℕ) (c m n : Client) (x : OverlayStep) → Moves now c m → tells (Step (Ok x)) ≡ None → Does m (Step (Ok x)) n → Moves now c n
-quiet_step now c m n x moves none does = moves_then now c m n moves (moves_one now m n (Step (Ok x)) tt none does)
+step_works : (x : OverlayStep) (s : TermStep) → x.step ≡ s → work_in (Step (Ok x) ∷ []) ≡ (if is_work_of_end s then 1 else 0) + 0
+step_works x s is = ap (λ (t : TermStep). (if is_work_of_end t then 1 else 0) + 0) is
 
-goes_stepped : (now : ℕ) (c m n : Client) (x : OverlayStep) (s : TermStep) → Moves now c m → x.step ≡ s → Does m (Step (Ok x)) n
-    → GoesOn now c (Ok (event_of s x)) n
-goes_stepped now c m n x Idle moves is does = goes_idle now c n (quiet_step now c m n x moves (step_tells x Idle is) does)
-goes_stepped now c m n x Locked moves is does = goes_idle now c n (quiet_step now c m n x moves (step_tells x Locked is) does)
-goes_stepped now c m n x Wrote moves is does = goes_busy now c n (quiet_step now c m n x moves (step_tells x Wrote is) does)
+quiet_step : (now work : ℕ) (c m n : Client) (x : OverlayStep) → Moves now 0 c m → tells (Step (Ok x)) ≡ None → work_in (Step (Ok x) ∷ []) ≡ work
+    → Does m (Step (Ok x)) n → Moves now (0 + work) c n
+quiet_step now work c m n x moves none works does = moves_then now 0 work c m n moves (moves_one now work m n (Step (Ok x)) tt none works does)
+
+goes_stepped : (now : ℕ) (c m n : Client) (x : OverlayStep) (s : TermStep) → Moves now 0 c m → x.step ≡ s → Does m (Step (Ok x)) n
+    → GoesOn now 1 c (Ok (event_of s x)) n
+goes_stepped now c m n x Idle moves is does = goes_idle now c n (quiet_step now 0 c m n x moves (step_tells x Idle is) (step_works x Idle is) does)
+goes_stepped now c m n x Locked moves is does = goes_idle now c n (quiet_step now 0 c m n x moves (step_tells x Locked is) (step_works x Locked is) does)
+goes_stepped now c m n x Wrote moves is does = goes_busy now 1 c n (quiet_step now 1 c m n x moves (step_tells x Wrote is) (step_works x Wrote is) does)
 goes_stepped now c m n x (Received kind tag change) moves is does =
     goes_told now c m n (Step (Ok x)) (Ok (tell.Stepped x)) tt moves tt (step_tells x (Received kind tag change) is) does
 goes_stepped now c m n x (Acted number tag change) moves is does =
     goes_told now c m n (Step (Ok x)) (Ok (tell.Stepped x)) tt moves tt (step_tells x (Acted number tag change) is) does
 goes_stepped now c m n x (Refused number why) moves is does =
-    goes_busy now c n (quiet_step now c m n x moves (step_tells x (Refused number why) is) does)
+    goes_busy now 1 c n (quiet_step now 1 c m n x moves (step_tells x (Refused number why) is) (step_works x (Refused number why) is) does)
 
 -- the end was asked for a refusal, told none, and made a step
-pub end_goes : (now : ℕ) (c m n : Client) (x : OverlayStep) → Does c (TellRefusal None) m → Does m (Step (Ok x)) n → GoesOn now c (Ok (step_event x)) n
-end_goes now c m n x none does = goes_stepped now c m n x x.step (moves_one now c m (TellRefusal None) tt refl none) refl does
+pub end_goes : (now : ℕ) (c m n : Client) (x : OverlayStep) → Does c (TellRefusal None) m → Does m (Step (Ok x)) n → GoesOn now 1 c (Ok (step_event x)) n
+end_goes now c m n x none does = goes_stepped now c m n x x.step (moves_one now 0 c m (TellRefusal None) tt refl refl none) refl does
 
 -- ## Edits that wait
 
@@ -92,21 +94,19 @@ lt-or-eq f n below = elim (nat_lt f n) as (λ b. nat_lt f n ≡ b → (f < n) �
   | false ↦ λ is. inr (omega (arith, below, ltb-false f n is))
 ] refl
 
-window_inside : (files : Slots KnownFile) (f : ℕ) → is_some (known_in files f).window ≡ true → f < length files
-window_inside [] f is = absurd (cc)
-window_inside (file ∷ files) zero is = omega arith
-window_inside (file ∷ files) (suc f) is = omega (arith, window_inside files f is)
+lt-or-le : (f n : ℕ) → (f < n) ⊎ (n ≤ f)
+lt-or-le f n = elim (nat_lt f n) as (λ b. nat_lt f n ≡ b → (f < n) ⊎ (n ≤ f)) [
+  | true ↦ λ is. inl (ltb-true f n is)
+  | false ↦ λ is. inr (ltb-false f n is)
+] refl
 
-free_inside : (e : PlainTermEndpoint) (f : ℕ) → IsFree e f → f < length e.term.files
-free_inside e f free =
-    let t = e.term in
-    let first = and_parts (not t.has_exited && not t.command_lock && is_open t f && not (f == 0)) ((window_at t f).locks == 0) free.free in
-    let named = and_parts (not t.has_exited && not t.command_lock && is_open t f) (not (f == 0)) first.0 in
-    window_inside t.files f (and_parts (not t.has_exited && not t.command_lock) (is_open t f) named.0).1
+-- where no list of edits is kept, what is shown is the rasp
+pub all_show : (o : PlainOverlay) (from to : ℕ) → NoneKept o.layers from to → (f : ℕ) → from ≤ f → f < to → IsPut o f
+all_show o from to none f least below = inl (rests_show o f (none f least below))
 
 -- the first so many files were looked at
 pub record EditsSoFar (c n : Client) (count : ℕ) : Type 0 where
-  pub moves : (now : ℕ) → Moves now c n
+  pub moves : (now : ℕ) → Moves now 0 c n
   pub still : Still c.overlay n.overlay
   pub put : (f : ℕ) → f < count → n.overlay.putting ≡ None → IsFree n.overlay.end f → IsPut n.overlay f
 
@@ -118,10 +118,10 @@ none_so_far c = record {
 }
 
 -- one more has nothing that can be put
-pub one_more_so_far : (c m n : Client) (index : ℕ) → EditsSoFar c m index → ((now : ℕ) → GoesOn now m (Ok tell.Idle) n) → EditIdle index m n
+pub one_more_so_far : (c m n : Client) (index : ℕ) → EditsSoFar c m index → ((now : ℕ) → GoesOn now 1 m (Ok tell.Idle) n) → EditIdle index m n
     → EditsSoFar c n (index + 1)
 one_more_so_far c m n index before goes now_idle = record {
-  moves = λ now. moves_then now c m n (before.moves now) (went_idle now m n (goes now));
+  moves = λ now. moves_then now 0 0 c m n (before.moves now) (went_idle now m n (goes now));
   still = still_then c.overlay m.overlay n.overlay before.still now_idle.still;
   put = λ f below none free.
       elim (lt-or-eq f index below) [
@@ -131,17 +131,21 @@ one_more_so_far c m n index before goes now_idle = record {
       ];
 }
 
--- each of the first tags is put, and no other is a file
-pub all_so_far : (c n : Client) (count index : ℕ) → count ≡ min (length c.overlay.end.term.files) 65536 → count ≤ index → EditsSoFar c n index
-    → EditsIdle c n
-all_so_far c n count index is done all = record {
-  still = all.still;
-  put = λ none f tag free.
-      let inside : f < length n.overlay.end.term.files = free_inside n.overlay.end f free in
-      let files : length n.overlay.end.term.files ≡ length c.overlay.end.term.files =
-      ap (λ (e : PlainTermEndpoint). length e.term.files) all.still.end in
-      all.put f (omega (arith, is, done, inside, files, tag)) none free;
+-- and those up to a later one have no edit
+pub more_so_far : (c n : Client) (count more : ℕ) → EditsSoFar c n count → ((f : ℕ) → count ≤ f → f < more → IsPut n.overlay f) → EditsSoFar c n more
+more_so_far c n count more before put = record {
+  moves = before.moves;
+  still = before.still;
+  put = λ f below none free.
+      elim (lt-or-le f count) [
+        | inl less ↦ before.put f less none free
+        | inr least ↦ put f least below
+      ];
 }
+
+-- each tag is put
+pub all_so_far : (c n : Client) (count : ℕ) → 2 ^ 16 ≤ count → EditsSoFar c n count → EditsIdle c n
+all_so_far c n count done all = record { still = all.still; put = λ none f tag free. all.put f (omega (arith, done, tag)) none free }
 
 -- ## All together
 
@@ -162,65 +166,72 @@ all_rest b e o n end edits out ins =
 -- ## What each part answers
 
 pub end_refused : (now : ℕ) (c m : Client) (number : ℕ) (why : Refusal) → Does c (TellRefusal (Some (number, why))) m
-    → GoesOn now c (Ok (tell.Refused number why)) m
+    → GoesOn now 1 c (Ok (tell.Refused number why)) m
 end_refused now c m number why does =
     goes_told now c c m (TellRefusal (Some (number, why))) (Ok (tell.Refused number why)) tt (moves_none now c) tt refl does
 
 pub end_fails : (now : ℕ) (c m n : Client) (why : EndpointFault TermStop) → Does c (TellRefusal None) m → Does m (Step (Err why)) n
-    → GoesOn now c (Err (step_fault why)) n
+    → GoesOn now 1 c (Err (step_fault why)) n
 end_fails now c m n why none does =
-    goes_told now c m n (Step (Err why)) (Err (step_fault why)) tt (moves_one now c m (TellRefusal None) tt refl none) tt refl does
+    goes_told now c m n (Step (Err why)) (Err (step_fault why)) tt (moves_one now 0 c m (TellRefusal None) tt refl refl none) tt refl does
 
-quiet_edit : (now : ℕ) (c n : Client) (f : ℕ) (answer : Result Became PutFault) → tells (PutEdit f answer) ≡ None → Does c (PutEdit f answer) n
-    → Moves now c n
-quiet_edit now c n f answer none does = moves_one now c n (PutEdit f answer) tt none does
+pub edit_goes : (now : ℕ) (c n : Client) (f : ℕ) → Does c (PutEdit f (Ok put.Edit)) n → GoesOn now 1 c (Ok tell.Busy) n
+edit_goes now c n f does = goes_busy now 1 c n (moves_one now 1 c n (PutEdit f (Ok put.Edit)) tt refl refl does)
 
-pub edit_goes : (now : ℕ) (c n : Client) (f : ℕ) → Does c (PutEdit f (Ok put.Edit)) n → GoesOn now c (Ok tell.Busy) n
-edit_goes now c n f does = goes_busy now c n (quiet_edit now c n f (Ok put.Edit) refl does)
-
-pub edit_rests : (now : ℕ) (c n : Client) (f : ℕ) (answer : Result Became PutFault) → tells (PutEdit f answer) ≡ None → Does c (PutEdit f answer) n
-    → GoesOn now c (Ok tell.Idle) n
-edit_rests now c n f answer none does = goes_idle now c n (quiet_edit now c n f answer none does)
+pub edit_rests : (now : ℕ) (c n : Client) (f : ℕ) (answer : Result Became PutFault) → tells (PutEdit f answer) ≡ None
+    → work_in (PutEdit f answer ∷ []) ≡ 0 → Does c (PutEdit f answer) n → GoesOn now 1 c (Ok tell.Idle) n
+edit_rests now c n f answer none idle does = goes_idle now c n (moves_one now 0 c n (PutEdit f answer) tt none idle does)
 
 pub edit_fails : (now : ℕ) (c n : Client) (f : ℕ) (why : PutFault) (fault : GoOnFault) → put_fault why ≡ Some fault
-    → Does c (PutEdit f (Err why)) n → GoesOn now c (Err fault) n
+    → Does c (PutEdit f (Err why)) n → GoesOn now 1 c (Err fault) n
 edit_fails now c n f why fault is does = goes_fails now c n (PutEdit f (Err why)) fault tt (ap (option_map Err) is) does
 
-pub out_goes : (now : ℕ) (c n : Client) (bytes : List ℕ) → Does c (Send bytes now (Ok tt)) n → GoesOn now c (Ok tell.Busy) n
-out_goes now c n bytes does = goes_busy now c n (moves_one now c n (Send bytes now (Ok tt)) refl refl does)
+is_some_work : (bytes : List ℕ) → (bytes ≡ [] → ⊥) → (if not (is_empty bytes) then 1 else 0) + 0 ≡ 1
+is_some_work [] some = absurd (some refl)
+is_some_work (byte ∷ bytes) some = refl
+
+is_no_work : (bytes : List ℕ) → bytes ≡ [] → (if not (is_empty bytes) then 1 else 0) + 0 ≡ 0
+is_no_work bytes none = ap (λ (b : List ℕ). (if not (is_empty b) then 1 else 0) + 0) none
+
+pub out_goes : (now : ℕ) (c n : Client) (bytes : List ℕ) → (bytes ≡ [] → ⊥) → Does c (Send bytes now (Ok tt)) n → GoesOn now 1 c (Ok tell.Busy) n
+out_goes now c n bytes some does = goes_busy now 1 c n (moves_one now 1 c n (Send bytes now (Ok tt)) refl refl (is_some_work bytes some) does)
 
 pub out_fails : (now : ℕ) (c n : Client) (bytes : List ℕ) (why : SendFault) → Does c (Send bytes now (Err why)) n
-    → GoesOn now c (Err (send_fault why)) n
+    → GoesOn now 1 c (Err (send_fault why)) n
 out_fails now c n bytes why does = goes_fails now c n (Send bytes now (Err why)) (send_fault why) refl refl does
 
-pub bring_goes : (now : ℕ) (c n : Client) (bytes : List ℕ) → Does c (Bring bytes (Ok tt)) n → GoesOn now c (Ok tell.Busy) n
-bring_goes now c n bytes does = goes_busy now c n (moves_one now c n (Bring bytes (Ok tt)) tt refl does)
+pub bring_goes : (now : ℕ) (c n : Client) (bytes : List ℕ) → (bytes ≡ [] → ⊥) → Does c (Bring bytes (Ok tt)) n → GoesOn now 1 c (Ok tell.Busy) n
+bring_goes now c n bytes some does = goes_busy now 1 c n (moves_one now 1 c n (Bring bytes (Ok tt)) tt refl (is_some_work bytes some) does)
 
 pub bring_fails : (now : ℕ) (c n : Client) (bytes : List ℕ) (why : BringFault TermStop) → Does c (Bring bytes (Err why)) n
-    → GoesOn now c (Err (bring_fault why)) n
+    → GoesOn now 1 c (Err (bring_fault why)) n
 bring_fails now c n bytes why does = goes_fails now c n (Bring bytes (Err why)) (bring_fault why) tt refl does
 
-pub fetch_goes : (now : ℕ) (c n : Client) (bytes : List ℕ) → Does c (Fetch bytes) n → GoesOn now c (Ok tell.Busy) n
-fetch_goes now c n bytes does = goes_busy now c n (moves_one now c n (Fetch bytes) tt refl does)
+pub fetch_goes : (now : ℕ) (c n : Client) (bytes : List ℕ) → (bytes ≡ [] → ⊥) → Does c (Fetch bytes) n → GoesOn now 1 c (Ok tell.Busy) n
+fetch_goes now c n bytes some does = goes_busy now 1 c n (moves_one now 1 c n (Fetch bytes) tt refl (is_some_work bytes some) does)
 
-pub note_goes : (now : ℕ) (c k n : Client) (bytes note : List ℕ) → Does c (Fetch bytes) k → Does k (FetchNote (Some note)) n
-    → GoesOn now c (Ok tell.Note) n
-note_goes now c k n bytes note fetch does =
-    goes_told now c k n (FetchNote (Some note)) (Ok tell.Note) tt (moves_one now c k (Fetch bytes) tt refl fetch) tt refl does
+no_bytes : (now : ℕ) (c k : Client) (bytes : List ℕ) → bytes ≡ [] → Does c (Fetch bytes) k → Moves now 0 c k
+no_bytes now c k bytes none fetch = moves_one now 0 c k (Fetch bytes) tt refl (is_no_work bytes none) fetch
 
-ask_after : (now : ℕ) (c k m : Client) (bytes : List ℕ) → Does c (Fetch bytes) k → Does k (FetchNote None) m → Moves now c m
-ask_after now c k m bytes fetch note =
-    moves_then now c k m (moves_one now c k (Fetch bytes) tt refl fetch) (moves_one now k m (FetchNote None) tt refl note)
+pub note_goes : (now : ℕ) (c k n : Client) (bytes note : List ℕ) → bytes ≡ [] → Does c (Fetch bytes) k → Does k (FetchNote (Some note)) n
+    → GoesOn now 1 c (Ok tell.Note) n
+note_goes now c k n bytes note none fetch does =
+    goes_told now c k n (FetchNote (Some note)) (Ok tell.Note) tt (no_bytes now c k bytes none fetch) tt refl does
 
-pub ask_goes : (now : ℕ) (c k m n : Client) (bytes : List ℕ) → Does c (Fetch bytes) k → Does k (FetchNote None) m → Does m (AskHost now (Ok tt)) n
-    → GoesOn now c (Ok tell.Idle) n
-ask_goes now c k m n bytes fetch note does =
-    goes_idle now c n (moves_then now c m n (ask_after now c k m bytes fetch note) (moves_one now m n (AskHost now (Ok tt)) refl refl does))
+ask_after : (now : ℕ) (c k m : Client) (bytes : List ℕ) → bytes ≡ [] → Does c (Fetch bytes) k → Does k (FetchNote None) m → Moves now 0 c m
+ask_after now c k m bytes none fetch note =
+    moves_then now 0 0 c k m (no_bytes now c k bytes none fetch) (moves_one now 0 k m (FetchNote None) tt refl refl note)
 
-pub ask_fails : (now : ℕ) (c k m n : Client) (bytes : List ℕ) (why : SendFault) → Does c (Fetch bytes) k → Does k (FetchNote None) m
-    → Does m (AskHost now (Err why)) n → GoesOn now c (Err (send_fault why)) n
-ask_fails now c k m n bytes why fetch note does =
-    goes_told now c m n (AskHost now (Err why)) (Err (send_fault why)) tt (ask_after now c k m bytes fetch note) refl refl does
+pub ask_goes : (now : ℕ) (c k m n : Client) (bytes : List ℕ) → bytes ≡ [] → Does c (Fetch bytes) k → Does k (FetchNote None) m
+    → Does m (AskHost now (Ok tt)) n → GoesOn now 1 c (Ok tell.Idle) n
+ask_goes now c k m n bytes none fetch note does =
+    goes_idle now c n
+    (moves_then now 0 0 c m n (ask_after now c k m bytes none fetch note) (moves_one now 0 m n (AskHost now (Ok tt)) refl refl refl does))
+
+pub ask_fails : (now : ℕ) (c k m n : Client) (bytes : List ℕ) (why : SendFault) → bytes ≡ [] → Does c (Fetch bytes) k → Does k (FetchNote None) m
+    → Does m (AskHost now (Err why)) n → GoesOn now 1 c (Err (send_fault why)) n
+ask_fails now c k m n bytes why none fetch note does =
+    goes_told now c m n (AskHost now (Err why)) (Err (send_fault why)) tt (ask_after now c k m bytes none fetch note) refl refl does
 
 -- ## What an event says
 
@@ -234,5 +245,5 @@ not_idle (tell.Stepped x) p none = tt
 pub at_idle : (event : Event) (p : Type 0) → event ≡ tell.Idle → IfIdle (Ok event) p → p
 at_idle event p is holds = subst (λ (e : Event). IfIdle (Ok e) p) is holds
 
-pub goes_at : (now : ℕ) (c n : Client) (event other : Event) → event ≡ other → GoesOn now c (Ok event) n → GoesOn now c (Ok other) n
-goes_at now c n event other is goes = subst (λ (e : Event). GoesOn now c (Ok e) n) is goes
+pub goes_at : (now : ℕ) (c n : Client) (event other : Event) → event ≡ other → GoesOn now 1 c (Ok event) n → GoesOn now 1 c (Ok other) n
+goes_at now c n event other is goes = subst (λ (e : Event). GoesOn now 1 c (Ok e) n) is goes

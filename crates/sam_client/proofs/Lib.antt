@@ -1,3 +1,4 @@
 pub mod Packets
 pub mod Moves
+pub mod DeliveryLaws
 pub mod GoingLaws

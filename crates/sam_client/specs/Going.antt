@@ -1,16 +1,19 @@
 -- How a client goes on.
-use Rattle.std.specs.Prelude.{◌≡◌, ◌⊎◌, ℕ, ◌^◌, ◌<◌, List, [], ◌∷◌, Bool, true, false, Option, Some, None, Result, Ok, Err, if◌then◌else◌, option_map}
+use Rattle.std.specs.Prelude.{◌≡◌, ◌⊎◌, ℕ, ◌+◌, ◌^◌, ◌<◌, ◌≤◌, List, [], ◌∷◌, Bool, true, false, not, Option, Some, None, Result, Ok, Err, if◌then◌else◌, is_some, option_map}
 use Rattle.sam_link.specs.Inbox.{Waiting, ready}
 use Rattle.sam_line.specs.declared.line.Line.{Line}
 use Rattle.sam_pending.specs.Layers.{Layer, cells_over, next_made, rasp_length}
-use Rattle.sam_runes.specs.Texts.{max_runes}
+use Rattle.sam_runes.specs.Slots.{slot}
+use Rattle.sam_runes.specs.Texts.{is_empty, max_runes}
 use Rattle.sam_term.specs.Term.{rasp_at}
 use Rattle.sam_endpoint.specs.TermEndpoints.{IsQuiet, PlainTermEndpoint}
 use Rattle.sam_endpoint.specs.TermStepping.{IsReady}
 use Rattle.sam_endpoint.specs.declared.step.TermStep.{TermStep}
 use Rattle.sam_endpoint.specs.declared.step.TermStep.TheVariants.{Acted, Idle, Locked, Received, Refused, Wrote}
 use Rattle.sam_overlay.specs.Calls.{IsFree, PlainOverlay, cells_at, shown_at}
+use Rattle.sam_overlay.specs.Outcomes.{NoneKept}
 use Rattle.sam_overlay.specs.declared.shown_change.OverlayStep.{OverlayStep}
+use Rattle.sam_overlay.specs.declared.shown_change.Put.TheVariants as became
 use Rattle.sam_client.specs.Clients.{Act, Does, DoesAll}
 use Rattle.sam_client.specs.Clients.Act.{AskHost, Bring, Fetch, FetchNote, OfLine, PutEdit, Replace, Request, Send, SendNote, Step, TakeBack, TellRefusal}
 use Rattle.sam_client.specs.Faults.{bring_fault, put_fault, send_fault, step_fault}
@@ -78,11 +81,48 @@ abbrev pub AreSilent : ℕ → List Act → Type 0
 AreSilent now [] = Unit {0}
 AreSilent now (act ∷ acts) = IsSilent now act × AreSilent now acts
 
--- such moves lead there
-pub record Moves (now : ℕ) (c n : Client) : Type 0 where
+-- the step did something
+abbrev pub is_work_of_end : TermStep → Bool
+is_work_of_end Idle = false
+is_work_of_end Locked = false
+is_work_of_end Wrote = true
+is_work_of_end (Received kind tag change) = true
+is_work_of_end (Acted number tag change) = true
+is_work_of_end (Refused number why) = true
+
+-- the move did something: the end made a step, an edit was put, or bytes went from one part to the other
+abbrev pub is_work : Act → Bool
+is_work (OfLine call) = false
+is_work (Replace f p q s answer) = false
+is_work (Request event answer) = false
+is_work (TakeBack f answer) = false
+is_work (TellRefusal oldest) = false
+is_work (Step (Ok x)) = is_work_of_end x.step
+is_work (Step (Err why)) = false
+is_work (PutEdit f (Ok became.Nothing)) = false
+is_work (PutEdit f (Ok became.NotFree)) = false
+is_work (PutEdit f (Ok became.Edit)) = true
+is_work (PutEdit f (Err why)) = false
+is_work (Send bytes now (Ok done)) = not (is_empty bytes)
+is_work (Send bytes now (Err why)) = false
+is_work (SendNote bytes now answer) = false
+is_work (Fetch bytes) = not (is_empty bytes)
+is_work (Bring bytes (Ok done)) = not (is_empty bytes)
+is_work (Bring bytes (Err why)) = false
+is_work (FetchNote told) = false
+is_work (AskHost now answer) = false
+
+-- how many of the moves did something
+abbrev pub work_in : List Act → ℕ
+work_in [] = 0
+work_in (act ∷ acts) = (if is_work act then 1 else 0) + work_in acts
+
+-- such moves lead there, so many of which did something
+pub record Moves (now work : ℕ) (c n : Client) : Type 0 where
   pub acts : List Act
   pub silent : AreSilent now acts
   pub does : DoesAll c acts n
+  pub works : work_in acts ≡ work
 
 -- one move leads there, of which this is told
 pub record Tells (now : ℕ) (c : Client) (answer : Result Event GoOnFault) (n : Client) : Type 0 where
@@ -102,11 +142,26 @@ Answers now m (Ok (tell.Refused number why)) n = Tells now m (Ok (tell.Refused n
 Answers now m (Ok (tell.Stepped x)) n = Tells now m (Ok (tell.Stepped x)) n
 Answers now m (Err why) n = Tells now m (Err why) n
 
--- Moves of which nothing is told, and then one of which this is told
-pub record GoesOn (now : ℕ) (c : Client) (answer : Result Event GoOnFault) (n : Client) : Type 0 where
+-- so many moves did something: as many as a call may make if it answers that it is busy, and fewer otherwise
+abbrev pub Counts : ℕ → Result Event GoOnFault → ℕ → Type 0
+Counts most (Ok tell.Idle) work = work < most
+Counts most (Ok tell.Busy) work = work ≡ most
+Counts most (Ok tell.Note) work = work < most
+Counts most (Ok (tell.Refused number why)) work = work < most
+Counts most (Ok (tell.Stepped x)) work = work < most
+Counts most (Err why) work = work < most
+
+-- Moves of which nothing is told, and then one of which this is told. `Busy` is answered behind so many that did something, no other is
+pub record GoesOn (now most : ℕ) (c : Client) (answer : Result Event GoOnFault) (n : Client) : Type 0 where
   pub last : Client
-  pub moves : Moves now c last
+  pub work : ℕ
+  pub moves : Moves now work c last
+  pub counts : Counts most answer work
   pub answers : Answers now last answer n
+
+-- so many moves of one call do something at most
+abbrev pub most_moves : ℕ
+most_moves = 1000
 
 -- ## Where nothing moves
 
@@ -120,7 +175,12 @@ pub record EndRests (e : PlainTermEndpoint) : Type 0 where
 abbrev pub IsPut : PlainOverlay → ℕ → Type 0
 IsPut o f =
     (shown_at o f ≡ rasp_at o.end.term f)
-    ⊎ ((l : Layer) × (cells_at o f ≡ cells_over (rasp_at o.end.term f) l) × (max_runes < rasp_length (next_made l)))
+    ⊎ ((l : Layer) × (cells_at o f ≡ cells_over (rasp_at o.end.term f) l) × (max_runes < rasp_length (next_made None l)))
+
+-- that is the first tag from this one on for whose file a list of edits is kept, or past all
+abbrev pub IsNextTag : PlainOverlay → ℕ → ℕ → Type 0
+IsNextTag o from tag =
+    (from ≤ tag) × (tag ≤ 2 ^ 16) × NoneKept o.layers from tag × (tag < 2 ^ 16 → is_some (slot o.layers tag) ≡ true)
 
 -- so it is with each file whose edits can act
 abbrev pub AllPut : PlainOverlay → Type 0

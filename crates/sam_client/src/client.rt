@@ -1,11 +1,14 @@
 //! The client: what the program calls.
 
-ghost use Rattle.std.specs.Prelude.{◌≡◌, IsTrue};
+ghost use Rattle.std.specs.Prelude.{◌≡◌, ◌↔◌, IsTrue, false};
 ghost use Rattle.sam_line.specs.Calls.LineCall.{Acknowledge, AddressChanged, Broken, Connected, Expect, NotConnected, Receive, TakeOut, TickAt};
 ghost use Rattle.sam_line.specs.Clock as clocks;
 ghost use Rattle.sam_line.specs.Line.{is_due};
+ghost use Rattle.sam_overlay.specs.Calls.{shown_at};
 ghost use Rattle.sam_overlay.specs.Overlays.{is_request};
+ghost use Rattle.sam_term.specs.Term.{rasp_at};
 ghost use Rattle.sam_client.specs.Clients.{Does, new_client};
+ghost use Rattle.sam_client.specs.Delivery.{HasAll, HasSent, is_unsaved};
 ghost use Rattle.sam_client.specs.Clients.Act.{OfLine, Replace, Request, TakeBack};
 
 use crate::packet::Packet;
@@ -165,6 +168,41 @@ impl Client {
     }
 
     // ---- Readers
+
+    /// Returns whether nothing that the user did is left here: no edit waits, no event is held, no rune that was typed is unsent, and all
+    /// that was composed was taken, also the answers to the host's frames.
+    #[tactic(auto, using(crate::proofs::DeliveryLaws::sent_facts))]
+    fn has_sent(&self) -> bool
+        ensures { IsTrue result ↔ HasSent self.now.overlay }
+    {
+        let end = self.overlay.end();
+        if end.term().held() != 0 || end.term().has_unsent() || end.pending() != 0 {
+            return false;
+        }
+        match self.overlay.next_waiting(0) {
+            Some(_) => false,
+            None => end.is_idle(),
+        }
+    }
+
+    /// Returns whether the host's end of the link has all that the user did, and all notes: nothing waits here (no edit, no event that a
+    /// lock holds back, no rune that was typed and not sent, no byte that was composed), and all that was put is acknowledged.
+    pub fn has_all(&self) -> bool
+        ensures { IsTrue result ↔ HasAll self.now }
+    {
+        self.has_sent() && self.line.has_all()
+    }
+
+    /// Returns whether what is shown of a file may differ from what was written last: an edit waits over it, or `Terminal::is_changed`
+    /// says so. If not, what is shown is its rasp. False of the command file, and of a file that is not known.
+    #[tactic(auto, using(crate::proofs::DeliveryLaws::shows_rasp))]
+    pub fn is_unsaved(&self, tag: u16) -> bool
+        ensures value { result ≡ is_unsaved self.now tag }
+        ensures shown { result ≡ false → shown_at self.now.overlay tag ≡ rasp_at self.now.overlay.end.term tag }
+    {
+        self.overlay.facts();
+        self.overlay.is_waiting(tag) || self.overlay.end().term().is_changed(tag)
+    }
 
     /// Lends the terminal's end with the edits that wait, to be read.
     pub fn overlay(&self) -> &Overlay

@@ -1,10 +1,10 @@
 //! How a client goes on: what moves between its parts, one thing after another.
 
-ghost use Rattle.std.specs.Prelude.{◌≡◌, ℕ, []};
+ghost use Rattle.std.specs.Prelude.{◌≡◌, ℕ, ◌^◌, ◌<◌, ◌≤◌, []};
 ghost use Rattle.sam_endpoint.specs.TermStepping.{IsReady};
 ghost use Rattle.sam_client.specs.Clients.{Does, HasReceived, fetched};
 ghost use Rattle.sam_client.specs.Clients.Act.{AskHost, Bring, Fetch, FetchNote, PutEdit, Send, SendNote, Step, TellRefusal};
-ghost use Rattle.sam_client.specs.Going.{EditIdle, EditsIdle, EndIdle, GoesOn, IfIdle, InIdle, OutIdle, Rests, step_event};
+ghost use Rattle.sam_client.specs.Going.{EditIdle, EditsIdle, EndIdle, GoesOn, IfIdle, InIdle, IsNextTag, IsPut, OutIdle, Rests, most_moves, step_event};
 ghost use Rattle.sam_client.specs.Notes.{PutsNote, SendsAll, note_fault};
 
 use crate::client::Client;
@@ -120,7 +120,7 @@ impl Client {
 
     /// Tells a refusal, or makes a step.
     fn go_on_end(&mut self) -> Result<Event, GoOnFault>
-        ensures goes { (now : ℕ) → GoesOn now self.old result self.new }
+        ensures goes { (now : ℕ) → GoesOn now 1 self.old result self.new }
         ensures idle { IfIdle result (EndIdle self.new) }
     {
         if let Some((number, why)) = self.tell_refusal() {
@@ -134,7 +134,7 @@ impl Client {
 
     /// Puts the next edit of a file.
     fn go_on_edit(&mut self, tag: u16) -> Result<Event, GoOnFault>
-        ensures goes { (now : ℕ) → GoesOn now self.old result self.new }
+        ensures goes { (now : ℕ) → GoesOn now 1 self.old result self.new }
         ensures idle { IfIdle result (EditIdle tag self.old self.new) }
     {
         match self.put_edit(tag) {
@@ -148,25 +148,42 @@ impl Client {
         }
     }
 
-    /// Puts the next edit of the first file that has one which can act.
+    /// Returns the first tag from that one on for whose file a list of edits is kept, or `ALL_TAGS`.
+    #[tactic(auto, using(crate::proofs::GoingLaws::all_show))]
+    fn next_kept(&self, from: usize) -> usize
+        requires { from ≤ 2 ^ 16 }
+        ensures next { IsNextTag self.now.overlay from result }
+        ensures put { (f : ℕ) → from ≤ f → f < result → IsPut self.now.overlay f }
+    {
+        if from >= ALL_TAGS {
+            return ALL_TAGS;
+        }
+        match self.overlay.next_kept(from as u16) {
+            Some(tag) => tag as usize,
+            None => ALL_TAGS,
+        }
+    }
+
+    /// Puts the next edit of the first file that has one which can act, and lets go the lists of which none is left.
     #[tactic(auto, using(crate::proofs::GoingLaws::none_so_far))]
     fn go_on_edits(&mut self) -> Result<Event, GoOnFault>
-        ensures goes { (now : ℕ) → GoesOn now self.old result self.new }
+        ensures goes { (now : ℕ) → GoesOn now 1 self.old result self.new }
         ensures idle { IfIdle result (EditsIdle self.old self.new) }
     {
-        let count = self.overlay.end().term().files().len().min(ALL_TAGS);
-        'tags: for index in 0..count {
-            match self.go_on_edit(index as u16)? {
+        let mut tag = self.next_kept(0);
+        'tags: while tag < ALL_TAGS {
+            match self.go_on_edit(tag as u16)? {
                 Event::Idle => {}
                 event => return Ok(event),
             }
+            tag = self.next_kept(tag + 1);
         }
         Ok(Event::Idle)
     }
 
     /// Puts what the end composed into the line.
     fn go_on_out(&mut self, now: u64) -> Result<Event, GoOnFault>
-        ensures goes { GoesOn now self.old result self.new }
+        ensures goes { GoesOn now 1 self.old result self.new }
         ensures idle { IfIdle result (OutIdle self.old self.new) }
     {
         if self.overlay.end().pending() == 0 {
@@ -181,7 +198,7 @@ impl Client {
     /// Brings the terminal's end what comes from the line, or takes a note; asks the host where there is nothing.
     fn go_on_in(&mut self, now: u64) -> Result<Event, GoOnFault>
         requires { IsReady self.old.overlay.end }
-        ensures goes { GoesOn now self.old result self.new }
+        ensures goes { GoesOn now 1 self.old result self.new }
         ensures idle { IfIdle result (InIdle self.old self.new) }
     {
         if !self.held.is_empty() {
@@ -208,7 +225,7 @@ impl Client {
     /// Goes on by what can move first.
     #[tactic(auto, using(crate::proofs::GoingLaws::all_rest))]
     fn advance(&mut self, now: u64) -> Result<Event, GoOnFault>
-        ensures goes { GoesOn now self.old result self.new }
+        ensures goes { GoesOn now 1 self.old result self.new }
         ensures idle { IfIdle result (Rests self.new) }
     {
         match self.go_on_end()? {
@@ -228,15 +245,15 @@ impl Client {
 
     /// Goes on until there is something to tell: bytes of the host go from the line to the terminal's end, its steps are made, edits of
     /// free files are put, and what it composed goes into the line. Call it after each call that brought something, until it answers
-    /// `Idle`. It makes `MOST_MOVES` moves at most, and then answers `Busy`.
+    /// `Idle`. It makes `MOST_MOVES` moves at most that do something, and answers `Busy` just if it made so many and nothing is to be told.
     ///
     /// Errors: `Stopped` if the terminal's end has stopped; `CountFull` if a count of bytes or events would pass 2^64-1; `OutOfMemory`.
     /// Nothing is lost by them: the next call goes on.
     pub fn go_on(&mut self, now: u64) -> Result<Event, GoOnFault>
-        ensures goes { GoesOn now self.old result self.new }
+        ensures goes { GoesOn now most_moves self.old result self.new }
         ensures idle { IfIdle result (Rests self.new) }
     {
-        'moves: for _ in 0..MOST_MOVES {
+        'moves: for _made in 0..MOST_MOVES {
             match self.advance(now)? {
                 Event::Busy => {}
                 event => return Ok(event),

@@ -14,7 +14,7 @@ returns-in_err-event-2-clause-goes c =
     let why = c.in_err-event-2.field-0.0 in
     let same : c.from_residual-in_err-event-2.result ≡ Err why = search rules in
     let first = goes_at now c.args.self.now b c.in_ok-event.event tell.Idle c.in-Idle.is (c.in_ok-event.ensures.goes now) in
-    subst (λ (answer : Result Event GoOnFault). GoesOn now c.args.self.now answer c.go_on_edits.new.self) (sym same)
+    subst (λ (answer : Result Event GoOnFault). GoesOn now 1 c.args.self.now answer c.go_on_edits.new.self) (sym same)
     (goes_after now c.args.self.now b c.go_on_edits.new.self (Err why) first (c.in_err-event-2.ensures.goes now))
 
 pub returns-in_default-2 : goal.returns-in_default-2
@@ -36,7 +36,7 @@ returns-in_err-event-3-clause-goes c =
     let same : c.from_residual-in_err-event-3.result ≡ Err why = search rules in
     let first = goes_at now c.args.self.now b c.in_ok-event.event tell.Idle c.in-Idle.is (c.in_ok-event.ensures.goes now) in
     let next = goes_at now b e c.in_ok-event-2.event tell.Idle c.in-Idle-2.is (c.in_ok-event-2.ensures.goes now) in
-    subst (λ (answer : Result Event GoOnFault). GoesOn now c.args.self.now answer c.go_on_out.new.self) (sym same)
+    subst (λ (answer : Result Event GoOnFault). GoesOn now 1 c.args.self.now answer c.go_on_out.new.self) (sym same)
     (goes_after now c.args.self.now e c.go_on_out.new.self (Err why) (goes_after now c.args.self.now b e (Ok tell.Idle) first next)
     c.in_err-event-3.ensures.goes)
 

@@ -13,7 +13,7 @@ returns-in-Ok-Edit-clause-goes c = λ now.
 
 pub returns-in-Ok-Nothing-clause-goes : goal.returns-in-Ok-Nothing-clause-goes
 returns-in-Ok-Nothing-clause-goes c = λ now.
-    edit_rests now c.args.self.now c.put_edit.new.self c.args.tag (Ok put.Nothing) refl
+    edit_rests now c.args.self.now c.put_edit.new.self c.args.tag (Ok put.Nothing) refl refl
     (subst (λ (x : Put). Does c.args.self.now (PutEdit c.args.tag (Ok x)) c.put_edit.new.self) c.in-Ok-Nothing.field-0-is c.in-Ok-Nothing.ensures)
 
 pub returns-in-Ok-Nothing-clause-idle : goal.returns-in-Ok-Nothing-clause-idle

@@ -11,10 +11,10 @@ returns-in-Some-clause-goes c = λ now.
 
 pub returns-in-Ok-clause-goes : goal.returns-in-Ok-clause-goes
 returns-in-Ok-clause-goes c = λ now.
-    subst (λ (event : Event). GoesOn now c.args.self.now (Ok event) c.step.new.self) (sym c.told_of_step.ensures)
+    subst (λ (event : Event). GoesOn now 1 c.args.self.now (Ok event) c.step.new.self) (sym c.told_of_step.ensures)
     (end_goes now c.args.self.now c.tell_refusal.new.self c.step.new.self c.in-Ok.step c.in_default.ensures c.in-Ok.ensures)
 
 pub returns-in-Err-clause-goes : goal.returns-in-Err-clause-goes
 returns-in-Err-clause-goes c = λ now.
-    subst (λ (why : GoOnFault). GoesOn now c.args.self.now (Err why) c.step.new.self) (sym c.of_step.ensures)
+    subst (λ (why : GoOnFault). GoesOn now 1 c.args.self.now (Err why) c.step.new.self) (sym c.of_step.ensures)
     (end_fails now c.args.self.now c.tell_refusal.new.self c.step.new.self c.in-Err.why c.in_default.ensures c.in-Err.ensures)

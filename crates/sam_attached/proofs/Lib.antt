@@ -1,0 +1,5 @@
+pub mod Parts
+pub mod Runs
+pub mod Sessions
+pub mod Times
+pub mod Delivery

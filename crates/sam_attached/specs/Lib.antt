@@ -1,0 +1,4 @@
+pub mod Runs
+pub mod Sessions
+pub mod Times
+pub mod Delivery
