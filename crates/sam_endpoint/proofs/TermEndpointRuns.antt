@@ -10,7 +10,7 @@ use Rattle.sam_endpoint.specs.declared.step.BringFault.TheVariants as bring
 use Rattle.sam_endpoint.specs.declared.step.TermStep.{TermStep}
 use Rattle.sam_endpoint.specs.declared.step.TermStep.TheVariants as step
 use Rattle.sam_endpoint.specs.Streams.{GoesOnAfter, if_taken}
-use Rattle.sam_endpoint.specs.TermStepping.{BringsIn, Steps}
+use Rattle.sam_endpoint.specs.TermStepping.{BringsEvent, BringsIn, Steps}
 use Rattle.sam_endpoint.proofs.TermEndpointStepping.{Went, steps_not, steps_on, went_nowhere}
 use Rattle.sam_endpoint.specs.declared.fault.TermStop.TheVariants as stop
 use Rattle.sam_endpoint.specs.TermSteps.{Answer}
@@ -339,6 +339,19 @@ kept_brought stream events out told piece e k (Err bring.Waiting) (goes, waits, 
 kept_brought stream events out told piece e k (Err bring.CountFull) (ready, full, same) kept = kept_same stream events out told e k same kept
 kept_brought stream events out told piece e k (Err bring.OutOfMemory) (ready, room, same) kept = kept_same stream events out told e k same kept
 
+-- an event was brought, or was not
+kept_as : (stream : List ℕ) (events : List UserEvent) (out : List ℕ) (told : List (ℕ × Refusal)) (e k : PlainTermEndpoint) → k ≡ e → Kept stream events out told e → Kept stream (events ++ []) out told k
+kept_as stream events out told e k is kept = grind (arith, append-nil)
+
+kept_asked : (stream : List ℕ) (events : List UserEvent) (out : List ℕ) (told : List (ℕ × Refusal)) (event : UserEvent) (e k : PlainTermEndpoint) (result : Result (Unit {0}) (BringFault TermStop))
+    → BringsEvent e event result k → Kept stream events out told e → Kept stream (events ++ put_in (run.BringEvent event result)) out told k
+kept_asked stream events out told event e k (Ok done) (goes, is) kept =
+    subst (λ (x : PlainTermEndpoint). Kept stream (events ++ event ∷ []) out told x) (sym is) (kept_held stream events out told e event kept)
+kept_asked stream events out told event e k (Err (bring.Stopped why)) (stops, same) kept = kept_as stream events out told e k same kept
+kept_asked stream events out told event e k (Err bring.Waiting) brings kept = absurd brings
+kept_asked stream events out told event e k (Err bring.CountFull) (goes, full, same) kept = kept_as stream events out told e k same kept
+kept_asked stream events out told event e k (Err bring.OutOfMemory) (goes, counts, same) kept = kept_as stream events out told e k same kept
+
 -- an end that makes a step goes on
 step_goes : (e k : PlainTermEndpoint) (done : TermStep) → Steps e (Ok done) k → e.stop ≡ None
 step_goes e k step.Idle steps = steps.0.0
@@ -450,6 +463,10 @@ kept_run stream events out told (run.Bring piece result ∷ calls) e g (k, bring
     subst (λ (x : List ℕ). Kept x (events ++ flat_map put_in calls) (out ++ flat_map went_out calls) (told ++ flat_map handed_out calls) g)
     (append_assoc stream (came_in (run.Bring piece result)) (flat_map came_in calls))
     (kept_run (stream ++ came_in (run.Bring piece result)) events out told calls k g runs (kept_brought stream events out told piece e k result brings kept))
+kept_run stream events out told (run.BringEvent event result ∷ calls) e g (k, brings, runs) kept =
+    subst (λ (x : List UserEvent). Kept (stream ++ flat_map came_in calls) x (out ++ flat_map went_out calls) (told ++ flat_map handed_out calls) g)
+    (append_assoc events (put_in (run.BringEvent event result)) (flat_map put_in calls))
+    (kept_run stream (events ++ put_in (run.BringEvent event result)) out told calls k g runs (kept_asked stream events out told event e k result brings kept))
 kept_run stream events out told (run.MakeStep result ∷ calls) e g (k, steps, goes, runs) kept =
     kept_run stream events out told calls k g runs (kept_stepped stream events out told e k result goes steps kept)
 kept_run stream events out told (run.Put event answer ∷ calls) e g (k, puts, goes, runs) kept =
@@ -526,6 +543,13 @@ bring_goes e k piece (Err bring.Waiting) goes (going, waits, same) = ap (λ (x :
 bring_goes e k piece (Err bring.CountFull) goes (ready, full, same) = ap (λ (x : PlainTermEndpoint). x.stop) same ∙ goes
 bring_goes e k piece (Err bring.OutOfMemory) goes (ready, room, same) = ap (λ (x : PlainTermEndpoint). x.stop) same ∙ goes
 
+event_goes : (e k : PlainTermEndpoint) (event : UserEvent) (result : Result (Unit {0}) (BringFault TermStop)) → e.stop ≡ None → BringsEvent e event result k → k.stop ≡ None
+event_goes e k event (Ok done) goes (going, is) = ap (λ (x : PlainTermEndpoint). x.stop) is ∙ goes
+event_goes e k event (Err (bring.Stopped why)) goes (stops, same) = ap (λ (x : PlainTermEndpoint). x.stop) same ∙ goes
+event_goes e k event (Err bring.Waiting) goes brings = absurd brings
+event_goes e k event (Err bring.CountFull) goes (going, full, same) = ap (λ (x : PlainTermEndpoint). x.stop) same ∙ goes
+event_goes e k event (Err bring.OutOfMemory) goes (going, counts, same) = ap (λ (x : PlainTermEndpoint). x.stop) same ∙ goes
+
 stepped_goes : (e k : PlainTermEndpoint) (result : Result TermStep (EndpointFault TermStop)) → GoesOnAfter result → Steps e result k → k.stop ≡ None
 stepped_goes e k (Ok done) goes steps = (went e k done steps).goes
 stepped_goes e k (Err fault.Unfinished) goes (going, waits, same) = ap (λ (x : PlainTermEndpoint). x.stop) same ∙ going
@@ -537,6 +561,7 @@ run_goes : (e g : PlainTermEndpoint) (calls : List Call) → e.stop ≡ None →
 run_goes e g [] goes is = grind arith
 run_goes e g (run.Feed piece answer ∷ calls) goes (k, feeds, goes_on, runs) = run_goes k g calls (feed_goes e k piece answer goes_on feeds) runs
 run_goes e g (run.Bring piece result ∷ calls) goes (k, brings, runs) = run_goes k g calls (bring_goes e k piece result goes brings) runs
+run_goes e g (run.BringEvent event result ∷ calls) goes (k, brings, runs) = run_goes k g calls (event_goes e k event result goes brings) runs
 run_goes e g (run.MakeStep result ∷ calls) goes (k, steps, goes_on, runs) = run_goes k g calls (stepped_goes e k result goes_on steps) runs
 run_goes e g (run.Put event answer ∷ calls) goes (k, puts, goes_on, runs) = run_goes k g calls (put_goes e k event answer goes_on puts) runs
 run_goes e g (run.Flush answer ∷ calls) goes (k, flushes, goes_on, runs) = run_goes k g calls (flush_goes e k answer goes_on flushes) runs
@@ -627,6 +652,7 @@ last_stops stream events out told (run.Feed piece answer) e g why goes (feeds, i
           (fed_stops stream events out told piece ready.middle g why ready.whole.0.waiting ready.brings ready.kept))
     ]
 last_stops stream events out told (run.Bring piece result) e g why goes stops kept = absurd stops
+last_stops stream events out told (run.BringEvent event result) e g why goes stops kept = absurd stops
 last_stops stream events out told (run.MakeStep result) e g why goes (steps, is) kept =
     let failed : Steps e (Err (fault.Stopped why)) g = subst (λ (x : Result TermStep (EndpointFault TermStop)). Steps e x g) is steps in
     inl (went_on stream events out told e g why (steps_not e e g (fault.Stopped why) (went_nowhere e goes) failed) kept)

@@ -58,10 +58,10 @@ if_taken (Err fault.Unfinished) brought = brought
 if_taken (Err fault.CountFull) brought = []
 if_taken (Err (fault.Stopped why)) brought = brought
 
--- the piece, if it was brought
-abbrev pub if_brought : {S : Type 0} → Result (Unit {0}) (BringFault S) → List ℕ → List ℕ
-if_brought (Ok done) piece = piece
-if_brought (Err why) piece = []
+-- what was to be brought, if it was
+abbrev pub if_brought : {A S : Type 0} → Result (Unit {0}) (BringFault S) → List A → List A
+if_brought (Ok done) brought = brought
+if_brought (Err why) brought = []
 
 -- out of memory before what the call brought was taken
 abbrev pub not_taken : {S : Type 0} → EndpointFault S → EndpointFault S

@@ -19,7 +19,7 @@ use Rattle.sam_endpoint.specs.declared.step.BringFault.{BringFault}
 use Rattle.sam_endpoint.specs.declared.step.TermStep.{TermStep}
 use Rattle.sam_endpoint.specs.Streams.{FitMessages, GoesOnAfter, if_brought, if_taken, mesg_fault}
 use Rattle.sam_endpoint.specs.TermEndpoints.{PlainTermEndpoint, Feeds, Flushes, IsDecided, IsDone, IsIdle, Puts, new_term_endpoint, refusals_from}
-use Rattle.sam_endpoint.specs.TermStepping.{BringsIn, Steps}
+use Rattle.sam_endpoint.specs.TermStepping.{BringsEvent, BringsIn, Steps}
 use Rattle.sam_endpoint.specs.TermSteps.{Answer}
 
 -- ## What a terminal does
@@ -79,6 +79,7 @@ acts_in steps = flat_map act_in steps
 pub data Call : Type 0 where
   Feed : List ℕ → Answer → Call  -- a piece was fed
   Bring : List ℕ → Result (Unit {0}) (BringFault TermStop) → Call  -- a piece was brought
+  BringEvent : UserEvent → Result (Unit {0}) (BringFault TermStop) → Call  -- an event was brought
   MakeStep : Result TermStep (EndpointFault TermStop) → Call  -- the end went on by one step
   Put : UserEvent → Answer → Call  -- the user did something
   Flush : Answer → Call
@@ -91,6 +92,7 @@ abbrev pub Runs : PlainTermEndpoint → List Call → PlainTermEndpoint → Type
 Runs e [] g = g ≡ e
 Runs e (Feed piece answer ∷ calls) g = (k : PlainTermEndpoint) × Feeds e piece answer k × GoesOnAfter answer × Runs k calls g
 Runs e (Bring piece result ∷ calls) g = (k : PlainTermEndpoint) × BringsIn e piece result k × Runs k calls g
+Runs e (BringEvent event result ∷ calls) g = (k : PlainTermEndpoint) × BringsEvent e event result k × Runs k calls g
 Runs e (MakeStep result ∷ calls) g = (k : PlainTermEndpoint) × Steps e result k × GoesOnAfter result × Runs k calls g
 Runs e (Put event answer ∷ calls) g = (k : PlainTermEndpoint) × Puts e event answer k × GoesOnAfter answer × Runs k calls g
 Runs e (Flush answer ∷ calls) g = (k : PlainTermEndpoint) × Flushes e answer k × GoesOnAfter answer × Runs k calls g
@@ -102,6 +104,7 @@ Runs e (Changed kept ∷ calls) g = Runs (record e { kept = kept }) calls g
 abbrev pub Stops : PlainTermEndpoint → Call → TermStop → PlainTermEndpoint → Type 0
 Stops e (Feed piece answer) why g = Feeds e piece answer g × (answer ≡ Err (fault.Stopped why))
 Stops e (Bring piece result) why g = ⊥
+Stops e (BringEvent event result) why g = ⊥
 Stops e (MakeStep result) why g = Steps e result g × (result ≡ Err (fault.Stopped why))
 Stops e (Put event answer) why g = Puts e event answer g × (answer ≡ Err (fault.Stopped why))
 Stops e (Flush answer) why g = Flushes e answer g × (answer ≡ Err (fault.Stopped why))
@@ -113,6 +116,7 @@ Stops e (Changed kept) why g = ⊥
 abbrev pub came_in : Call → List ℕ
 came_in (Feed piece answer) = if_taken answer piece
 came_in (Bring piece result) = if_brought result piece
+came_in (BringEvent event result) = []
 came_in (MakeStep result) = []
 came_in (Put event answer) = []
 came_in (Flush answer) = []
@@ -124,6 +128,7 @@ came_in (Changed kept) = []
 abbrev pub put_in : Call → List UserEvent
 put_in (Feed piece answer) = []
 put_in (Bring piece result) = []
+put_in (BringEvent event result) = if_brought result (event ∷ [])
 put_in (MakeStep result) = []
 put_in (Put event answer) = if_taken answer (event ∷ [])
 put_in (Flush answer) = []
@@ -135,6 +140,7 @@ put_in (Changed kept) = []
 abbrev pub went_out : Call → List ℕ
 went_out (Feed piece answer) = []
 went_out (Bring piece result) = []
+went_out (BringEvent event result) = []
 went_out (MakeStep result) = []
 went_out (Put event answer) = []
 went_out (Flush answer) = []
@@ -146,6 +152,7 @@ went_out (Changed kept) = []
 abbrev pub handed_out : Call → List (ℕ × Refusal)
 handed_out (Feed piece answer) = []
 handed_out (Bring piece result) = []
+handed_out (BringEvent event result) = []
 handed_out (MakeStep result) = []
 handed_out (Put event answer) = []
 handed_out (Flush answer) = []

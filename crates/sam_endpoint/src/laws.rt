@@ -34,11 +34,11 @@ pub fn host_one_outcome()
     one_reading_t();
 }
 
-/// States what every run of a terminal endpoint that does not stop comes to, whatever the pieces are, whether they are fed or brought and
-/// gone on with by steps, and whenever memory is refused. The terminal has received the first frames of the stream in order, and the others
-/// wait; it was given each event that was put, in order; the messages that it composed are what was taken out, what is pending, and what is
-/// not written yet, and each is within its limits; and each refusal of an event, with the event's number, was handed out once or waits to
-/// be.
+/// States what every run of a terminal endpoint that does not stop comes to, whatever the pieces are, whether they and the events are taken
+/// whole or brought and gone on with by steps, and whenever memory is refused. The terminal has received the first frames of the stream in
+/// order, and the others wait; it was given each event, in order; the messages that it composed are what was taken out, what is pending,
+/// and what is not written yet, and each is within its limits; and each refusal of an event, with the event's number, was handed out once
+/// or waits to be.
 #[tactic(auto, using(crate::proofs::TermEndpointRuns::runs_lead))]
 pub fn term_runs_lead()
     ensures { RunsLead }
@@ -52,8 +52,8 @@ pub fn term_stops_lead()
     ensures { StopsLead }
 {}
 
-/// States that `TermEndpoint::events` hands out how many events were put and taken. So right after a call that took one it is the number
-/// of this event, counted from 1, by which `next_refusal` names it and `decided` counts it.
+/// States that `TermEndpoint::events` hands out how many events were put or brought, and taken. So right after a call that took one it is
+/// the number of this event, counted from 1, by which `next_refusal` names it and `decided` counts it.
 #[tactic(auto, using(crate::proofs::TermEndpointRuns::events_numbered))]
 pub fn term_events_numbered()
     ensures { EventsAreNumbered }

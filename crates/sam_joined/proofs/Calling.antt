@@ -8,7 +8,7 @@ use Rattle.sam_host.specs.declared.fault.HostFault.TheVariants as host_fault
 use Rattle.sam_term.specs.declared.fault.TermFault.TheVariants as term_fault
 use Rattle.sam_endpoint.specs.HostRuns.{Feed as FeedHost, Bring as BringHost, MakeStep as MakeHostStep, AddFile, MarkDirty, TakeOut as TakeOutHost, NextWritten, Stops as HostStops, HasServed, HasStopped as HostHasStopped, Call as HostCall, came_in as came_up, handed_out as handed_tags, asides_by, went_out as went_down}
 use Rattle.sam_endpoint.specs.TermEndpoints.{PlainTermEndpoint}
-use Rattle.sam_endpoint.specs.TermRuns.{HasDone, HasStopped as TermHasStopped, Feed as FeedTerm, Bring, MakeStep, Put, Flush, TakeOut, NextRefusal, Changed, Stops as TermStops, put_in, Call as TermCall, came_in as came_down, handed_out as handed_refusals, went_out as went_up}
+use Rattle.sam_endpoint.specs.TermRuns.{HasDone, HasStopped as TermHasStopped, Feed as FeedTerm, Bring, BringEvent, MakeStep, Put, Flush, TakeOut, NextRefusal, Changed, Stops as TermStops, put_in, Call as TermCall, came_in as came_down, handed_out as handed_refusals, went_out as went_up}
 use Rattle.sam_endpoint.specs.declared.fault.HostStop.{HostStop}
 use Rattle.sam_endpoint.specs.declared.fault.HostStop.TheVariants as host_stop
 use Rattle.sam_endpoint.specs.declared.fault.TermStop.{TermStop}
@@ -100,6 +100,7 @@ none_out_up k g (MakeStep result) why s = refl
 none_out_up k g (Put event answer) why s = refl
 none_out_up k g (Flush answer) why s = refl
 none_out_up k g (Bring piece result) why s = absurd s
+none_out_up k g (BringEvent event result) why s = absurd s
 none_out_up k g (TakeOut bytes) why s = absurd s
 none_out_up k g (NextRefusal told) why s = absurd s
 none_out_up k g (Changed kept) why s = absurd s

@@ -1,3 +1,4 @@
 pub mod Joined
 pub mod Calls
 pub mod Linked
+pub mod ChangesOverCalls

@@ -1,8 +1,10 @@
 //! The laws of two endpoints, stated by the clauses of functions that do nothing.
 //!
-//! Each but the first speaks of two endpoints between which bytes were carried (`AreCarried`), and of all files that joined the host
-//! endpoint or were marked as dirty there, whenever they were. The first says that all calls come to this.
+//! Each but the first and the last speaks of two endpoints between which bytes were carried (`AreCarried`), and of all files that joined
+//! the host endpoint or were marked as dirty there, whenever they were. The first says that all calls come to this. The last speaks of a
+//! terminal endpoint alone.
 ghost use Rattle.sam_joined.specs.Calls.{CallsAreCarried, NoCallStopsTheHost, NoCallStopsTheTerminal};
+ghost use Rattle.sam_joined.specs.ChangesOverCalls.{CallsKeep, ChangesAreExact, FirstChangeIsExact, TerminalsStaySound};
 ghost use Rattle.sam_joined.specs.Linked.{GoodLineCarries, LinkedAreOneRun, LinksAreOneLine, MovedIsCarried, TypedIsInTheText};
 ghost use Rattle.sam_joined.specs.Linked.{NoCallStopsTheLinkedHost, NoCallStopsTheLinkedTerminal};
 ghost use Rattle.sam_joined.specs.Joined.{CarriedAgree, EndpointsJoin, JoinedAreAsIfLocal, NeitherStops, NeverStuck};
@@ -75,4 +77,14 @@ pub fn endpoints_are_linked()
 pub fn typed_is_in_the_text()
     ensures carries { GoodLineCarries }
     ensures typed { TypedIsInTheText }
+{}
+
+/// States that between two answers of `TermEndpoint::changed` about one file, its text changed by just what the second says, whatever calls
+/// stand between. It may be asked of other files there, and a call may stop the endpoint. The first answer about a file says by what its
+/// text differs from an empty one. So it is because what is kept of a text stays kept over each call.
+pub fn changes_are_exact()
+    ensures sound { TerminalsStaySound }
+    ensures keep { CallsKeep }
+    ensures between { ChangesAreExact }
+    ensures first { FirstChangeIsExact }
 {}

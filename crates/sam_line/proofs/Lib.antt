@@ -1,4 +1,5 @@
 pub mod AgainLaws
+pub mod AllLaws
 pub mod Carrying
 pub mod ClockLaws
 pub mod Greetings

@@ -1,6 +1,5 @@
 -- A session of a line and a host is one of two links.
-use Rattle.std.proofs.Common.{◌≡◌, ℕ, ◌+◌, ◌≤◌, max, List, [], ◌∷◌, ◌++◌, take, drop, flat_map, Bool, true, false, MatchBool, if◌then◌else◌, None, Some, Result, Ok, Err, is_ok, refl, sym, ap, subst, ◌∙◌, arith}
-use Rattle.std.proofs.lemmas.Bool.{leb-true}
+use Rattle.std.proofs.Common.{◌≡◌, ℕ, ◌+◌, max, List, [], ◌∷◌, ◌++◌, take, drop, flat_map, Bool, true, false, MatchBool, if◌then◌else◌, None, Some, Result, Ok, Err, is_ok, refl, sym, ap, subst, ◌∙◌, arith}
 use Rattle.std.proofs.lemmas.List.{append-nil}
 use Rattle.sam_link.specs.Calls.{Call, Does, Item, fed, fed_by, handed, out, out_by, put}
 use Rattle.sam_link.specs.Calls as calls
@@ -17,7 +16,6 @@ use Rattle.sam_link.specs.declared.hello.Id.{Id}
 use Rattle.sam_link.specs.declared.phase.Phase.{Phase}
 use Rattle.sam_link.specs.declared.phase.Role.{Role}
 use Rattle.sam_link.specs.declared.phase.Role.TheVariants.{Terminal, Host}
-use Rattle.sam_link.proofs.Meeting.{lacks_are_kept}
 use Rattle.sam_link.proofs.SessionLaws.{links_carry}
 use Rattle.sam_line.specs.Calls.{LineCall, LineDoes, handed_by, put_by}
 use Rattle.sam_line.specs.Calls.LineCall.{Acknowledge, AddressChanged, Ask, Broken, Connected, Expect, NextNote, NotConnected, Put, PutNote, Receive, TakeIn, TakeOut, TickAt}
@@ -260,69 +258,84 @@ same_out mine a b (LinkTakeIn old count new) same is = tt
 same_out mine a b (LinkNextNote answer) same is = tt
 
 -- two links whose session this is
-record Shadow (id : Id) (s : LineSession) : Type 0 where
-  steps : List Step
-  t : Session
-  leads : Leads (new_session id) steps t
-  terminal_is : t.terminal ≡ s.line.link
-  host_is : t.host ≡ s.host
-  host_calls_are : t.host_calls ≡ s.host_calls
-  puts_are : put t.terminal_calls ≡ flat_map put_by s.line_calls
-  hands_are : handed t.terminal_calls ≡ flat_map handed_by s.line_calls
-  outs_are : (a : ℕ) → out a t.terminal_calls ≡ out a (outs s.line_calls)
-  tied : Tied s.line (λ a. took a s.line_calls) (λ a. fed a t.terminal_calls)
+pub record Shadow (id : Id) (s : LineSession) : Type 0 where
+  pub steps : List Step
+  pub t : Session
+  pub leads : Leads (new_session id) steps t
+  pub terminal_is : t.terminal ≡ s.line.link
+  pub host_is : t.host ≡ s.host
+  pub host_calls_are : t.host_calls ≡ s.host_calls
+  pub puts_are : put t.terminal_calls ≡ flat_map put_by s.line_calls
+  pub hands_are : handed t.terminal_calls ≡ flat_map handed_by s.line_calls
+  pub outs_are : (a : ℕ) → out a t.terminal_calls ≡ out a (outs s.line_calls)
+  pub tied : Tied s.line (λ a. took a s.line_calls) (λ a. fed a t.terminal_calls)
 
-line_step : (id : Id) (s : LineSession) (call : LineCall) (n : Line) → Shadow id s → LineDoes s.line call n → WasBrought s.line_calls s.host_calls call
-    → Shadow id (line_did s call n)
+-- a later session, and the calls of the two links since
+pub record Later (id : Id) (s : LineSession) (sh : Shadow id s) (z : LineSession) : Type 0 where
+  pub next : Shadow id z
+  pub more : List Step
+  pub since : Leads sh.t more next.t
+
+pub line_step : (id : Id) (s : LineSession) (call : LineCall) (n : Line) (sh : Shadow id s) → LineDoes s.line call n
+    → WasBrought s.line_calls s.host_calls call → Later id s sh (line_did s call n)
 line_step id s call n sh does brought =
     let w = call_went sh.t (λ a. took a s.line_calls) s.line n sh.terminal_is sh.tied call s.line_calls (λ a. refl) does
     (subst (λ (c : List Call). WasBrought s.line_calls c call) (sym sh.host_calls_are) brought) in
     let m = w.moved in
     record {
-      steps = sh.steps ++ m.steps;
-      t = m.z;
-      leads = leads_on (new_session id) sh.t m.z sh.steps m.steps sh.leads m.leads;
-      terminal_is = m.terminal_is;
-      host_is = m.host_is ∙ sh.host_is;
-      host_calls_are = m.host_calls_are ∙ sh.host_calls_are;
-      puts_are = m.puts_are ∙ ap (λ (x : List Item). x ++ put_by call) sh.puts_are ∙ sym (with_last put_by s.line_calls call);
-      hands_are = m.hands_are ∙ ap (λ (x : List Item). x ++ handed_by call) sh.hands_are ∙ sym (with_last handed_by s.line_calls call);
-      outs_are = λ a. m.outs_are a ∙ ap (λ x. x ++ out a (out_of call)) (sh.outs_are a) ∙ sym (with_list (out_by a) (outs s.line_calls) (out_of call))
-          ∙ ap (out a) (sym (with_last out_of s.line_calls call));
-      tied = same_functions n (λ a. took a s.line_calls ++ took_by a call) (λ a. took a (s.line_calls ++ call ∷ []))
-          (λ a. fed a sh.t.terminal_calls ++ w.comes a) (λ a. fed a m.z.terminal_calls) (λ a. with_last (took_by a) s.line_calls call) m.feds_are w.tied;
+      next = record {
+        steps = sh.steps ++ m.steps;
+        t = m.z;
+        leads = leads_on (new_session id) sh.t m.z sh.steps m.steps sh.leads m.leads;
+        terminal_is = m.terminal_is;
+        host_is = m.host_is ∙ sh.host_is;
+        host_calls_are = m.host_calls_are ∙ sh.host_calls_are;
+        puts_are = m.puts_are ∙ ap (λ (x : List Item). x ++ put_by call) sh.puts_are ∙ sym (with_last put_by s.line_calls call);
+        hands_are = m.hands_are ∙ ap (λ (x : List Item). x ++ handed_by call) sh.hands_are ∙ sym (with_last handed_by s.line_calls call);
+        outs_are = λ a. m.outs_are a ∙ ap (λ x. x ++ out a (out_of call)) (sh.outs_are a) ∙ sym (with_list (out_by a) (outs s.line_calls) (out_of call))
+            ∙ ap (out a) (sym (with_last out_of s.line_calls call));
+        tied = same_functions n (λ a. took a s.line_calls ++ took_by a call) (λ a. took a (s.line_calls ++ call ∷ []))
+            (λ a. fed a sh.t.terminal_calls ++ w.comes a) (λ a. fed a m.z.terminal_calls) (λ a. with_last (took_by a) s.line_calls call) m.feds_are w.tied;
+      };
+      more = m.steps;
+      since = m.leads;
     }
 
-host_step : (id : Id) (s : LineSession) (call : Call) (h : End) → Shadow id s → Does s.host call h
-    → (is_taken call ≡ true → WasCarried s.host_calls (outs s.line_calls) call) → Shadow id (host_did s call h)
+pub host_step : (id : Id) (s : LineSession) (call : Call) (h : End) (sh : Shadow id s) → Does s.host call h
+    → (is_taken call ≡ true → WasCarried s.host_calls (outs s.line_calls) call) → Later id s sh (host_did s call h)
 host_step id s call h sh does carried =
+    let since : Leads sh.t (LinkByHost call ∷ []) (sessions.host_did sh.t call h) = (
+      h,
+      subst (λ (x : End). Does x call h) (sym sh.host_is) does,
+      (λ taken. subst (λ (c : List Call). WasCarried c sh.t.terminal_calls call) (sym sh.host_calls_are)
+          (same_out s.host_calls (outs s.line_calls) sh.t.terminal_calls call (λ k. sym (sh.outs_are k)) (carried taken))),
+      refl,
+    ) in
     record {
-      steps = sh.steps ++ LinkByHost call ∷ [];
-      t = sessions.host_did sh.t call h;
-      leads = leads_on (new_session id) sh.t (sessions.host_did sh.t call h) sh.steps (LinkByHost call ∷ []) sh.leads (
-        h,
-        subst (λ (x : End). Does x call h) (sym sh.host_is) does,
-        (λ taken. subst (λ (c : List Call). WasCarried c sh.t.terminal_calls call) (sym sh.host_calls_are)
-            (same_out s.host_calls (outs s.line_calls) sh.t.terminal_calls call (λ k. sym (sh.outs_are k)) (carried taken))),
-        refl,
-      );
-      terminal_is = sh.terminal_is;
-      host_is = refl;
-      host_calls_are = ap (λ (c : List Call). c ++ call ∷ []) sh.host_calls_are;
-      puts_are = sh.puts_are;
-      hands_are = sh.hands_are;
-      outs_are = sh.outs_are;
-      tied = sh.tied;
+      next = record {
+        steps = sh.steps ++ LinkByHost call ∷ [];
+        t = sessions.host_did sh.t call h;
+        leads = leads_on (new_session id) sh.t (sessions.host_did sh.t call h) sh.steps (LinkByHost call ∷ []) sh.leads since;
+        terminal_is = sh.terminal_is;
+        host_is = refl;
+        host_calls_are = ap (λ (c : List Call). c ++ call ∷ []) sh.host_calls_are;
+        puts_are = sh.puts_are;
+        hands_are = sh.hands_are;
+        outs_are = sh.outs_are;
+        tied = sh.tied;
+      };
+      more = LinkByHost call ∷ [];
+      since = since;
     }
 
 all_steps : (id : Id) (s : LineSession) (steps : List LineStep) (z : LineSession) → Shadow id s → LineLeads s steps z → Shadow id z
 all_steps id s [] z sh leads = subst (Shadow id) (sym leads) sh
 all_steps id s (ByLine call ∷ steps) z sh leads =
-    all_steps id (line_did s call leads.0) steps z (line_step id s call leads.0 sh leads.1 leads.2) leads.3
+    all_steps id (line_did s call leads.0) steps z (line_step id s call leads.0 sh leads.1 leads.2).next leads.3
 all_steps id s (ByHost call ∷ steps) z sh leads =
-    all_steps id (host_did s call leads.0) steps z (host_step id s call leads.0 sh leads.1 leads.2) leads.3
+    all_steps id (host_did s call leads.0) steps z (host_step id s call leads.0 sh leads.1 leads.2).next leads.3
 
-first : (id : Id) (take_over : Bool) (now : ℕ) → Shadow id (new_line_session id take_over now)
+pub first : (id : Id) (take_over : Bool) (now : ℕ) → Shadow id (new_line_session id take_over now)
 first id take_over now =
     record {
       steps = [];
@@ -337,10 +350,15 @@ first id take_over now =
       tied = record { newer = λ a more. (refl, refl); stage = refl };
     }
 
+-- so each session of a line is one of two links
+pub sessions_are_links : (id : Id) (take_over : Bool) (now : ℕ) (steps : List LineStep) (s : LineSession)
+    → LineLeads (new_line_session id take_over now) steps s → Shadow id s
+sessions_are_links id take_over now steps s leads = all_steps id (new_line_session id take_over now) steps s (first id take_over now) leads
+
 pub lines_carry : (id : Id) (take_over : Bool) (now : ℕ) (steps : List LineStep) (s : LineSession) → IsId id
     → LineLeads (new_line_session id take_over now) steps s → LineCarries s
 lines_carry id take_over now steps s is leads =
-    let sh = all_steps id (new_line_session id take_over now) steps s (first id take_over now) leads in
+    let sh = sessions_are_links id take_over now steps s leads in
     let c = links_carry id sh.steps sh.t is sh.leads in
     record {
       up = subst (λ (x : List Item). StartsWith x (handed s.host_calls)) sh.puts_are
@@ -348,13 +366,3 @@ lines_carry id take_over now steps s is leads =
       down = subst (λ (x : List Item). StartsWith (put s.host_calls) x) sh.hands_are
           (subst (λ (h : List Call). StartsWith (put h) (handed sh.t.terminal_calls)) sh.host_calls_are c.down);
     }
-
-pub has_all_is_true : (id : Id) (take_over : Bool) (now : ℕ) (steps : List LineStep) (s : LineSession) → IsId id
-    → LineLeads (new_line_session id take_over now) steps s → lines.has_all s.line ≡ true → s.line.question.due ≤ s.host.received
-has_all_is_true id take_over now steps s is leads all =
-    let sh = all_steps id (new_line_session id take_over now) steps s (first id take_over now) leads in
-    let kept = lacks_are_kept id sh.steps sh.t is sh.leads in
-    let base : s.line.link.keeps.base ≤ s.host.received =
-    subst (λ (x : End). s.line.link.keeps.base ≤ x.received) sh.host_is
-    (subst (λ (x : End). x.keeps.base ≤ sh.t.host.received) sh.terminal_is kept.up.0) in
-    omega (arith, base, leb-true s.line.question.due s.line.link.keeps.base all)

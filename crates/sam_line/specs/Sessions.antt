@@ -1,6 +1,6 @@
 -- A line and a host's end of one session, in any calls of both, over connections that may break anywhere.
 use Rattle.std.specs.Prelude.{◌≡◌, ◌≢◌, ℕ, ◌≤◌, ◌==◌, List, [], ◌∷◌, ◌++◌, length, flat_map, Bool, true, if◌then◌else◌, Ok, Err}
-use Rattle.sam_link.specs.Calls.{Call, Does, handed, out, put}
+use Rattle.sam_link.specs.Calls.{Call, Does, handed, out, put, waits}
 use Rattle.sam_link.specs.Calls.Call.{TakeOut as LinkTakeOut}
 use Rattle.sam_link.specs.End.{End, fresh}
 use Rattle.sam_link.specs.Sessions.{IsId, StartsWith, WasCarried, is_taken}
@@ -122,8 +122,14 @@ LinesCarry =
     (id : Id) (take_over : Bool) (now : ℕ) (steps : List LineStep) (s : LineSession) → IsId id
     → LineLeads (new_line_session id take_over now) steps s → LineCarries s
 
--- where the line says that all is acknowledged, the host has got it: of the stream so many bytes as there were once more was put last
+-- The host has received as many bytes of the stream as there were once more was put last; and all that was put came out there, or waits
+-- there, in its order
+pub record HostHasAll (s : LineSession) : Type 0 where
+  pub received : s.line.question.due ≤ s.host.received
+  pub there : flat_map put_by s.line_calls ≡ handed s.host_calls ++ waits s.host.waiting
+
+-- so it is where the line says that all is acknowledged
 abbrev pub HasAllIsTrue : Type 0
 HasAllIsTrue =
     (id : Id) (take_over : Bool) (now : ℕ) (steps : List LineStep) (s : LineSession) → IsId id
-    → LineLeads (new_line_session id take_over now) steps s → has_all s.line ≡ true → s.line.question.due ≤ s.host.received
+    → LineLeads (new_line_session id take_over now) steps s → has_all s.line ≡ true → HostHasAll s

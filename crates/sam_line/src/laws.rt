@@ -56,7 +56,8 @@ pub fn lines_carry()
     ensures { LinesCarry }
 {}
 
-/// States that where a line says that all is acknowledged, the host has received all of the stream up to the last that was put.
+/// States that where a line says that all is acknowledged, the host has received all of the stream up to the last that was put: each byte
+/// and each note that was put came out there, or waits there, in their order.
 pub fn has_all_is_true()
     ensures { HasAllIsTrue }
 {}

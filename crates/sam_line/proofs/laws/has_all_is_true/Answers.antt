@@ -1,4 +1,4 @@
-use Rattle.sam_line.proofs.SessionLaws.{has_all_is_true}
+use Rattle.sam_line.proofs.AllLaws.{has_all_is_true}
 use Rattle.sam_line.proofs.laws.has_all_is_true.Goals as goal
 
 pub returns : goal.returns
