@@ -26,10 +26,11 @@
  * (U+0000) as they hold any other rune, and no call adds one at their end: go by the lengths. Runes are counted by uint32_t; bytes in
  * memory, the room of a buffer, tags and lines of a script by size_t; events, messages and the bytes of a whole stream by uint64_t.
  *
- * Handles. sam_host, sam_term, sam_link and sam_line are the caller's, on the stack or anywhere else. A handle whose bytes are all zero is
- * empty: SAM_HOST_INIT, SAM_TERM_INIT, SAM_LINK_INIT and SAM_LINE_INIT are, and in C so is {0}. sam_host_new and its like make it, and
- * sam_host_free and its like leave it empty again. The caller doesn't read, change or copy a handle that is made. Readers take it without
- * const, because each call takes out the content of the handle and puts it back: two of them may not run at once.
+ * Handles. sam_host, sam_term, sam_overlay, sam_link and sam_line are the caller's, on the stack or anywhere else. A handle whose bytes
+ * are all zero is empty: SAM_HOST_INIT, SAM_TERM_INIT, SAM_OVERLAY_INIT, SAM_LINK_INIT and SAM_LINE_INIT are, and in C so is {0}.
+ * sam_host_new and its like make it, and sam_host_free and its like leave it empty again. The caller doesn't read, change or copy a handle
+ * that is made. Readers take it without const, because each call takes out the content of the handle and puts it back: two of them may not
+ * run at once.
  *
  * Status. Each call returns an enum sam_status, but for sam_library_version, sam_status_text and sam_is_stop, and hands other results out
  * through pointers. A call refuses a handle that is NULL or empty first of all (SAM_NO_HANDLE); its comment says the refusals after that.
@@ -116,7 +117,8 @@ enum sam_status {
     SAM_MADE = 5,       /* the handle is made already */
     SAM_NOT_TEXT = 6,   /* the bytes are not UTF-8 */
     SAM_NONE = 7,       /* there is no such file, or nothing more to hand out */
-    SAM_WAITING = 8,    /* sam_host_bring, sam_term_bring: earlier work waits, and no byte was taken: step, then bring all again */
+    SAM_WAITING = 8,    /* earlier work waits, and the input was not taken: step (at an overlay take the splices), then call again */
+    SAM_NO_ROOM = 9,    /* the buffer has less room than what is handed out may need, and nothing was done */
 
     SAM_ADD = 16, /* sam_host_add_file refused a file, and the host is as it was */
     /* SAM_ADD + 1 was SAM_ADD_BEGUN, of a host that was fed already: it is not given again */
@@ -230,6 +232,13 @@ struct sam_term {
 };
 typedef struct sam_term sam_term;
 
+/* The handle of an overlay. Both fields are the library's. */
+struct sam_overlay {
+    void *at;
+    uint64_t made;
+};
+typedef struct sam_overlay sam_overlay;
+
 /* The handle of a link's end. Both fields are the library's. */
 struct sam_link {
     void *at;
@@ -248,6 +257,7 @@ typedef struct sam_line sam_line;
 /* clang-format off */
 #define SAM_HOST_INIT {NULL, 0}
 #define SAM_TERM_INIT {NULL, 0}
+#define SAM_OVERLAY_INIT {NULL, 0}
 #define SAM_LINK_INIT {NULL, 0}
 #define SAM_LINE_INIT {NULL, 0}
 /* clang-format on */
@@ -590,8 +600,15 @@ SAM_MUST_USE sam_status sam_term_flush_now(sam_term *term);
 
 /* Types a text in the place of the selection, which is then empty and after the text. The terminal sends the text with the text that is
  * typed after it, at the latest before any other message. Refused by number, after the reasons of all events: SAM_REFUSAL_TEXT_TOO_LONG for
- * more than 512 runes, so cut a longer text into pieces; SAM_REFUSAL_TOO_LONG if the file would have more than 1,000,000 runes. */
+ * more than 512 runes, which sam_term_type_text takes; SAM_REFUSAL_TOO_LONG if the file would have more than 1,000,000 runes. */
 SAM_MUST_USE sam_status sam_term_type(sam_term *term, uint16_t tag, const uint8_t *text, size_t len);
+
+/* Types a text of any length: it is cut into events of 512 runes each, but for the last, and they are made in order, as by sam_term_type.
+ * An empty text is one event. Hands out how many bytes of the text the events have that were taken. It ends with the first event that is
+ * not answered by SAM_OK: what was taken before stays. If that answer is SAM_UNFINISHED, this event was taken, too, and its bytes count;
+ * after any other answer they don't. Refused, in this order: SAM_NOT_TEXT; SAM_NO_MEMORY if there is none for the runes of the text. The
+ * terminal is then as it was, and the number is 0. Each event may be refused by number, as one of sam_term_type. */
+SAM_MUST_USE sam_status sam_term_type_text(sam_term *term, uint16_t tag, const uint8_t *text, size_t len, size_t *taken);
 
 /* Replaces the runes from the place `start` to the place `end` by a text of any length, all or nothing. An empty text takes the runes out.
  * The places are those of the file's text when the event acts. The dot moves as other places do, and the snarf buffer stays as it is.
@@ -862,6 +879,228 @@ SAM_MUST_USE sam_status sam_term_snarfed(sam_term *term, uint32_t place, uint8_t
 
 /* Hands out the length of the host's snarf buffer in runes, as the host said last. */
 SAM_MUST_USE sam_status sam_term_snarf_len(sam_term *term, uint32_t *runes);
+
+/* ==== An overlay ====
+ *
+ * An overlay is a terminal whose user never waits: it is for an editor that has a text and an undo of its own, and takes each key at once.
+ * What the user does is shown at once, also while a lock is held. Until the file is free it waits over the text of the terminal, and the
+ * host's changes go through it. The overlay goes on by single steps, and hands out how the shown text changes:
+ *
+ *     sam_overlay_replace(&overlay, tag, ..)       the user typed: it is shown from now on, and waits
+ *     sam_overlay_bring(&overlay, ..)              bytes of the host
+ *     sam_overlay_step(&overlay, &did)             a frame is received, or an event acts
+ *     sam_overlay_next_splice(&overlay, &splice)   each goes into the editor's own text, until SAM_NONE
+ *     sam_overlay_put_next(&overlay, tag, &put)    the file may be free: the next edit that waits is put, and the next step has it act
+ *     sam_overlay_take_out(&overlay, ..)           bytes for the host
+ *
+ * Places count runes and gaps of the shown text. So the editor's text is the shown text, if it takes each splice before it tells of an
+ * edit, and its places are always right. A replacement makes no splice. No frame takes any of what waits, but one that closes its file.
+ * Nothing waits over the command file: typing, cutting and pasting there are events, which are shown once they act.
+ * docs/explanation/DESIGN.md says why. */
+
+/* The kind of a splice. */
+enum sam_splice_kind {
+    SAM_SPLICE_CAME = 1,    /* `count` runes or gaps came in at the place: read them */
+    SAM_SPLICE_WENT = 2,    /* `count` runes or gaps from the place on went */
+    SAM_SPLICE_FILLED = 3,  /* the `count` runes from the place on are loaded now: read them; nothing moved */
+    SAM_SPLICE_EMPTIED = 4, /* the text is empty now: the file was opened, or closed, and what waited over it is gone */
+
+    SAM_SPLICE_WIDTH = 0x7FFFFFFF /* never handed out: it keeps the type at 32 bits under any compiler's options */
+};
+typedef enum sam_splice_kind sam_splice_kind;
+
+/* A change of the shown text of a file. Of several by one step each is made in the text that the ones before it left. Of those that take
+ * runes out or load runes the last place comes first, so none moves another. Where runes give way to others, as in the command file, they
+ * go first, and then the others come in at the same place. */
+struct sam_splice {
+    sam_splice_kind kind;
+    uint32_t place; /* where it begins; 0 for SAM_SPLICE_EMPTIED */
+    uint32_t count; /* how many runes or gaps; 0 for SAM_SPLICE_EMPTIED */
+    uint16_t tag;   /* the file */
+};
+typedef struct sam_splice sam_splice;
+
+/* The kinds of events that an overlay takes: those that leave each text but that of the command file. Each does what the call sam_term_..
+ * of its name does; those of _CMD do it at the command file. Cutting elsewhere is SAM_EVENT_SNARF and a replacement by nothing. */
+enum sam_event_kind {
+    SAM_EVENT_SELECT = 1,         /* the dot of the file is from `start` to `number` */
+    SAM_EVENT_DCLICK = 2,         /* the word round the place `start` */
+    SAM_EVENT_LOOK = 3,           /* the next occurrence of the selected text */
+    SAM_EVENT_SEARCH = 4,         /* the next occurrence of the pattern */
+    SAM_EVENT_FLUSH = 5,          /* sends what is typed */
+    SAM_EVENT_SNARF = 6,          /* copies the selection */
+    SAM_EVENT_GET_SNARF = 7,      /* asks for the host's snarf buffer */
+    SAM_EVENT_SET_SNARF = 8,      /* gives the host another one: the text */
+    SAM_EVENT_VIEW = 9,           /* shows the file from the place `start` on, `number` runes */
+    SAM_EVENT_LOAD = 10,          /* the same, and asks at once for all that is not loaded there */
+    SAM_EVENT_SCROLL = 11,        /* scrolls up by `number` lines */
+    SAM_EVENT_CHECK = 12,         /* asks for the first gap that the view shows */
+    SAM_EVENT_OPEN = 13,          /* opens the file */
+    SAM_EVENT_NEW_FILE = 14,      /* makes an empty file, and opens it */
+    SAM_EVENT_WRITE = 15,         /* has the host write the file */
+    SAM_EVENT_CLOSE = 16,         /* closes the file for good */
+    SAM_EVENT_OPEN_CMD = 17,      /* opens the command file */
+    SAM_EVENT_WORK = 18,          /* makes the file the one that command lines work on */
+    SAM_EVENT_SEND = 19,          /* sends the selection to the command file, and runs its last line */
+    SAM_EVENT_OFFER_VERSION = 20, /* offers `version`, and asks for all names */
+    SAM_EVENT_EXIT = 21,          /* ends the session */
+    SAM_EVENT_TYPE_CMD = 22,      /* types the text, at most 512 runes, in the place of the command file's dot; a line end runs the line */
+    SAM_EVENT_CUT_CMD = 23,       /* cuts the command file's dot into the snarf buffer */
+    SAM_EVENT_PASTE_CMD = 24,     /* puts the snarf buffer in the place of the command file's dot */
+
+    SAM_EVENT_WIDTH = 0x7FFFFFFF /* no event: it keeps the type at 32 bits under any compiler's options */
+};
+typedef enum sam_event_kind sam_event_kind;
+
+/* An event of the user. A field that its kind doesn't name is not read. Its places are those of the terminal's text when it acts. */
+struct sam_event {
+    sam_event_kind kind;
+    uint32_t start;
+    uint32_t number;
+    uint16_t tag; /* the file */
+    uint16_t version;
+};
+typedef struct sam_event sam_event;
+
+/* What became of an edit that waits. */
+enum sam_put {
+    SAM_PUT_NOTHING = 0,  /* nothing waits over the file: what is shown is the terminal's text */
+    SAM_PUT_NOT_FREE = 1, /* it waits on: a lock is held, or frames, events or composed messages come first */
+    SAM_PUT_EDIT = 2,     /* it was put, and the next step has it act */
+
+    SAM_PUT_WIDTH = 0x7FFFFFFF /* never handed out: it keeps the type at 32 bits under any compiler's options */
+};
+typedef enum sam_put sam_put;
+
+/* ---- The overlay: making and freeing ---- */
+
+/* Makes an overlay over a terminal that knows no file. Refused, in this order: SAM_NO_HANDLE if the handle is NULL; SAM_MADE if it is made
+ * already; SAM_NO_MEMORY. The handle is then as it was. */
+SAM_MUST_USE sam_status sam_overlay_new(sam_overlay *overlay);
+
+/* Frees an overlay, with what waits and with its pending bytes, and leaves the handle empty. Refused: SAM_NO_HANDLE if the handle is NULL
+ * or empty. */
+sam_status sam_overlay_free(sam_overlay *overlay);
+
+/* ---- The overlay: bytes in and out, and steps ---- */
+
+/* Takes bytes of the host's frames, in pieces of any length, and receives none: the frames that are whole wait for sam_overlay_step.
+ * Refused, in this order, and the overlay is then as it was: why the terminal has stopped before, SAM_STREAM.. or SAM_TERM_REFUSED..;
+ * SAM_WAITING if earlier work is left, which is so until a step has handed out SAM_STEP_IDLE or SAM_STEP_LOCKED, and while an edit was put
+ * that has not acted; SAM_COUNT_FULL; SAM_NO_MEMORY. */
+SAM_MUST_USE sam_status sam_overlay_bring(sam_overlay *overlay, const uint8_t *bytes, size_t len);
+
+/* Makes one step with the frames and events that wait, as sam_term_step does, and hands out its result. Its change is that of the
+ * terminal's text; that of the shown text is then handed out by sam_overlay_next_splice. By an edit that was put nothing that is shown
+ * changes. Refused, in this order, and nothing is handed out then: SAM_WAITING if splices are left; why the terminal has stopped before,
+ * SAM_STREAM.. or SAM_TERM_REFUSED..; SAM_UNFINISHED if memory is short, and nothing has changed, so make the step again; why the terminal
+ * stops at this step: what is shown, and what waits, is as it was. */
+SAM_MUST_USE sam_status sam_overlay_step(sam_overlay *overlay, sam_did *did);
+
+/* Hands out the next change of the shown text by the last step. Returns SAM_NONE if none is left. */
+SAM_MUST_USE sam_status sam_overlay_next_splice(sam_overlay *overlay, sam_splice *splice);
+
+/* Tests whether the host's stream may end here, as sam_term_finish does, with its refusals. It changes nothing. */
+SAM_MUST_USE sam_status sam_overlay_finish(sam_overlay *overlay);
+
+/* Hands out the number of bytes of the host's stream before the frame that is wrong, as sam_term_fault_place does. */
+SAM_MUST_USE sam_status sam_overlay_fault_place(sam_overlay *overlay, uint64_t *place);
+
+/* Hands out the number of pending bytes, which are for the host. */
+SAM_MUST_USE sam_status sam_overlay_pending(sam_overlay *overlay, size_t *len);
+
+/* Moves the first pending bytes into the buffer, as many as fit, and hands out their number. */
+SAM_MUST_USE sam_status sam_overlay_take_out(sam_overlay *overlay, uint8_t *into, size_t room, size_t *count);
+
+/* ---- The overlay: what the user does ---- */
+
+/* Replaces the shown runes of a file from the place `start` to the place `end` by a text of any length, all or nothing. The new runes stand
+ * behind what is shown before `start`. They are shown at once, and wait for sam_overlay_put_next; no lock refuses them. Refused, in this
+ * order, and the overlay is then as it was: SAM_NOT_TEXT; SAM_NO_MEMORY if there is no memory for the runes; SAM_WAITING if splices are
+ * left; SAM_REFUSAL_EXITED; why the terminal has stopped before, SAM_STREAM.. or SAM_TERM_REFUSED..; SAM_REFUSAL_NO_FILE;
+ * SAM_REFUSAL_COMMAND_FILE for tag 0; SAM_REFUSAL_NOT_OPEN; SAM_REFUSAL_BAD_POSITION if `end` is below `start` or after the end of the
+ * shown text; SAM_REFUSAL_TOO_LONG if there are runes, and these, the terminal's text and all that waits over it are more than 1,000,000;
+ * SAM_NO_MEMORY, also while an edit of the file was put that has not acted: make steps first. */
+SAM_MUST_USE sam_status sam_overlay_replace(sam_overlay *overlay, uint16_t tag, uint32_t start, uint32_t end, const uint8_t *text,
+                                            size_t len);
+
+/* Puts the next edit of those that wait over a file as an event, if it can act at once, and hands out what became of it. The edit is one
+ * removal, or one insertion of any length. Call it, and make a step, as long as it hands out SAM_PUT_EDIT. Refused, in this order, and the
+ * overlay is then as it was: why the terminal has stopped before, SAM_STREAM.. or SAM_TERM_REFUSED..; SAM_REFUSAL_TOO_LONG if the file
+ * would have more than 1,000,000 runes, because the host put more in meanwhile; SAM_COUNT_FULL after 2^64-1 events; SAM_NO_MEMORY. */
+SAM_MUST_USE sam_status sam_overlay_put_next(sam_overlay *overlay, uint16_t tag, sam_put *put);
+
+/* Takes back the next insertion that waits over a file, if an edit could act at once and the file has no room for this one: that is where
+ * sam_overlay_put_next answers SAM_REFUSAL_TOO_LONG. Copies its runes in UTF-8, all of them, and hands out the number of bytes, and the
+ * splice by which they went of the shown text: its kind is SAM_SPLICE_WENT, and its `count` 0 if a later edit had taken them out. Refused,
+ * in this order, and overlay and buffer are then as they were: SAM_WAITING if splices are left; SAM_NO_ROOM if the room is less than four
+ * bytes for each rune that sam_overlay_waiting counts; SAM_NONE if nothing is to be taken back; SAM_NO_MEMORY. */
+SAM_MUST_USE sam_status sam_overlay_drop_next(sam_overlay *overlay, uint16_t tag, sam_splice *splice, uint8_t *into, size_t room,
+                                              size_t *len);
+
+/* Takes an event. It waits for sam_overlay_step. The text is that of SAM_EVENT_SET_SNARF and of SAM_EVENT_TYPE_CMD; for other kinds `len`
+ * is 0. An event acts on the terminal's text: so put all that waits over its file first. Refused, in this order, and the overlay is then as
+ * it was: SAM_NOT_TEXT if the text is not UTF-8; SAM_NO_MEMORY if there is no memory for its runes; SAM_NONE if no event has this kind; why
+ * the terminal has stopped before, SAM_STREAM.. or SAM_TERM_REFUSED..; SAM_WAITING as for sam_overlay_bring; SAM_COUNT_FULL after 2^64-1
+ * events; SAM_NO_MEMORY. */
+SAM_MUST_USE sam_status sam_overlay_bring_event(sam_overlay *overlay, const sam_event *event, const uint8_t *text, size_t len);
+
+/* Hands out the oldest refused event that was not handed out yet: its number, counted from 1 over all events that were taken and all edits
+ * that were put, and the reason (SAM_REFUSAL..). Returns SAM_NONE if there is none. */
+SAM_MUST_USE sam_status sam_overlay_next_refusal(sam_overlay *overlay, uint64_t *event, sam_status *why);
+
+/* ---- The overlay: the terminal ---- */
+
+/* Hands out the fields of sam_state at once, each as the reader sam_term_.. of its name does. */
+SAM_MUST_USE sam_status sam_overlay_state(sam_overlay *overlay, sam_state *state);
+
+/* Hands out the answers of several readers of one tag at once, as sam_term_file does. A tag without a file is no error. `len`, the dot and
+ * the view are those of the terminal's text. */
+SAM_MUST_USE sam_status sam_overlay_file(sam_overlay *overlay, uint16_t tag, sam_file *file);
+
+/* Copies the name of a known file in UTF-8, as many whole runes as fit, and hands out the number of bytes. A room of 256 bytes is always
+ * enough. Returns SAM_NONE if the terminal knows no file of this tag. */
+SAM_MUST_USE sam_status sam_overlay_name(sam_overlay *overlay, uint16_t tag, uint8_t *into, size_t room, size_t *len);
+
+/* Hands out the file that the host's answer to SAM_EVENT_WORK or SAM_EVENT_NEW_FILE named last. It may be closed since. Returns SAM_NONE if
+ * the host has named none yet. */
+SAM_MUST_USE sam_status sam_overlay_current(sam_overlay *overlay, uint16_t *tag);
+
+/* Copies the pattern that the host reported last, in UTF-8, as many whole runes as fit, and hands out the number of bytes. A room of 512
+ * bytes is always enough. */
+SAM_MUST_USE sam_status sam_overlay_pattern(sam_overlay *overlay, uint8_t *into, size_t room, size_t *len);
+
+/* Copies the snarfed text that the host sent last (SAM_EVENT_GET_SNARF), from the place `place` on, in UTF-8, as many whole runes as fit.
+ * Hands out the number of bytes and the number of runes. */
+SAM_MUST_USE sam_status sam_overlay_snarfed(sam_overlay *overlay, uint32_t place, uint8_t *into, size_t room, size_t *bytes,
+                                            uint32_t *runes);
+
+/* ---- The overlay: shown texts of open files ---- */
+
+/* Hands out the number of runes that wait over a file, those that a later edit takes out among them. 0 if the file is not open, or if
+ * nothing or only what takes runes out waits. */
+SAM_MUST_USE sam_status sam_overlay_waiting(sam_overlay *overlay, uint16_t tag, uint32_t *runes);
+
+/* Hands out the first file from the tag `from` on over which an edit waits, also one that only takes runes out. To find all, go on behind
+ * each. Returns SAM_NONE if there is none. */
+SAM_MUST_USE sam_status sam_overlay_next_waiting(sam_overlay *overlay, uint16_t from, uint16_t *tag);
+
+/* Hands out the length of the shown text of an open file in runes, gaps counted. Returns SAM_NONE if the file is not open. */
+SAM_MUST_USE sam_status sam_overlay_len(sam_overlay *overlay, uint16_t tag, uint32_t *runes);
+
+/* Hands out the first place of the shown text of an open file, at or after `place`, whose rune is not loaded. Returns SAM_NONE if the file
+ * is not open, or if all are loaded from there on: sam_overlay_len tells the two apart. */
+SAM_MUST_USE sam_status sam_overlay_first_gap(sam_overlay *overlay, uint16_t tag, uint32_t place, uint32_t *gap);
+
+/* Copies the shown runes of an open file from the place `place` on as numbers, as many as there are and fit, with SAM_GAP for each that is
+ * not loaded. Hands out their number. The room counts runes. Returns SAM_NONE if the file is not open. */
+SAM_MUST_USE sam_status sam_overlay_read(sam_overlay *overlay, uint16_t tag, uint32_t place, uint32_t *into, size_t room, uint32_t *count);
+
+/* Copies the shown text of an open file from the place `place` on, up to the first rune that is not loaded, in UTF-8, as many whole runes
+ * as fit. Hands out the number of bytes and the number of runes. Both are 0 if a gap is at the place, if the place is at the end or after
+ * it, or if the next rune does not fit. Returns SAM_NONE if the file is not open. */
+SAM_MUST_USE sam_status sam_overlay_text(sam_overlay *overlay, uint16_t tag, uint32_t place, uint8_t *into, size_t room, size_t *bytes,
+                                         uint32_t *runes);
 
 /* ==== A link ====
  *

@@ -89,6 +89,11 @@ export function u32(number = 0, after = 0) {
   return data().getUint32(Number(RESULTS) + 8 * number + after, true);
 }
 
+/** Makes a result 0, for a call that hands out a count even where it is refused. */
+export function clear(number) {
+  data().setBigUint64(Number(RESULTS) + 8 * number, 0n, true);
+}
+
 /** Returns a count of 64 bits: exact up to 2^53. */
 export function u64(number = 0) {
   return Number(data().getBigUint64(Number(RESULTS) + 8 * number, true));
@@ -138,12 +143,22 @@ export function written(text) {
   return ENCODER.encodeInto(text, part(SPACE, PIECE)).written;
 }
 
-/** Lends a call these pieces of bytes: gives `use` the place of each of them, or null if there is no memory for them. */
-export function lend(pieces, use) {
-  const length = pieces.reduce((sum, piece) => sum + piece.length, 0);
+/** Gives `use` the place of room for so many bytes, or null if there is no memory for it. */
+export function withRoom(length, use) {
   const place = length <= PIECE ? SPACE : call("malloc", BigInt(length));
   if (place === 0n) return use(null);
   try {
+    return use(place);
+  } finally {
+    if (place !== SPACE && canCall()) call("free", place);
+  }
+}
+
+/** Lends a call these pieces of bytes: gives `use` the place of each of them, or null if there is no memory for them. */
+export function lend(pieces, use) {
+  const length = pieces.reduce((sum, piece) => sum + piece.length, 0);
+  return withRoom(length, (place) => {
+    if (place === null) return use(null);
     let at = place;
     const places = [];
     for (const piece of pieces) {
@@ -152,9 +167,7 @@ export function lend(pieces, use) {
       at += BigInt(piece.length);
     }
     return use(places);
-  } finally {
-    if (place !== SPACE && canCall()) call("free", place);
-  }
+  });
 }
 
 function index(number, end) {

@@ -1,7 +1,7 @@
-/* The two sides: their common part, the host, and the terminal. */
+/* The two sides: their common parts, the host, and the terminal. */
 import { Held, PREFIX, ifAny, isFreed, make, makeOfBytes, makeOfText, one } from "./held.js";
 import * as module from "./module.js";
-import { PIECE, least, lend, long, result, short, size, space, truth, u16, u32, u64, u8 } from "./module.js";
+import { PIECE, clear, least, lend, long, result, short, size, space, truth, u16, u32, u64, u8 } from "./module.js";
 import { Status, errorOf } from "./status.js";
 
 const MOST_IN_NAME = 256; // bytes of the longest name
@@ -52,13 +52,8 @@ function longText(side, name, place, most, ...words) {
   }
 }
 
-/** The pending bytes and the texts that host and terminal share. */
-class Side extends Held {
-  feed(bytes = new Uint8Array(0)) {
-    if (!(bytes instanceof Uint8Array)) throw new TypeError("what is fed is a Uint8Array");
-    makeOfBytes(this, "feed", [], bytes);
-  }
-
+/** The streams and the texts that host, terminal and overlay share. */
+export class Streams extends Held {
   bring(bytes) {
     if (!(bytes instanceof Uint8Array)) throw new TypeError("what is brought is a Uint8Array");
     makeOfBytes(this, "bring", [], bytes);
@@ -86,20 +81,8 @@ class Side extends Held {
     return bytes;
   }
 
-  get version() {
-    return one(this, "version", u16);
-  }
-
-  get tags() {
-    return one(this, "tags", u64);
-  }
-
   name(tag) {
     return shortText(this, "name", MOST_IN_NAME, short(tag));
-  }
-
-  isDirty(tag) {
-    return one(this, "is_dirty", truth, short(tag));
   }
 
   len(tag) {
@@ -109,11 +92,98 @@ class Side extends Held {
   text(tag, place = 0, runes = undefined) {
     return longText(this, "text", place, runes, short(tag));
   }
+}
+
+/** What host and terminal share beside that. */
+class Side extends Streams {
+  feed(bytes = new Uint8Array(0)) {
+    if (!(bytes instanceof Uint8Array)) throw new TypeError("what is fed is a Uint8Array");
+    makeOfBytes(this, "feed", [], bytes);
+  }
+
+  get version() {
+    return one(this, "version", u16);
+  }
+
+  get tags() {
+    return one(this, "tags", u64);
+  }
+
+  isDirty(tag) {
+    return one(this, "is_dirty", truth, short(tag));
+  }
 
   dot(tag) {
     return range(this, "dot", tag);
   }
 }
+
+/** Adds to a class what terminal and overlay share. */
+export const Screened = (Base) =>
+  class extends Base {
+    step() {
+      make(this, "step", result(0));
+      const [start, gone, came] = [u32(3), u32(3, 4), u32(4)];
+      const change = { start, gone, came };
+      return { step: STEPS[u32(2)], kind: didKind(), tag: didTag(), change, loads: didLoads(), event: u64(0), why: u32(2, 4) };
+    }
+
+    nextRefusal() {
+      return ifAny(() => {
+        make(this, "next_refusal", result(0), result(1));
+        return { event: u64(0), why: u32(1) };
+      });
+    }
+
+    *refusals() {
+      for (let refusal = this.nextRefusal(); refusal !== null; refusal = this.nextRefusal()) yield refusal;
+    }
+
+    /** Reads a sam_state: seven numbers of 64 bits, two of 32, one of 16, and two truths. */
+    state() {
+      make(this, "state", result(0));
+      const [events, decided, held, sent, underWay, pending, tags] = [0, 1, 2, 3, 4, 5, 6].map((at) => u64(at));
+      const [commandLocked, exited] = [u8(8, 2) !== 0, u8(8, 3) !== 0];
+      const counts = { events, decided, held, sent, underWay, pending, tags };
+      return { ...counts, unsent: u32(7), snarfLen: u32(7, 4), version: u16(8), commandLocked, exited };
+    }
+
+    /** Reads a sam_file: five numbers of 32 bits, and six truths. */
+    file(tag) {
+      make(this, "file", short(tag), result(0));
+      const [isKnown, isOpen, isDirty, isChanged, isLocked, isFree] = [4, 5, 6, 7, 8, 9].map((at) => u8(2, at) !== 0);
+      const dot = { start: u32(0, 4), end: u32(1) };
+      const view = { start: u32(1, 4), end: u32(2) };
+      return { isKnown, isOpen, isDirty, isChanged, isLocked, isFree, len: u32(0), dot, view };
+    }
+
+    get current() {
+      return ifAny(() => one(this, "current", u16));
+    }
+
+    get pattern() {
+      return shortText(this, "pattern", MOST_IN_PATTERN);
+    }
+
+    snarfed(place = 0, runes = undefined) {
+      return longText(this, "snarfed", place, runes);
+    }
+
+    read(tag, place, count) {
+      const runes = [];
+      const most = least(count, Math.max(0, this.len(tag) - long(place)));
+      while (runes.length < most) {
+        const room = Math.min(PIECE / 4, most - runes.length);
+        make(this, "read", short(tag), place + runes.length, space(), BigInt(room), result(0));
+        for (const rune of module.numbersOut(u32(0))) runes.push(rune === GAP ? null : String.fromCodePoint(rune));
+      }
+      return runes;
+    }
+
+    firstGap(tag, place = 0) {
+      return ifAny(() => one(this, "first_gap", u32, short(tag), long(place)));
+    }
+  };
 
 /** The side that holds whole texts and runs commands. */
 export class Host extends Side {
@@ -195,13 +265,25 @@ export class Host extends Side {
 }
 
 /** The side with the windows. */
-export class Terminal extends Side {
+export class Terminal extends Screened(Side) {
   get [PREFIX]() {
     return "sam_term";
   }
 
   type(tag, text) {
     makeOfText(this, "type", [short(tag)], text);
+  }
+
+  typeText(tag, text) {
+    const bytes = module.bytesOf(text);
+    if (bytes === null) throw errorOf(isFreed(this) ? Status.NO_HANDLE : Status.NOT_TEXT);
+    clear(0);
+    try {
+      makeOfBytes(this, "type_text", [short(tag)], bytes, result(0));
+    } catch (error) {
+      error.taken = u64(0);
+      throw error;
+    }
   }
 
   edit(tag, start, end, text) {
@@ -243,13 +325,6 @@ export class Terminal extends Side {
     });
   }
 
-  step() {
-    make(this, "step", result(0));
-    const [start, gone, came] = [u32(3), u32(3, 4), u32(4)];
-    const change = { start, gone, came };
-    return { step: STEPS[u32(2)], kind: didKind(), tag: didTag(), change, loads: didLoads(), event: u64(0), why: u32(2, 4) };
-  }
-
   stepEdits(first, most) {
     try {
       make(this, "step_edits", long(first), space(), BigInt(least(most, Math.floor(PIECE / (4 * DID)))), result(0));
@@ -261,35 +336,6 @@ export class Terminal extends Side {
       const [start, gone, came, last] = words.slice(DID * at + 6);
       return { kind: (last >>> 16) & 0xff, tag: last & 0xffff, change: { start, gone, came } };
     });
-  }
-
-  nextRefusal() {
-    return ifAny(() => {
-      make(this, "next_refusal", result(0), result(1));
-      return { event: u64(0), why: u32(1) };
-    });
-  }
-
-  /** Reads a sam_state: seven numbers of 64 bits, two of 32, one of 16, and two truths. */
-  state() {
-    make(this, "state", result(0));
-    const [events, decided, held, sent, underWay, pending, tags] = [0, 1, 2, 3, 4, 5, 6].map((at) => u64(at));
-    const [commandLocked, exited] = [u8(8, 2) !== 0, u8(8, 3) !== 0];
-    const counts = { events, decided, held, sent, underWay, pending, tags };
-    return { ...counts, unsent: u32(7), snarfLen: u32(7, 4), version: u16(8), commandLocked, exited };
-  }
-
-  /** Reads a sam_file: five numbers of 32 bits, and six truths. */
-  file(tag) {
-    make(this, "file", short(tag), result(0));
-    const [isKnown, isOpen, isDirty, isChanged, isLocked, isFree] = [4, 5, 6, 7, 8, 9].map((at) => u8(2, at) !== 0);
-    const dot = { start: u32(0, 4), end: u32(1) };
-    const view = { start: u32(1, 4), end: u32(2) };
-    return { isKnown, isOpen, isDirty, isChanged, isLocked, isFree, len: u32(0), dot, view };
-  }
-
-  *refusals() {
-    for (let refusal = this.nextRefusal(); refusal !== null; refusal = this.nextRefusal()) yield refusal;
   }
 
   isKnown(tag) {
@@ -306,21 +352,6 @@ export class Terminal extends Side {
 
   isOpen(tag) {
     return one(this, "is_open", truth, short(tag));
-  }
-
-  get current() {
-    return ifAny(() => one(this, "current", u16));
-  }
-
-  read(tag, place, count) {
-    const runes = [];
-    const most = least(count, Math.max(0, this.len(tag) - long(place)));
-    while (runes.length < most) {
-      const room = Math.min(PIECE / 4, most - runes.length);
-      make(this, "read", short(tag), place + runes.length, space(), BigInt(room), result(0));
-      for (const rune of module.numbersOut(u32(0))) runes.push(rune === GAP ? null : String.fromCodePoint(rune));
-    }
-    return runes;
   }
 
   bytes(tag, start, end) {
@@ -359,24 +390,12 @@ export class Terminal extends Side {
     return { start: u32(0), gone: u32(1), came: u32(2) };
   }
 
-  firstGap(tag, place = 0) {
-    return ifAny(() => one(this, "first_gap", u32, short(tag), long(place)));
-  }
-
   viewOf(tag) {
     return range(this, "view_of", tag);
   }
 
   locked(tag) {
     return one(this, "locked", truth, short(tag));
-  }
-
-  get pattern() {
-    return shortText(this, "pattern", MOST_IN_PATTERN);
-  }
-
-  snarfed(place = 0, runes = undefined) {
-    return longText(this, "snarfed", place, runes);
   }
 }
 

@@ -12,6 +12,7 @@ export const Status = Object.freeze({
   NOT_TEXT: 6,
   NONE: 7,
   WAITING: 8,
+  NO_ROOM: 9,
   ADD_TOO_LONG: 19,
   ADD_NO_TAG: 20,
   BAD_KIND: 33,
@@ -188,6 +189,9 @@ export class HostRefused extends SamError {}
 /** The terminal refused a frame, and has stopped (SAM_TERM_..). */
 export class TerminalRefused extends SamError {}
 
+/** An overlay refused an edit of the user (SAM_REFUSAL_..). The overlay is as it was. */
+export class EditRefused extends SamError {}
+
 /** A call of a link was refused, or bytes are no hello (SAM_LINK_..). The link goes on. */
 export class LinkFault extends SamError {}
 
@@ -213,6 +217,7 @@ const KINDS = {
   StreamFault,
   HostRefused,
   TerminalRefused,
+  EditRefused,
   LinkFault,
   NoteFault,
   ScriptFault,
@@ -227,6 +232,7 @@ const FAMILIES = [
   [48, 64, MarkRefused],
   [64, 96, HostRefused],
   [96, 128, TerminalRefused],
+  [128, 160, EditRefused],
   [160, 192, ScriptFault],
   [192, 224, LinkFault],
   [224, 256, NoteFault],

@@ -70,6 +70,7 @@ export declare const Status: {
   readonly NOT_TEXT: 6;
   readonly NONE: 7;
   readonly WAITING: 8;
+  readonly NO_ROOM: 9;
   readonly ADD_TOO_LONG: 19;
   readonly ADD_NO_TAG: 20;
   readonly BAD_KIND: 33;
@@ -182,6 +183,8 @@ export type HostStep = { step: "idle" | "wrote" | "edited" | "answered"; kind: n
 export declare class HostRefused extends SamError {}
 /** The terminal refused a frame, and has stopped. */
 export declare class TerminalRefused extends SamError {}
+/** An overlay refused an edit of the user. The overlay is as it was. */
+export declare class EditRefused extends SamError {}
 /** A call of a link was refused, or bytes are no hello. The link goes on. */
 export declare class LinkFault extends SamError {}
 /** Bytes are no message of a session, or a message can't be written. */
@@ -193,7 +196,7 @@ export declare class ScriptFault extends SamError {
 /** Returns the error of a status code. */
 export declare function errorOf(code: number): SamError;
 
-/** A handle, which host, terminal and link share. */
+/** A handle, which host, terminal, overlay and link share. */
 declare class Held {
   /** Frees it, with all the bytes that are pending or kept. Any later call but this one throws HandleFault. */
   free(): void;
@@ -345,6 +348,10 @@ export declare class Terminal extends Side {
   /** Types a text in the place of the selection, which is then empty and after the text. Refused, in this order: EXITED; NO_FILE; NOT_OPEN;
    * TEXT_TOO_LONG for more than 512 runes; TOO_LONG if the file would have more than 1,000,000. Throws NotText, too. */
   type(tag: number, text: Text): void;
+  /** Types a text of any length, in events of 512 runes each, but for the last. The first event that isn't answered well is the last: what
+   * was taken before it stays, and the error's `taken` is how many bytes of the text, in UTF-8, that is. After Unfinished the event's own
+   * bytes count, too. Each event may be refused as one of `type`. Throws NotText, too. */
+  typeText(tag: number, text: Text): void;
   /** Replaces the runes from the place `start` to the place `end` by a text of any length, all or nothing. An empty text takes the runes
    * out. The places are those of the file's text when the event acts. The dot moves as other places do. Refused, in this order: EXITED;
    * NO_FILE; COMMAND_FILE for tag 0; NOT_OPEN; BAD_POSITION for a range that the file's text doesn't have; TOO_LONG if the file would have
@@ -501,6 +508,139 @@ export declare class Terminal extends Side {
   readonly snarfLen: number;
   /** Returns whether the host has ended the session. */
   readonly exited: boolean;
+}
+
+/** The events that an overlay takes: those that leave each text but that of the command file. Each does what the method of a terminal does
+ * that has its name; those of _CMD do it at the command file. */
+export declare const EventKind: {
+  readonly SELECT: 1;
+  readonly DCLICK: 2;
+  readonly LOOK: 3;
+  readonly SEARCH: 4;
+  readonly FLUSH: 5;
+  readonly SNARF: 6;
+  readonly GET_SNARF: 7;
+  readonly SET_SNARF: 8;
+  readonly VIEW: 9;
+  readonly LOAD: 10;
+  readonly SCROLL: 11;
+  readonly CHECK: 12;
+  readonly OPEN: 13;
+  readonly NEW_FILE: 14;
+  readonly WRITE: 15;
+  readonly CLOSE: 16;
+  readonly OPEN_CMD: 17;
+  readonly WORK: 18;
+  readonly SEND: 19;
+  readonly OFFER_VERSION: 20;
+  readonly EXIT: 21;
+  readonly TYPE_CMD: 22;
+  readonly CUT_CMD: 23;
+  readonly PASTE_CMD: 24;
+};
+
+/** A change of the shown text of a file. `came`: `count` runes or gaps came in at the place; `went`: so many from the place on went;
+ * `filled`: the runes from the place on are loaded now, and nothing moved; `emptied`: the text is empty, because the file was opened or
+ * closed. Of several by one step each is made in the text that the ones before it left. */
+export type Splice = { kind: "came" | "went" | "filled" | "emptied"; tag: number; place: number; count: number };
+
+/** Runes that an overlay gives back, because the host left no room for them: `count` of them went of the shown text at the place, which is
+ * 0 if a later edit had taken them out, and `text` is all of them. */
+export type Dropped = { tag: number; place: number; count: number; text: string };
+
+/** A terminal for an editor that has a text of its own and takes each key at once. What the user does is shown at once, also while the file
+ * is locked. Until the file is free it waits over the terminal's text, and the host's changes go through it.
+ *
+ *     overlay.replace(tag, 5, 5, "!");              the user typed: it is shown from now on
+ *     overlay.bring(bytes);                         bytes of the host
+ *     for (const splice of overlay.goOn(tag)) ..    it goes on as far as it can, and puts what waits over this file
+ *     socket.send(overlay.takeOut());               bytes for the host
+ *
+ * Places count runes and gaps of the shown text. An editor that takes each splice before it tells of an edit has the shown text as its own,
+ * and its places are always right. A replacement makes no splice. */
+export declare class Overlay extends Held {
+  /** Replaces the shown runes from the place `start` to the place `end` by a text of any length, all or nothing. The new runes stand behind
+   * what is shown before `start`. They are shown at once, and wait for `putNext`; no lock refuses them. Throws, in this order, and the
+   * overlay is then as it was: NotText; NoMemory; a SamError with the code WAITING if splices are left; EditRefused (REFUSAL_EXITED); the
+   * fault by which the terminal has stopped; EditRefused (REFUSAL_NO_FILE, REFUSAL_COMMAND_FILE for tag 0, REFUSAL_NOT_OPEN,
+   * REFUSAL_BAD_POSITION for a range that the shown text doesn't have, REFUSAL_TOO_LONG if these runes, the terminal's text and all that
+   * waits over it are more than 1,000,000); NoMemory, also while an edit of the file was put that has not acted. */
+  replace(tag: number, start: number, end: number, text: Text): void;
+  /** Puts the next edit of those that wait over a file as an event, if it can act at once, and returns what became of it: `nothing` if none
+   * waits; `not free` if it waits on; `edit` if it was put: the next step has it act. Throws, in this order, and the overlay is then as it
+   * was: the fault by which the terminal has stopped; EditRefused (REFUSAL_TOO_LONG) if the file would have more than 1,000,000 runes,
+   * because the host put more in meanwhile; CountFull; NoMemory. */
+  putNext(tag: number): "nothing" | "not free" | "edit";
+  /** Takes back the next insertion that waits over a file, if an edit could act at once and the file has no room for this one: that is
+   * where `putNext` throws EditRefused (REFUSAL_TOO_LONG). Returns it; null if nothing is to be taken back. Throws, in this order, and
+   * the overlay is then as it was: a SamError with the code WAITING if splices are left; NoMemory. */
+  dropNext(tag: number): Dropped | null;
+  /** Takes an event, by its number in EventKind; `step` has it act. `start` and `number` are the range of SELECT; for DCLICK, VIEW and LOAD
+   * the place and how many runes; for SCROLL `number` is how many lines. `version` is that of OFFER_VERSION, `text` that of SET_SNARF and
+   * TYPE_CMD. An event acts on the terminal's text, so put all that waits over its file first. Throws, in this order, and the overlay is
+   * then as it was: NotText; NoMemory; Missing if no event has this kind; the fault by which the terminal has stopped; a SamError with the
+   * code WAITING until a step was idle or locked, and while an edit was put that has not acted; CountFull; NoMemory. */
+  bringEvent(kind: number, fields?: { tag?: number; start?: number; number?: number; version?: number; text?: Text }): void;
+  /** Takes bytes of the host, in pieces of any length, and goes no further: `step` does the work. Throws, in this order, and the bytes are
+   * then not taken: the fault by which the terminal has stopped before; a SamError with the code WAITING until a step was idle or locked,
+   * and while an edit was put that has not acted; CountFull; NoMemory. */
+  bring(bytes: Uint8Array): void;
+  /** Makes one step with the frames and events that wait, as that of a terminal, and returns its result, whose change is that of the
+   * terminal's text. `splices` then has the changes of the shown text. Throws, in this order: a SamError with the code WAITING if
+   * splices of an earlier step are left; the fault by which the terminal has stopped; Unfinished if memory is short, and nothing has
+   * changed; the fault by which the terminal stops at this step. */
+  step(): TerminalStep;
+  /** Returns the next change of the shown text by the last step; null if none is left. */
+  nextSplice(): Splice | null;
+  /** Yields the changes of the shown text by the last step that were not handed out yet. */
+  splices(): Generator<Splice, void>;
+  /** Makes all steps that can be made without the host, puts what waits over these files as they are free, and yields each change of the
+   * shown text. Take all: it goes no further than they are taken. Throws as `step` and `putNext` do. */
+  goOn(...tags: number[]): Generator<Splice, void>;
+  /** Tests whether the host's stream may end here, as that of a terminal does. It changes nothing. */
+  finish(): void;
+  /** Returns the number of bytes of the host's stream before the frame that is wrong, if the terminal has stopped by StreamFault; null
+   * if it goes on, or has stopped because of a refusal. */
+  readonly faultPlace: number | null;
+  /** Returns the number of bytes that are pending for the host. */
+  readonly pending: number;
+  /** Moves out the pending bytes, all or the first `most`, and returns them. */
+  takeOut(most?: number): Uint8Array;
+  /** Returns the oldest refused event that was not handed out yet, by its number among all events and all edits that were put; null if
+   * there is none. */
+  nextRefusal(): Refusal | null;
+  /** Yields the refused events that were not handed out yet, oldest first. */
+  refusals(): Generator<Refusal, void>;
+  /** Returns the state of the terminal by one call. */
+  state(): TerminalState;
+  /** Returns the state of a file by one call. A tag without a file is no error. Length, dot and view are those of the terminal's text. */
+  file(tag: number): FileState;
+  /** Returns the name of a file. Throws Missing if the terminal knows no file of this tag. */
+  name(tag: number): string;
+  /** Returns the tag of the file that the host's answer to WORK or NEW_FILE named last; null before the first. */
+  readonly current: number | null;
+  /** Returns the pattern that the host reported last. */
+  readonly pattern: string;
+  /** Returns the snarfed text that the host sent last (GET_SNARF), from the place `place` on: at most `runes` runes, or all. */
+  snarfed(place?: number, runes?: number): string;
+  /** Returns the number of runes that wait over a file, those that a later edit takes out among them. It is 0 if the file is not open,
+   * or if only what takes runes out waits. */
+  waiting(tag: number): number;
+  /** Returns the first file from the tag `from` on over which an edit waits, also one that only takes runes out; null if there is none. */
+  nextWaiting(from?: number): number | null;
+  /** Returns whether an edit waits over a file, also one that only takes runes out. */
+  isWaiting(tag: number): boolean;
+  /** Returns the length of the shown text of an open file in runes, gaps counted. Throws Missing if the file is not open. */
+  len(tag: number): number;
+  /** Returns the first place of the shown text of a file, at or after `place`, whose rune is not loaded; null if the file is not open,
+   * or if all are loaded from there on. */
+  firstGap(tag: number, place?: number): number | null;
+  /** Returns the shown runes of an open file from the place `place` on, at most `count`; null stands for one that is not loaded. Throws
+   * Missing if the file is not open. */
+  read(tag: number, place: number, count: number): (string | null)[];
+  /** Returns the shown text of an open file from the place `place` on, up to the first rune that is not loaded: at most `runes` runes, or
+   * all. Throws Missing if the file is not open. */
+  text(tag: number, place?: number, runes?: number): string;
 }
 
 /** The kinds of a hello: a terminal says one of the first three, a host one of the others. */

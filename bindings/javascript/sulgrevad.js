@@ -3,11 +3,13 @@ export { Line, Tick } from "./line.js";
 export { Link, What, readHello, writeRefusal } from "./link.js";
 export { memory } from "./module.js";
 export { NoteCode, NoteKind, readNote, writeNote } from "./note.js";
+export { EventKind, Overlay } from "./overlay.js";
 export { replay } from "./scripts.js";
 export { Host, Terminal } from "./sides.js";
 export {
   AddRefused,
   CountFull,
+  EditRefused,
   HandleFault,
   HostRefused,
   Kind,

@@ -22,9 +22,12 @@ program gives may be a `str`, or its UTF-8 as `bytes`.
 Words: the dot is the selection, a place an offset in runes, the snarf buffer the clipboard, which the host holds. A message goes to the
 host, a frame to the terminal. docs/reference/GLOSSARY.md has the other words.
 
+An `Overlay` is a terminal for an editor that takes each key at once: what its user does is shown while it waits.
+
 A `Link` carries the bytes of both, and notes of the program, over connections that may break at any byte. A `Line` is the terminal's end of
-one that also says when to connect, to ask and to give up. docs/howto/RECONNECTING.md has the order of calls. `sulgrevad.aio` does all of it over asyncio. The notes that samhost and its front ends
-exchange are read by `read_note` and written by `write_note`: docs/reference/SESSION.md.
+one that also says when to connect, to ask and to give up. docs/howto/RECONNECTING.md has the order of calls. `sulgrevad.aio` does all of it
+over asyncio. The notes that samhost and its front ends exchange are read by `read_note` and written by `write_note`:
+docs/reference/SESSION.md.
 
 `replay` runs a script of docs/reference/SCRIPTS.md over a host and a terminal of its own.
 
@@ -58,11 +61,13 @@ from sulgrevad.host import Host
 from sulgrevad.line import Line, LineDetails, Tick
 from sulgrevad.link import HELLO_BYTES, Hello, Link, What, read_hello, write_refusal
 from sulgrevad.note import Note, NoteCode, NoteKind, read_note, write_note
+from sulgrevad.overlay import Dropped, EventKind, Overlay, Put, Splice, SpliceKind
 from sulgrevad.results import Change, FileState, HostDid, NextFrame, Refusal, TerminalDid, TerminalState
 from sulgrevad.scripts import replay
 from sulgrevad.status import (
     AddRefused,
     CountFull,
+    EditRefused,
     HandleFault,
     HostRefused,
     Kind,
@@ -89,9 +94,10 @@ from sulgrevad.terminal import Terminal
 __version__ = "0.1.0"
 
 __all__ = [
-    "HELLO_BYTES", "MOST_NOTE", "AddRefused", "Change", "CountFull", "Edit", "Edits", "FileState", "HandleFault", "Hello", "Host",
-    "HostDid", "HostRefused", "Kind", "Line", "LineDetails", "Link", "LinkFault", "MarkRefused", "Missing", "NextFrame", "NoMemory", "NotText", "Note", "NoteCode",
-    "NoteFault", "NoteKind", "Pieces", "Refusal", "SamError", "ScriptFault", "Status", "Step", "StreamFault", "Terminal", "TerminalDid",
-    "TerminalRefused", "TerminalState", "Tick", "Unfinished", "Waiting", "What", "error_of", "library_version", "read_hello", "read_note", "replay",
+    "HELLO_BYTES", "MOST_NOTE", "AddRefused", "Change", "CountFull", "Dropped", "Edit", "EditRefused", "Edits", "EventKind",
+    "FileState", "HandleFault", "Hello", "Host", "HostDid", "HostRefused", "Kind", "Line", "LineDetails", "Link", "LinkFault",
+    "MarkRefused", "Missing", "NextFrame", "NoMemory", "NotText", "Note", "NoteCode", "NoteFault", "NoteKind", "Overlay", "Pieces", "Put", "Refusal",
+    "SamError", "ScriptFault", "Splice", "SpliceKind", "Status", "Step", "StreamFault", "Terminal", "TerminalDid", "TerminalRefused",
+    "TerminalState", "Tick", "Unfinished", "Waiting", "What", "error_of", "library_version", "read_hello", "read_note", "replay",
     "status_text", "write_note", "write_refusal",
 ]  # fmt: skip

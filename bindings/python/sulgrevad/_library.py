@@ -45,6 +45,18 @@ class File(ctypes.Structure):
     ]  # fmt: skip
 
 
+class CSplice(ctypes.Structure):
+    """sam_splice: a change of the shown text of a file."""
+
+    _fields_ = [("kind", c_uint32), ("place", c_uint32), ("count", c_uint32), ("tag", c_uint16)]
+
+
+class CEvent(ctypes.Structure):
+    """sam_event: an event of the user, for an overlay."""
+
+    _fields_ = [("kind", c_uint32), ("start", c_uint32), ("number", c_uint32), ("tag", c_uint16), ("version", c_uint16)]
+
+
 class Place(ctypes.Structure):
     """sam_place: the place of bytes in a piece."""
 
@@ -84,7 +96,7 @@ class Record(ctypes.Structure):
 
 
 class Handle(ctypes.Structure):
-    """sam_host, sam_term, sam_link and sam_line; empty if all bytes are zero."""
+    """sam_host, sam_term, sam_overlay, sam_link and sam_line; empty if all bytes are zero."""
 
     _fields_ = [("at", c_void_p), ("made", c_uint64)]
 
@@ -106,7 +118,7 @@ SIGNATURES: Dict[str, Tuple[Any, ...]] = {
     "host_len": (c_uint16, _U32), "host_is_dirty": (c_uint16, _BOOL), "host_text": (c_uint16, *_TEXT_FROM),
     "host_saved_len": (c_uint16, _U32), "host_saved": (c_uint16, *_TEXT_FROM), "host_dot": (c_uint16, _U32, _U32),
     "host_snarf_len": (_U32,), "host_snarf": _TEXT_FROM,
-    "term_new": (), "term_free": (), "term_type": (c_uint16, *_BYTES),
+    "term_new": (), "term_free": (), "term_type": (c_uint16, *_BYTES), "term_type_text": (c_uint16, *_BYTES, _SIZE),
     "term_edit": (c_uint16, c_uint32, c_uint32, *_BYTES), "term_select": (c_uint16, c_uint32, c_uint32),
     "term_cut": (c_uint16,), "term_paste": (c_uint16,), "term_snarf": (c_uint16,), "term_look": (c_uint16,),
     "term_search": (c_uint16,), "term_send": (c_uint16,), "term_dclick": (c_uint16, c_uint32), "term_scroll": (c_uint16, c_uint32),
@@ -132,6 +144,15 @@ SIGNATURES: Dict[str, Tuple[Any, ...]] = {
     "term_command_locked": (_BOOL,), "term_held": (_U64,), "term_unsent": (_U32,), "term_sent": (_U64,),
     "term_under_way": (_U64,), "term_pattern": (*_BUFFER, _SIZE), "term_snarfed": _TEXT_FROM, "term_snarf_len": (_U32,),
     "term_exited": (_BOOL,), "term_version": (_TAG,),
+    "overlay_new": (), "overlay_free": (), "overlay_bring": _BYTES, "overlay_step": (_DID,), "overlay_next_splice": (POINTER(CSplice),),
+    "overlay_finish": (), "overlay_fault_place": (_U64,), "overlay_pending": (_SIZE,), "overlay_take_out": (*_BUFFER, _SIZE),
+    "overlay_replace": (c_uint16, c_uint32, c_uint32, *_BYTES), "overlay_put_next": (c_uint16, _U32),
+    "overlay_drop_next": (c_uint16, POINTER(CSplice), *_BUFFER, _SIZE),
+    "overlay_bring_event": (POINTER(CEvent), *_BYTES), "overlay_next_refusal": (_U64, _U32), "overlay_state": (POINTER(State),),
+    "overlay_file": (c_uint16, POINTER(File)), "overlay_name": (c_uint16, *_BUFFER, _SIZE), "overlay_current": (_TAG,),
+    "overlay_pattern": (*_BUFFER, _SIZE), "overlay_snarfed": _TEXT_FROM, "overlay_waiting": (c_uint16, _U32),
+    "overlay_next_waiting": (c_uint16, _TAG), "overlay_first_gap": (c_uint16, c_uint32, _U32),
+    "overlay_len": (c_uint16, _U32), "overlay_read": (c_uint16, c_uint32, *_RUNES, _U32), "overlay_text": (c_uint16, *_TEXT_FROM),
     "link_new": (c_uint32, c_char_p), "link_free": (), "link_call": (c_bool, _U64), "link_welcomed": _BYTES, "link_answer": _BYTES,
     "link_broken": (c_uint64,), "link_put": _BYTES, "link_put_note": _BYTES, "link_ask": (), "link_acknowledge": (),
     "link_take_out": (c_uint64, *_BUFFER, _SIZE), "link_feed": (c_uint64, *_BYTES),

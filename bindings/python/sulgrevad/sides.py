@@ -50,7 +50,7 @@ def least(most: Optional[int], there: int) -> int:
 
 
 class Held:
-    """A handle and its calls, which host, terminal, link and line share."""
+    """A handle and its calls, which host, terminal, overlay, link and line share."""
 
     _prefix = ""
 
@@ -122,8 +122,8 @@ class Held:
             self.free()
 
 
-class Side(Held):
-    """The texts and the pending bytes that host and terminal share."""
+class Streams(Held):
+    """The texts and the pending bytes that host, terminal and overlay share."""
 
     def __init__(self) -> None:
         if not hasattr(self, "_left"):
@@ -163,18 +163,10 @@ class Side(Held):
             if not piece or left == 0:
                 return "".join(pieces)
 
-    def feed(self, data: Union[bytes, bytearray, memoryview] = b"") -> None:
-        """Takes bytes of the other side, in pieces of any length. A host answers each message that is whole; a terminal receives each frame
-        that is whole, and then held events act. Without bytes it goes on with the work that waits after `Unfinished`. Raises, in this
-        order, and the bytes are then not taken: the fault by which this side has stopped before; NoMemory, or a fault, as it goes on with
-        earlier input; CountFull; NoMemory. Two come after the bytes were taken: Unfinished, and the fault by which this side stops."""
-        data = bytes(memoryview(data))
-        self._call("feed", data, len(data))
-
     def bring(self, data: Union[bytes, bytearray, memoryview]) -> None:
-        """Takes bytes of the other side as `feed` does, but goes no further: `step` does the work. Raises, in this order, and the bytes are
-        then not taken: the fault by which this side has stopped before; Waiting until a step was IDLE, or at a terminal LOCKED; CountFull;
-        NoMemory."""
+        """Takes bytes of the other side, in pieces of any length, but goes no further: `step` does the work. Raises, in this order, and the
+        bytes are then not taken: the fault by which this side has stopped before; Waiting until a step was IDLE, or at a terminal LOCKED;
+        CountFull; NoMemory."""
         data = bytes(memoryview(data))
         self._call("bring", data, len(data))
 
@@ -219,3 +211,15 @@ class Side(Held):
         if rest:
             self._left.appendleft(rest)
         return taken
+
+
+class Side(Streams):
+    """A side that goes on by itself as it takes bytes: host and terminal."""
+
+    def feed(self, data: Union[bytes, bytearray, memoryview] = b"") -> None:
+        """Takes bytes of the other side, in pieces of any length. A host answers each message that is whole; a terminal receives each frame
+        that is whole, and then held events act. Without bytes it goes on with the work that waits after `Unfinished`. Raises, in this
+        order, and the bytes are then not taken: the fault by which this side has stopped before; NoMemory, or a fault, as it goes on with
+        earlier input; CountFull; NoMemory. Two come after the bytes were taken: Unfinished, and the fault by which this side stops."""
+        data = bytes(memoryview(data))
+        self._call("feed", data, len(data))

@@ -18,6 +18,7 @@ class Status(enum.IntEnum):
     NOT_TEXT = 6
     NONE = 7
     WAITING = 8
+    NO_ROOM = 9
     ADD_TOO_LONG = 19
     ADD_NO_TAG = 20
     BAD_KIND = 33
@@ -161,9 +162,10 @@ def library_version() -> Tuple[int, int, int]:
 
 
 class SamError(Exception):
-    """A call that did not answer SAM_OK; `code` is its status."""
+    """A call that did not answer SAM_OK; `code` is its status. `taken` is how many bytes of a text `type_text` typed all the same."""
 
     code: int
+    taken: int = 0
 
     def __init__(self, code: int) -> None:
         try:
@@ -201,11 +203,11 @@ class CountFull(SamError, OverflowError):
 
 
 class Waiting(SamError):
-    """Earlier work waits, so make steps first; the input was not taken (SAM_WAITING)."""
+    """Earlier work waits, so make steps, and take the splices, first; the input was not taken (SAM_WAITING)."""
 
 
 class HandleFault(SamError, ValueError):
-    """The host, terminal, link or line was freed (SAM_NO_HANDLE), or was made twice (SAM_MADE)."""
+    """The host, terminal, overlay, link or line was freed (SAM_NO_HANDLE), or was made twice (SAM_MADE)."""
 
 
 class NotText(SamError, ValueError):
@@ -236,6 +238,10 @@ class HostRefused(SamError):
 
 class TerminalRefused(SamError):
     """The terminal refused a frame, and has stopped (SAM_TERM_..)."""
+
+
+class EditRefused(SamError, ValueError):
+    """An overlay refused an edit of the user (SAM_REFUSAL_..). The overlay is as it was."""
 
 
 class LinkFault(SamError):
@@ -269,6 +275,7 @@ FAMILIES = (
     (range(48, 64), MarkRefused),
     (range(64, 96), HostRefused),
     (range(96, 128), TerminalRefused),
+    (range(128, 160), EditRefused),
     (range(160, 192), ScriptFault),
     (range(192, 224), LinkFault),
     (range(224, 256), NoteFault),

@@ -7,7 +7,7 @@ from typing import Iterator, List, Optional, Tuple
 from sulgrevad._library import LIBRARY, Did, File, State, Text, bytes_of
 from sulgrevad.edits import Edit, Edits, read_runes, received
 from sulgrevad.results import Change, FileState, NextFrame, Refusal, TerminalDid, TerminalState
-from sulgrevad.sides import END, MOST_IN_NAME, NONE, OK, STEPS, Side, least
+from sulgrevad.sides import END, MOST_IN_NAME, NONE, OK, STEPS, Side, Streams, least
 from sulgrevad.status import Status, error_of
 
 MOST_IN_PATTERN = 512  # bytes of the longest pattern
@@ -18,7 +18,66 @@ _FEW_RUNES = c_uint32 * FEW
 _STATE, _FILE = Struct("5Q2N2IH2?"), Struct("5I6?")  # the fields of State and File, in their order
 
 
-class Terminal(Side):
+class Screen(Streams):
+    """The readers that a terminal and an overlay share."""
+
+    def next_refusal(self) -> Optional[Refusal]:
+        """Returns the oldest refused event that was not handed out yet; None if there is none."""
+        event, why = c_uint64(), c_uint32()
+        code = self._answer("next_refusal", byref(event), byref(why))
+        if code == Status.NONE:
+            return None
+        if code != OK:
+            raise error_of(code)
+        return Refusal(event.value, Status(why.value))
+
+    def refusals(self) -> Iterator[Refusal]:
+        """Yields the refused events that were not handed out yet, oldest first."""
+        while (refusal := self.next_refusal()) is not None:
+            yield refusal
+
+    def state(self) -> TerminalState:
+        """Returns the state of the terminal by one call: for a screen, which draws it at each key."""
+        state = State()
+        self._call("state", byref(state))
+        return TerminalState._make(_STATE.unpack_from(state))
+
+    def file(self, tag: int) -> FileState:
+        """Returns the state of a file by one call. A tag without a file is no error."""
+        file = File()
+        self._call("file", tag, byref(file))
+        length, *places, is_known, is_open, is_dirty, is_changed, is_locked, is_free = _FILE.unpack_from(file)
+        start, end, view_start, view_end = places
+        dot, view = (start, end), (view_start, view_end)
+        return FileState(is_known, is_open, is_dirty, is_changed, is_locked, is_free, length, dot, view)
+
+    def name(self, tag: int) -> str:
+        """Returns the name of a known file. Raises Missing if the terminal knows no file of this tag."""
+        return self._short_text("name", MOST_IN_NAME, tag)
+
+    @property
+    def current(self) -> Optional[int]:
+        """Returns the tag of the file that the host's answer to `work` or `new_file` named last; None before the first. The file may be
+        closed since."""
+        return self._number_if_any("current", c_uint16)
+
+    def text(self, tag: int, place: int = 0, runes: Optional[int] = None) -> str:
+        """Returns the text of an open file from the place `place` on, up to the first rune that is not loaded: at most `runes` runes, or
+        all. Raises Missing if the file is not open."""
+        return self._long_text("text", place, runes, tag)
+
+    @property
+    def pattern(self) -> str:
+        """Returns the pattern that the host reported last."""
+        return self._short_text("pattern", MOST_IN_PATTERN)
+
+    def snarfed(self, place: int = 0, runes: Optional[int] = None) -> str:
+        """Returns the snarfed text that the host sent last (`get_snarf`), from the place `place` on: at most `runes` runes, or all. It may
+        be only the front of the host's buffer, because at most 4,096 bytes come, or 32,000 in version 2."""
+        return self._long_text("snarfed", place, runes)
+
+
+class Terminal(Side, Screen):
     """The side with the windows. It begins without any file.
 
     An event of the user acts at once if it can. Else it is held until the locks that it waits for are free and the events before it have
@@ -41,6 +100,17 @@ class Terminal(Side):
         NotText, too."""
         text = bytes_of(text)
         self._call("type", tag, text, len(text))
+
+    def type_text(self, tag: int, text: Text) -> None:
+        """Types a text of any length, in events of 512 runes each, but for the last. The first event that isn't answered well is the last:
+        what was taken before it stays, and `taken` of the exception is how many bytes of the text, in UTF-8, that is. After Unfinished the
+        event's own bytes count, too. Each event may be refused as one of `type`. Raises NotText, too."""
+        text, taken = bytes_of(text), c_size_t()
+        code = self._answer("type_text", tag, text, len(text), byref(taken))
+        if code != OK:
+            error = error_of(code)
+            error.taken = taken.value
+            raise error
 
     def edit(self, tag: int, start: int, end: int, text: Text) -> None:
         """Replaces the runes from the place `start` to the place `end` by a text of any length, all or nothing. An empty text takes the
@@ -197,37 +267,7 @@ class Terminal(Side):
         why = Status(did.why) if did.why else None
         return TerminalDid(STEPS[did.step], did.kind, did.tag, Change(did.start, did.gone, did.came), did.event, why, did.loads)
 
-    def next_refusal(self) -> Optional[Refusal]:
-        """Returns the oldest refused event that was not handed out yet; None if there is none."""
-        event, why = c_uint64(), c_uint32()
-        code = self._answer("next_refusal", byref(event), byref(why))
-        if code == Status.NONE:
-            return None
-        if code != OK:
-            raise error_of(code)
-        return Refusal(event.value, Status(why.value))
-
-    def refusals(self) -> Iterator[Refusal]:
-        """Yields the refused events that were not handed out yet, oldest first."""
-        while (refusal := self.next_refusal()) is not None:
-            yield refusal
-
     # ---- Readers
-
-    def state(self) -> TerminalState:
-        """Returns the state of the terminal by one call: for a screen, which draws it at each key."""
-        state = State()
-        self._call("state", byref(state))
-        return TerminalState._make(_STATE.unpack_from(state))
-
-    def file(self, tag: int) -> FileState:
-        """Returns the state of a file by one call. A tag without a file is no error."""
-        file = File()
-        self._call("file", tag, byref(file))
-        length, *places, is_known, is_open, is_dirty, is_changed, is_locked, is_free = _FILE.unpack_from(file)
-        start, end, view_start, view_end = places
-        dot, view = (start, end), (view_start, view_end)
-        return FileState(is_known, is_open, is_dirty, is_changed, is_locked, is_free, length, dot, view)
 
     @property
     def events(self) -> int:
@@ -253,10 +293,6 @@ class Terminal(Side):
         """Returns the tags of all known files, ascending."""
         return [tag for tag in range(self.tags) if self.is_known(tag)]
 
-    def name(self, tag: int) -> str:
-        """Returns the name of a known file. Raises Missing if the terminal knows no file of this tag."""
-        return self._short_text("name", MOST_IN_NAME, tag)
-
     def is_dirty(self, tag: int) -> bool:
         """Returns whether a known file is dirty, as the host said last. Raises Missing if the terminal knows no file of this tag."""
         return self._truth("is_dirty", tag)
@@ -269,12 +305,6 @@ class Terminal(Side):
     def is_open(self, tag: int) -> bool:
         """Returns whether a file is open."""
         return self._truth("is_open", tag)
-
-    @property
-    def current(self) -> Optional[int]:
-        """Returns the tag of the file that the host's answer to `work` or `new_file` named last; None before the first. The file may be
-        closed since."""
-        return self._number_if_any("current", c_uint16)
 
     def len(self, tag: int) -> int:
         """Returns the length of an open file in runes, gaps counted. Raises Missing if the file is not open."""
@@ -299,11 +329,6 @@ class Terminal(Side):
         if place < 0 or count < 0:
             raise ValueError(f"{min(place, count)} is below 0")
         return read_runes(self._handle, tag, place, least(count, max(0, self.len(tag) - place)), gap)
-
-    def text(self, tag: int, place: int = 0, runes: Optional[int] = None) -> str:
-        """Returns the text of an open file from the place `place` on, up to the first rune that is not loaded: at most `runes` runes, or
-        all. Raises Missing if the file is not open."""
-        return self._long_text("text", place, runes, tag)
 
     def bytes(self, tag: int, start: int, end: int) -> Tuple[int, int]:
         """Counts the bytes that the loaded runes of an open file take in UTF-8 from the place `start` to the place `end`, and the runes
@@ -402,16 +427,6 @@ class Terminal(Side):
         until the host answers a later message. `check` asks for an answer that changes no text.
         """
         return self._number("under_way", c_uint64)
-
-    @property
-    def pattern(self) -> str:
-        """Returns the pattern that the host reported last."""
-        return self._short_text("pattern", MOST_IN_PATTERN)
-
-    def snarfed(self, place: int = 0, runes: Optional[int] = None) -> str:
-        """Returns the snarfed text that the host sent last (`get_snarf`), from the place `place` on: at most `runes` runes, or all. It may
-        be only the front of the host's buffer, because at most 4,096 bytes come, or 32,000 in version 2."""
-        return self._long_text("snarfed", place, runes)
 
     @property
     def snarf_len(self) -> int:

@@ -13,9 +13,12 @@ use Rattle.sam_line.specs.contracts.line.Line.{the_row as Line}
 use Rattle.sam_line.proofs.line.Line.TheLaws.{the_row_laws as line}
 use Rattle.sam_link.specs.contracts.link.Link.{the_row as Link}
 use Rattle.sam_link.proofs.link.Link.TheLaws.{the_row_laws as link}
+use Rattle.sam_shown.specs.contracts.shown_end.ShownEnd.{the_row as ShownEnd}
+use Rattle.sam_shown.proofs.shown_end.ShownEnd.TheLaws.{the_row_laws as shown_end}
 use Rattle.sam_c.specs.contracts.handle.HeldHost as HeldHost
 use Rattle.sam_c.specs.contracts.handle.HeldLine as HeldLine
 use Rattle.sam_c.specs.contracts.handle.HeldLink as HeldLink
+use Rattle.sam_c.specs.contracts.handle.HeldOverlay as HeldOverlay
 use Rattle.sam_c.specs.contracts.handle.HeldTerm as HeldTerm
 use Rattle.sam_c.specs.contracts.parts.Parts as Parts
 
@@ -57,3 +60,12 @@ LineParts = plain (λ _. Parts.the_row Line Heap.the_row ghosts)
 
 abbrev pub HeldLines : Slot 0
 HeldLines = plain (λ _. HeldLine.the_row)
+
+abbrev pub OverlayBox : Bx
+OverlayBox = boxed ShownEnd shown_end
+
+abbrev pub OverlayParts : Slot 0
+OverlayParts = plain (λ _. Parts.the_row ShownEnd Heap.the_row ghosts)
+
+abbrev pub HeldOverlays : Slot 0
+HeldOverlays = plain (λ _. HeldOverlay.the_row)

@@ -1,10 +1,10 @@
 -- A file that is free: no lock holds an event on it back.
-use Rattle.std.proofs.Common.{◌≡◌, ◌≢◌, ℕ, Bool, true, false, not, ◌&&◌, ◌||◌, ◌==◌, List, [], ◌∷◌, length, is_none, slice_get, Option, Some, None, option_map, Ok, arith, refl}
+use Rattle.std.proofs.Common.{◌≡◌, ◌≢◌, ℕ, false, ◌==◌, List, [], ◌∷◌, length, is_none, slice_get, Some, option_map, Ok, arith, refl}
 use Rattle.sam_runes.specs.Texts.{is_empty}
 use Rattle.sam_crossing.specs.World.{is_locked}
 use Rattle.sam_term.specs.Events.{file_of, waits_for_all}
 unfoldable use Rattle.sam_term.specs.Term.{act_of}
-use Rattle.sam_term.specs.Term.{PlainTerminal, event_checks}
+use Rattle.sam_term.specs.Term.{PlainTerminal}
 use Rattle.sam_term.specs.declared.event.Acted.TheVariants.{Locked}
 use Rattle.sam_term.specs.declared.event.UserEvent.{UserEvent}
 

@@ -12,6 +12,7 @@ use Rattle.sam_endpoint.specs.contracts.host_endpoint.HostEndpoint.{the_row as H
 use Rattle.sam_endpoint.specs.contracts.term_endpoint.TermEndpoint.{the_row as TermEndpoint}
 use Rattle.sam_line.specs.contracts.line.Line.{the_row as Line}
 use Rattle.sam_link.specs.contracts.link.Link.{the_row as Link}
+use Rattle.sam_shown.specs.contracts.shown_end.ShownEnd.{the_row as ShownEnd}
 
 -- what a box of this value owns, its token being the right to free the block; nothing where there is no value
 abbrev pub holds : (Ty → Ptr → Fml) → (R : RattleType) → Ptr → Option R.Denot → Fml
@@ -31,6 +32,9 @@ holds_link alloc = holds (ghosts.dealloc_token alloc) Link
 abbrev pub holds_line : Global → Ptr → Option Line.Denot → Fml
 holds_line alloc = holds (ghosts.dealloc_token alloc) Line
 
+abbrev pub holds_overlay : Global → Ptr → Option ShownEnd.Denot → Fml
+holds_overlay alloc = holds (ghosts.dealloc_token alloc) ShownEnd
+
 abbrev pub held_host_coded : Coded (Option HostEndpoint.Denot)
 held_host_coded = coded_option HostEndpoint.coded
 
@@ -43,7 +47,10 @@ held_link_coded = coded_option Link.coded
 abbrev pub held_line_coded : Coded (Option Line.Denot)
 held_line_coded = coded_option Line.coded
 
--- "sam host", "sam term", "sam link" and "sam line", the first letter in the highest byte
+abbrev pub held_overlay_coded : Coded (Option ShownEnd.Denot)
+held_overlay_coded = coded_option ShownEnd.coded
+
+-- "sam host", "sam term", "sam link", "sam line" and "sam over", the first letter in the highest byte
 abbrev pub host_mark : ℕ
 host_mark = 8314046373061161844
 
@@ -55,3 +62,6 @@ link_mark = 8314046373127876203
 
 abbrev pub line_mark : ℕ
 line_mark = 8314046373127876197
+
+abbrev pub overlay_mark : ℕ
+overlay_mark = 8314046373179057522

@@ -7,9 +7,11 @@ use Rattle.sam_endpoint.specs.declared.fault.FinishFault.{FinishFault}
 use Rattle.sam_endpoint.specs.declared.fault.HostStop.{HostStop}
 use Rattle.sam_endpoint.specs.declared.fault.AddFault.{AddFault}
 use Rattle.sam_host.specs.declared.fault.MarkFault.{MarkFault}
-use Rattle.sam_endpoint.specs.HostEndpoints.{PlainHostEndpoint, new_host_endpoint, Adds, Feeds, Finishes, Marks}
-use Rattle.sam_c.specs.Status.{ok, no_memory, is_made, no_handle, nothing, add_status, mark_status, host_status, host_finish_status}
-use Rattle.sam_c.specs.Calls.{AtHandle}
+use Rattle.sam_endpoint.specs.HostEndpoints.{PlainHostEndpoint, new_host_endpoint, Finishes}
+use Rattle.sam_endpoint.specs.HostRuns.{Call, Runs, Stops}
+use Rattle.sam_endpoint.specs.HostRuns as call
+use Rattle.sam_c.specs.Status.{ok, no_memory, is_made, no_handle, add_status, mark_status, host_status, host_finish_status}
+use Rattle.sam_c.specs.Calls.{AtHandle, TellsOne}
 
 -- a new host, or why there is none and the handle is as before
 abbrev pub HostMade : Option PlainHostEndpoint → ℕ → Option PlainHostEndpoint → Type 0
@@ -21,10 +23,15 @@ abbrev pub Freed : {E : Type 0} → Option E → ℕ → Option E → Type 0
 Freed None status after = (status ≡ no_handle) × (after ≡ None)
 Freed (Some e) status after = (status ≡ ok) × (after ≡ None)
 
+-- a call with what came of it, as the laws of calls know it, leads from one end to the other; perhaps it stops the end
+unfoldable pub HostDoes : PlainHostEndpoint → Call → PlainHostEndpoint → Type 0
+HostDoes e made g = Runs e (made ∷ []) g ⊎ ((why : HostStop) × Stops e made why g)
+
 abbrev pub HostFed : Option PlainHostEndpoint → List ℕ → ℕ → Option PlainHostEndpoint → Type 0
 HostFed before piece status after =
     AtHandle before status after
-    (λ e status g. (result : Result (Unit {0}) (EndpointFault HostStop)) × Feeds e piece result g × (status ≡ host_status result))
+    (λ e status g. (result : Result (Unit {0}) (EndpointFault HostStop)) × HostDoes e (call.Feed piece result) g
+    × (status ≡ host_status result))
 
 -- whether the terminal's stream may end here
 abbrev pub HostFinished : Option PlainHostEndpoint → ℕ → Type 0
@@ -44,8 +51,8 @@ add_status_of (Err why) = add_status why
 abbrev pub HostAdded : Option PlainHostEndpoint → List ℕ → List ℕ → ℕ → ℕ → ℕ → Option PlainHostEndpoint → Type 0
 HostAdded None name text old_tag status new_tag after = (status ≡ no_handle) × (new_tag ≡ old_tag) × (after ≡ None)
 HostAdded (Some e) name text old_tag status new_tag after =
-    (g : PlainHostEndpoint) × (result : Result ℕ AddFault) × (after ≡ Some g) × Adds e name text result g
-    × (status ≡ add_status_of result) × (new_tag ≡ tag_or old_tag result)
+    (g : PlainHostEndpoint) × (result : Result ℕ AddFault) × (after ≡ Some g)
+    × HostDoes e (call.AddFile e.host.taken name text result) g × (status ≡ add_status_of result) × (new_tag ≡ tag_or old_tag result)
 
 abbrev pub mark_status_of : Result (Unit {0}) MarkFault → ℕ
 mark_status_of (Ok done) = ok
@@ -53,7 +60,9 @@ mark_status_of (Err why) = mark_status why
 
 abbrev pub HostMarked : Option PlainHostEndpoint → ℕ → ℕ → Option PlainHostEndpoint → Type 0
 HostMarked before tag status after =
-    AtHandle before status after (λ e status g. (result : Result (Unit {0}) MarkFault) × Marks e tag result g × (status ≡ mark_status_of result))
+    AtHandle before status after
+    (λ e status g. (result : Result (Unit {0}) MarkFault) × HostDoes e (call.MarkDirty e.host.taken tag result) g
+    × (status ≡ mark_status_of result))
 
 -- the first pending bytes went into the buffer, as many as have room
 abbrev pub Takes : List ℕ → List ℕ → List ℕ → ℕ → List ℕ → Type 0
@@ -63,16 +72,14 @@ Takes pending before after count left =
 abbrev pub HostTaken : Option PlainHostEndpoint → List ℕ → List ℕ → ℕ → ℕ → ℕ → Option PlainHostEndpoint → Type 0
 HostTaken None before after old_count status new_count g = (status ≡ no_handle) × (after ≡ before) × (new_count ≡ old_count) × (g ≡ None)
 HostTaken (Some e) before after old_count status new_count g =
-    (left : List ℕ) × (status ≡ ok) × Takes e.pending_bytes before after new_count left × (g ≡ Some (record e { pending_bytes = left }))
+    (n : PlainHostEndpoint) × (g ≡ Some n) × (status ≡ ok) × Takes e.pending_bytes before after new_count n.pending_bytes
+    × HostDoes e (call.TakeOut (take new_count e.pending_bytes)) n
 
 -- the oldest tag that the host was told to write is handed out
-abbrev pub FirstWrite : PlainHostEndpoint → List ℕ → ℕ → ℕ → ℕ → Option PlainHostEndpoint → Type 0
-FirstWrite e [] old_tag status new_tag g = (status ≡ nothing) × (new_tag ≡ old_tag) × (g ≡ Some e)
-FirstWrite e (tag ∷ rest) old_tag status new_tag g = (status ≡ ok) × (new_tag ≡ tag) × (g ≡ Some (record e { writes = rest }))
-
 abbrev pub HostNextWritten : Option PlainHostEndpoint → ℕ → ℕ → ℕ → Option PlainHostEndpoint → Type 0
 HostNextWritten None old_tag status new_tag g = (status ≡ no_handle) × (new_tag ≡ old_tag) × (g ≡ None)
-HostNextWritten (Some e) old_tag status new_tag g = FirstWrite e e.writes old_tag status new_tag g
+HostNextWritten (Some e) old_tag status new_tag g =
+    (n : PlainHostEndpoint) × (tag : Option ℕ) × (g ≡ Some n) × HostDoes e (call.NextWritten tag) n × TellsOne tag status old_tag new_tag
 
 -- the file of a tag
 abbrev pub file_of : PlainHostEndpoint → ℕ → Option PlainFile

@@ -4,6 +4,7 @@ pub mod Status
 pub mod Calls
 pub mod Hosts
 pub mod Terms
+pub mod Typing
 pub mod Scripts
 pub mod Measures
 pub mod LinkStatus
@@ -15,3 +16,5 @@ pub mod Journals
 pub mod Walking
 pub mod Steps
 pub mod Snapshots
+pub mod OverlayStatus
+pub mod Overlays

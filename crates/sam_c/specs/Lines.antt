@@ -8,8 +8,9 @@ use Rattle.sam_link.specs.declared.hello.Id.{Id}
 use Rattle.sam_link.specs.declared.keeping.PutFault.{PutFault}
 use Rattle.sam_line.specs.Clock.{silence}
 use Rattle.sam_line.specs.Greeting.{IsFront}
-use Rattle.sam_line.specs.Line.{Acknowledges, Asks, Connects, GivesNote, PutsBytes, PutsNote, TakesIn, TakesOut, Ticks, begun, has_all, is_due, put_len}
-use Rattle.sam_line.specs.Receiving.{Receives}
+use Rattle.sam_line.specs.Calls.{LineCall, LineDoes}
+use Rattle.sam_line.specs.Calls as call
+use Rattle.sam_line.specs.Line.{begun, has_all, is_due, put_len}
 use Rattle.sam_line.specs.declared.clock.Tick.{Tick}
 use Rattle.sam_line.specs.declared.fault.ReceiveFault.{ReceiveFault}
 use Rattle.sam_line.specs.declared.line.Line.{Line}
@@ -36,62 +37,54 @@ LineMade (Some l) bytes take_over now status after = (status ≡ is_made) × (af
 abbrev pub LineTicked : Option Line → ℕ → ℕ → ℕ → ℕ → Option Line → Type 0
 LineTicked None now old status new after = (status ≡ no_handle) × (new ≡ old) × (after ≡ None)
 LineTicked (Some l) now old status new after =
-    (n : Line) × (tick : Tick) × (after ≡ Some n) × Ticks l now tick n × (status ≡ ok) × (new ≡ tick_number tick)
+    (n : Line) × (tick : Tick) × (after ≡ Some n) × LineDoes l (call.TickAt now tick) n × (status ≡ ok) × (new ≡ tick_number tick)
 
 abbrev pub LineConnected : Option Line → ℕ → ℕ → ℕ → ℕ → Option Line → Type 0
 LineConnected None now old status new after = (status ≡ no_handle) × (new ≡ old) × (after ≡ None)
 LineConnected (Some l) now old status new after =
-    (n : Line) × (result : Result ℕ CallFault) × (after ≡ Some n) × Connects l now result n
+    (n : Line) × (result : Result ℕ CallFault) × (after ≡ Some n) × LineDoes l (call.Connected now result) n
     × (status ≡ call_status result) × (new ≡ handed_or old result)
 
--- the call can't be refused, and leads to this line
-abbrev pub LineDone : Option Line → ℕ → Option Line → (Line → Line) → Type 0
-LineDone before status after done = AtHandle before status after (λ l status n. (status ≡ ok) × (n ≡ done l))
+-- a call that can't be refused
+abbrev pub LineDone : Option Line → LineCall → ℕ → Option Line → Type 0
+LineDone before made status after = AtHandle before status after (λ l status n. (status ≡ ok) × LineDoes l made n)
 
 -- ## What is put
 
-abbrev pub LinePut : Option Line → List ℕ → ℕ → ℕ → Option Line → Type 0
-LinePut before bytes now status after =
+-- a call that puts, all or nothing: bytes, or a question, or how many have come
+abbrev pub LinePut : Option Line → (Result (Unit {0}) PutFault → LineCall) → ℕ → Option Line → Type 0
+LinePut before made status after =
     AtHandle before status after
-    (λ l status n. (result : Result (Unit {0}) PutFault) × PutsBytes l bytes now result n × (status ≡ put_status result))
+    (λ l status n. (result : Result (Unit {0}) PutFault) × LineDoes l (made result) n × (status ≡ put_status result))
 
 abbrev pub LineNotePut : Option Line → List ℕ → ℕ → ℕ → Option Line → Type 0
 LineNotePut before bytes now status after =
     AtHandle before status after
-    (λ l status n. (result : Result (Unit {0}) NoteFault) × PutsNote l bytes now result n × (status ≡ note_status result))
-
-abbrev pub LineAsked : Option Line → ℕ → ℕ → Option Line → Type 0
-LineAsked before now status after =
-    AtHandle before status after
-    (λ l status n. (result : Result (Unit {0}) PutFault) × Asks l now result n × (status ≡ put_status result))
-
-abbrev pub LineAcknowledges : Option Line → ℕ → Option Line → Type 0
-LineAcknowledges before status after =
-    AtHandle before status after
-    (λ l status n. (result : Result (Unit {0}) PutFault) × Acknowledges l result n × (status ≡ put_status result))
+    (λ l status n. (result : Result (Unit {0}) NoteFault) × LineDoes l (call.PutNote bytes now result) n × (status ≡ note_status result))
 
 -- ## Bytes out and in
 
 abbrev pub LineTakenOut : Option Line → ℕ → List ℕ → List ℕ → ℕ → ℕ → ℕ → Option Line → Type 0
 LineTakenOut None attempt before after old status new g = (status ≡ no_handle) × (after ≡ before) × (new ≡ old) × (g ≡ None)
 LineTakenOut (Some l) attempt before after old status new g =
-    (n : Line) × (result : Result ℕ NotOpen) × (g ≡ Some n) × TakesOut l attempt before result after n
+    (n : Line) × (result : Result ℕ NotOpen) × (g ≡ Some n) × LineDoes l (call.TakeOut attempt before result after) n
     × (status ≡ out_status result) × (new ≡ handed_or old result)
 
 abbrev pub LineReceived : Option Line → ℕ → List ℕ → ℕ → ℕ → Option Line → Type 0
 LineReceived before attempt piece now status after =
     AtHandle before status after
-    (λ l status n. (result : Result (Unit {0}) ReceiveFault) × Receives l attempt piece now result n × (status ≡ receive_status result))
+    (λ l status n. (result : Result (Unit {0}) ReceiveFault) × LineDoes l (call.Receive attempt piece now result) n
+    × (status ≡ receive_status result))
 
 abbrev pub LineTakenIn : Option Line → List ℕ → List ℕ → ℕ → ℕ → ℕ → Option Line → Type 0
 LineTakenIn None before after old status new g = (status ≡ no_handle) × (after ≡ before) × (new ≡ old) × (g ≡ None)
-LineTakenIn (Some l) before after old status new g = (n : Line) × (g ≡ Some n) × (status ≡ ok) × TakesIn l before new after n
+LineTakenIn (Some l) before after old status new g = (n : Line) × (g ≡ Some n) × (status ≡ ok) × LineDoes l (call.TakeIn before new after) n
 
 -- a note is moved only where there is room for the longest
 abbrev pub LineNote : Line → Bool → List ℕ → List ℕ → ℕ → ℕ → ℕ → Line → Type 0
 LineNote l true before after old status new n = (status ≡ no_room) × (after ≡ before) × (new ≡ old) × (n ≡ l)
 LineNote l false before after old status new n =
-    (count : Option ℕ) × GivesNote l before count after n × TellsOne count status old new
+    (count : Option ℕ) × LineDoes l (call.NextNote before count after) n × TellsOne count status old new
 
 abbrev pub LineNextNote : Option Line → List ℕ → List ℕ → ℕ → ℕ → ℕ → Option Line → Type 0
 LineNextNote None before after old status new g = (status ≡ no_handle) × (after ≡ before) × (new ≡ old) × (g ≡ None)

@@ -1,12 +1,12 @@
 -- What the calls of a link do.
 use Rattle.std.specs.Prelude.{◌≡◌, ◌⊎◌, ℕ, List, ◌++◌, length, drop, Bool, true, false, nat_lt, Option, Some, None, Result, Ok, Err}
 use Rattle.sam_mesg.specs.Bounds.{entry}
-use Rattle.sam_mesg.specs.Spelling.{eight, frame}
-use Rattle.sam_link.specs.End.{Answers, Calls, End, TakesOut, Welcomes, broken, fresh}
-use Rattle.sam_link.specs.Feeding.{Feeds, FeedsInto, FeedsPlaces, PutsNote}
+use Rattle.sam_mesg.specs.Spelling.{eight}
+use Rattle.sam_link.specs.Calls.{Call, Does, DoesInto, DoesPlaces}
+use Rattle.sam_link.specs.Calls as call
+use Rattle.sam_link.specs.End.{End, fresh}
+use Rattle.sam_link.specs.Feeding.{FeedsInto, FeedsPlaces}
 use Rattle.sam_link.specs.Hellos.{ReadsHello, spelled, what_number}
-use Rattle.sam_link.specs.Inbox.{GivesNote, ready}
-use Rattle.sam_link.specs.Keeping.{Keeps, Puts}
 use Rattle.sam_link.specs.Sessions.{IsId}
 use Rattle.sam_link.specs.declared.fault.AnswerFault.{AnswerFault}
 use Rattle.sam_link.specs.declared.fault.CallFault.{CallFault}
@@ -22,7 +22,6 @@ use Rattle.sam_link.specs.declared.inbox.Place.{Place}
 use Rattle.sam_link.specs.declared.keeping.PutFault.{PutFault}
 use Rattle.sam_link.specs.declared.phase.Role.{Role}
 use Rattle.sam_c.specs.Calls.{AtHandle}
-use Rattle.sam_c.specs.Hosts.{Takes}
 use Rattle.sam_c.specs.LinkStatus.{answer_status, call_status, feed_status, link_refusal, link_refusals, no_room, note_status, out_status, put_status, role_of, welcome_status, wrong_role}
 use Rattle.sam_c.specs.Status.{ok, no_memory, is_made, no_handle, nothing}
 
@@ -86,7 +85,7 @@ handed_or before (Err why) = before
 abbrev pub LinkCalled : Option End → Bool → ℕ → ℕ → ℕ → Option End → Type 0
 LinkCalled None take_over old status new after = (status ≡ no_handle) × (new ≡ old) × (after ≡ None)
 LinkCalled (Some e) take_over old status new after =
-    (g : End) × (result : Result ℕ CallFault) × (after ≡ Some g) × Calls e take_over result g
+    (g : End) × (result : Result ℕ CallFault) × (after ≡ Some g) × Does e (call.Dial take_over result) g
     × (status ≡ call_status result) × (new ≡ handed_or old result)
 
 -- what is done with the hello that was read, or why there is none and the end is as before
@@ -98,12 +97,12 @@ WithHello (Err why) e status g Does = (status ≡ link_refusal why) × (g ≡ e)
 abbrev pub TakesWelcome : End → List ℕ → ℕ → End → Type 0
 TakesWelcome e bytes status g =
     (read : Result (Option Hello) Refusal) × ReadsHello bytes read × WithHello read e status g
-    (λ h. (result : Result (Unit {0}) WelcomeFault) × Welcomes e h result g × (status ≡ welcome_status result))
+    (λ h. (result : Result (Unit {0}) WelcomeFault) × Does e (call.Welcome h result) g × (status ≡ welcome_status result))
 
 abbrev pub TakesAnswer : End → List ℕ → ℕ → End → Type 0
 TakesAnswer e bytes status g =
     (read : Result (Option Hello) Refusal) × ReadsHello bytes read × WithHello read e status g
-    (λ h. (result : Result (Unit {0}) AnswerFault) × Answers e h result g × (status ≡ answer_status result))
+    (λ h. (result : Result (Unit {0}) AnswerFault) × Does e (call.Answer h result) g × (status ≡ answer_status result))
 
 abbrev pub LinkWelcomed : Option End → List ℕ → ℕ → Option End → Type 0
 LinkWelcomed before bytes status after = AtHandle before status after (λ e status g. TakesWelcome e bytes status g)
@@ -112,66 +111,55 @@ abbrev pub LinkAnswered : Option End → List ℕ → ℕ → Option End → Typ
 LinkAnswered before bytes status after = AtHandle before status after (λ e status g. TakesAnswer e bytes status g)
 
 abbrev pub LinkBroken : Option End → ℕ → ℕ → Option End → Type 0
-LinkBroken before attempt status after = AtHandle before status after (λ e status g. (status ≡ ok) × (g ≡ broken e attempt))
+LinkBroken before attempt status after = AtHandle before status after (λ e status g. (status ≡ ok) × Does e (call.Break attempt) g)
 
 -- ## What is put
 
--- bytes are put, all or none, and all else is as before
-abbrev pub LinkPut : Option End → List ℕ → ℕ → Option End → Type 0
-LinkPut before bytes status after =
+-- a call that puts, all or nothing: bytes, or a question, or how many have come
+abbrev pub LinkPut : Option End → (Result (Unit {0}) PutFault → Call) → ℕ → Option End → Type 0
+LinkPut before made status after =
     AtHandle before status after
-    (λ e status g. (result : Result (Unit {0}) PutFault) × Puts e.keeps bytes result g.keeps × (g ≡ record e { keeps = g.keeps })
-    × (status ≡ put_status result))
+    (λ e status g. (result : Result (Unit {0}) PutFault) × Does e (made result) g × (status ≡ put_status result))
 
 abbrev pub LinkNotePut : Option End → List ℕ → ℕ → Option End → Type 0
 LinkNotePut before bytes status after =
     AtHandle before status after
-    (λ e status g. (result : Result (Unit {0}) NoteFault) × PutsNote e.keeps bytes result g.keeps × (g ≡ record e { keeps = g.keeps })
-    × (status ≡ note_status result))
-
--- the other side is told how many of its bytes have come
-abbrev pub after_told : End → Keeps → Result (Unit {0}) PutFault → End
-after_told e keeps (Ok done) = record e { keeps = keeps; told = e.received }
-after_told e keeps (Err why) = e
-
-abbrev pub LinkAcknowledges : Option End → ℕ → Option End → Type 0
-LinkAcknowledges before status after =
-    AtHandle before status after
-    (λ e status g. (result : Result (Unit {0}) PutFault) × Puts e.keeps (frame 3 (eight e.received)) result g.keeps
-    × (g ≡ after_told e g.keeps result) × (status ≡ put_status result))
+    (λ e status g. (result : Result (Unit {0}) NoteFault) × Does e (call.PutNote bytes result) g × (status ≡ note_status result))
 
 -- ## Bytes out and in
 
 abbrev pub LinkTakenOut : Option End → ℕ → List ℕ → List ℕ → ℕ → ℕ → ℕ → Option End → Type 0
 LinkTakenOut None attempt before after old status new g = (status ≡ no_handle) × (after ≡ before) × (new ≡ old) × (g ≡ None)
 LinkTakenOut (Some e) attempt before after old status new g =
-    (n : End) × (result : Result ℕ NotOpen) × (g ≡ Some n) × TakesOut e attempt before result after n
+    (n : End) × (result : Result ℕ NotOpen) × (g ≡ Some n) × Does e (call.TakeOut attempt before result after) n
     × (status ≡ out_status result) × (new ≡ handed_or old result)
 
 abbrev pub LinkFed : Option End → ℕ → List ℕ → ℕ → Option End → Type 0
 LinkFed before attempt piece status after =
     AtHandle before status after
-    (λ e status g. (result : Result (Unit {0}) FeedFault) × Feeds e attempt piece result g × (status ≡ feed_status result))
+    (λ e status g. (result : Result (Unit {0}) FeedFault) × Does e (call.Feed attempt piece result) g × (status ≡ feed_status result))
 
 -- as feeding alone reports it
 abbrev pub into_status : Result ℕ FeedFault → ℕ
 into_status (Ok count) = ok
 into_status (Err why) = feed_status (Err why)
 
+-- the piece is fed, and then bytes are taken in, call by call
 abbrev pub FedInto : End → ℕ → List ℕ → List ℕ → List ℕ → ℕ → ℕ → ℕ → End → Type 0
 FedInto e attempt piece before after old status new n =
-    (result : Result ℕ FeedFault) × FeedsInto e attempt piece before result after n × (status ≡ into_status result)
-    × (new ≡ handed_or old result)
+    (result : Result ℕ FeedFault) × FeedsInto e attempt piece before result after n × DoesInto e attempt piece result after n
+    × (status ≡ into_status result) × (new ≡ handed_or old result)
 
 abbrev pub LinkFedInto : Option End → ℕ → List ℕ → List ℕ → List ℕ → ℕ → ℕ → ℕ → Option End → Type 0
 LinkFedInto None attempt piece before after old status new g = (status ≡ no_handle) × (after ≡ before) × (new ≡ old) × (g ≡ None)
 LinkFedInto (Some e) attempt piece before after old status new g =
     (n : End) × (g ≡ Some n) × FedInto e attempt piece before after old status new n
 
+-- the piece is fed, and then bytes are taken in that stay where they lie
 abbrev pub FedPlaces : End → ℕ → List ℕ → List Place → List Place → ℕ → ℕ → ℕ → End → Type 0
 FedPlaces e attempt piece before after old status new n =
-    (result : Result ℕ FeedFault) × FeedsPlaces e attempt piece before result after n × (status ≡ into_status result)
-    × (new ≡ handed_or old result)
+    (result : Result ℕ FeedFault) × FeedsPlaces e attempt piece before result after n × DoesPlaces e attempt piece result after n
+    × (status ≡ into_status result) × (new ≡ handed_or old result)
 
 abbrev pub LinkFedPlaces : Option End → ℕ → List ℕ → List Place → List Place → ℕ → ℕ → ℕ → Option End → Type 0
 LinkFedPlaces None attempt piece before after old status new g = (status ≡ no_handle) × (after ≡ before) × (new ≡ old) × (g ≡ None)
@@ -181,8 +169,7 @@ LinkFedPlaces (Some e) attempt piece before after old status new g =
 abbrev pub LinkTakenIn : Option End → List ℕ → List ℕ → ℕ → ℕ → ℕ → Option End → Type 0
 LinkTakenIn None before after old status new g = (status ≡ no_handle) × (after ≡ before) × (new ≡ old) × (g ≡ None)
 LinkTakenIn (Some e) before after old status new g =
-    (left : List ℕ) × (status ≡ ok) × Takes (ready e.waiting).part before after new left
-    × (g ≡ Some (record e { waiting = record { part = left; packets = (ready e.waiting).packets } }))
+    (n : End) × (g ≡ Some n) × (status ≡ ok) × Does e (call.TakeIn before new after) n
 
 -- the note that was next stands in the buffer: no note is longer than the room that the call wants
 abbrev pub HandsNote : Option (List ℕ) → List ℕ → List ℕ → ℕ → ℕ → ℕ → Type 0
@@ -192,8 +179,7 @@ HandsNote (Some note) before after old status new = (status ≡ ok) × (new ≡ 
 abbrev pub NextNote : End → Bool → List ℕ → List ℕ → ℕ → ℕ → ℕ → End → Type 0
 NextNote e true before after old status new n = (status ≡ no_room) × (after ≡ before) × (new ≡ old) × (n ≡ e)
 NextNote e false before after old status new n =
-    (note : Option (List ℕ)) × GivesNote e.waiting note n.waiting × (n ≡ record e { waiting = n.waiting })
-    × HandsNote note before after old status new
+    (note : Option (List ℕ)) × Does e (call.NextNote note) n × HandsNote note before after old status new
 
 abbrev pub LinkNextNote : Option End → List ℕ → List ℕ → ℕ → ℕ → ℕ → Option End → Type 0
 LinkNextNote None before after old status new g = (status ≡ no_handle) × (after ≡ before) × (new ≡ old) × (g ≡ None)

@@ -1,5 +1,5 @@
 -- What is read of a terminal at once.
-use Rattle.std.specs.Prelude.{◌≡◌, ◌≢◌, ℕ, Bool, true, false, not, ◌&&◌, List, [], ◌∷◌, length, is_none, is_some, Option, Some, None, Ok}
+use Rattle.std.specs.Prelude.{◌≡◌, ◌≢◌, ℕ, Bool, true, false, not, ◌&&◌, [], ◌∷◌, length, is_none, is_some, Option, Some, None, Ok}
 use Rattle.sam_runes.specs.Texts.{is_empty}
 use Rattle.sam_crossing.specs.World.{is_locked}
 use Rattle.sam_term.specs.Sound.{unsent_length}

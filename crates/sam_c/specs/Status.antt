@@ -54,6 +54,9 @@ nothing = 7
 abbrev pub waiting : ℕ
 waiting = 8
 
+abbrev pub no_room : ℕ
+no_room = 9
+
 -- why a text is not read
 abbrev pub read_status : ReadFault → ℕ
 read_status reading.NotText = not_text

@@ -1,13 +1,14 @@
 -- What the calls do that take bytes in and go on by single steps.
-use Rattle.std.specs.Prelude.{◌≡◌, ◌==◌, ℕ, Bool, true, false, List, [], slice_get, Option, option_map, Some, None, Result, Ok, Err}
+use Rattle.std.specs.Prelude.{◌≡◌, ◌==◌, ℕ, Bool, false, List, [], slice_get, Option, option_map, Some, None, Result, Ok, Err}
 use Rattle.sam_mesg.specs.HostKinds.{kind_h}
 use Rattle.sam_mesg.specs.TerminalKinds.{kind_t}
 use Rattle.sam_mesg.specs.declared.hmesg.Hmesg.TheVariants.{Hdata}
 use Rattle.sam_endpoint.specs.Naming.{file_of_t}
 use Rattle.sam_endpoint.specs.HostEndpoints.{PlainHostEndpoint}
-use Rattle.sam_endpoint.specs.HostStepping.{BringsIn as HostBringsIn, Steps as HostSteps}
+use Rattle.sam_endpoint.specs.HostRuns as host_call
 use Rattle.sam_endpoint.specs.TermEndpoints.{PlainTermEndpoint}
-use Rattle.sam_endpoint.specs.TermStepping.{BringsIn as TermBringsIn, Steps as TermSteps, next_frame}
+use Rattle.sam_endpoint.specs.TermRuns as term_call
+use Rattle.sam_endpoint.specs.TermStepping.{next_frame}
 use Rattle.sam_endpoint.specs.declared.fault.EndpointFault.{EndpointFault}
 use Rattle.sam_endpoint.specs.declared.fault.HostStop.{HostStop}
 use Rattle.sam_endpoint.specs.declared.fault.TermStop.{TermStop}
@@ -20,19 +21,21 @@ use Rattle.sam_endpoint.specs.declared.step.TermStep.TheVariants as term
 use Rattle.sam_c.specs.declared.steps.SamDid.{SamDid}
 use Rattle.sam_c.specs.Status.{no_handle, bring_status, call_status, host_stop_status, term_stop_status, refusal_status}
 use Rattle.sam_c.specs.Calls.{AtHandle}
+unfoldable use Rattle.sam_c.specs.Hosts.{HostDoes}
+unfoldable use Rattle.sam_c.specs.Terms.{TermDoes}
 
 -- ## Bytes in
 
 abbrev pub HostBrought : Option PlainHostEndpoint → List ℕ → ℕ → Option PlainHostEndpoint → Type 0
 HostBrought before piece status after =
     AtHandle before status after
-    (λ e status g. (result : Result (Unit {0}) (BringFault HostStop)) × HostBringsIn e piece result g
+    (λ e status g. (result : Result (Unit {0}) (BringFault HostStop)) × HostDoes e (host_call.Bring piece result) g
     × (status ≡ bring_status host_stop_status result))
 
 abbrev pub TermBrought : Option PlainTermEndpoint → List ℕ → ℕ → Option PlainTermEndpoint → Type 0
 TermBrought before piece status after =
     AtHandle before status after
-    (λ e status g. (result : Result (Unit {0}) (BringFault TermStop)) × TermBringsIn e piece result g
+    (λ e status g. (result : Result (Unit {0}) (BringFault TermStop)) × TermDoes e (term_call.Bring piece result) g
     × (status ≡ bring_status term_stop_status result))
 
 -- ## What a step did
@@ -80,13 +83,15 @@ did_or did_of before (Err why) = before
 abbrev pub HostStepped : Option PlainHostEndpoint → SamDid → ℕ → SamDid → Option PlainHostEndpoint → Type 0
 HostStepped None before status after g = (status ≡ no_handle) × (after ≡ before) × (g ≡ None)
 HostStepped (Some e) before status after g =
-    (k : PlainHostEndpoint) × (result : Result HostStep (EndpointFault HostStop)) × (g ≡ Some k) × HostSteps e result k
+    (k : PlainHostEndpoint) × (result : Result HostStep (EndpointFault HostStop)) × (g ≡ Some k)
+    × HostDoes e (host_call.MakeStep result) k
     × (status ≡ call_status host_stop_status result) × (after ≡ did_or did_of_host before result)
 
 abbrev pub TermStepped : Option PlainTermEndpoint → SamDid → ℕ → SamDid → Option PlainTermEndpoint → Type 0
 TermStepped None before status after g = (status ≡ no_handle) × (after ≡ before) × (g ≡ None)
 TermStepped (Some e) before status after g =
-    (k : PlainTermEndpoint) × (result : Result TermStep (EndpointFault TermStop)) × (g ≡ Some k) × TermSteps e result k
+    (k : PlainTermEndpoint) × (result : Result TermStep (EndpointFault TermStop)) × (g ≡ Some k)
+    × TermDoes e (term_call.MakeStep result) k
     × (status ≡ call_status term_stop_status result) × (after ≡ did_or did_of_term before result)
 
 -- ## What the next step begins with

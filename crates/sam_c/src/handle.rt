@@ -2,17 +2,19 @@
 //! address to the calls. An exported type may hold no box, so a handle carries the parts of one under a pointer to bytes.
 
 ghost use Rattle.std.specs.Prelude.{◌≡◌, None, Option, Some, eqb, is_some, option_map};
-ghost use Rattle.sam_c.specs.Handles.{held_host_coded, held_line_coded, held_link_coded, held_term_coded, holds_host, holds_line, holds_link};
-ghost use Rattle.sam_c.specs.Handles.{holds_term, host_mark, line_mark, link_mark, term_mark};
+ghost use Rattle.sam_c.specs.Handles.{held_host_coded, held_line_coded, held_link_coded, held_overlay_coded, held_term_coded, holds_host};
+ghost use Rattle.sam_c.specs.Handles.{holds_line, holds_link, holds_overlay, holds_term, host_mark, line_mark, link_mark, overlay_mark, term_mark};
 ghost use Rattle.sam_endpoint.specs.HostEndpoints.{PlainHostEndpoint};
 ghost use Rattle.sam_endpoint.specs.TermEndpoints.{PlainTermEndpoint};
 ghost use Rattle.sam_line.specs.declared.line.Line.{Line as PlainLine};
 ghost use Rattle.sam_link.specs.End.{End};
+ghost use Rattle.sam_shown.specs.declared.shown_end.ShownEnd.{ShownEnd as PlainShownEnd};
 
 use crate::parts::Parts;
 use sam_endpoint::{HostEndpoint, TermEndpoint};
 use sam_line::Line;
 use sam_link::Link;
+use sam_shown::ShownEnd;
 use std::alloc::Global;
 use std::marker::Model;
 
@@ -47,6 +49,9 @@ const TERM_MARK: u64 = 8_314_046_373_261_832_813;
 
 /// What stands in a link's handle that is made: "sam link" as a number. Any other number says that the handle is empty.
 const LINK_MARK: u64 = 8_314_046_373_127_876_203;
+
+/// What stands in an overlay's handle that is made: "sam over" as a number. Any other number says that the handle is empty.
+const OVERLAY_MARK: u64 = 8_314_046_373_179_057_522;
 
 /// What stands in a line's handle that is made: "sam line" as a number. Any other number says that the handle is empty.
 const LINE_MARK: u64 = 8_314_046_373_127_876_197;
@@ -494,6 +499,118 @@ impl SamLine {
 
 impl Drop for SamLine {
     /// Frees the line, if the handle holds one.
+    fn drop(self) {
+        drop(self.into_end());
+    }
+}
+
+/// An overlay behind a pointer, or none. The derived drop leaves the memory to whoever holds the pointer by then.
+#[repr(C)]
+#[derive(Drop)]
+pub struct HeldOverlay {
+    /// Where the overlay lies, as a pointer to bytes; null if there is none.
+    at: *mut u8,
+    /// The allocator that the overlay's box came from.
+    alloc: Global,
+    /// The overlay behind the pointer, as contracts see it.
+    pub ghost end: { Option PlainShownEnd } by { held_overlay_coded },
+}
+
+impl Model for HeldOverlay {
+    ghost also_owns = { λ h. holds_overlay h.alloc h.at h.end };
+}
+
+unsafe impl Send for HeldOverlay {}
+
+impl HeldOverlay {
+    /// Keeps the parts of a box.
+    fn of_parts(parts: Parts<ShownEnd, Global>) -> HeldOverlay
+        ensures { result.end ≡ parts.value }
+    {
+        let Parts { at, alloc } = parts;
+        HeldOverlay {
+            at: at as *mut u8,
+            alloc,
+        }
+    }
+
+    /// Gives the parts back.
+    fn into_parts(self) -> Parts<ShownEnd, Global>
+        ensures { result.value ≡ self.end }
+    {
+        let HeldOverlay { at, alloc } = self;
+        Parts {
+            at: at as *mut ShownEnd,
+            alloc,
+        }
+    }
+}
+
+/// The handle of an overlay: `sam_overlay` of include/sulgrevad.h. It is empty, or holds an overlay, which clauses call `held.end`.
+#[repr(C)]
+pub struct SamOverlay {
+    /// The overlay, if the handle is made.
+    held: HeldOverlay,
+    /// `OVERLAY_MARK` if and only if the handle holds an overlay.
+    made: u64,
+    /// States that `held` and `made` agree.
+    ghost is_marked: { is_some held.end ≡ eqb made overlay_mark },
+}
+
+impl SamOverlay {
+    /// Makes an empty handle.
+    fn empty(alloc: Global) -> SamOverlay
+        ensures { result.held.end ≡ None }
+    {
+        SamOverlay {
+            held: HeldOverlay::of_parts(Parts::none(alloc)),
+            made: 0,
+        }
+    }
+
+    /// Returns the overlay; `None` if the handle is empty.
+    fn into_end(self) -> Option<Box<ShownEnd>>
+        ensures { option_map (λ end. end.value) result ≡ self.held.end }
+    {
+        let SamOverlay { held, made } = self;
+        if made == OVERLAY_MARK {
+            Some(held.into_parts().into_box())
+        } else {
+            None
+        }
+    }
+
+    /// Returns whether the handle holds an overlay.
+    pub(crate) fn is_made(&self) -> bool
+        ensures { result ≡ is_some self.now.held.end }
+    {
+        self.made == OVERLAY_MARK
+    }
+
+    /// Takes the overlay out of the handle, which is then empty. Returns `None` if it was empty.
+    pub(crate) fn take(&mut self, alloc: Global) -> Option<Box<ShownEnd>>
+        ensures end { option_map (λ end. end.value) result ≡ self.old.held.end }
+        ensures empty { self.new.held.end ≡ None }
+    {
+        if !self.is_made() {
+            return None;
+        }
+        std::mem::replace(self, SamOverlay::empty(alloc)).into_end()
+    }
+
+    /// Puts an overlay into the handle. One that it held before is freed.
+    pub(crate) fn put(&mut self, end: Box<ShownEnd>)
+        ensures { self.new.held.end ≡ Some end.value }
+    {
+        *self = SamOverlay {
+            held: HeldOverlay::of_parts(Parts::of(end)),
+            made: OVERLAY_MARK,
+        };
+    }
+}
+
+impl Drop for SamOverlay {
+    /// Frees the overlay, if the handle holds one.
     fn drop(self) {
         drop(self.into_end());
     }

@@ -48,6 +48,7 @@ pub extern "C" fn sam_host_free(host: &mut SamHost, alloc: Global) -> u32
 /// Errors, in this order: `SAM_NO_HANDLE`; `SAM_NOT_TEXT` if the name or the text is not UTF-8; `SAM_ADD_TOO_LONG` for a name of more than
 /// 64 runes or a text of more than 1,000,000; `SAM_ADD_NO_TAG` if all tags were given; `SAM_NO_MEMORY`. After an error the host and the tag
 /// are as they were.
+#[tactic(auto, using(crate::proofs::EndCalls::host_adds))]
 #[unsafe(no_mangle)]
 pub extern "C" fn sam_host_add_file(
     host: &mut SamHost,
@@ -74,6 +75,7 @@ pub extern "C" fn sam_host_add_file(
 ///
 /// Errors, in this order: `SAM_NO_HANDLE`; `SAM_NONE` if the tag has no file; `SAM_MARK_COMMAND_FILE` for tag 0; `SAM_MARK_NOT_ANNOUNCED`
 /// if the terminal was not told the file's name yet; `SAM_NO_MEMORY`. After an error the host is as it was.
+#[tactic(auto, using(crate::proofs::EndCalls::host_marks))]
 #[unsafe(no_mangle)]
 pub extern "C" fn sam_host_mark_dirty(host: &mut SamHost, tag: u16, alloc: Global) -> u32
     ensures { HostMarked host.old.held.end tag result host.new.held.end }
@@ -92,6 +94,7 @@ pub extern "C" fn sam_host_mark_dirty(host: &mut SamHost, tag: u16, alloc: Globa
 /// Returns `SAM_OK`, `SAM_NO_MEMORY`, `SAM_UNFINISHED`, `SAM_COUNT_FULL`, `SAM_NO_HANDLE`, or why the host has stopped, at this call or
 /// before: `SAM_STREAM..`, `SAM_HOST_REFUSED..`. What stood before the fault is answered. `SAM_NO_HANDLE` comes first; the order of the
 /// others is that of [`HostEndpoint::feed`].
+#[tactic(auto, using(crate::proofs::EndCalls::host_feeds))]
 #[unsafe(no_mangle)]
 pub extern "C" fn sam_host_feed(host: &mut SamHost, bytes: &[u8], alloc: Global) -> u32
     ensures { HostFed host.old.held.end bytes.now result host.new.held.end }
@@ -123,6 +126,7 @@ pub extern "C" fn sam_host_pending(host: &mut SamHost, len: &mut usize, alloc: G
 
 /// Moves the first pending bytes into the buffer, as many as it has room for, and hands out how many. `SAM_NO_HANDLE` if the handle is
 /// empty.
+#[tactic(auto, using(crate::proofs::EndCalls::host_takes_out))]
 #[unsafe(no_mangle)]
 pub extern "C" fn sam_host_take_out(
     host: &mut SamHost,
@@ -137,6 +141,7 @@ pub extern "C" fn sam_host_take_out(
 
 /// Hands out the tag of the next file that the terminal had the host write (Twrite) and that this call has not handed out yet: now is
 /// the time to write `sam_host_saved` of it to disk. `SAM_NO_HANDLE` if the handle is empty; `SAM_NONE` if there is no such tag.
+#[tactic(auto, using(crate::proofs::EndCalls::host_next_written))]
 #[unsafe(no_mangle)]
 pub extern "C" fn sam_host_next_written(host: &mut SamHost, tag: &mut u16, alloc: Global) -> u32
     ensures { HostNextWritten host.old.held.end tag.old result tag.new host.new.held.end }

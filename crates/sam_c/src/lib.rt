@@ -1,6 +1,6 @@
-//! The host, the terminal, a link, a line and messages for C, and the replay of scripts. Each export does what a call of a lower crate does,
-//! and states its clauses again over the value that the handle holds, or over the bytes that it is given. What a C program owes, and what
-//! each call does, stands in include/sulgrevad.h.
+//! The host, the terminal, an overlay, a link, a line and messages for C, and the replay of scripts. Each export does what a call of a
+//! lower crate does, and states its clauses again over the value that the handle holds, or over the bytes that it is given. What a C
+//! program owes, and what each call does, stands in include/sulgrevad.h.
 #![tactic(auto)]
 
 mod handle;
@@ -15,6 +15,11 @@ mod link_status;
 mod measures;
 mod members;
 mod note_calls;
+mod overlay_calls;
+mod overlay_drops;
+mod overlay_events;
+mod overlay_readers;
+mod overlay_status;
 mod parts;
 mod scripts;
 mod snapshots;
@@ -25,12 +30,15 @@ mod term_calls;
 mod term_events;
 mod term_readers;
 mod term_texts;
+mod term_typing;
 mod utf8;
 
-pub use handle::{SamHost, SamLine, SamLink, SamTerm};
+pub use handle::{SamHost, SamLine, SamLink, SamOverlay, SamTerm};
 pub use journal_calls::{SamJournalHead, SamRecord, SamRecordFrame};
 pub use line_readers::SamLineDetails;
 pub use link_calls::{SamLinkHello, SamLinkId};
 pub use note_calls::SamNote;
+pub use overlay_calls::SamSplice;
+pub use overlay_events::SamEvent;
 pub use snapshots::{SamTermFile, SamTermState};
 pub use steps::SamDid;

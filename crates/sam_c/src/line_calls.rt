@@ -2,9 +2,9 @@
 //! `SAM_NO_HANDLE`, `SAM_NONE` and each refusal what its other arguments lead to is as it was. `now` is the time, in milliseconds.
 
 ghost use Rattle.std.specs.Prelude.{◌≤◌, false, length};
-ghost use Rattle.sam_line.specs.Line.{at, broken, expecting, moved, not_connected};
+ghost use Rattle.sam_line.specs.Calls.LineCall.{Acknowledge, AddressChanged, Ask, Broken, Expect, NotConnected, Put};
 ghost use Rattle.sam_c.specs.Hosts.{Freed};
-ghost use Rattle.sam_c.specs.Lines.{LineAcknowledges, LineAsked, LineConnected, LineDone, LineMade, LineNextNote, LineNote, LineNotePut, LinePut};
+ghost use Rattle.sam_c.specs.Lines.{LineConnected, LineDone, LineMade, LineNextNote, LineNote, LineNotePut, LinePut};
 ghost use Rattle.sam_c.specs.Lines.{LineReceived, LineTakenIn, LineTakenOut, LineTicked};
 
 use crate::handle::{SamLine, with_end};
@@ -82,7 +82,7 @@ pub extern "C" fn sam_line_connected(
 /// Notes that the connection could not be made for which the line asked. `SAM_NO_HANDLE` if the handle is empty.
 #[unsafe(no_mangle)]
 pub extern "C" fn sam_line_not_connected(line: &mut SamLine, now: u64, alloc: Global) -> u32
-    ensures { LineDone line.old.held.end result line.new.held.end (λ l. not_connected (at l now)) }
+    ensures { LineDone line.old.held.end (NotConnected now) result line.new.held.end }
 {
     with_end!(line alloc mut end { end.not_connected(now); OK })
 }
@@ -90,7 +90,7 @@ pub extern "C" fn sam_line_not_connected(line: &mut SamLine, now: u64, alloc: Gl
 /// Notes that a connection is over. One that isn't the newest changes nothing but the time. `SAM_NO_HANDLE` if the handle is empty.
 #[unsafe(no_mangle)]
 pub extern "C" fn sam_line_broken(line: &mut SamLine, attempt: u64, now: u64, alloc: Global) -> u32
-    ensures { LineDone line.old.held.end result line.new.held.end (λ l. broken (at l now) attempt) }
+    ensures { LineDone line.old.held.end (Broken attempt now) result line.new.held.end }
 {
     with_end!(line alloc mut end { end.broken(attempt, now); OK })
 }
@@ -98,7 +98,7 @@ pub extern "C" fn sam_line_broken(line: &mut SamLine, attempt: u64, now: u64, al
 /// Notes that an address of the machine came or went. `SAM_NO_HANDLE` if the handle is empty.
 #[unsafe(no_mangle)]
 pub extern "C" fn sam_line_address_changed(line: &mut SamLine, now: u64, alloc: Global) -> u32
-    ensures { LineDone line.old.held.end result line.new.held.end (λ l. moved (at l now)) }
+    ensures { LineDone line.old.held.end (AddressChanged now) result line.new.held.end }
 {
     with_end!(line alloc mut end { end.address_changed(now); OK })
 }
@@ -106,7 +106,7 @@ pub extern "C" fn sam_line_address_changed(line: &mut SamLine, now: u64, alloc: 
 /// Notes whether the program waits for an answer of the host's program. `SAM_NO_HANDLE` if the handle is empty.
 #[unsafe(no_mangle)]
 pub extern "C" fn sam_line_expect(line: &mut SamLine, expects: bool, now: u64, alloc: Global) -> u32
-    ensures { LineDone line.old.held.end result line.new.held.end (λ l. expecting (at l now) expects) }
+    ensures { LineDone line.old.held.end (Expect expects now) result line.new.held.end }
 {
     with_end!(line alloc mut end { end.expect(expects, now); OK })
 }
@@ -114,7 +114,7 @@ pub extern "C" fn sam_line_expect(line: &mut SamLine, expects: bool, now: u64, a
 /// Puts bytes for the host's program, all or none. Errors, in this order: `SAM_NO_HANDLE`; `SAM_COUNT_FULL`; `SAM_NO_MEMORY`.
 #[unsafe(no_mangle)]
 pub extern "C" fn sam_line_put(line: &mut SamLine, bytes: &[u8], now: u64, alloc: Global) -> u32
-    ensures { LinePut line.old.held.end bytes.now now result line.new.held.end }
+    ensures { LinePut line.old.held.end (Put bytes.now now) result line.new.held.end }
 {
     with_end!(line alloc mut end { put_status(end.put(bytes, now)) })
 }
@@ -136,7 +136,7 @@ pub extern "C" fn sam_line_put_note(
 /// `SAM_NO_MEMORY`.
 #[unsafe(no_mangle)]
 pub extern "C" fn sam_line_ask(line: &mut SamLine, now: u64, alloc: Global) -> u32
-    ensures { LineAsked line.old.held.end now result line.new.held.end }
+    ensures { LinePut line.old.held.end (Ask now) result line.new.held.end }
 {
     with_end!(line alloc mut end { put_status(end.ask(now)) })
 }
@@ -144,7 +144,7 @@ pub extern "C" fn sam_line_ask(line: &mut SamLine, now: u64, alloc: Global) -> u
 /// Tells the host how many of its bytes have come. Errors, in this order: `SAM_NO_HANDLE`; `SAM_COUNT_FULL`; `SAM_NO_MEMORY`.
 #[unsafe(no_mangle)]
 pub extern "C" fn sam_line_acknowledge(line: &mut SamLine, alloc: Global) -> u32
-    ensures { LineAcknowledges line.old.held.end result line.new.held.end }
+    ensures { LinePut line.old.held.end Acknowledge result line.new.held.end }
 {
     with_end!(line alloc mut end { put_status(end.acknowledge()) })
 }

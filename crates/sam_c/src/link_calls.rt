@@ -1,14 +1,14 @@
 //! What C calls of a link: include/sulgrevad.h says of each call what it does. A call returns a number of `sam_status`; after
 //! `SAM_NO_HANDLE`, `SAM_NONE` and each refusal what its other arguments lead to is as it was.
 
-ghost use Rattle.std.specs.Prelude.{◌≡◌, ◌≤◌, ◌+◌, ◌-◌, [], false, length};
-ghost use Rattle.sam_mesg.specs.Spelling.{eight, frame};
-ghost use Rattle.sam_link.specs.Putting.{data_stream};
+ghost use Rattle.std.specs.Prelude.{◌≡◌, ◌≤◌, ◌+◌, ◌-◌, false, length};
+ghost use Rattle.sam_mesg.specs.Spelling.{eight};
+ghost use Rattle.sam_link.specs.Calls.Call.{Acknowledge, Ask, Put};
 ghost use Rattle.sam_link.specs.Sessions.{IsId};
 ghost use Rattle.sam_c.specs.Calls.{Reports};
 ghost use Rattle.sam_c.specs.Hosts.{Freed};
 ghost use Rattle.sam_c.specs.LinkStatus.{phase_number};
-ghost use Rattle.sam_c.specs.Links.{FedInto, FedPlaces, HelloTold, LinkAcknowledges, LinkAnswered, LinkBroken, LinkCalled, LinkFed, LinkFedInto};
+ghost use Rattle.sam_c.specs.Links.{FedInto, FedPlaces, HelloTold, LinkAnswered, LinkBroken, LinkCalled, LinkFed, LinkFedInto};
 ghost use Rattle.sam_c.specs.Links.{LinkFedPlaces, LinkMade, LinkNextNote, LinkNotePut, LinkPut, LinkTakenIn, LinkTakenOut, LinkWelcomed};
 ghost use Rattle.sam_c.specs.Links.{NextNote, RefusalWritten, TakesAnswer, TakesWelcome, id_bytes, refusing, told};
 
@@ -223,7 +223,7 @@ pub extern "C" fn sam_link_broken(link: &mut SamLink, attempt: u64, alloc: Globa
 /// Puts bytes for the other side's program, all or none. Errors, in this order: `SAM_NO_HANDLE`; `SAM_COUNT_FULL`; `SAM_NO_MEMORY`.
 #[unsafe(no_mangle)]
 pub extern "C" fn sam_link_put(link: &mut SamLink, bytes: &[u8], alloc: Global) -> u32
-    ensures { LinkPut link.old.held.end (data_stream bytes.now) result link.new.held.end }
+    ensures { LinkPut link.old.held.end (Put bytes.now) result link.new.held.end }
 {
     with_end!(link alloc mut end { put_status(end.put(bytes)) })
 }
@@ -239,7 +239,7 @@ pub extern "C" fn sam_link_put_note(link: &mut SamLink, bytes: &[u8], alloc: Glo
 /// Asks the other side to acknowledge now. Errors, in this order: `SAM_NO_HANDLE`; `SAM_COUNT_FULL`; `SAM_NO_MEMORY`.
 #[unsafe(no_mangle)]
 pub extern "C" fn sam_link_ask(link: &mut SamLink, alloc: Global) -> u32
-    ensures { LinkPut link.old.held.end (frame 4 []) result link.new.held.end }
+    ensures { LinkPut link.old.held.end Ask result link.new.held.end }
 {
     with_end!(link alloc mut end { put_status(end.ask()) })
 }
@@ -247,7 +247,7 @@ pub extern "C" fn sam_link_ask(link: &mut SamLink, alloc: Global) -> u32
 /// Tells the other side how many of its bytes have come. Errors, in this order: `SAM_NO_HANDLE`; `SAM_COUNT_FULL`; `SAM_NO_MEMORY`.
 #[unsafe(no_mangle)]
 pub extern "C" fn sam_link_acknowledge(link: &mut SamLink, alloc: Global) -> u32
-    ensures { LinkAcknowledges link.old.held.end result link.new.held.end }
+    ensures { LinkPut link.old.held.end Acknowledge result link.new.held.end }
 {
     with_end!(link alloc mut end { put_status(end.acknowledge()) })
 }
@@ -290,6 +290,7 @@ pub extern "C" fn sam_link_feed(
 }
 
 /// Feeds a piece, takes in what it brings, and hands out how many bytes that were.
+#[tactic(auto, using(crate::proofs::EndCalls::link_feeds_into))]
 fn feed_into(end: &mut Link, attempt: u64, bytes: &[u8], into: &mut [u8], count: &mut usize) -> u32
     ensures { FedInto end.old attempt bytes.now into.old into.new count.old result count.new end.new }
 {
@@ -319,6 +320,7 @@ pub extern "C" fn sam_link_feed_into(
 }
 
 /// Feeds a piece, takes what data it brings, says where that lies, and hands out at how many places.
+#[tactic(auto, using(crate::proofs::EndCalls::link_feeds_places))]
 fn feed_places(
     end: &mut Link,
     attempt: u64,

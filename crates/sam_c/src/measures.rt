@@ -8,17 +8,15 @@ ghost use Rattle.sam_c.specs.Measures.{front_runes};
 use crate::members::Members;
 use crate::status::OK;
 use crate::utf8::{Filled, put_rune};
-use sam_rasp::Rasp;
 
 /// Puts the loaded runes from a place on, up to the first gap, into the buffer in UTF-8 (RFC 3629), as many as have room whole. Returns how
 /// much it put. The rest of the buffer stays as it was.
-fn fill_front(rasp: &Rasp, place: u32, into: &mut [u8]) -> Filled
-    ensures fills { Fills (front_runes (drop place rasp.now)) into.old into.new result }
+fn fill_front(mut members: Members<'_>, place: u32, into: &mut [u8]) -> Filled
+    ensures fills { Fills (front_runes (drop place members.entry)) into.old into.new result }
     ensures few { result.runes < 2 ^ 32 }
 {
     let mut filled = Filled { bytes: 0, runes: 0 };
-    let mut members = Members::of(rasp);
-    let end = rasp.len().max(place);
+    let end = members.len().max(place);
     for at in place..end {
         let Some(Some(rune)) = members.at(at) else {
             return filled;
@@ -34,16 +32,16 @@ fn fill_front(rasp: &Rasp, place: u32, into: &mut [u8]) -> Filled
 
 /// Puts the loaded runes from a place on, up to the first gap, into the buffer, and hands out how many bytes and runes. Returns `OK`.
 pub(crate) fn tell_front(
-    rasp: &Rasp,
+    members: Members<'_>,
     place: u32,
     into: &mut [u8],
     bytes: &mut usize,
     runes: &mut u32,
 ) -> u32
-    ensures { Writes (Some (front_runes (drop place rasp.now))) result (written into.old bytes.old runes.old)
+    ensures { Writes (Some (front_runes (drop place members.entry))) result (written into.old bytes.old runes.old)
         (written into.new bytes.new runes.new) }
 {
-    let filled = fill_front(rasp, place, into);
+    let filled = fill_front(members, place, into);
     *bytes = filled.bytes;
     *runes = filled.runes as u32;
     OK

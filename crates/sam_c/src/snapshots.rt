@@ -71,7 +71,7 @@ pub struct SamTermFile {
 }
 
 /// Returns what the terminal holds.
-fn state_of(end: &TermEndpoint) -> SamTermState
+pub(crate) fn state_of(end: &TermEndpoint) -> SamTermState
     ensures { result ≡ term_state end.now }
 {
     let term = end.term();
@@ -114,7 +114,7 @@ fn is_free(end: &TermEndpoint, tag: u16) -> bool
 }
 
 /// Returns what the terminal knows of a tag.
-fn file_of(end: &TermEndpoint, tag: u16) -> SamTermFile
+pub(crate) fn file_of(end: &TermEndpoint, tag: u16) -> SamTermFile
     ensures { result ≡ file_state end.now tag }
 {
     let term = end.term();

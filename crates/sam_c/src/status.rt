@@ -38,7 +38,10 @@ pub(crate) const NOT_TEXT: u32 = 6;
 pub(crate) const NONE: u32 = 7;
 
 /// Some of what came before waits, and what the call brought was not taken.
-const WAITING: u32 = 8;
+pub(crate) const WAITING: u32 = 8;
+
+/// The buffer has less room than what is handed out may need.
+pub(crate) const NO_ROOM: u32 = 9;
 
 /// Added to the number, from 1, of why a file is not added; so too in the families below. Bytes that are no text, a file that isn't there to
 /// be marked, and out of memory for a file, a mark or a script are `NOT_TEXT`, `NONE` and `NO_MEMORY` in place of that.
@@ -113,6 +116,16 @@ fn term_refusal(why: TermFault) -> u32
     TERM_REFUSED + why as u32
 }
 
+/// Returns the number of why a terminal has stopped.
+pub(crate) fn term_stop_status(why: TermStop) -> u32
+    ensures { result ≡ term_stop_status why }
+{
+    match why {
+        TermStop::Stream(why) => stream_status(why),
+        TermStop::Refused(why) => term_refusal(why),
+    }
+}
+
 /// Returns the number of why an event was refused.
 pub(crate) fn refusal_status(why: Refusal) -> u32
     ensures { result ≡ refusal_status why }
@@ -153,8 +166,7 @@ pub(crate) fn term_status(came: Result<(), EndpointFault<TermStop>>) -> u32
         Err(EndpointFault::OutOfMemory) => NO_MEMORY,
         Err(EndpointFault::Unfinished) => UNFINISHED,
         Err(EndpointFault::CountFull) => COUNT_FULL,
-        Err(EndpointFault::Stopped(TermStop::Stream(why))) => stream_status(why),
-        Err(EndpointFault::Stopped(TermStop::Refused(why))) => term_refusal(why),
+        Err(EndpointFault::Stopped(why)) => term_stop_status(why),
     }
 }
 
@@ -181,8 +193,7 @@ pub(crate) fn term_bring_status(came: Result<(), BringFault<TermStop>>) -> u32
         Err(BringFault::Waiting) => WAITING,
         Err(BringFault::CountFull) => COUNT_FULL,
         Err(BringFault::OutOfMemory) => NO_MEMORY,
-        Err(BringFault::Stopped(TermStop::Stream(why))) => stream_status(why),
-        Err(BringFault::Stopped(TermStop::Refused(why))) => term_refusal(why),
+        Err(BringFault::Stopped(why)) => term_stop_status(why),
     }
 }
 
@@ -207,7 +218,6 @@ pub(crate) fn term_finish_status(came: Result<(), FinishFault<TermStop>>) -> u32
         Ok(()) => OK,
         Err(FinishFault::Unfinished) => UNFINISHED,
         Err(FinishFault::Truncated) => truncated(),
-        Err(FinishFault::Stopped(TermStop::Stream(why))) => stream_status(why),
-        Err(FinishFault::Stopped(TermStop::Refused(why))) => term_refusal(why),
+        Err(FinishFault::Stopped(why)) => term_stop_status(why),
     }
 }

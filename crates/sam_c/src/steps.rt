@@ -120,7 +120,7 @@ fn did_of_host(step: HostStep) -> SamDid
 }
 
 /// Returns what a terminal's step did, in numbers.
-fn did_of_term(step: TermStep) -> SamDid
+pub(crate) fn did_of_term(step: TermStep) -> SamDid
     ensures { result ≡ did_of_term step }
 {
     match step {
@@ -162,6 +162,7 @@ fn did_of_term(step: TermStep) -> SamDid
 /// Returns `SAM_OK`, `SAM_NO_HANDLE`, why the host has stopped before (`SAM_STREAM..`, `SAM_HOST_REFUSED..`), `SAM_WAITING` if some of what
 /// came before waits, `SAM_COUNT_FULL` or `SAM_NO_MEMORY`. `SAM_NO_HANDLE` comes first; the order of the others is that of
 /// [`HostEndpoint::bring`](sam_endpoint::HostEndpoint::bring). After an error the host is as it was.
+#[tactic(auto, using(crate::proofs::EndCalls::host_brings))]
 #[unsafe(no_mangle)]
 pub extern "C" fn sam_host_bring(host: &mut SamHost, bytes: &[u8], alloc: Global) -> u32
     ensures { HostBrought host.old.held.end bytes.now result host.new.held.end }
@@ -199,6 +200,7 @@ pub extern "C" fn sam_host_next_message(
 /// Returns `SAM_OK`, `SAM_NO_HANDLE`, `SAM_UNFINISHED` if memory was refused and nothing has changed, or why the host has stopped, at this
 /// call or before: `SAM_STREAM..`, `SAM_HOST_REFUSED..`. `SAM_NO_HANDLE` comes first; the order of the others is that of
 /// [`HostEndpoint::step`](sam_endpoint::HostEndpoint::step).
+#[tactic(auto, using(crate::proofs::EndCalls::host_makes_step))]
 #[unsafe(no_mangle)]
 pub extern "C" fn sam_host_step(host: &mut SamHost, did: &mut SamDid, alloc: Global) -> u32
     ensures { HostStepped host.old.held.end did.old result did.new host.new.held.end }
@@ -219,6 +221,7 @@ pub extern "C" fn sam_host_step(host: &mut SamHost, did: &mut SamDid, alloc: Glo
 /// Returns `SAM_OK`, `SAM_NO_HANDLE`, why the terminal has stopped before (`SAM_STREAM..`, `SAM_TERM_REFUSED..`), `SAM_WAITING` if some of
 /// what came before waits, `SAM_COUNT_FULL` or `SAM_NO_MEMORY`. `SAM_NO_HANDLE` comes first; the order of the others is that of
 /// [`TermEndpoint::bring`](sam_endpoint::TermEndpoint::bring). After an error the terminal is as it was.
+#[tactic(auto, using(crate::proofs::EndCalls::term_brings))]
 #[unsafe(no_mangle)]
 pub extern "C" fn sam_term_bring(term: &mut SamTerm, bytes: &[u8], alloc: Global) -> u32
     ensures { TermBrought term.old.held.end bytes.now result term.new.held.end }
@@ -231,6 +234,7 @@ pub extern "C" fn sam_term_bring(term: &mut SamTerm, bytes: &[u8], alloc: Global
 /// Returns `SAM_OK`, `SAM_NO_HANDLE`, `SAM_UNFINISHED` if memory was refused and nothing has changed, or why the terminal has stopped, at
 /// this call or before: `SAM_STREAM..`, `SAM_TERM_REFUSED..`. `SAM_NO_HANDLE` comes first; the order of the others is that of
 /// [`TermEndpoint::step`](sam_endpoint::TermEndpoint::step).
+#[tactic(auto, using(crate::proofs::EndCalls::term_makes_step))]
 #[unsafe(no_mangle)]
 pub extern "C" fn sam_term_step(term: &mut SamTerm, did: &mut SamDid, alloc: Global) -> u32
     ensures { TermStepped term.old.held.end did.old result did.new term.new.held.end }

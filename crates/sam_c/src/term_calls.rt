@@ -44,6 +44,7 @@ pub extern "C" fn sam_term_free(term: &mut SamTerm, alloc: Global) -> u32
 ///
 /// Returns `SAM_OK`, `SAM_NO_MEMORY`, `SAM_UNFINISHED`, `SAM_COUNT_FULL`, `SAM_NO_HANDLE`, or why the terminal has stopped, at this call
 /// or before: `SAM_STREAM..`, `SAM_TERM_REFUSED..`. `SAM_NO_HANDLE` comes first; the order of the others is that of [`TermEndpoint::feed`].
+#[tactic(auto, using(crate::proofs::EndCalls::term_feeds))]
 #[unsafe(no_mangle)]
 pub extern "C" fn sam_term_feed(term: &mut SamTerm, bytes: &[u8], alloc: Global) -> u32
     ensures { TermFed term.old.held.end bytes.now result term.new.held.end }
@@ -68,6 +69,7 @@ pub extern "C" fn sam_term_finish(term: &mut SamTerm, alloc: Global) -> u32
 ///
 /// Returns `SAM_OK`, `SAM_NO_MEMORY`, `SAM_UNFINISHED`, `SAM_NO_HANDLE`, or why the terminal has stopped, at this call or before:
 /// `SAM_STREAM..`, `SAM_TERM_REFUSED..`. `SAM_NO_HANDLE` comes first; the order of the others is that of [`TermEndpoint::flush_now`].
+#[tactic(auto, using(crate::proofs::EndCalls::term_flushes))]
 #[unsafe(no_mangle)]
 pub extern "C" fn sam_term_flush_now(term: &mut SamTerm, alloc: Global) -> u32
     ensures { TermIdled term.old.held.end result term.new.held.end }
@@ -86,6 +88,7 @@ pub extern "C" fn sam_term_pending(term: &mut SamTerm, len: &mut usize, alloc: G
 
 /// Moves the first pending bytes into the buffer, as many as it has room for, and hands out how many. `SAM_NO_HANDLE` if the handle is
 /// empty.
+#[tactic(auto, using(crate::proofs::EndCalls::term_takes_out))]
 #[unsafe(no_mangle)]
 pub extern "C" fn sam_term_take_out(
     term: &mut SamTerm,
@@ -100,6 +103,7 @@ pub extern "C" fn sam_term_take_out(
 
 /// Hands out the oldest refused event that was not handed out yet: which one, counted from 1 over all event calls that were taken, and why
 /// (`SAM_REFUSAL..`). `SAM_NO_HANDLE` if the handle is empty; `SAM_NONE` if there is no such event.
+#[tactic(auto, using(crate::proofs::EndCalls::term_next_refusal))]
 #[unsafe(no_mangle)]
 pub extern "C" fn sam_term_next_refusal(
     term: &mut SamTerm,
@@ -126,6 +130,7 @@ pub extern "C" fn sam_term_next_refusal(
 ///
 /// Errors, in this order: `SAM_NO_HANDLE`; `SAM_NONE` if the file is not open; `SAM_NO_MEMORY`, on the first call for a file. The terminal
 /// is then as it was.
+#[tactic(auto, using(crate::proofs::EndCalls::term_changed))]
 #[unsafe(no_mangle)]
 pub extern "C" fn sam_term_changed(
     term: &mut SamTerm,

@@ -19,6 +19,7 @@ use sam_term::UserEvent;
 use std::alloc::Global;
 
 /// Puts an event to the terminal that a handle holds, and returns what came of it.
+#[tactic(auto, using(crate::proofs::EndCalls::term_puts))]
 fn put(term: &mut SamTerm, event: UserEvent, alloc: Global) -> u32
     ensures { TermPut term.old.held.end event result term.new.held.end }
 {
@@ -26,7 +27,7 @@ fn put(term: &mut SamTerm, event: UserEvent, alloc: Global) -> u32
 }
 
 /// Returns the number of why a text is not read.
-fn read_status(why: ReadFault) -> u32
+pub(crate) fn read_status(why: ReadFault) -> u32
     ensures { result ≡ read_status why }
 {
     match why {

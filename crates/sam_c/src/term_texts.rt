@@ -9,6 +9,7 @@ ghost use Rattle.sam_c.specs.Terms.{rasp_of};
 
 use crate::handle::{SamTerm, with_end};
 use crate::measures::tell_front;
+use crate::members::Members;
 use crate::status::{NO_HANDLE, NONE};
 use crate::telling::{tell, tell_some, tell_two};
 use sam_endpoint::TermEndpoint;
@@ -53,7 +54,7 @@ pub extern "C" fn sam_term_text(
 {
     with_end!(term alloc end {
         match end.term().rasp(tag) {
-            Some(rasp) => tell_front(rasp, place, into, bytes, runes),
+            Some(rasp) => tell_front(Members::of(rasp), place, into, bytes, runes),
             None => NONE,
         }
     })

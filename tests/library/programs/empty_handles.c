@@ -50,6 +50,9 @@ static void no_host(sam_host *host, struct handed *out)
 static void no_term_for_events(sam_term *term)
 {
     WANT(sam_term_type(term, 0, BYTES("\xFF")), SAM_NO_HANDLE);
+    size_t taken = 7;
+    WANT(sam_term_type_text(term, 0, BYTES("\xFF"), &taken), SAM_NO_HANDLE);
+    WANT(taken, 7);
     WANT(sam_term_edit(term, 0, 0, 0, BYTES("\xFF")), SAM_NO_HANDLE);
     WANT(sam_term_select(term, 0, 0, 0), SAM_NO_HANDLE);
     WANT(sam_term_cut(term, 0), SAM_NO_HANDLE);

@@ -268,6 +268,20 @@ static void events_are_refused(sam_term *term)
     wants_refusal(term, SAM_REFUSAL_BAD_POSITION);
     WANT(sam_term_type(term, 1, many, sizeof many), SAM_OK);
     wants_refusal(term, SAM_REFUSAL_TEXT_TOO_LONG);
+    size_t taken;
+    WANT(sam_term_events(term, &last), SAM_OK);
+    WANT(sam_term_type_text(term, 9, many, sizeof many, &taken), SAM_OK); /* two events */
+    WANT(taken, sizeof many);
+    WANT(sam_term_events(term, &count), SAM_OK);
+    WANT(count, last + 2);
+    uint64_t event;
+    sam_status why;
+    WANT(sam_term_next_refusal(term, &event, &why), SAM_OK);
+    WANT(why, SAM_REFUSAL_NO_FILE);
+    WANT(event, last + 1);
+    wants_refusal(term, SAM_REFUSAL_NO_FILE);
+    WANT(sam_term_type_text(term, 1, BYTES("\xC3"), &taken), SAM_NOT_TEXT);
+    WANT(taken, 0);
     WANT(sam_term_close(term, 0), SAM_OK);
     wants_refusal(term, SAM_REFUSAL_COMMAND_FILE);
     WANT(sam_term_offer_version(term, 0), SAM_OK);

@@ -1,8 +1,8 @@
 /* What bindings/javascript promises: results, errors by code, texts, ends, numbers. Node and a page of a browser run it. */
 import * as sulgrevad from "../../../bindings/javascript/sulgrevad.js";
 
-const { Host, Line, Link, NoteCode, NoteKind, Terminal, Status, Tick, What, memory, readHello, readNote, replay, statusText } = sulgrevad;
-const { libraryVersion, writeNote, writeRefusal } = sulgrevad;
+const { EventKind, Host, Line, Link, NoteCode, NoteKind, Overlay, Terminal, Status, Tick, What, memory, readHello, readNote } = sulgrevad;
+const { libraryVersion, replay, statusText, writeNote, writeRefusal } = sulgrevad;
 const KEYS = 20000;
 
 function expect(holds, told) {
@@ -153,6 +153,17 @@ function checkEditing() {
   terminal.check(tag);
   carry(terminal, host);
   same([terminal.viewOf(tag).start, terminal.underWay, host.text(tag)], [0, 0, "a word and a word\nx"]);
+}
+
+function checkLongText() {
+  const [host, terminal, tag] = opened(["one", ""]);
+  const events = terminal.events;
+  const text = "é".repeat(600) + "日".repeat(500);
+  terminal.typeText(tag, text);
+  same(terminal.events - events, 3);
+  terminal.flush();
+  carry(terminal, host);
+  same(host.text(tag), text);
 }
 
 function checkRefusals() {
@@ -413,6 +424,115 @@ function checkNotes() {
   throwsPlain(TypeError, () => writeNote({ kind: NoteKind.OPEN, path: "/" }));
 }
 
+/** Carries bytes both ways until neither side has any, and returns each change of what is shown. */
+function carried(overlay, host, ...tags) {
+  const splices = [...overlay.goOn(...tags)];
+  while (overlay.pending + host.pending > 0) {
+    host.feed(overlay.takeOut());
+    overlay.bring(host.takeOut());
+    splices.push(...overlay.goOn(...tags));
+  }
+  return splices;
+}
+
+/** A host with one file, and an overlay that has opened and loaded it. */
+function overlaid(text) {
+  const [host, overlay] = [new Host(), new Overlay()];
+  const tag = host.addFile("a", text);
+  const events = [
+    ["OFFER_VERSION", { version: 2 }],
+    ["OPEN_CMD", {}],
+    ["OPEN", { tag }],
+    ["LOAD", { tag, number: 100 }],
+  ];
+  for (const [kind, fields] of events) {
+    overlay.bringEvent(EventKind[kind], fields);
+    carried(overlay, host);
+  }
+  return [host, overlay, tag];
+}
+
+function checkOverlay() {
+  const [host, overlay, tag] = overlaid("hello");
+  same([overlay.text(tag), overlay.len(tag), overlay.name(tag), overlay.putNext(tag)], ["hello", 5, "a", "nothing"]);
+  overlay.bringEvent(EventKind.WRITE, { tag });
+  same([...overlay.goOn(tag)], []);
+  overlay.replace(tag, 5, 5, " w\u{1D11E}rld");
+  overlay.replace(tag, 0, 1, "J");
+  same([overlay.file(tag).isLocked, overlay.file(tag).len, overlay.waiting(tag), overlay.putNext(tag)], [true, 5, 7, "not free"]);
+  same([overlay.read(tag, 6, 2), overlay.text(tag, 6, 2), overlay.nextWaiting()], [["w", "\u{1D11E}"], "w\u{1D11E}", tag]);
+  same([overlay.isWaiting(tag), overlay.isWaiting(0), overlay.nextWaiting(tag + 1)], [true, false, null]);
+  same(carried(overlay, host, tag), []);
+  same([host.text(tag), overlay.waiting(tag)], ["Jello w\u{1D11E}rld", 0]);
+  overlay.bringEvent(EventKind.SET_SNARF, { text: "snarf" });
+  overlay.bringEvent(EventKind.GET_SNARF);
+  overlay.bringEvent(EventKind.SELECT, { tag, start: 0, number: 2 });
+  overlay.bringEvent(EventKind.LOOK, { tag });
+  overlay.bringEvent(EventKind.NEW_FILE);
+  carried(overlay, host);
+  same([overlay.snarfed(1), overlay.pattern, overlay.current, overlay.state().version], ["narf", "Je", 2, 2]);
+  same([overlay.finish(), overlay.faultPlace, overlay.nextRefusal()], [undefined, null, null]);
+  overlay.bringEvent(EventKind.CLOSE, { tag });
+  same(carried(overlay, host)[0], { kind: "emptied", tag, place: 0, count: 0 });
+}
+
+function checkCommandFile() {
+  const [host, overlay] = overlaid("hello");
+  overlay.bringEvent(EventKind.TYPE_CMD, { text: "abc" });
+  overlay.step();
+  same([overlay.nextSplice(), ...overlay.splices()].at(-1), { kind: "came", tag: 0, place: 0, count: 3 });
+  for (const [kind, text] of [["SELECT"], ["CUT_CMD"], ["TYPE_CMD", "x"], ["PASTE_CMD"]]) {
+    carried(overlay, host);
+    overlay.bringEvent(EventKind[kind], { number: 2, text });
+  }
+  carried(overlay, host);
+  same([overlay.text(0), host.text(0)], ["xabc", "xabc"]);
+}
+
+function checkTakenBack() {
+  const [, overlay, tag] = overlaid("hello");
+  overlay.replace(tag, 5, 5, "wö");
+  same([overlay.dropNext(tag), overlay.firstGap(tag)], [null, null]);
+  const frame = new DataView(new ArrayBuffer(21)); // the host says that runes come in
+  frame.setUint8(0, 70);
+  frame.setUint16(1, 18);
+  frame.setBigUint64(3, BigInt(overlay.state().sent));
+  frame.setUint16(11, tag);
+  frame.setUint32(13, 2);
+  frame.setUint32(17, 999995);
+  overlay.bring(new Uint8Array(frame.buffer));
+  overlay.step();
+  throws("SamError", "WAITING", () => overlay.dropNext(tag));
+  same([...overlay.goOn()], [{ kind: "came", tag, place: 2, count: 999995 }]);
+  same([overlay.firstGap(tag), overlay.firstGap(tag, 999997)], [2, null]);
+  throws("EditRefused", "REFUSAL_TOO_LONG", () => overlay.putNext(tag));
+  same(overlay.dropNext(tag), { tag, place: 1000000, count: 2, text: "wö" });
+  same([overlay.len(tag), overlay.waiting(tag)], [1000000, 0]);
+}
+
+function checkRefusedOverlay() {
+  const [, overlay, tag] = overlaid("hello");
+  throws("EditRefused", "REFUSAL_NO_FILE", () => overlay.replace(9, 0, 0, "x"));
+  throws("EditRefused", "REFUSAL_COMMAND_FILE", () => overlay.replace(0, 0, 0, "x"));
+  throws("EditRefused", "REFUSAL_BAD_POSITION", () => overlay.replace(tag, 3, 6, "x"));
+  throws("NotText", "NOT_TEXT", () => overlay.replace(9, 0, 0, "\ud834"));
+  throws("NotText", "NOT_TEXT", () => overlay.bringEvent(EventKind.SET_SNARF, { text: "\ud834" }));
+  throws("Missing", "NONE", () => overlay.bringEvent(25));
+  throws("Missing", "NONE", () => overlay.text(9));
+  overlay.bringEvent(EventKind.DCLICK, { tag, start: 9 });
+  same([...overlay.goOn()], []);
+  same([[...overlay.refusals()].map(({ why }) => why)], [[Status.REFUSAL_BAD_POSITION]]);
+  overlay.replace(tag, 0, 0, "x");
+  same(overlay.putNext(tag), "edit");
+  throws("SamError", "WAITING", () => overlay.bring(new Uint8Array(0)));
+  same([...overlay.goOn(tag)], []);
+  overlay.bring(Uint8Array.of(255, 0, 0));
+  throws("StreamFault", "BAD_KIND", () => overlay.step());
+  expect(overlay.faultPlace > 0, "it says where");
+  overlay.free();
+  throws("HandleFault", "NO_HANDLE", () => overlay.step());
+}
+
 function checkMemory() {
   const [host, terminal, tag] = opened(["one", "abc"]);
   memory.limit(memory.taken);
@@ -443,7 +563,8 @@ function keyTime() {
 }
 
 const CHECKS = [
-  ...[checkTexts, checkFiles, checkEditing, checkRefusals, checkSteps, checkStates, checkNumbers, checkEnds],
+  ...[checkTexts, checkFiles, checkEditing, checkLongText, checkRefusals, checkSteps, checkStates, checkNumbers, checkEnds],
+  ...[checkOverlay, checkCommandFile, checkTakenBack, checkRefusedOverlay],
   ...[checkLink, checkRefusedLink, checkLine, checkNotes, checkMemory, checkScripts],
 ];
 

@@ -25,6 +25,8 @@ union out {
     sam_record record;
     sam_record_frame frame;
     sam_line_details details;
+    sam_splice splice;
+    sam_put put;
     uint8_t u8;
     uint16_t u16;
     uint32_t u32;
@@ -37,6 +39,7 @@ union out {
 /* Of each kind one that the calls use, and one that is empty most of the time. */
 static sam_host hosts[2];
 static sam_term terms[2];
+static sam_overlay overlays[2];
 static sam_link links[2]; /* both in use: an end of the terminal's side, and one of the host's */
 static sam_line lines[2]; /* both in use */
 static uint64_t asked, refused_from, refused_to;
@@ -112,6 +115,12 @@ static sam_term *term(void)
 {
     int which = getchar();
     return which == 2 ? NULL : &terms[which];
+}
+
+static sam_overlay *overlay(void)
+{
+    int which = getchar();
+    return which == 2 ? NULL : &overlays[which];
 }
 
 static sam_link *link(void)

@@ -16,6 +16,7 @@ pub const SAM_MADE: sam_status = 5;
 pub const SAM_NOT_TEXT: sam_status = 6;
 pub const SAM_NONE: sam_status = 7;
 pub const SAM_WAITING: sam_status = 8;
+pub const SAM_NO_ROOM: sam_status = 9;
 pub const SAM_ADD_TOO_LONG: sam_status = 19;
 pub const SAM_ADD_NO_TAG: sam_status = 20;
 pub const SAM_BAD_KIND: sam_status = 33;
@@ -239,6 +240,49 @@ pub const SAM_KIND_HSNARFLEN: u8 = 86;
 pub const SAM_KIND_HACK: u8 = 87;
 pub const SAM_KIND_HEXIT: u8 = 88;
 
+/// What a splice does: one of the numbers below.
+pub type sam_splice_kind = u32;
+
+pub const SAM_SPLICE_CAME: sam_splice_kind = 1;
+pub const SAM_SPLICE_WENT: sam_splice_kind = 2;
+pub const SAM_SPLICE_FILLED: sam_splice_kind = 3;
+pub const SAM_SPLICE_EMPTIED: sam_splice_kind = 4;
+
+/// The kind of an event that an overlay takes: one of the numbers below.
+pub type sam_event_kind = u32;
+
+pub const SAM_EVENT_SELECT: sam_event_kind = 1;
+pub const SAM_EVENT_DCLICK: sam_event_kind = 2;
+pub const SAM_EVENT_LOOK: sam_event_kind = 3;
+pub const SAM_EVENT_SEARCH: sam_event_kind = 4;
+pub const SAM_EVENT_FLUSH: sam_event_kind = 5;
+pub const SAM_EVENT_SNARF: sam_event_kind = 6;
+pub const SAM_EVENT_GET_SNARF: sam_event_kind = 7;
+pub const SAM_EVENT_SET_SNARF: sam_event_kind = 8;
+pub const SAM_EVENT_VIEW: sam_event_kind = 9;
+pub const SAM_EVENT_LOAD: sam_event_kind = 10;
+pub const SAM_EVENT_SCROLL: sam_event_kind = 11;
+pub const SAM_EVENT_CHECK: sam_event_kind = 12;
+pub const SAM_EVENT_OPEN: sam_event_kind = 13;
+pub const SAM_EVENT_NEW_FILE: sam_event_kind = 14;
+pub const SAM_EVENT_WRITE: sam_event_kind = 15;
+pub const SAM_EVENT_CLOSE: sam_event_kind = 16;
+pub const SAM_EVENT_OPEN_CMD: sam_event_kind = 17;
+pub const SAM_EVENT_WORK: sam_event_kind = 18;
+pub const SAM_EVENT_SEND: sam_event_kind = 19;
+pub const SAM_EVENT_OFFER_VERSION: sam_event_kind = 20;
+pub const SAM_EVENT_EXIT: sam_event_kind = 21;
+pub const SAM_EVENT_TYPE_CMD: sam_event_kind = 22;
+pub const SAM_EVENT_CUT_CMD: sam_event_kind = 23;
+pub const SAM_EVENT_PASTE_CMD: sam_event_kind = 24;
+
+/// What became of an edit that waits: one of the numbers below.
+pub type sam_put = u32;
+
+pub const SAM_PUT_NOTHING: sam_put = 0;
+pub const SAM_PUT_NOT_FREE: sam_put = 1;
+pub const SAM_PUT_EDIT: sam_put = 2;
+
 /// The result of a step.
 #[derive(Clone, Copy, Debug, Default, PartialEq, Eq)]
 #[repr(C)]
@@ -288,6 +332,27 @@ pub struct sam_file {
     pub is_changed: bool,
     pub is_locked: bool,
     pub is_free: bool,
+}
+
+/// A change of the shown text of a file.
+#[derive(Clone, Copy, Debug, Default, PartialEq, Eq)]
+#[repr(C)]
+pub struct sam_splice {
+    pub kind: sam_splice_kind,
+    pub place: u32,
+    pub count: u32,
+    pub tag: u16,
+}
+
+/// An event of the user, for an overlay.
+#[derive(Clone, Copy, Debug, Default, PartialEq, Eq)]
+#[repr(C)]
+pub struct sam_event {
+    pub kind: sam_event_kind,
+    pub start: u32,
+    pub number: u32,
+    pub tag: u16,
+    pub version: u16,
 }
 
 /// The place of bytes in a piece.
@@ -363,6 +428,14 @@ pub struct sam_term {
     pub made: u64,
 }
 
+/// The handle of an overlay. It is empty if all its bytes are zero.
+#[derive(Debug)]
+#[repr(C)]
+pub struct sam_overlay {
+    pub at: *mut c_void,
+    pub made: u64,
+}
+
 /// The handle of a link's end. It is empty if all its bytes are zero.
 #[derive(Debug)]
 #[repr(C)]
@@ -390,6 +463,14 @@ impl sam_host {
 impl sam_term {
     /// An empty handle: SAM_TERM_INIT.
     pub const INIT: sam_term = sam_term {
+        at: std::ptr::null_mut(),
+        made: 0,
+    };
+}
+
+impl sam_overlay {
+    /// An empty handle: SAM_OVERLAY_INIT.
+    pub const INIT: sam_overlay = sam_overlay {
         at: std::ptr::null_mut(),
         made: 0,
     };
@@ -544,9 +625,16 @@ extern "C" {
     pub fn sam_term_free(term: *mut sam_term) -> sam_status;
     /// Types a text in the place of the selection, which is then empty and after the text. The terminal sends the text with the text that
     /// is typed after it, at the latest before any other message. Refused by number, after the reasons of all events:
-    /// SAM_REFUSAL_TEXT_TOO_LONG for more than 512 runes, so cut a longer text into pieces; SAM_REFUSAL_TOO_LONG if the file would have
-    /// more than 1,000,000 runes.
+    /// SAM_REFUSAL_TEXT_TOO_LONG for more than 512 runes, which sam_term_type_text takes; SAM_REFUSAL_TOO_LONG if the file would have more
+    /// than 1,000,000 runes.
     pub fn sam_term_type(term: *mut sam_term, tag: u16, text: *const u8, len: usize) -> sam_status;
+    /// Types a text of any length: it is cut into events of 512 runes each, but for the last, and they are made in order, as by
+    /// sam_term_type. An empty text is one event. Hands out how many bytes of the text the events have that were taken. It ends with the
+    /// first event that is not answered by SAM_OK: what was taken before stays. If that answer is SAM_UNFINISHED, this event was taken,
+    /// too, and its bytes count; after any other answer they don't. Refused, in this order: SAM_NOT_TEXT; SAM_NO_MEMORY if there is none
+    /// for the runes of the text. The terminal is then as it was, and the number is 0. Each event may be refused by number, as one of
+    /// sam_term_type.
+    pub fn sam_term_type_text(term: *mut sam_term, tag: u16, text: *const u8, len: usize, taken: *mut usize) -> sam_status;
     /// Replaces the runes from the place `start` to the place `end` by a text of any length, all or nothing. An empty text takes the runes
     /// out. The places are those of the file's text when the event acts. The dot moves as other places do, and the snarf buffer stays as it
     /// is. Refused by number, in this order, and nothing is changed then: SAM_REFUSAL_EXITED; SAM_REFUSAL_NO_FILE; SAM_REFUSAL_COMMAND_FILE
@@ -781,6 +869,120 @@ extern "C" {
     pub fn sam_term_exited(term: *mut sam_term, exited: *mut bool) -> sam_status;
     /// Hands out the version of the protocol that both sides speak: 1, or 2 if both know it. Version 2 allows longer snarfed texts.
     pub fn sam_term_version(term: *mut sam_term, version: *mut u16) -> sam_status;
+
+    /// Makes an overlay over a terminal that knows no file. Refused, in this order: SAM_NO_HANDLE if the handle is NULL; SAM_MADE if it is
+    /// made already; SAM_NO_MEMORY. The handle is then as it was.
+    pub fn sam_overlay_new(overlay: *mut sam_overlay) -> sam_status;
+    /// Frees an overlay, with what waits and with its pending bytes, and leaves the handle empty. Refused: SAM_NO_HANDLE if the handle is
+    /// NULL or empty.
+    pub fn sam_overlay_free(overlay: *mut sam_overlay) -> sam_status;
+    /// Takes bytes of the host's frames, in pieces of any length, and receives none: the frames that are whole wait for sam_overlay_step.
+    /// Refused, in this order, and the overlay is then as it was: why the terminal has stopped before, SAM_STREAM.. or SAM_TERM_REFUSED..;
+    /// SAM_WAITING if earlier work is left, which is so until a step has handed out SAM_STEP_IDLE or SAM_STEP_LOCKED, and while an edit was
+    /// put that has not acted; SAM_COUNT_FULL; SAM_NO_MEMORY.
+    pub fn sam_overlay_bring(overlay: *mut sam_overlay, bytes: *const u8, len: usize) -> sam_status;
+    /// Makes one step with the frames and events that wait, as sam_term_step does, and hands out its result. Its change is that of the
+    /// terminal's text; that of the shown text is then handed out by sam_overlay_next_splice. By an edit that was put nothing that is shown
+    /// changes. Refused, in this order, and nothing is handed out then: SAM_WAITING if splices are left; why the terminal has stopped
+    /// before, SAM_STREAM.. or SAM_TERM_REFUSED..; SAM_UNFINISHED if memory is short, and nothing has changed, so make the step again; why
+    /// the terminal stops at this step: what is shown, and what waits, is as it was.
+    pub fn sam_overlay_step(overlay: *mut sam_overlay, did: *mut sam_did) -> sam_status;
+    /// Hands out the next change of the shown text by the last step. Returns SAM_NONE if none is left.
+    pub fn sam_overlay_next_splice(overlay: *mut sam_overlay, splice: *mut sam_splice) -> sam_status;
+    /// Tests whether the host's stream may end here, as sam_term_finish does, with its refusals. It changes nothing.
+    pub fn sam_overlay_finish(overlay: *mut sam_overlay) -> sam_status;
+    /// Hands out the number of bytes of the host's stream before the frame that is wrong, as sam_term_fault_place does.
+    pub fn sam_overlay_fault_place(overlay: *mut sam_overlay, place: *mut u64) -> sam_status;
+    /// Hands out the number of pending bytes, which are for the host.
+    pub fn sam_overlay_pending(overlay: *mut sam_overlay, len: *mut usize) -> sam_status;
+    /// Moves the first pending bytes into the buffer, as many as fit, and hands out their number.
+    pub fn sam_overlay_take_out(overlay: *mut sam_overlay, into: *mut u8, room: usize, count: *mut usize) -> sam_status;
+    /// Replaces the shown runes of a file from the place `start` to the place `end` by a text of any length, all or nothing. The new runes
+    /// stand behind what is shown before `start`. They are shown at once, and wait for sam_overlay_put_next; no lock refuses them. Refused,
+    /// in this order, and the overlay is then as it was: SAM_NOT_TEXT; SAM_NO_MEMORY if there is no memory for the runes; SAM_WAITING if
+    /// splices are left; SAM_REFUSAL_EXITED; why the terminal has stopped before, SAM_STREAM.. or SAM_TERM_REFUSED..; SAM_REFUSAL_NO_FILE;
+    /// SAM_REFUSAL_COMMAND_FILE for tag 0; SAM_REFUSAL_NOT_OPEN; SAM_REFUSAL_BAD_POSITION if `end` is below `start` or after the end of the
+    /// shown text; SAM_REFUSAL_TOO_LONG if there are runes, and these, the terminal's text and all that waits over it are more than
+    /// 1,000,000; SAM_NO_MEMORY, also while an edit of the file was put that has not acted: make steps first.
+    pub fn sam_overlay_replace(overlay: *mut sam_overlay, tag: u16, start: u32, end: u32, text: *const u8, len: usize) -> sam_status;
+    /// Puts the next edit of those that wait over a file as an event, if it can act at once, and hands out what became of it. The edit is
+    /// one removal, or one insertion of any length. Call it, and make a step, as long as it hands out SAM_PUT_EDIT. Refused, in this order,
+    /// and the overlay is then as it was: why the terminal has stopped before, SAM_STREAM.. or SAM_TERM_REFUSED..; SAM_REFUSAL_TOO_LONG if
+    /// the file would have more than 1,000,000 runes, because the host put more in meanwhile; SAM_COUNT_FULL after 2^64-1 events;
+    /// SAM_NO_MEMORY.
+    pub fn sam_overlay_put_next(overlay: *mut sam_overlay, tag: u16, put: *mut sam_put) -> sam_status;
+    /// Takes back the next insertion that waits over a file, if an edit could act at once and the file has no room for this one: that is
+    /// where sam_overlay_put_next answers SAM_REFUSAL_TOO_LONG. Copies its runes in UTF-8, all of them, and hands out the number of bytes,
+    /// and the splice by which they went of the shown text: its kind is SAM_SPLICE_WENT, and its `count` 0 if a later edit had taken them
+    /// out. Refused, in this order, and overlay and buffer are then as they were: SAM_WAITING if splices are left; SAM_NO_ROOM if the room
+    /// is less than four bytes for each rune that sam_overlay_waiting counts; SAM_NONE if nothing is to be taken back; SAM_NO_MEMORY.
+    pub fn sam_overlay_drop_next(
+        overlay: *mut sam_overlay,
+        tag: u16,
+        splice: *mut sam_splice,
+        into: *mut u8,
+        room: usize,
+        len: *mut usize,
+    ) -> sam_status;
+    /// Takes an event. It waits for sam_overlay_step. The text is that of SAM_EVENT_SET_SNARF and of SAM_EVENT_TYPE_CMD; for other kinds
+    /// `len` is 0. An event acts on the terminal's text: so put all that waits over its file first. Refused, in this order, and the overlay
+    /// is then as it was: SAM_NOT_TEXT if the text is not UTF-8; SAM_NO_MEMORY if there is no memory for its runes; SAM_NONE if no event
+    /// has this kind; why the terminal has stopped before, SAM_STREAM.. or SAM_TERM_REFUSED..; SAM_WAITING as for sam_overlay_bring;
+    /// SAM_COUNT_FULL after 2^64-1 events; SAM_NO_MEMORY.
+    pub fn sam_overlay_bring_event(overlay: *mut sam_overlay, event: *const sam_event, text: *const u8, len: usize) -> sam_status;
+    /// Hands out the oldest refused event that was not handed out yet: its number, counted from 1 over all events that were taken and all
+    /// edits that were put, and the reason (SAM_REFUSAL..). Returns SAM_NONE if there is none.
+    pub fn sam_overlay_next_refusal(overlay: *mut sam_overlay, event: *mut u64, why: *mut sam_status) -> sam_status;
+    /// Hands out the fields of sam_state at once, each as the reader sam_term_.. of its name does.
+    pub fn sam_overlay_state(overlay: *mut sam_overlay, state: *mut sam_state) -> sam_status;
+    /// Hands out the answers of several readers of one tag at once, as sam_term_file does. A tag without a file is no error. `len`, the dot
+    /// and the view are those of the terminal's text.
+    pub fn sam_overlay_file(overlay: *mut sam_overlay, tag: u16, file: *mut sam_file) -> sam_status;
+    /// Copies the name of a known file in UTF-8, as many whole runes as fit, and hands out the number of bytes. A room of 256 bytes is
+    /// always enough. Returns SAM_NONE if the terminal knows no file of this tag.
+    pub fn sam_overlay_name(overlay: *mut sam_overlay, tag: u16, into: *mut u8, room: usize, len: *mut usize) -> sam_status;
+    /// Hands out the file that the host's answer to SAM_EVENT_WORK or SAM_EVENT_NEW_FILE named last. It may be closed since. Returns
+    /// SAM_NONE if the host has named none yet.
+    pub fn sam_overlay_current(overlay: *mut sam_overlay, tag: *mut u16) -> sam_status;
+    /// Copies the pattern that the host reported last, in UTF-8, as many whole runes as fit, and hands out the number of bytes. A room of
+    /// 512 bytes is always enough.
+    pub fn sam_overlay_pattern(overlay: *mut sam_overlay, into: *mut u8, room: usize, len: *mut usize) -> sam_status;
+    /// Copies the snarfed text that the host sent last (SAM_EVENT_GET_SNARF), from the place `place` on, in UTF-8, as many whole runes as
+    /// fit. Hands out the number of bytes and the number of runes.
+    pub fn sam_overlay_snarfed(
+        overlay: *mut sam_overlay,
+        place: u32,
+        into: *mut u8,
+        room: usize,
+        bytes: *mut usize,
+        runes: *mut u32,
+    ) -> sam_status;
+    /// Hands out the number of runes that wait over a file, those that a later edit takes out among them. 0 if the file is not open, or if
+    /// nothing or only what takes runes out waits.
+    pub fn sam_overlay_waiting(overlay: *mut sam_overlay, tag: u16, runes: *mut u32) -> sam_status;
+    /// Hands out the first file from the tag `from` on over which an edit waits, also one that only takes runes out. To find all, go on
+    /// behind each. Returns SAM_NONE if there is none.
+    pub fn sam_overlay_next_waiting(overlay: *mut sam_overlay, from: u16, tag: *mut u16) -> sam_status;
+    /// Hands out the length of the shown text of an open file in runes, gaps counted. Returns SAM_NONE if the file is not open.
+    pub fn sam_overlay_len(overlay: *mut sam_overlay, tag: u16, runes: *mut u32) -> sam_status;
+    /// Hands out the first place of the shown text of an open file, at or after `place`, whose rune is not loaded. Returns SAM_NONE if the
+    /// file is not open, or if all are loaded from there on: sam_overlay_len tells the two apart.
+    pub fn sam_overlay_first_gap(overlay: *mut sam_overlay, tag: u16, place: u32, gap: *mut u32) -> sam_status;
+    /// Copies the shown runes of an open file from the place `place` on as numbers, as many as there are and fit, with SAM_GAP for each
+    /// that is not loaded. Hands out their number. The room counts runes. Returns SAM_NONE if the file is not open.
+    pub fn sam_overlay_read(overlay: *mut sam_overlay, tag: u16, place: u32, into: *mut u32, room: usize, count: *mut u32) -> sam_status;
+    /// Copies the shown text of an open file from the place `place` on, up to the first rune that is not loaded, in UTF-8, as many whole
+    /// runes as fit. Hands out the number of bytes and the number of runes. Both are 0 if a gap is at the place, if the place is at the end
+    /// or after it, or if the next rune does not fit. Returns SAM_NONE if the file is not open.
+    pub fn sam_overlay_text(
+        overlay: *mut sam_overlay,
+        tag: u16,
+        place: u32,
+        into: *mut u8,
+        room: usize,
+        bytes: *mut usize,
+        runes: *mut u32,
+    ) -> sam_status;
 
     /// Makes the end of one side (enum sam_link_role), before its first connection. The id is the session's name: 16 bytes that the
     /// terminal chose at random. It is no secret. Refused, in this order: SAM_NO_HANDLE if the handle is NULL; SAM_MADE if it is made

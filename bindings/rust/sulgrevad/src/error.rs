@@ -92,7 +92,7 @@ family! {
 }
 
 family! {
-    /// The reason why the terminal refused an event. The terminal goes on.
+    /// The reason why the terminal refused an event, or an overlay an edit. The terminal or overlay goes on.
     Refusal {
         /// The session has ended.
         Exited = SAM_REFUSAL_EXITED,
@@ -178,7 +178,7 @@ pub enum Error {
     Unfinished,
     /// A stream of 2^64 bytes, or 2^64 events or connections.
     CountFull,
-    /// Earlier work waits, so make steps first; the input was not taken.
+    /// Earlier work waits, so make steps, and take the splices, first; the input was not taken.
     Waiting,
     /// Bytes that are not UTF-8.
     NotText,
@@ -198,6 +198,8 @@ pub enum Error {
     HostRefused(HostFault),
     /// The terminal refused a frame, and has stopped.
     TermRefused(TermFault),
+    /// An overlay refused an edit of the user, and is as it was.
+    Edit(Refusal),
     /// A call of a link or a line was refused, which goes on.
     Link(LinkFault),
     /// Bytes are no message of a session, or a message isn't written.
@@ -229,6 +231,7 @@ impl Error {
                 .map(Error::Stream)
                 .or_else(|| HostFault::of(status).map(Error::HostRefused))
                 .or_else(|| TermFault::of(status).map(Error::TermRefused))
+                .or_else(|| Refusal::of(status).map(Error::Edit))
                 .or_else(|| LinkFault::of(status).map(Error::Link))
                 .or_else(|| NoteFault::of(status).map(Error::Note))
                 .unwrap_or(Error::Unknown(status)),
@@ -251,6 +254,7 @@ impl Error {
             Error::Stream(why) => why.status(),
             Error::HostRefused(why) => why.status(),
             Error::TermRefused(why) => why.status(),
+            Error::Edit(why) => why.status(),
             Error::Link(why) => why.status(),
             Error::Note(why) => why.status(),
             Error::ScriptLine(_) => sys::SAM_SCRIPT_LINE,
@@ -353,9 +357,9 @@ mod tests {
         (136, Refusal::BadVersion),
     ];
 
-    /// Those that no safe call hands on: SAM_OK, SAM_NO_HANDLE, SAM_MADE, SAM_NONE, SAM_LINK_NO_ROOM, those of a
+    /// Those that no safe call hands on: SAM_OK, SAM_NO_HANDLE, SAM_MADE, SAM_NONE, SAM_NO_ROOM, SAM_LINK_NO_ROOM, those of a
     /// journal, which has no safe calls, and SAM_SCRIPT_LINE, which `replay` gives its line.
-    const OTHERS: [u32; 12] = [0, 4, 5, 161, 206, 257, 258, 259, 260, 261, 262, 263];
+    const OTHERS: [u32; 13] = [0, 4, 5, 9, 161, 206, 257, 258, 259, 260, 261, 262, 263];
 
     #[test]
     fn each_number_is_its_error() {

@@ -1,4 +1,5 @@
 //! A proved host and a proved terminal for editors whose screen and text live apart, after Rob Pike's sam: safe Rust over the C library.
+//! An [`Overlay`] is a terminal for an editor that takes each key at once: what its user does is shown while it waits.
 //! A [`Link`] carries the bytes of both over connections that may break; a [`Line`] also says when a terminal is to connect.
 //! `sulgrevad.h` and the page EMBEDDING of the repository have the whole story, and `sulgrevad-sys` says how the library is found.
 //!
@@ -44,6 +45,7 @@ mod host;
 mod line;
 mod link;
 mod note;
+mod overlay;
 mod script;
 mod step;
 mod terminal;
@@ -53,6 +55,7 @@ pub use host::Host;
 pub use line::{Line, LineDetails, LineState, Tick};
 pub use link::{read_hello, write_refusal, Hello, Link, Phase, Place, Role, What, HELLO_BYTES, MOST_NOTE};
 pub use note::{read_note, write_note, Note, NoteCode, NoteKind};
+pub use overlay::{Dropped, Event, Overlay, Put, Splice, SpliceKind};
 pub use script::replay;
 pub use step::{HostStep, NextFrame, TermStep};
 pub use terminal::{Change, FileState, TermState, Terminal};

@@ -36,6 +36,25 @@ pub struct TermState {
     pub exited: bool,
 }
 
+impl TermState {
+    pub(crate) fn of(state: &sam_state) -> TermState {
+        TermState {
+            events: state.events,
+            decided: state.decided,
+            held: state.held,
+            sent: state.sent,
+            under_way: state.under_way,
+            pending: state.pending,
+            tags: state.tags,
+            unsent: state.unsent,
+            snarf_len: state.snarf_len,
+            version: state.version,
+            command_locked: state.command_locked,
+            exited: state.exited,
+        }
+    }
+}
+
 /// The state of a terminal's file. Each field is the result of its reader. If there is no such file, or it is not open, the fields that
 /// need it are 0 or `false`.
 #[derive(Clone, Copy, Debug, PartialEq, Eq)]
@@ -51,6 +70,28 @@ pub struct FileState {
     pub len: u32,
     pub dot: (u32, u32),
     pub view: (u32, u32),
+}
+
+impl FileState {
+    pub(crate) fn of(file: &sam_file) -> FileState {
+        FileState {
+            is_known: file.is_known,
+            is_open: file.is_open,
+            is_dirty: file.is_dirty,
+            is_changed: file.is_changed,
+            is_locked: file.is_locked,
+            is_free: file.is_free,
+            len: file.len,
+            dot: (file.dot_start, file.dot_end),
+            view: (file.view_start, file.view_end),
+        }
+    }
+}
+
+/// Returns the runes that the library handed out as numbers: `None` for each that is not loaded.
+pub(crate) fn shown(runes: Vec<u32>) -> Vec<Option<char>> {
+    let shown = |rune| if rune == GAP { None } else { char::from_u32(rune) };
+    runes.into_iter().map(shown).collect()
 }
 
 /// A terminal. It is dropped with its pending bytes. A thread may hand it to another, but two can't share it:
@@ -99,6 +140,15 @@ impl Terminal {
     /// `NotOpen`; `TextTooLong` for more than 512 runes; `TooLong` if the file would have more than 1,000,000.
     pub fn type_(&mut self, tag: u16, text: &str) -> Result<(), Error> {
         done(unsafe { sys::sam_term_type(self.at(), tag, text.as_ptr(), text.len()) })
+    }
+
+    /// Types a text of any length, in events of 512 runes each, but for the last. Hands out how many bytes of the text were taken, also
+    /// beside an error: an event that isn't answered well is the last, and what was taken before stays. After `Unfinished` its own bytes
+    /// count, too.
+    pub fn type_text(&mut self, tag: u16, text: &str) -> (usize, Result<(), Error>) {
+        let mut taken = 0;
+        let status = unsafe { sys::sam_term_type_text(self.at(), tag, text.as_ptr(), text.len(), &mut taken) };
+        (taken, done(status))
     }
 
     /// Replaces the runes from the place `start` to the place `end` by a text of any length, all or nothing. An empty text takes the runes
@@ -336,8 +386,7 @@ impl Terminal {
         let mut runes = vec![0; most];
         let count: u32 = told(|count| unsafe { sys::sam_term_read(self.at(), tag, place, runes.as_mut_ptr(), most, count) })?;
         runes.truncate(count as usize);
-        let shown = |rune| if rune == GAP { None } else { char::from_u32(rune) };
-        Some(runes.into_iter().map(shown).collect())
+        Some(shown(runes))
     }
 
     /// Returns the change of an open file's text since the last call for this file: the smallest stretch that holds all that each frame and
@@ -353,37 +402,12 @@ impl Terminal {
 
     /// Returns the state of the terminal by one call.
     pub fn state(&self) -> TermState {
-        let state = tells(|value: &mut sam_state| unsafe { sys::sam_term_state(self.at(), value) });
-        TermState {
-            events: state.events,
-            decided: state.decided,
-            held: state.held,
-            sent: state.sent,
-            under_way: state.under_way,
-            pending: state.pending,
-            tags: state.tags,
-            unsent: state.unsent,
-            snarf_len: state.snarf_len,
-            version: state.version,
-            command_locked: state.command_locked,
-            exited: state.exited,
-        }
+        TermState::of(&tells(|value| unsafe { sys::sam_term_state(self.at(), value) }))
     }
 
     /// Returns the state of a file by one call. A tag without a file is no error.
     pub fn file(&self, tag: u16) -> FileState {
-        let file = tells(|value: &mut sam_file| unsafe { sys::sam_term_file(self.at(), tag, value) });
-        FileState {
-            is_known: file.is_known,
-            is_open: file.is_open,
-            is_dirty: file.is_dirty,
-            is_changed: file.is_changed,
-            is_locked: file.is_locked,
-            is_free: file.is_free,
-            len: file.len,
-            dot: (file.dot_start, file.dot_end),
-            view: (file.view_start, file.view_end),
-        }
+        FileState::of(&tells(|value| unsafe { sys::sam_term_file(self.at(), tag, value) }))
     }
 
     /// Returns the number of events that were taken. Right after one was, it is the number of that event, by which a refusal names it.

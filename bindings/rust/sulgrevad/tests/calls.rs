@@ -239,6 +239,18 @@ fn a_snarf_buffer_that_is_set_is_pasted_and_comes_back_whole() -> Result<(), Err
 }
 
 #[test]
+fn a_text_of_any_length_is_typed_as_events_of_512_runes() -> Result<(), Error> {
+    let (mut host, mut term, file) = opened("")?;
+    let (events, text) = (term.events(), "é".repeat(600) + &"日".repeat(500));
+    assert_eq!(term.type_text(file, &text), (text.len(), Ok(())));
+    assert_eq!(term.events() - events, 3);
+    term.flush_now()?;
+    carry(&mut term, &mut host)?;
+    assert_eq!(host.text(file), Some(text));
+    Ok(())
+}
+
+#[test]
 fn a_typed_file_is_dirty_at_the_host_until_it_is_written() -> Result<(), Error> {
     let (mut host, mut term, file) = opened("one\n")?;
     assert_eq!((host.is_dirty(0), host.is_dirty(file)), (Some(false), Some(false)));

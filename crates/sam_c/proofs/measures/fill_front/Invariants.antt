@@ -6,8 +6,8 @@ use Rattle.sam_c.proofs.measures.fill_front.Given as goal
 -- the runes from the place on stand in the buffer, as far as the loop has come
 abbrev pub invariant-loop-at : goal.invariant-loop-at
 invariant-loop-at l = record {
-  same : l.members ≡ l.rasp;
+  same : l.members ≡ l.fn.members;
   at : l.at ≡ l.place + l.filled.runes;
-  count : l.filled.runes ≤ length (front_runes (drop l.place l.rasp));
-  stands : Stands (front_runes (drop l.place l.rasp)) l.fn.into l.into l.filled.runes l.filled.bytes;
+  count : l.filled.runes ≤ length (front_runes (drop l.place l.fn.members));
+  stands : Stands (front_runes (drop l.place l.fn.members)) l.fn.into l.into l.filled.runes l.filled.bytes;
 }

@@ -1,4 +1,4 @@
-use Rattle.std.proofs.Common.{◌≡◌, sym, arith, length-take, take_all}
+use Rattle.std.proofs.Common.{sym, arith, length-take, take_all}
 use Rattle.sam_c.proofs.utf8.countable.Goals as goal
 
 pub slice_bounds-result-end : goal.slice_bounds-result-end

@@ -1,0 +1,417 @@
+//! A terminal whose user never waits: the edits that wait are shown over its texts.
+
+use crate::step::term_step;
+use crate::terminal::shown;
+use crate::{done, part_of_text, short_text, tells, told, whole_text, Error, FileState, Refusal, TermState, TermStep, PIECE};
+use std::cell::UnsafeCell;
+use sulgrevad_sys::{self as sys, sam_did, sam_event, sam_overlay, sam_splice};
+
+/// What a splice does.
+#[derive(Clone, Copy, Debug, PartialEq, Eq)]
+#[non_exhaustive]
+pub enum SpliceKind {
+    /// Runes or gaps came in at the place.
+    Came,
+    /// Runes or gaps from the place on went.
+    Went,
+    /// The runes from the place on are loaded now. Nothing moved.
+    Filled,
+    /// The text is empty: the file was opened, or closed, and what waited over it is gone.
+    Emptied,
+}
+
+/// A change of the shown text of a file. Of several by one step each is made in the text that the ones before it left.
+#[derive(Clone, Copy, Debug, PartialEq, Eq)]
+pub struct Splice {
+    /// What it does.
+    pub kind: SpliceKind,
+    /// The file.
+    pub tag: u16,
+    /// The place where it begins; 0 for `Emptied`.
+    pub place: u32,
+    /// The number of runes or gaps; 0 for `Emptied`.
+    pub count: u32,
+}
+
+/// Runes that an overlay gives back, because the host left no room for them.
+#[derive(Clone, Debug, PartialEq, Eq)]
+pub struct Dropped {
+    /// The file.
+    pub tag: u16,
+    /// The place of the shown text where they stood.
+    pub place: u32,
+    /// The number of runes that went there; 0 if a later edit had taken them out.
+    pub count: u32,
+    /// All of them.
+    pub text: String,
+}
+
+/// What became of an edit that waits.
+#[derive(Clone, Copy, Debug, PartialEq, Eq)]
+pub enum Put {
+    /// Nothing waits over the file: what is shown is the terminal's text.
+    Nothing,
+    /// It waits on: a lock is held, or frames, events or composed messages come first.
+    NotFree,
+    /// It was put, and the next step has it act.
+    Edit,
+}
+
+/// An event of the user that leaves each text but that of the command file. Each does what the call of a [`Terminal`](crate::Terminal) does
+/// that has its name; those of `Cmd` do it at the command file.
+#[derive(Clone, Copy, Debug, PartialEq, Eq)]
+pub enum Event<'a> {
+    /// `(tag, start, end)`
+    Select(u16, u32, u32),
+    /// `(tag, place)`
+    Dclick(u16, u32),
+    Look(u16),
+    Search(u16),
+    Flush,
+    Snarf(u16),
+    GetSnarf,
+    SetSnarf(&'a str),
+    /// `(tag, place, len)`
+    View(u16, u32, u32),
+    /// `(tag, place, len)`
+    Load(u16, u32, u32),
+    /// `(tag, lines)`
+    Scroll(u16, u32),
+    Check(u16),
+    Open(u16),
+    NewFile,
+    Write(u16),
+    Close(u16),
+    OpenCmd,
+    Work(u16),
+    Send(u16),
+    OfferVersion(u16),
+    Exit,
+    TypeCmd(&'a str),
+    CutCmd,
+    PasteCmd,
+}
+
+impl Event<'_> {
+    /// Returns the event as the library takes it.
+    fn numbers(self) -> sam_event {
+        let (kind, tag, start, number) = match self {
+            Event::Select(tag, start, end) => (sys::SAM_EVENT_SELECT, tag, start, end),
+            Event::Dclick(tag, place) => (sys::SAM_EVENT_DCLICK, tag, place, 0),
+            Event::Look(tag) => (sys::SAM_EVENT_LOOK, tag, 0, 0),
+            Event::Search(tag) => (sys::SAM_EVENT_SEARCH, tag, 0, 0),
+            Event::Flush => (sys::SAM_EVENT_FLUSH, 0, 0, 0),
+            Event::Snarf(tag) => (sys::SAM_EVENT_SNARF, tag, 0, 0),
+            Event::GetSnarf => (sys::SAM_EVENT_GET_SNARF, 0, 0, 0),
+            Event::SetSnarf(_) => (sys::SAM_EVENT_SET_SNARF, 0, 0, 0),
+            Event::View(tag, place, len) => (sys::SAM_EVENT_VIEW, tag, place, len),
+            Event::Load(tag, place, len) => (sys::SAM_EVENT_LOAD, tag, place, len),
+            Event::Scroll(tag, lines) => (sys::SAM_EVENT_SCROLL, tag, 0, lines),
+            Event::Check(tag) => (sys::SAM_EVENT_CHECK, tag, 0, 0),
+            Event::Open(tag) => (sys::SAM_EVENT_OPEN, tag, 0, 0),
+            Event::NewFile => (sys::SAM_EVENT_NEW_FILE, 0, 0, 0),
+            Event::Write(tag) => (sys::SAM_EVENT_WRITE, tag, 0, 0),
+            Event::Close(tag) => (sys::SAM_EVENT_CLOSE, tag, 0, 0),
+            Event::OpenCmd => (sys::SAM_EVENT_OPEN_CMD, 0, 0, 0),
+            Event::Work(tag) => (sys::SAM_EVENT_WORK, tag, 0, 0),
+            Event::Send(tag) => (sys::SAM_EVENT_SEND, tag, 0, 0),
+            Event::OfferVersion(_) => (sys::SAM_EVENT_OFFER_VERSION, 0, 0, 0),
+            Event::Exit => (sys::SAM_EVENT_EXIT, 0, 0, 0),
+            Event::TypeCmd(_) => (sys::SAM_EVENT_TYPE_CMD, 0, 0, 0),
+            Event::CutCmd => (sys::SAM_EVENT_CUT_CMD, 0, 0, 0),
+            Event::PasteCmd => (sys::SAM_EVENT_PASTE_CMD, 0, 0, 0),
+        };
+        let version = match self {
+            Event::OfferVersion(version) => version,
+            _ => 0,
+        };
+        sam_event {
+            kind,
+            start,
+            number,
+            tag,
+            version,
+        }
+    }
+}
+
+/// A terminal for an editor that has a text of its own and takes each key at once. What the user does is shown at once, also while the file
+/// is locked. Until the file is free it waits over the terminal's text, and the host's changes go through it.
+///
+/// Places count runes and gaps of the shown text. An editor that takes each splice before it tells of an edit has the shown text as its
+/// own, and its places are always right. A replacement makes no splice.
+///
+/// ```
+/// use sulgrevad::{Event, Host, Overlay, Put, TermStep};
+///
+/// let mut host = Host::new()?;
+/// let file = host.add_file("notes", "")?;
+/// let mut overlay = Overlay::new()?;
+///
+/// // Goes on as far as it can, and puts what waits. In an editor each splice goes into its own text, and a pipe stands between the two.
+/// fn go_on(overlay: &mut Overlay, file: u16) -> Result<(), sulgrevad::Error> {
+///     loop {
+///         while !matches!(overlay.step()?, TermStep::Idle | TermStep::Locked) {
+///             for _splice in overlay.splices() {}
+///         }
+///         if overlay.put_next(file)? != Put::Edit {
+///             return Ok(());
+///         }
+///     }
+/// }
+/// fn carry(overlay: &mut Overlay, host: &mut Host, file: u16) -> Result<(), sulgrevad::Error> {
+///     go_on(overlay, file)?;
+///     while overlay.pending() + host.pending() > 0 {
+///         let up: Vec<u8> = overlay.take_out().flatten().collect();
+///         host.feed(&up)?;
+///         let down: Vec<u8> = host.take_out().flatten().collect();
+///         overlay.bring(&down)?;
+///         go_on(overlay, file)?;
+///     }
+///     Ok(())
+/// }
+///
+/// overlay.bring_event(Event::OfferVersion(2))?;
+/// carry(&mut overlay, &mut host, file)?;
+/// overlay.bring_event(Event::Open(file))?;
+/// carry(&mut overlay, &mut host, file)?;
+/// overlay.bring_event(Event::Write(file))?;
+/// go_on(&mut overlay, file)?; // the file is locked now
+/// overlay.replace(file, 0, 0, "hello")?;
+/// assert_eq!(overlay.text(file, 0).as_deref(), Some("hello"));
+/// carry(&mut overlay, &mut host, file)?;
+/// assert_eq!(host.text(file).as_deref(), Some("hello"));
+/// # Ok::<(), sulgrevad::Error>(())
+/// ```
+#[derive(Debug)]
+pub struct Overlay {
+    // Each call writes to the handle, those that only read included.
+    handle: Box<UnsafeCell<sam_overlay>>,
+}
+
+// A handle shares nothing with another, and each call has it alone.
+unsafe impl Send for Overlay {}
+
+impl Overlay {
+    /// Makes an overlay over a terminal that knows no file. Its only error is `NoMemory`.
+    pub fn new() -> Result<Overlay, Error> {
+        let handle = Box::new(UnsafeCell::new(sam_overlay::INIT));
+        done(unsafe { sys::sam_overlay_new(handle.get()) })?;
+        Ok(Overlay { handle })
+    }
+
+    fn at(&self) -> *mut sam_overlay {
+        self.handle.get()
+    }
+
+    /// Replaces the shown runes from the place `start` to the place `end` by a text of any length, all or nothing. The new runes stand
+    /// behind what is shown before `start`. They are shown at once, and wait for `put_next`; no lock refuses them. Errors, in this order,
+    /// and the overlay is then as it was: `NoMemory`; `Waiting` if splices are left; `Edit(Exited)`; why the terminal has stopped before
+    /// (`Stream`, `TermRefused`); `Edit` with `NoFile`, `CommandFile` for tag 0, `NotOpen`, `BadPosition` for a range that the shown text
+    /// doesn't have, `TooLong` if these runes, the terminal's text and all that waits over it are more than 1,000,000; `NoMemory`, also
+    /// while an edit of the file was put that has not acted.
+    pub fn replace(&mut self, tag: u16, start: u32, end: u32, text: &str) -> Result<(), Error> {
+        done(unsafe { sys::sam_overlay_replace(self.at(), tag, start, end, text.as_ptr(), text.len()) })
+    }
+
+    /// Puts the next edit of those that wait over a file as an event, if it can act at once, and returns what became of it. Call it, and
+    /// make a step, as long as it returns `Edit`. Errors, in this order, and the overlay is then as it was: why the terminal has stopped
+    /// before; `Edit(TooLong)` if the file would have more than 1,000,000 runes, because the host put more in meanwhile; `CountFull`;
+    /// `NoMemory`.
+    pub fn put_next(&mut self, tag: u16) -> Result<Put, Error> {
+        let mut put = 0;
+        done(unsafe { sys::sam_overlay_put_next(self.at(), tag, &mut put) })?;
+        Ok(match put {
+            sys::SAM_PUT_NOTHING => Put::Nothing,
+            sys::SAM_PUT_NOT_FREE => Put::NotFree,
+            _ => Put::Edit,
+        })
+    }
+
+    /// Takes back the next insertion that waits over a file, if an edit could act at once and the file has no room for this one: that is
+    /// where `put_next` returns `Edit(TooLong)`. Returns it; `None` if nothing is to be taken back. Errors, in this order, and the overlay
+    /// is then as it was: `Waiting` if splices are left; `NoMemory`.
+    pub fn drop_next(&mut self, tag: u16) -> Result<Option<Dropped>, Error> {
+        let mut bytes = vec![0; 4 * self.waiting(tag) as usize];
+        let (mut splice, mut len) = (sam_splice::default(), 0);
+        let status = unsafe { sys::sam_overlay_drop_next(self.at(), tag, &mut splice, bytes.as_mut_ptr(), bytes.len(), &mut len) };
+        if status == sys::SAM_NONE {
+            return Ok(None);
+        }
+        done(status)?;
+        bytes.truncate(len);
+        Ok(Some(Dropped {
+            tag: splice.tag,
+            place: splice.place,
+            count: splice.count,
+            text: String::from_utf8(bytes).expect("the library writes UTF-8"),
+        }))
+    }
+
+    /// Takes an event; `step` has it act. An event acts on the terminal's text, so put all that waits over its file first. Errors, in this
+    /// order, and the overlay is then as it was: `NoMemory`, if it brings a text; why the terminal has stopped before; `Waiting` until a
+    /// step was `Idle` or `Locked`, and while an edit was put that has not acted; `CountFull`; `NoMemory`.
+    pub fn bring_event(&mut self, event: Event<'_>) -> Result<(), Error> {
+        let text = match event {
+            Event::SetSnarf(text) | Event::TypeCmd(text) => text,
+            _ => "",
+        };
+        done(unsafe { sys::sam_overlay_bring_event(self.at(), &event.numbers(), text.as_ptr(), text.len()) })
+    }
+
+    /// Takes bytes of the host's frames, in pieces of any length, and receives none: the frames that are whole wait for `step`. Errors, in
+    /// this order, and the bytes are then not taken: why the terminal has stopped before; `Waiting` until a step was `Idle` or `Locked`,
+    /// and while an edit was put that has not acted; `CountFull`; `NoMemory`.
+    pub fn bring(&mut self, bytes: &[u8]) -> Result<(), Error> {
+        done(unsafe { sys::sam_overlay_bring(self.at(), bytes.as_ptr(), bytes.len()) })
+    }
+
+    /// Makes one step with the frames and events that wait, as that of a terminal, and returns its result, whose change is that of the
+    /// terminal's text. `splices` then has the changes of the shown text. Errors, in this order: `Waiting` if splices of an earlier step
+    /// are left; why the terminal has stopped before; `Unfinished` if memory is short, and nothing has changed; why the terminal stops at
+    /// this step.
+    pub fn step(&mut self) -> Result<TermStep, Error> {
+        let mut did = sam_did::default();
+        done(unsafe { sys::sam_overlay_step(self.at(), &mut did) })?;
+        Ok(term_step(&did))
+    }
+
+    /// Returns the next change of the shown text by the last step; `None` if none is left.
+    pub fn next_splice(&mut self) -> Option<Splice> {
+        let splice: sam_splice = told(|splice| unsafe { sys::sam_overlay_next_splice(self.at(), splice) })?;
+        Some(Splice {
+            kind: match splice.kind {
+                sys::SAM_SPLICE_CAME => SpliceKind::Came,
+                sys::SAM_SPLICE_WENT => SpliceKind::Went,
+                sys::SAM_SPLICE_FILLED => SpliceKind::Filled,
+                _ => SpliceKind::Emptied,
+            },
+            tag: splice.tag,
+            place: splice.place,
+            count: splice.count,
+        })
+    }
+
+    /// Returns the changes of `next_splice`, up to the last.
+    pub fn splices(&mut self) -> impl Iterator<Item = Splice> + '_ {
+        std::iter::from_fn(|| self.next_splice())
+    }
+
+    /// Tests whether the host's stream may end here, as `finish` of a terminal does, with its errors. It changes nothing.
+    pub fn finish(&self) -> Result<(), Error> {
+        done(unsafe { sys::sam_overlay_finish(self.at()) })
+    }
+
+    /// Returns the number of bytes of the host's stream before the frame that is wrong, if the terminal has stopped by `Stream`; `None` if
+    /// it goes on, or has stopped because of a refusal.
+    pub fn fault_place(&self) -> Option<u64> {
+        told(|place| unsafe { sys::sam_overlay_fault_place(self.at(), place) })
+    }
+
+    /// Returns the number of pending bytes, which are for the host.
+    pub fn pending(&self) -> usize {
+        tells(|len| unsafe { sys::sam_overlay_pending(self.at(), len) })
+    }
+
+    /// Takes the pending bytes, in pieces.
+    pub fn take_out(&mut self) -> impl Iterator<Item = Vec<u8>> + '_ {
+        std::iter::from_fn(|| {
+            let mut piece = vec![0; PIECE.min(self.pending())];
+            let mut count = 0;
+            unsafe { sys::sam_overlay_take_out(self.at(), piece.as_mut_ptr(), piece.len(), &mut count) };
+            piece.truncate(count);
+            (count > 0).then_some(piece)
+        })
+    }
+
+    /// Returns the oldest refused event that was not handed out yet: its number, counted from 1 over all events that were taken and all
+    /// edits that were put, and the reason; `None` if there is none. A reason that this crate doesn't know is `Err`, with its number in
+    /// sulgrevad.h.
+    pub fn next_refusal(&mut self) -> Option<(u64, Result<Refusal, u32>)> {
+        let mut why = 0;
+        let event = told(|event| unsafe { sys::sam_overlay_next_refusal(self.at(), event, &mut why) })?;
+        Some((event, Refusal::of(why).ok_or(why)))
+    }
+
+    /// Returns the state of the terminal by one call.
+    pub fn state(&self) -> TermState {
+        TermState::of(&tells(|value| unsafe { sys::sam_overlay_state(self.at(), value) }))
+    }
+
+    /// Returns the state of a file by one call. A tag without a file is no error. Length, dot and view are those of the terminal's text.
+    pub fn file(&self, tag: u16) -> FileState {
+        FileState::of(&tells(|value| unsafe { sys::sam_overlay_file(self.at(), tag, value) }))
+    }
+
+    /// Returns the name of a known file; `None` if the tag is not known.
+    pub fn name(&self, tag: u16) -> Option<String> {
+        short_text(|into, len| unsafe { sys::sam_overlay_name(self.at(), tag, into.as_mut_ptr(), into.len(), len) })
+    }
+
+    /// Returns the tag of the file that the host's answer to `Work` or `NewFile` named last; `None` before the first. The file may be
+    /// closed since.
+    pub fn current(&self) -> Option<u16> {
+        told(|value| unsafe { sys::sam_overlay_current(self.at(), value) })
+    }
+
+    /// Returns the pattern that the host reported last.
+    pub fn pattern(&self) -> String {
+        short_text(|into, len| unsafe { sys::sam_overlay_pattern(self.at(), into.as_mut_ptr(), into.len(), len) })
+            .expect("the handle is made")
+    }
+
+    /// Returns the snarfed text that the host sent last (`GetSnarf`). It may be only the front of the host's buffer, because at most 4,096
+    /// bytes come, or 32,000 in version 2.
+    pub fn snarfed(&self) -> String {
+        whole_text(|place, into, bytes, runes| unsafe {
+            sys::sam_overlay_snarfed(self.at(), place, into.as_mut_ptr(), into.len(), bytes, runes)
+        })
+        .expect("the handle is made")
+    }
+
+    /// Returns the number of runes that wait over a file, those that a later edit takes out among them. It is 0 if the file is not open, or
+    /// if only what takes runes out waits.
+    pub fn waiting(&self, tag: u16) -> u32 {
+        tells(|value| unsafe { sys::sam_overlay_waiting(self.at(), tag, value) })
+    }
+
+    /// Returns the first file from the tag `from` on over which an edit waits, also one that only takes runes out; `None` if there is none.
+    pub fn next_waiting(&self, from: u16) -> Option<u16> {
+        told(|tag| unsafe { sys::sam_overlay_next_waiting(self.at(), from, tag) })
+    }
+
+    /// Returns the first place of the shown text of a file, at or after `place`, whose rune is not loaded; `None` if the file is not open,
+    /// or if all are loaded from there on.
+    pub fn first_gap(&self, tag: u16, place: u32) -> Option<u32> {
+        told(|gap| unsafe { sys::sam_overlay_first_gap(self.at(), tag, place, gap) })
+    }
+
+    /// Returns the length of the shown text of an open file in runes, gaps counted; `None` if the file is not open.
+    pub fn len(&self, tag: u16) -> Option<u32> {
+        told(|value| unsafe { sys::sam_overlay_len(self.at(), tag, value) })
+    }
+
+    /// Returns the shown runes of an open file from the place `place` on, at most `most`: in it `None` for each that is not loaded. Returns
+    /// `None` if the file is not open.
+    pub fn read(&self, tag: u16, place: u32, most: usize) -> Option<Vec<Option<char>>> {
+        let most = most.min(self.len(tag)?.saturating_sub(place) as usize);
+        let mut runes = vec![0; most];
+        let count: u32 = told(|count| unsafe { sys::sam_overlay_read(self.at(), tag, place, runes.as_mut_ptr(), most, count) })?;
+        runes.truncate(count as usize);
+        Some(shown(runes))
+    }
+
+    /// Returns the shown text of an open file from the place `place` on, up to the first rune that is not loaded; `None` if the file is not
+    /// open.
+    pub fn text(&self, tag: u16, place: u32) -> Option<String> {
+        part_of_text(place, u32::MAX, |place, into, bytes, runes| unsafe {
+            sys::sam_overlay_text(self.at(), tag, place, into.as_mut_ptr(), into.len(), bytes, runes)
+        })
+    }
+}
+
+impl Drop for Overlay {
+    fn drop(&mut self) {
+        unsafe { sys::sam_overlay_free(self.at()) };
+    }
+}

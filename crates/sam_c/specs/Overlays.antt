@@ -1,0 +1,245 @@
+-- What the calls of an overlay do.
+use Rattle.std.specs.Prelude.{◌≡◌, ◌⊎◌, ◌*◌, ℕ, Bool, true, false, nat_le, List, [], ◌∷◌, ◌++◌, drop, length, if◌then◌else◌, Option, Some, None, Result, Ok, Err}
+use Rattle.std.specs.Str.{encode_utf8_all, IsUtf8}
+use Rattle.sam_runes.specs.Reading.{AreRunes}
+use Rattle.sam_runes.specs.Texts.{is_empty}
+use Rattle.sam_mesg.specs.Bounds.{entry}
+use Rattle.sam_pending.specs.Cells.{PartialText}
+use Rattle.sam_pending.specs.declared.fault.PendingFault.{PendingFault}
+use Rattle.sam_pending.specs.declared.told.Dropped.{Dropped}
+use Rattle.sam_term.specs.Term.{is_open}
+use Rattle.sam_term.specs.declared.event.UserEvent.{UserEvent}
+use Rattle.sam_term.specs.declared.event.UserEvent.TheVariants.{Check, Close, Cut, Dclick, Exit, Flush, GetSnarf, Load, Look, New, Open, OpenCmd, Paste, Scroll, Search, Select, Send, SetSnarf, Snarf, Typed, Version, View, Work, Write}
+use Rattle.sam_term.specs.declared.fault.Refusal.{Refusal}
+use Rattle.sam_endpoint.specs.TermEndpoints.{PlainTermEndpoint, Finishes}
+use Rattle.sam_endpoint.specs.declared.fault.EndpointFault.{EndpointFault}
+use Rattle.sam_endpoint.specs.declared.fault.FinishFault.{FinishFault}
+use Rattle.sam_endpoint.specs.declared.fault.TermStop.{TermStop}
+use Rattle.sam_endpoint.specs.declared.step.BringFault.{BringFault}
+use Rattle.sam_endpoint.specs.declared.step.TermStep.{TermStep}
+use Rattle.sam_overlay.specs.Calls.{Asks, Brings, Drops, Puts, gap_from, shown_at, waiting_at}
+use Rattle.sam_overlay.specs.Outcomes.{IsNextWaiting}
+use Rattle.sam_overlay.specs.declared.fault.PutFault.{PutFault}
+use Rattle.sam_overlay.specs.declared.fault.ReplaceFault.{ReplaceFault}
+use Rattle.sam_overlay.specs.declared.shown_change.Put.{Put}
+use Rattle.sam_shown.specs.Shown.{Edits, StepsShown, new_shown_end}
+use Rattle.sam_shown.specs.declared.shown_end.ShownEnd.{ShownEnd}
+use Rattle.sam_shown.specs.declared.splices.Splice.{Splice}
+use Rattle.sam_shown.specs.declared.splices.SpliceKind.TheVariants as splice
+use Rattle.sam_c.specs.Status.{ok, no_memory, is_made, no_handle, no_room, not_text, nothing, waiting, bring_status, call_status, refusal_status, term_finish_status, term_stop_status}
+use Rattle.sam_c.specs.Calls.{AtHandle, TellsOne}
+use Rattle.sam_c.specs.Hosts.{Takes}
+use Rattle.sam_c.specs.OverlayStatus.{put_number, put_status, replace_status, splice_number}
+use Rattle.sam_c.specs.Steps.{did_of_term, did_or}
+use Rattle.sam_c.specs.declared.overlay_calls.SamSplice.{SamSplice}
+use Rattle.sam_c.specs.declared.overlay_events.SamEvent.{SamEvent}
+use Rattle.sam_c.specs.declared.steps.SamDid.{SamDid}
+
+-- a new overlay, or why there is none and the handle is as before
+abbrev pub OverlayMade : Option ShownEnd → ℕ → Option ShownEnd → Type 0
+OverlayMade None status after = ((status ≡ ok) × (after ≡ Some new_shown_end)) ⊎ ((status ≡ no_memory) × (after ≡ None))
+OverlayMade (Some e) status after = (status ≡ is_made) × (after ≡ Some e)
+
+-- ## Bytes in and out
+
+abbrev pub OverlayBrought : Option ShownEnd → List ℕ → ℕ → Option ShownEnd → Type 0
+OverlayBrought before piece status after =
+    AtHandle before status after
+    (λ e status g. (result : Result (Unit {0}) (BringFault TermStop)) × Brings e.overlay piece result g.overlay × (g.splices ≡ e.splices)
+    × (status ≡ bring_status term_stop_status result))
+
+-- whether the host's stream may end here
+abbrev pub OverlayFinished : Option ShownEnd → ℕ → Type 0
+OverlayFinished None status = status ≡ no_handle
+OverlayFinished (Some e) status =
+    (result : Result (Unit {0}) (FinishFault TermStop)) × Finishes e.overlay.end result × (status ≡ term_finish_status result)
+
+-- the same with another terminal end
+abbrev pub over_end : ShownEnd → PlainTermEndpoint → ShownEnd
+over_end e end = record e { overlay = record e.overlay { end = end } }
+
+abbrev pub OverlayTaken : Option ShownEnd → List ℕ → List ℕ → ℕ → ℕ → ℕ → Option ShownEnd → Type 0
+OverlayTaken None before after old_count status new_count g =
+    (status ≡ no_handle) × (after ≡ before) × (new_count ≡ old_count) × (g ≡ None)
+OverlayTaken (Some e) before after old_count status new_count g =
+    (left : List ℕ) × (status ≡ ok) × Takes e.overlay.end.pending_bytes before after new_count left
+    × (g ≡ Some (over_end e (record e.overlay.end { pending_bytes = left })))
+
+-- the oldest refused event is handed out, with the number of why
+abbrev pub FirstRefused : ShownEnd → List (ℕ × Refusal) → ℕ × ℕ → ℕ → ℕ × ℕ → Option ShownEnd → Type 0
+FirstRefused e [] before status after g = (status ≡ nothing) × (after ≡ before) × (g ≡ Some e)
+FirstRefused e (refused ∷ rest) before status after g =
+    (status ≡ ok) × (after ≡ (refused.0, refusal_status refused.1)) × (g ≡ Some (over_end e (record e.overlay.end { refusals = rest })))
+
+abbrev pub OverlayNextRefusal : Option ShownEnd → ℕ × ℕ → ℕ → ℕ × ℕ → Option ShownEnd → Type 0
+OverlayNextRefusal None before status after g = (status ≡ no_handle) × (after ≡ before) × (g ≡ None)
+OverlayNextRefusal (Some e) before status after g = FirstRefused e e.overlay.end.refusals before status after g
+
+-- ## Texts that are brought
+
+-- the bytes spell these runes, and with them this is done; or they are not UTF-8, or memory for the runes was refused
+abbrev pub WithText : ShownEnd → List ℕ → (List ℕ → ℕ → ShownEnd → Type 0) → ℕ → ShownEnd → Type 0
+WithText e text Does status g =
+    ((runes : List ℕ) × AreRunes runes × (encode_utf8_all runes ≡ text) × Does runes status g)
+    ⊎ (((status ≡ not_text) × (IsUtf8 text → ⊥) × (g ≡ e)) ⊎ ((status ≡ no_memory) × IsUtf8 text × (g ≡ e)))
+
+-- ## Events that pass
+
+-- the events in the order of their numbers, from 1 on; the text is that of those which bring one. The last three are of the command file
+abbrev pub events : SamEvent → List ℕ → List UserEvent
+events x text =
+    Select x.tag x.start x.number
+    ∷ Dclick x.tag x.start
+    ∷ Look x.tag
+    ∷ Search x.tag
+    ∷ Flush
+    ∷ Snarf x.tag
+    ∷ GetSnarf
+    ∷ SetSnarf text
+    ∷ View x.tag x.start x.number
+    ∷ Load x.tag x.start x.number
+    ∷ Scroll x.tag x.number
+    ∷ Check x.tag
+    ∷ Open x.tag
+    ∷ New
+    ∷ Write x.tag
+    ∷ Close x.tag
+    ∷ OpenCmd
+    ∷ Work x.tag
+    ∷ Send x.tag
+    ∷ Version x.version
+    ∷ Exit
+    ∷ Typed 0 text
+    ∷ Cut 0
+    ∷ Paste 0
+    ∷ []
+
+abbrev pub event_of : SamEvent → List ℕ → Option UserEvent
+event_of x text = entry 1 (events x text) x.kind
+
+-- the event is brought; if there is none, nothing is done
+abbrev pub BringsOne : ShownEnd → Option UserEvent → ℕ → ShownEnd → Type 0
+BringsOne e None status g = (status ≡ nothing) × (g ≡ e)
+BringsOne e (Some event) status g =
+    (result : Result (Unit {0}) (BringFault TermStop)) × Asks e.overlay event result g.overlay × (g.splices ≡ e.splices)
+    × (status ≡ bring_status term_stop_status result)
+
+abbrev pub OverlayBroughtOne : Option ShownEnd → Option UserEvent → ℕ → Option ShownEnd → Type 0
+OverlayBroughtOne before event status after = AtHandle before status after (λ e status g. BringsOne e event status g)
+
+abbrev pub OverlayEvent : Option ShownEnd → SamEvent → List ℕ → ℕ → Option ShownEnd → Type 0
+OverlayEvent before x text status after =
+    AtHandle before status after (λ e status g. WithText e text (λ runes status g. BringsOne e (event_of x runes) status g) status g)
+
+-- ## Edits of the user
+
+-- while splices are left all is as before
+abbrev pub ReplacesOne : ShownEnd → Bool → ℕ → ℕ × ℕ → List ℕ → ℕ → ShownEnd → Type 0
+ReplacesOne e false tag range runes status g = (status ≡ waiting) × (g ≡ e)
+ReplacesOne e true tag range runes status g =
+    (result : Result (Unit {0}) ReplaceFault) × Edits e.overlay tag range.0 range.1 runes result g.overlay × (g.splices ≡ e.splices)
+    × (status ≡ replace_status e.overlay.end.stop result)
+
+abbrev pub OverlayReplacedBy : Option ShownEnd → ℕ → ℕ × ℕ → List ℕ → ℕ → Option ShownEnd → Type 0
+OverlayReplacedBy before tag range runes status after =
+    AtHandle before status after (λ e status g. ReplacesOne e (is_empty e.splices) tag range runes status g)
+
+abbrev pub OverlayReplaced : Option ShownEnd → ℕ → ℕ × ℕ → List ℕ → ℕ → Option ShownEnd → Type 0
+OverlayReplaced before tag range text status after =
+    AtHandle before status after
+    (λ e status g. WithText e text (λ runes status g. ReplacesOne e (is_empty e.splices) tag range runes status g) status g)
+
+-- what became of the edit, or what stood there before
+abbrev pub put_or : ℕ → Result Put PutFault → ℕ
+put_or before (Ok put) = put_number put
+put_or before (Err why) = before
+
+abbrev pub OverlayPut : Option ShownEnd → ℕ → ℕ → ℕ → ℕ → Option ShownEnd → Type 0
+OverlayPut None tag old status new after = (status ≡ no_handle) × (new ≡ old) × (after ≡ None)
+OverlayPut (Some e) tag old status new after =
+    (g : ShownEnd) × (result : Result Put PutFault) × (after ≡ Some g) × Puts e.overlay tag result g.overlay × (g.splices ≡ e.splices)
+    × (status ≡ put_status result) × (new ≡ put_or old result)
+
+-- ## Steps, and changes of what is shown
+
+-- while splices are left all is as before
+abbrev pub StepsOne : ShownEnd → Bool → SamDid → ℕ → SamDid → ShownEnd → Type 0
+StepsOne e false old status new g = (status ≡ waiting) × (new ≡ old) × (g ≡ e)
+StepsOne e true old status new g =
+    (result : Result TermStep (EndpointFault TermStop)) × StepsShown e result g × (status ≡ call_status term_stop_status result)
+    × (new ≡ did_or did_of_term old result)
+
+abbrev pub OverlayStepped : Option ShownEnd → SamDid → ℕ → SamDid → Option ShownEnd → Type 0
+OverlayStepped None old status new after = (status ≡ no_handle) × (new ≡ old) × (after ≡ None)
+OverlayStepped (Some e) old status new after = (g : ShownEnd) × (after ≡ Some g) × StepsOne e (is_empty e.splices) old status new g
+
+abbrev pub told_splice : Splice → SamSplice
+told_splice x = record { kind = splice_number x.kind; place = x.place; count = x.count; tag = x.tag }
+
+-- the next one is handed out
+abbrev pub FirstSplice : ShownEnd → List Splice → SamSplice → ℕ → SamSplice → Option ShownEnd → Type 0
+FirstSplice e [] old status new after = (status ≡ nothing) × (new ≡ old) × (after ≡ Some e)
+FirstSplice e (x ∷ rest) old status new after = (status ≡ ok) × (new ≡ told_splice x) × (after ≡ Some (record e { splices = rest }))
+
+abbrev pub OverlayNextSplice : Option ShownEnd → SamSplice → ℕ → SamSplice → Option ShownEnd → Type 0
+OverlayNextSplice None old status new after = (status ≡ no_handle) × (new ≡ old) × (after ≡ None)
+OverlayNextSplice (Some e) old status new after = FirstSplice e e.splices old status new after
+
+-- ## What is shown
+
+-- what is shown of an open file
+abbrev pub text_of : ShownEnd → ℕ → Option PartialText
+text_of e tag = if is_open e.overlay.end.term tag then Some (shown_at e.overlay tag) else None
+
+-- the first place from that one on whose rune is not loaded
+abbrev pub gap_of : ShownEnd → ℕ → ℕ → Option ℕ
+gap_of e tag place = if is_open e.overlay.end.term tag then gap_from place (shown_at e.overlay tag) else None
+
+-- the first file from that tag on over which an edit waits
+abbrev pub OverlayNextWaiting : Option ShownEnd → ℕ → ℕ → ℕ → ℕ → Type 0
+OverlayNextWaiting None from status before after = (status ≡ no_handle) × (after ≡ before)
+OverlayNextWaiting (Some e) from status before after =
+    (found : Option ℕ) × IsNextWaiting e.overlay.layers from found × TellsOne found status before after
+
+-- ## Runes for which the host left no room
+
+-- what the caller has of them: a splice, a buffer, and how many bytes of it are theirs
+pub record Handed : Type 0 where
+  pub splice : SamSplice
+  pub buffer : List ℕ
+  pub len : ℕ
+
+abbrev pub handed : SamSplice → List ℕ → ℕ → Handed
+handed splice buffer len = record { splice = splice; buffer = buffer; len = len }
+
+-- the part of the shown text that went with them
+abbrev pub gone_splice : ℕ → Dropped → SamSplice
+gone_splice tag d = record { kind = splice_number splice.Went; place = d.place; count = d.count; tag = tag }
+
+-- their splice, and their UTF-8 in the buffer, whole; behind it stands what stood there before
+abbrev pub HandsWhole : ℕ → Dropped → Handed → Handed → Type 0
+HandsWhole tag d old new =
+    (new.splice ≡ gone_splice tag d) × (new.len ≡ length (encode_utf8_all d.text))
+    × (new.buffer ≡ encode_utf8_all d.text ++ drop new.len old.buffer)
+
+abbrev pub HandsBack : ℕ → Result (Option Dropped) PendingFault → Handed → ℕ → Handed → Type 0
+HandsBack tag (Ok None) old status new = (status ≡ nothing) × (new ≡ old)
+HandsBack tag (Ok (Some d)) old status new = (status ≡ ok) × HandsWhole tag d old new
+HandsBack tag (Err why) old status new = (status ≡ no_memory) × (new ≡ old)
+
+abbrev pub TakesBack : ShownEnd → ℕ → Handed → ℕ → Handed → ShownEnd → Type 0
+TakesBack e tag old status new g =
+    (result : Result (Option Dropped) PendingFault) × Drops e.overlay tag result g.overlay × (g.splices ≡ e.splices)
+    × HandsBack tag result old status new
+
+-- while splices are left all is as before, and so where the buffer has less than four bytes for each rune that waits
+abbrev pub DropsOne : ShownEnd → Bool → Bool → ℕ → Handed → ℕ → Handed → ShownEnd → Type 0
+DropsOne e false fits tag old status new g = (status ≡ waiting) × (new ≡ old) × (g ≡ e)
+DropsOne e true false tag old status new g = (status ≡ no_room) × (new ≡ old) × (g ≡ e)
+DropsOne e true true tag old status new g = TakesBack e tag old status new g
+
+abbrev pub OverlayDropped : Option ShownEnd → ℕ → Handed → ℕ → Handed → Option ShownEnd → Type 0
+OverlayDropped None tag old status new after = (status ≡ no_handle) × (new ≡ old) × (after ≡ None)
+OverlayDropped (Some e) tag old status new after =
+    (g : ShownEnd) × (after ≡ Some g)
+    × DropsOne e (is_empty e.splices) (nat_le (4 * waiting_at e.overlay tag) (length old.buffer)) tag old status new g

@@ -1,0 +1,283 @@
+/*
+ * waiting SEED STEPS: a host and an overlay in one process, joined by byte pipes that are cut at random places. The user edits one file,
+ * has it written, and sends command lines that change it, as bytes go up and down now and then. An editor's own copy takes what its user
+ * typed at once, and then the splices alone: it is what is shown after each step. At the end host, terminal and copy have the same text,
+ * and no rune of the user's is lost. In a session with an even seed no command line is sent: there it is the text that the same edits make
+ * on one machine. A call that wants memory is made again, so the program prints the same whichever request for memory was refused. It ends
+ * with status 0, or 1 and what is wrong.
+ */
+#include "wanting.h"
+
+enum { MOST = 8192, LOADED = 400, PIECE = 48, ALL_KINDS = 16, EDITED = 1, COMMANDS = 2, SIGN = 0x20AC };
+
+static sam_host host = SAM_HOST_INIT;
+static sam_overlay overlay = SAM_OVERLAY_INIT;
+static uint64_t state;
+static bool sends;
+static unsigned long edits, told, lines, writes;
+
+/* A text of runes, or gaps. */
+struct text {
+    uint32_t runes[MOST], len;
+};
+static struct text copy, alone; /* the editor's own; what the edits make on one machine */
+static long signs;              /* how many the user has typed and not taken out again */
+
+/* A number below `below`, by xorshift. */
+static uint32_t pick(uint32_t below)
+{
+    state ^= state << 13;
+    state ^= state >> 7;
+    state ^= state << 17;
+    return (uint32_t)(state >> 33) % below;
+}
+
+/* The call is made until memory for it was there. */
+#define TRIED(status, call)                                                                                                                \
+    do                                                                                                                                     \
+        status = (call);                                                                                                                   \
+    while (status == SAM_NO_MEMORY || status == SAM_UNFINISHED)
+#define DONE(call)                                                                                                                         \
+    do {                                                                                                                                   \
+        sam_status came;                                                                                                                   \
+        TRIED(came, call);                                                                                                                 \
+        WANT(came, SAM_OK);                                                                                                                \
+    } while (0)
+
+/* `gone` runes from the place on give way to these. */
+static void change(struct text *text, uint32_t place, uint32_t gone, const uint32_t *runes, uint32_t came)
+{
+    WANT(place + gone <= text->len && text->len - gone + came <= MOST, 1);
+    memmove(text->runes + place + came, text->runes + place + gone, (text->len - place - gone) * sizeof *runes);
+    memcpy(text->runes + place, runes, came * sizeof *runes);
+    text->len = text->len - gone + came;
+}
+
+/* ---- What is shown ---- */
+
+static void same_as_shown(void)
+{
+    static uint32_t runes[MOST];
+    uint32_t count = 0;
+    WANT(sam_overlay_read(&overlay, EDITED, 0, runes, MOST, &count), SAM_OK);
+    WANT(count, copy.len);
+    WANT(memcmp(runes, copy.runes, count * sizeof *runes), 0);
+}
+
+static void take_splice(const sam_splice *splice)
+{
+    static uint32_t came[MOST];
+    uint32_t count = 0;
+    if (splice->tag != EDITED)
+        return;
+    told++;
+    if (splice->kind == SAM_SPLICE_EMPTIED) {
+        copy.len = 0;
+        return;
+    }
+    bool comes = splice->kind != SAM_SPLICE_WENT;
+    if (comes) {
+        WANT(sam_overlay_read(&overlay, EDITED, splice->place, came, splice->count, &count), SAM_OK);
+        WANT(count, splice->count);
+    }
+    change(&copy, splice->place, splice->kind == SAM_SPLICE_CAME ? 0 : splice->count, came, comes ? splice->count : 0);
+}
+
+/* One step, with its splices. Returns whether it did something. */
+static bool step(void)
+{
+    sam_did did;
+    sam_splice splice;
+    sam_file file;
+    DONE(sam_overlay_step(&overlay, &did));
+    while (sam_overlay_next_splice(&overlay, &splice) == SAM_OK)
+        take_splice(&splice);
+    WANT(sam_overlay_file(&overlay, EDITED, &file), SAM_OK);
+    if (file.is_open)
+        same_as_shown();
+    return did.step != SAM_STEP_IDLE && did.step != SAM_STEP_LOCKED;
+}
+
+/* All that can be done without the host, what waits among it. */
+static void go_on(void)
+{
+    sam_put put = SAM_PUT_EDIT;
+    while (put == SAM_PUT_EDIT) {
+        while (step())
+            ;
+        DONE(sam_overlay_put_next(&overlay, EDITED, &put));
+    }
+}
+
+/* ---- Bytes ---- */
+
+static bool carry_up(uint32_t most)
+{
+    uint8_t piece[PIECE];
+    size_t count = 0;
+    WANT(sam_overlay_take_out(&overlay, piece, most, &count), SAM_OK);
+    sam_status status;
+    while ((status = sam_host_feed(&host, piece, count)) == SAM_NO_MEMORY)
+        ;
+    while (status == SAM_NO_MEMORY || status == SAM_UNFINISHED)
+        status = sam_host_feed(&host, NULL, 0);
+    WANT(status, SAM_OK);
+    return count > 0;
+}
+
+static bool carry_down(uint32_t most)
+{
+    uint8_t piece[PIECE];
+    size_t count = 0;
+    WANT(sam_host_take_out(&host, piece, most, &count), SAM_OK);
+    if (count > 0)
+        DONE(sam_overlay_bring(&overlay, piece, count));
+    go_on();
+    return count > 0;
+}
+
+static void drain(void)
+{
+    go_on();
+    for (bool moved = true; moved;) {
+        moved = carry_up(PIECE);
+        while (carry_down(PIECE))
+            moved = true;
+    }
+}
+
+/* ---- The user ---- */
+
+static void event(sam_event_kind kind, uint16_t tag, uint32_t start, uint32_t number)
+{
+    sam_event event = {.kind = kind, .start = start, .number = number, .tag = tag, .version = 2};
+    go_on();
+    DONE(sam_overlay_bring_event(&overlay, &event, NULL, 0));
+    go_on();
+}
+
+static void edit(void)
+{
+    static const struct {
+        const char *utf8;
+        uint32_t runes[4], len;
+    } typed[] = {{"", {0}, 0},
+                 {"\xE2\x82\xAC", {SIGN}, 1},
+                 {"e\xE2\x82\xAC", {'e', SIGN}, 2},
+                 {"\xE2\x82\xAC\n\xE2\x82\xAC", {SIGN, '\n', SIGN}, 3}};
+    uint32_t which = pick(4), start = pick(copy.len + 1), gone = pick(4);
+    if (gone > copy.len - start)
+        gone = copy.len - start;
+    for (uint32_t i = 0; i < gone; i++)
+        signs -= copy.runes[start + i] == SIGN;
+    for (uint32_t i = 0; i < typed[which].len; i++)
+        signs += typed[which].runes[i] == SIGN;
+    DONE(sam_overlay_replace(&overlay, EDITED, start, start + gone, (const uint8_t *)typed[which].utf8, strlen(typed[which].utf8)));
+    change(&copy, start, gone, typed[which].runes, typed[which].len);
+    if (!sends)
+        change(&alone, start, gone, typed[which].runes, typed[which].len);
+    same_as_shown();
+    edits++;
+}
+
+/* Lines that leave each sign. */
+static const char commands[] = ",x/e/c/EE/\n,x/EE/c/e/\n#5a/++/\n,x/++/d\n$a/z/\n";
+
+static void send_line(void)
+{
+    static const struct {
+        uint32_t start, end;
+    } at[] = {{0, 10}, {11, 21}, {22, 29}, {30, 37}, {38, 43}};
+    uint32_t which = pick(5);
+    event(SAM_EVENT_SELECT, COMMANDS, at[which].start, at[which].end);
+    event(SAM_EVENT_SEND, COMMANDS, 0, 0);
+    lines++;
+}
+
+static void user(void)
+{
+    switch (pick(ALL_KINDS)) {
+    case 0:
+        writes++;
+        event(SAM_EVENT_WRITE, EDITED, 0, 0);
+        break;
+    case 1:
+        if (sends)
+            send_line();
+        break;
+    case 2:
+        event(SAM_EVENT_LOAD, EDITED, 0, MOST);
+        break;
+    default:
+        edit();
+    }
+}
+
+/* ---- A session ---- */
+
+static void begin(void)
+{
+    static uint8_t text[LOADED];
+    uint16_t tag = 0;
+    for (uint32_t i = 0; i < LOADED; i++)
+        alone.runes[i] = text[i] = i % 40 == 39 ? '\n' : (uint8_t)('a' + i % 7);
+    alone.len = LOADED;
+    DONE(sam_host_new(&host));
+    DONE(sam_host_add_file(&host, BYTES("edited"), text, LOADED, &tag));
+    DONE(sam_host_add_file(&host, BYTES("commands"), BYTES(commands), &tag));
+    DONE(sam_overlay_new(&overlay));
+    event(SAM_EVENT_OFFER_VERSION, 0, 0, 0);
+    drain();
+    event(SAM_EVENT_OPEN_CMD, 0, 0, 0);
+    event(SAM_EVENT_OPEN, COMMANDS, 0, 0);
+    event(SAM_EVENT_OPEN, EDITED, 0, 0);
+    drain();
+    WANT(copy.len, LOADED);
+}
+
+/* All is at rest: what is shown is the host's text. */
+static void rest(void)
+{
+    static uint8_t bytes[4 * MOST], shown[4 * MOST];
+    uint32_t waiting = 9, runes = 0, len = 0;
+    size_t count = 0;
+    long left = 0;
+    drain();
+    event(SAM_EVENT_LOAD, EDITED, 0, MOST);
+    drain();
+    WANT(sam_overlay_waiting(&overlay, EDITED, &waiting), SAM_OK);
+    WANT(waiting, 0);
+    WANT(sam_host_text(&host, EDITED, 0, bytes, sizeof bytes, &count, &runes), SAM_OK);
+    WANT(sam_host_len(&host, EDITED, &len), SAM_OK);
+    WANT(runes == len && runes == copy.len, 1);
+    size_t shown_count = 0;
+    WANT(sam_overlay_text(&overlay, EDITED, 0, shown, count, &shown_count, &runes), SAM_OK);
+    WANT(shown_count == count && memcmp(shown, bytes, count) == 0, 1);
+    for (uint32_t i = 0; i < copy.len; i++)
+        left += copy.runes[i] == SIGN;
+    WANT(left, signs);
+    if (!sends)
+        WANT(alone.len == copy.len && memcmp(alone.runes, copy.runes, copy.len * sizeof *copy.runes) == 0, 1);
+}
+
+int main(int argc, char **argv)
+{
+    if (argc != 3)
+        return 2;
+    unsigned long seed = strtoul(argv[1], NULL, 10), steps = strtoul(argv[2], NULL, 10);
+    state = seed * 2654435769U + 88172645463325252U;
+    sends = seed % 2 == 1;
+    uint32_t delay = 1 + pick(6); /* a greater one has more wait */
+    setvbuf(stdout, NULL, _IONBF, 0);
+    begin();
+    for (unsigned long i = 0; i < steps; i++) {
+        user();
+        while (pick(1 + delay) == 0 && (pick(2) ? carry_up(1 + pick(PIECE)) : carry_down(1 + pick(PIECE))))
+            ;
+    }
+    rest();
+    printf("%lu edits, %lu writes, %lu lines, %lu splices: all as the host has them\n", edits, writes, lines, told);
+    WANT(sam_host_free(&host), SAM_OK);
+    WANT(sam_overlay_free(&overlay), SAM_OK);
+    return 0;
+}
