@@ -3,6 +3,8 @@
 #![tactic(auto)]
 
 #[cfg(test)]
+mod client;
+#[cfg(test)]
 mod journal;
 #[cfg(test)]
 mod line;
@@ -10,6 +12,8 @@ mod line;
 mod link;
 #[cfg(test)]
 mod messages;
+#[cfg(test)]
+mod ordered;
 #[cfg(test)]
 mod overlay;
 #[cfg(test)]

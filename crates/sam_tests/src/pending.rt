@@ -19,6 +19,10 @@ enum Step<'a> {
     Send(u32, usize, usize),
     /// The next edit is between these places of the rasp and has so many runes, and it is made.
     Make(u32, u32, usize),
+    /// The same, of the groups up to this one.
+    MakeUpTo(u32, u32, u32, usize),
+    /// Whether an edit is left of the groups up to this one.
+    IsLeft(u32, bool),
     /// The rasp has no room for the next edit.
     Full,
     /// So many runes are taken back, which stood at this place of what is shown; none are if there are 0.
@@ -58,6 +62,19 @@ fn keys(pending: &mut Pending, place: u32, count: u32) -> Result<(), PendingFaul
     Ok(())
 }
 
+/// Whether the next edit has these places and so many runes; it is made.
+fn makes(
+    pending: &mut Pending,
+    up_to: Option<u32>,
+    (p, q, count): (u32, u32, usize),
+) -> Result<bool, PendingFault> {
+    let Some(edit) = pending.next_edit(up_to)? else {
+        return Ok(false);
+    };
+    pending.make_next(up_to);
+    Ok(edit.p == p && edit.q == q && edit.text.len() == count)
+}
+
 fn has(sends: &Sent, removals: usize, insertions: usize) -> bool {
     sends.removals.len() == removals && sends.insertions.len() == insertions
 }
@@ -80,15 +97,11 @@ fn is_right(pending: &mut Pending, step: Step<'_>) -> Result<bool, PendingFault>
         Step::Send(group, removals, insertions) => {
             Ok(has(&pending.send(group)?, removals, insertions))
         }
-        Step::Make(p, q, count) => {
-            let Some(edit) = pending.next_edit()? else {
-                return Ok(false);
-            };
-            pending.make_next();
-            Ok(edit.p == p && edit.q == q && edit.text.len() == count)
-        }
-        Step::Full => Ok(pending.next_edit().err() == Some(PendingFault::TooLong)),
-        Step::Drop(place, count) => match pending.drop_next()? {
+        Step::Make(p, q, count) => makes(pending, None, (p, q, count)),
+        Step::MakeUpTo(group, p, q, count) => makes(pending, Some(group), (p, q, count)),
+        Step::IsLeft(group, is_left) => Ok(pending.has_next(Some(group)) == is_left),
+        Step::Full => Ok(pending.next_edit(None).err() == Some(PendingFault::TooLong)),
+        Step::Drop(place, count) => match pending.drop_next(None)? {
             Some(dropped) => Ok(
                 dropped.place == place
                     && dropped.text.len() == count
@@ -145,6 +158,19 @@ const ONE_BY_ONE: [Step<'_>; 6] = [
     Step::Waits(0, 3),
 ];
 
+/// `hello` gets a `!`, and by a later group `ell` goes: the first group comes to the rasp whole before the later one.
+const UP_TO_A_GROUP: [Step<'_>; 9] = [
+    Step::Replace(1, 5, 5, &['!']),
+    Step::Replace(2, 1, 4, &[]),
+    Step::IsLeft(0, false),
+    Step::MakeUpTo(1, 5, 5, 1),
+    Step::IsLeft(1, false),
+    Step::IsLeft(2, true),
+    Step::MakeUpTo(2, 1, 4, 0),
+    Step::Rests,
+    Step::Waits(0, 3),
+];
+
 /// Two runes are typed, and then the host makes the text full: they are taken back, and nothing is before or after.
 const NO_ROOM: [Step<'_>; 8] = [
     Step::Replace(1, 5, 5, &['!', '?']),
@@ -163,6 +189,7 @@ fn edits_wait_and_are_sent(rt: HostRuntime) {
         STORY.as_slice(),
         MANY_KEYS.as_slice(),
         ONE_BY_ONE.as_slice(),
+        UP_TO_A_GROUP.as_slice(),
         NO_ROOM.as_slice(),
     ] {
         let wrong = match Pending::new(rt.alloc(), 5) {

@@ -1,4 +1,7 @@
-//! A server's records and its gate, by values that were worked out apart.
+//! A server's records, its gate, its effects and its crashes, by values that were worked out apart.
 
+mod crashes;
+mod effects;
 mod gates;
+mod piece;
 mod records;

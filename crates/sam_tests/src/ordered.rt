@@ -1,0 +1,280 @@
+//! Requests in one order with the edits, before a host whose answers come when a test says so: what a write saves, what a close refuses.
+use sam_endpoint::{HostEndpoint, TermStep};
+use sam_overlay::{AskFault, MOST_REQUESTS, OrderedOverlay, Put, ReplaceFault, Turn, is_request};
+use sam_term::{Refusal, UserEvent};
+use sam_test_support::lent;
+use std::alloc::Global;
+
+/// The user's side, and the host of its files.
+#[derive(Drop)]
+struct Sides {
+    front: OrderedOverlay,
+    host: HostEndpoint,
+}
+
+/// What a test asks for.
+#[derive(Clone, Copy)]
+enum Wish {
+    Version,
+    Open(u16),
+    Load(u16),
+    Write(u16),
+    Close(u16),
+    Command,
+    Leave,
+}
+
+/// A call, or a look with its answer.
+#[derive(Clone, Copy)]
+enum Step<'a> {
+    /// A request is taken in.
+    Ask(Wish),
+    /// One is not, and this is why.
+    Unasked(Wish, AskFault),
+    /// So many requests are taken in.
+    AskMany(Wish, usize),
+    /// The oldest request acts, or doesn't.
+    Act(Turn),
+    /// So many requests wait.
+    Waiting(usize),
+    /// A request is taken in, acts, and is answered.
+    Do(Wish),
+    /// All bytes go to the host, and all of its answers come back.
+    Travel,
+    /// The runes in place of what is shown of a file between two places.
+    Replace(u16, u32, u32, &'a [char]),
+    /// A rune at the begin of a file is refused for this reason.
+    Refused(u16, ReplaceFault),
+    /// The next edit of a file is put, and acts, or this is the answer.
+    Put(u16, Put),
+    /// The next edit of a file is put, and does not act yet.
+    PutAlone(u16),
+    /// No runes of a file are taken back, since there is room for them.
+    NothingToDrop(u16),
+    /// A request that acted was refused for this reason.
+    WasRefused(Refusal),
+    /// How many members are shown of a file.
+    Shows(u16, u32),
+    /// How many runes the host saved of a file at its last write.
+    Saved(u16, usize),
+}
+
+/// How many steps a test makes at most until nothing is left to do.
+const MOST_STEPS: u32 = 100;
+
+fn event_of(wish: Wish) -> UserEvent {
+    match wish {
+        Wish::Version => UserEvent::Version(2),
+        Wish::Open(tag) => UserEvent::Open(tag),
+        Wish::Load(tag) => UserEvent::Load(tag, 0, 5),
+        Wish::Write(tag) => UserEvent::Write(tag),
+        Wish::Close(tag) => UserEvent::Close(tag),
+        Wish::Command => UserEvent::OpenCmd,
+        Wish::Leave => UserEvent::Exit,
+    }
+}
+
+fn ask(front: &mut OrderedOverlay, wish: Wish) -> Result<(), AskFault> {
+    let event = event_of(wish);
+    if !is_request(&event) {
+        return Err(AskFault::OutOfMemory);
+    }
+    front.ask(event)
+}
+
+fn ask_many(front: &mut OrderedOverlay, wish: Wish, count: usize) -> bool {
+    for _ in 0..count {
+        if ask(front, wish).is_err() {
+            return false;
+        }
+    }
+    true
+}
+
+/// Goes on until nothing is left to do.
+fn go_on(front: &mut OrderedOverlay) -> bool {
+    for _ in 0..MOST_STEPS {
+        let Ok(made) = front.step() else {
+            return false;
+        };
+        if made.step == TermStep::Idle {
+            return true;
+        }
+    }
+    false
+}
+
+fn carry(sides: &mut Sides) -> bool {
+    let up = sides.front.overlay().end().pending_bytes();
+    let up_len = up.len();
+    let is_fed = sides.host.feed(up).is_ok();
+    sides.front.consume(up_len);
+    let down = sides.host.pending_bytes();
+    let down_len = down.len();
+    let is_brought = sides.front.bring(down).is_ok();
+    sides.host.consume(down_len);
+    is_fed && is_brought && go_on(&mut sides.front)
+}
+
+fn act(front: &mut OrderedOverlay, turn: Turn) -> bool {
+    front.act_next() == Ok(turn) && go_on(front)
+}
+
+fn saved(host: &HostEndpoint, tag: u16) -> Option<usize> {
+    let file = host.host().files().file(tag)?;
+    let runes = file.saved()?;
+    Some(runes.len())
+}
+
+/// Whether a call is taken on, or a look has its answer.
+fn is_right(sides: &mut Sides, step: Step<'_>) -> bool {
+    let front = &mut sides.front;
+    match step {
+        Step::Ask(wish) => ask(front, wish).is_ok(),
+        Step::Unasked(wish, why) => ask(front, wish) == Err(why),
+        Step::AskMany(wish, count) => ask_many(front, wish, count),
+        Step::Act(turn) => act(front, turn),
+        Step::Waiting(count) => front.waiting() == count,
+        Step::Do(wish) => { ask(front, wish).is_ok() && act(front, Turn::Request) && carry(sides) }
+        Step::Travel => carry(sides),
+        Step::Replace(tag, p, q, runes) => front.replace(tag, p, q, runes).is_ok(),
+        Step::Refused(tag, why) => front.replace(tag, 0, 0, &['x']) == Err(why),
+        Step::Put(tag, answer) => front.put_next(tag) == Ok(answer) && go_on(front),
+        Step::PutAlone(tag) => front.put_next(tag) == Ok(Put::Edit),
+        Step::NothingToDrop(tag) => matches!(front.drop_next(tag), Ok(None)),
+        Step::WasRefused(why) => match front.next_refusal() {
+            Some((_, refusal)) => refusal == why,
+            None => false,
+        },
+        Step::Shows(tag, len) => front.overlay().shown_len(tag) == Some(len),
+        Step::Saved(tag, count) => saved(&sides.host, tag) == Some(count),
+    }
+}
+
+/// The number of the first step, counted from 0, that is refused or answered otherwise.
+fn first_wrong(sides: &mut Sides, steps: &[Step<'_>]) -> Option<usize> {
+    for (at, step) in steps.iter().enumerate() {
+        if !is_right(sides, *step) {
+            return Some(at);
+        }
+    }
+    None
+}
+
+/// Both sides of two files, `hello` and `again`.
+fn sides_of(alloc: Global) -> Option<Sides> {
+    let mut host = HostEndpoint::new(alloc).ok()?;
+    host.add_file(b"one", b"hello").ok()?;
+    host.add_file(b"two", b"again").ok()?;
+    Some(Sides {
+        front: OrderedOverlay::new(alloc),
+        host,
+    })
+}
+
+/// While a load has locked `hello` the user types `!`, writes and types `?`: the write saves `hello!`.
+const WRITE_UNDER_A_LOCK: [Step<'_>; 20] = [
+    Step::Do(Wish::Version),
+    Step::Do(Wish::Open(1)),
+    Step::Ask(Wish::Load(1)),
+    Step::Act(Turn::Request),
+    Step::Replace(1, 5, 5, &['!']),
+    Step::Ask(Wish::Write(1)),
+    Step::Replace(1, 6, 6, &['?']),
+    Step::Shows(1, 7),
+    Step::Act(Turn::NotYet),
+    Step::Put(1, Put::NotFree),
+    Step::Travel,
+    Step::Act(Turn::NotYet),
+    Step::Put(1, Put::Edit),
+    Step::Put(1, Put::NotFree),
+    Step::Act(Turn::Request),
+    Step::Travel,
+    Step::Saved(1, 6),
+    Step::Put(1, Put::Edit),
+    Step::Put(1, Put::Nothing),
+    Step::Act(Turn::Nothing),
+];
+
+/// A write of one file holds the edits of another back in no way; a request that takes the command lock does, and waits for older ones.
+const TWO_FILES: [Step<'_>; 17] = [
+    Step::Do(Wish::Version),
+    Step::Do(Wish::Open(1)),
+    Step::Do(Wish::Open(2)),
+    Step::Replace(1, 0, 0, &['a']),
+    Step::Ask(Wish::Write(1)),
+    Step::Replace(2, 0, 0, &['b']),
+    Step::Put(2, Put::Edit),
+    Step::Replace(2, 0, 0, &['c']),
+    Step::Ask(Wish::Command),
+    Step::Replace(1, 0, 0, &['d']),
+    Step::Act(Turn::NotYet),
+    Step::Put(1, Put::Edit),
+    Step::Act(Turn::Request),
+    Step::Travel,
+    Step::Act(Turn::NotYet),
+    Step::Put(1, Put::NotFree),
+    Step::Put(2, Put::Edit),
+];
+
+/// From a close no edit of the file is taken, from a leave none at all. What was typed before is there when the close acts.
+const CLOSE_AND_LEAVE: [Step<'_>; 12] = [
+    Step::Do(Wish::Version),
+    Step::Do(Wish::Open(1)),
+    Step::Do(Wish::Open(2)),
+    Step::Replace(1, 5, 5, &['!']),
+    Step::Ask(Wish::Close(1)),
+    Step::Refused(1, ReplaceFault::NotOpen),
+    Step::Replace(2, 0, 0, &['a']),
+    Step::Act(Turn::NotYet),
+    Step::Ask(Wish::Leave),
+    Step::Refused(1, ReplaceFault::Exited),
+    Step::Refused(2, ReplaceFault::Exited),
+    Step::Waiting(2),
+];
+
+/// A close acts behind what was typed; then the file is gone, and a write that was asked for behind the close is refused as it acts.
+const WRITE_BEHIND_A_CLOSE: [Step<'_>; 12] = [
+    Step::Do(Wish::Version),
+    Step::Do(Wish::Open(1)),
+    Step::Replace(1, 5, 5, &['!']),
+    Step::NothingToDrop(1),
+    Step::Ask(Wish::Close(1)),
+    Step::Ask(Wish::Write(1)),
+    Step::Put(1, Put::Edit),
+    Step::Act(Turn::Request),
+    Step::Act(Turn::NotYet),
+    Step::Travel,
+    Step::Act(Turn::Request),
+    Step::WasRefused(Refusal::NoFile),
+];
+
+/// So many requests wait and not one more, and none is taken in while an edit has to act.
+const TOO_MANY: [Step<'_>; 9] = [
+    Step::Do(Wish::Version),
+    Step::Do(Wish::Open(1)),
+    Step::Replace(1, 0, 0, &['a']),
+    Step::PutAlone(1),
+    Step::Unasked(Wish::Write(1), AskFault::Waiting),
+    Step::Put(1, Put::NotFree),
+    Step::AskMany(Wish::Write(1), MOST_REQUESTS),
+    Step::Unasked(Wish::Write(1), AskFault::TooMany),
+    Step::Waiting(MOST_REQUESTS),
+];
+
+#[test]
+fn requests_act_behind_edits(rt: HostRuntime) {
+    for steps in [
+        WRITE_UNDER_A_LOCK.as_slice(),
+        TWO_FILES.as_slice(),
+        CLOSE_AND_LEAVE.as_slice(),
+        WRITE_BEHIND_A_CLOSE.as_slice(),
+        TOO_MANY.as_slice(),
+    ] {
+        let wrong = match sides_of(rt.alloc()) {
+            Some(sides) => lent(sides, |sides| first_wrong(sides, steps)),
+            None => Some(0),
+        };
+        assert_eq!(rt; wrong, None);
+    }
+}
