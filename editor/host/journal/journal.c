@@ -6,12 +6,15 @@
  *
  * What is written survives the process. It is on the disk before anything is sent that rests on it, before a file is written, and after a
  * pause; so what a power cut takes nobody has heard of. Each record says how much was on the disk when it was made, and one is added after
- * each sync to say so: what is wrong before that is damage, and what is wrong behind it is torn. Where the file can't be written any more
- * it goes, and the session stays without it.
+ * each sync to say so: what is wrong before that is damage, and what is wrong behind it is torn.
+ *
+ * Where the file can't be written any more it loses its name, since one that lacks a step is of no use, and records are held in memory.
+ * From time to time another file is tried: it gets what the old one had, and what is held, and then the name.
  */
 #define _GNU_SOURCE
 #include <errno.h>
 #include <fcntl.h>
+#include <stdio.h>
 #include <stdlib.h>
 #include <string.h>
 #include <sys/mman.h>
@@ -25,6 +28,8 @@
 #include "disk/errors.h"
 #include "disk/paths.h"
 #include "limits.h"
+#include "log.h"
+#include "net/event_loop.h"
 #include "session/messages.h"
 #include "session/persistent_session.h"
 #include "session/session.h"
@@ -33,7 +38,10 @@
 
 enum {
     ROOM_FIRST = 256,
-    MOST_BODY = 1 << 26,  /* bytes of the body of a record */
+    MOST_BODY = 1 << 26, /* bytes of the body of a record */
+    MOST_HELD = 1 << 26, /* bytes of records that are held */
+    FIRST_PAUSE = 1000,  /* milliseconds until a journal is begun anew; each time that fails, twice as many, up to: */
+    LONGEST_PAUSE = 30000,
     MOST_BEHIND = 1 << 26 /* bytes behind the whole records in which others are looked for */
 };
 
@@ -144,25 +152,6 @@ char *take_words(struct record *record)
 
 /* ---- Writing ---- */
 
-void tell_no_journal(int error)
-{
-    tell(&(struct event){.kind = SAM_NOTE_NO_JOURNAL, .code = code_of(error)},
-         "there is no journal: %s; if samhost ends unasked, the session ends with it", cause(error));
-}
-
-/* The journal can't go on: it goes, since one that lacks a step is of no use. */
-static void lose_journal(struct session *session, int error)
-{
-    struct stay *stay = session->stay;
-
-    close(stay->journal.file);
-    stay->journal = (struct journal){.file = -1};
-    (void)unlinkat(stay->home.folder, JOURNAL, 0);
-    sync_home(&stay->home); /* else a power cut could bring it back */
-    tell(&(struct event){.kind = SAM_NOTE_NO_JOURNAL, .code = code_of(error)},
-         "the journal can't be written: %s; if samhost ends unasked, the session ends with it", cause(error));
-}
-
 static int write_all(int file, struct iovec *parts, int count)
 {
     while (count > 0) {
@@ -183,7 +172,52 @@ static int write_all(int file, struct iovec *parts, int count)
     return 0;
 }
 
-/* Writes the next record, of this body. */
+/* Holds bytes of records, as far as there is room for them. */
+static int hold(struct body *held, const struct iovec *parts, int count)
+{
+    for (int at = 0; at < count; at++) {
+        if (held->len + parts[at].iov_len > MOST_HELD)
+            return ENOMEM;
+        add_raw(held, parts[at].iov_base, parts[at].iov_len);
+    }
+    return held->is_short ? ENOMEM : 0;
+}
+
+void close_journal(struct journal *journal)
+{
+    if (journal->file >= 0)
+        close(journal->file);
+    if (journal->is_held && journal->old >= 0)
+        close(journal->old);
+    free(journal->held.bytes);
+    *journal = (struct journal){.file = -1, .lost = journal->lost};
+}
+
+void hold_journal(struct session *session, int error)
+{
+    struct journal *journal = &session->stay->journal;
+    const struct home *home = &session->stay->home;
+
+    journal->old = journal->file;
+    journal->file = -1;
+    journal->is_held = true;
+    journal->pause = FIRST_PAUSE;
+    journal->due = now() + FIRST_PAUSE;
+    journal->lost = error;
+    (void)unlinkat(home->folder, JOURNAL, 0);
+    (void)unlinkat(home->folder, NEW_JOURNAL, 0);
+    sync_home(home); /* else a power cut could bring it back */
+}
+
+/* There is no journal any more, and none comes back: a record is missing. */
+static void end_journal(struct session *session, int error)
+{
+    if (!session->stay->journal.is_held)
+        hold_journal(session, error);
+    close_journal(&session->stay->journal);
+}
+
+/* Writes the next record, of this body, or holds it. */
 static int write_record(struct journal *journal, uint8_t *body, size_t len)
 {
     sam_record_frame frame;
@@ -191,42 +225,61 @@ static int write_record(struct journal *journal, uint8_t *body, size_t len)
     if (len > MOST_BODY || sam_journal_frame(journal->random, journal->count, journal->durable, body, len, &frame) != SAM_OK)
         return EFBIG;
     struct iovec parts[] = {{frame.front, sizeof frame.front}, {body, len}, {frame.back, sizeof frame.back}};
-    int error = write_all(journal->file, parts, 3);
+    int error = journal->is_held ? hold(&journal->held, parts, 3) : write_all(journal->file, parts, 3);
+    if (error != 0)
+        return error;
     journal->count++;
     journal->len += sizeof frame + len;
     journal->is_unsynced = true;
-    return error;
+    return 0;
+}
+
+static void put_record(struct session *session, uint8_t *body, size_t len)
+{
+    struct journal *journal = &session->stay->journal;
+    int error = write_record(journal, body, len);
+
+    if (error != 0 && !journal->is_held) {
+        hold_journal(session, error);
+        error = write_record(journal, body, len);
+    }
+    if (error != 0)
+        end_journal(session, error);
+}
+
+bool takes_records(const struct journal *journal)
+{
+    return journal->file >= 0 || journal->is_held;
 }
 
 void add_record(struct session *session, enum step step, const uint8_t *bytes, size_t len)
 {
-    struct journal *journal = &session->stay->journal;
     uint8_t body[1 + PIECE];
 
-    if (journal->file < 0)
+    if (!takes_records(&session->stay->journal))
         return;
     body[0] = (uint8_t)step;
-    if (len > 0 && len <= PIECE)
+    if (len > PIECE) {
+        end_journal(session, EFBIG);
+        return;
+    }
+    if (len > 0)
         memcpy(body + 1, bytes, len);
-    int error = len > PIECE ? EFBIG : write_record(journal, body, 1 + len);
-    if (error != 0)
-        lose_journal(session, error);
+    put_record(session, body, 1 + len);
 }
 
 void add_body(struct session *session, enum step step, struct body *body)
 {
-    struct journal *journal = &session->stay->journal;
-
-    if (journal->file >= 0) {
-        int error = ENOMEM;
-        if (has_room(body, 1) && !body->is_short) {
-            memmove(body->bytes + 1, body->bytes, body->len);
-            body->bytes[0] = (uint8_t)step;
-            error = write_record(journal, body->bytes, 1 + body->len);
-        }
-        if (error != 0)
-            lose_journal(session, error);
+    if (!takes_records(&session->stay->journal)) {
+        free(body->bytes);
+        return;
     }
+    if (has_room(body, 1) && !body->is_short) {
+        memmove(body->bytes + 1, body->bytes, body->len);
+        body->bytes[0] = (uint8_t)step;
+        put_record(session, body->bytes, 1 + body->len);
+    } else
+        end_journal(session, ENOMEM);
     free(body->bytes);
 }
 
@@ -238,7 +291,7 @@ void sync_journal(struct session *session)
         return;
     journal->is_unsynced = false;
     if (fdatasync(journal->file) != 0) {
-        lose_journal(session, errno);
+        hold_journal(session, errno);
         return;
     }
     journal->durable = journal->len;
@@ -248,25 +301,27 @@ void sync_journal(struct session *session)
 
 /* ---- The file ---- */
 
-int make_journal(struct stay *stay, const char *name)
+void make_journal(struct session *session, const char *name)
 {
+    struct journal *journal = &session->stay->journal;
     uint8_t head[SAM_JOURNAL_HEAD_BYTES];
-    struct journal journal = {.is_unsynced = true, .len = sizeof head};
-    int error = make_in_home(&stay->home, name, O_RDWR | O_TRUNC | O_APPEND, &journal.file);
+    struct iovec part = {head, sizeof head}, again = part;
 
-    if (error != 0)
-        return error;
-    if (getrandom(&journal.random, sizeof journal.random, 0) != sizeof journal.random)
-        error = errno;
-    else if (sam_journal_head(journal.random, head) == SAM_OK) {
-        struct iovec part = {head, sizeof head};
-        error = write_all(journal.file, &part, 1);
+    *journal = (struct journal){.file = -1, .is_unsynced = true, .len = sizeof head};
+    if (getrandom(&journal->random, sizeof journal->random, 0) != sizeof journal->random ||
+        sam_journal_head(journal->random, head) != SAM_OK) {
+        end_journal(session, errno);
+        return;
     }
-    if (error != 0)
-        close(journal.file);
-    else
-        stay->journal = journal;
-    return error;
+    int error = make_in_home(&session->stay->home, name, O_RDWR | O_TRUNC | O_APPEND, &journal->file);
+    if (error == 0 && (error = write_all(journal->file, &part, 1)) != 0) {
+        close(journal->file);
+        journal->file = -1;
+    }
+    if (error != 0) {
+        hold_journal(session, error);
+        (void)hold(&journal->held, &again, 1);
+    }
 }
 
 bool has_journal(const struct home *home)
@@ -376,6 +431,107 @@ void close_records(struct text *all)
         munmap(all->bytes, all->len);
     *all = (struct text){0};
 }
+
+/* ---- Begun anew ---- */
+
+/* Copies so many bytes of the front of a file. */
+static int copy_front(int from, int into, uint64_t len)
+{
+    uint8_t bytes[PIECE];
+
+    for (uint64_t at = 0; at < len;) {
+        ssize_t count = pread(from, bytes, len - at < PIECE ? (size_t)(len - at) : PIECE, (off_t)at);
+        if (count <= 0)
+            return count == 0 ? EIO : errno;
+        struct iovec part = {bytes, (size_t)count};
+        int error = write_all(into, &part, 1);
+        if (error != 0)
+            return error;
+        at += (uint64_t)count;
+    }
+    return 0;
+}
+
+/* Whether a file has just the records of a journal, whole. */
+static bool has_all_records(const struct journal *journal, int file)
+{
+    struct stat status;
+    struct text all;
+    uint64_t random, count;
+    size_t end;
+
+    bool is_whole = map_records(file, &all, &status) == 0 && all.len == journal->len &&
+                    sam_journal_read(all.bytes, all.len, &random, &count, &end) == SAM_OK && end == all.len && count == journal->count;
+    close_records(&all);
+    return is_whole;
+}
+
+/* Writes all records of a journal that is held into a file, and has them be on the disk. EBADMSG where the old file lacks some: a sync that
+ * failed may have dropped them. */
+static int write_anew(const struct journal *journal, int file)
+{
+    struct iovec held = {journal->held.bytes, journal->held.len};
+    int error = copy_front(journal->old, file, journal->len - journal->held.len);
+
+    if (error == 0)
+        error = write_all(file, &held, 1);
+    if (error == 0 && fdatasync(file) != 0)
+        error = errno;
+    return error == 0 && !has_all_records(journal, file) ? EBADMSG : error;
+}
+
+bool begin_journal_anew(struct session *session)
+{
+    struct journal *journal = &session->stay->journal;
+    const struct home *home = &session->stay->home;
+    int file;
+
+    if (!journal->is_held)
+        return journal->file >= 0;
+    journal->pause = 2 * journal->pause < LONGEST_PAUSE ? 2 * journal->pause : LONGEST_PAUSE;
+    journal->due = now() + journal->pause;
+    if (make_in_home(home, NEW_JOURNAL, O_RDWR | O_TRUNC | O_APPEND, &file) != 0)
+        return false;
+    int error = write_anew(journal, file);
+    if (error != 0 || renameat(home->folder, NEW_JOURNAL, home->folder, JOURNAL) != 0) {
+        close(file);
+        (void)unlinkat(home->folder, NEW_JOURNAL, 0);
+        if (error == EBADMSG)
+            close_journal(journal);
+        return false;
+    }
+    sync_home(home);
+    struct journal anew = {.file = file, .random = journal->random, .count = journal->count, .len = journal->len, .durable = journal->len};
+    close_journal(journal);
+    *journal = anew;
+    add_record(session, STEP_SYNCED, NULL, 0);
+    journal->is_unsynced = false; /* that may be missing after a power cut */
+    return journal->file >= 0;
+}
+
+int64_t mending_is_due_in(const struct session *session)
+{
+    const struct journal *journal = &session->stay->journal;
+    int64_t left = journal->due - now();
+
+    if (journal->lost != 0)
+        return 0;
+    return !journal->is_held ? -1 : left > 0 ? left : 0;
+}
+
+void mend_journal(struct session *session)
+{
+    int error = session->stay->journal.lost;
+
+    session->stay->journal.lost = 0;
+    if (error != 0)
+        tell(&(struct event){.kind = SAM_NOTE_NO_JOURNAL, .code = code_of(error)},
+             "the journal can't be written: %s; if samhost ends unasked, the session ends with it", cause(error));
+    if (mending_is_due_in(session) == 0 && begin_journal_anew(session))
+        say("the journal is written again");
+}
+
+/* ---- Left alone ---- */
 
 bool is_left_alone(const struct home *home)
 {

@@ -26,10 +26,11 @@ enum step {
     STEP_DONE,      /* a file was written, or saved before it was closed; how that is answered, and what is known of the file since */
     STEP_KEPT,      /* what is known of a file since its text was saved aside */
     STEP_KEPT_CUT,  /* the copy of what was cut last */
-    STEP_SYNCED     /* nothing, but a record: it says that all before it was on the disk */
+    STEP_SYNCED,    /* nothing, but a record: it says that all before it was on the disk */
+    STEP_DOWN_AGAIN /* the same, of which it has how many and the hash: the host says them again */
 };
 
-enum { LAST_STEP = STEP_SYNCED };
+enum { LAST_STEP = STEP_DOWN_AGAIN };
 
 /* What is done to files because of a message. */
 enum doing { DOING_WRITE = 1, DOING_CLOSE };
@@ -57,6 +58,13 @@ struct journal {
     uint64_t len;        /* its bytes */
     uint64_t durable;    /* how many of these are on the disk */
     uint64_t damaged_at; /* where its whole records end before what was on the disk */
+    bool is_held;        /* the file can't be written: records wait in memory until another one takes all of them */
+    int old;             /* while it is held, the file that has what stands before these; it has no name any more. -1 where there is none */
+    struct body held;    /* these records; before them the head, where there is no old file */
+    int64_t due, pause;  /* when another file is tried, and in how many milliseconds once more if that can't be */
+    int lost;            /* why it can't be written, which is still to be told; else 0 */
+    bool has_edits;      /* the host has taken edits since the journal had the hash of an answer last */
+    size_t whole;        /* bytes of the answers that it has whole since then */
 };
 
 /* The place of a record in a journal, its number, and how much was on the disk when the one before it was made. */
@@ -65,8 +73,24 @@ struct record_place {
     uint64_t number, durable;
 };
 
-/* Makes a journal of this name in the folder of a session, in the place of one that is there. */
-int make_journal(struct stay *stay, const char *name);
+/* Makes a journal of this name in the folder of a session, in the place of one that is there. Where that can't be it is held. */
+void make_journal(struct session *session, const char *name);
+
+/* The file can't be written any more, so it goes: one that lacks a step is of no use. Records are held from now on. */
+void hold_journal(struct session *session, int error);
+
+/* In how many milliseconds mend_journal is to be called; -1 where it isn't. */
+int64_t mending_is_due_in(const struct session *session);
+
+/* Tells of a journal that can't be written. Where it is time, begins it anew: another file gets all that the old one had, and what is
+ * held. */
+void mend_journal(struct session *session);
+
+/* Begins a journal anew that is held. Returns whether there is one then. */
+bool begin_journal_anew(struct session *session);
+
+/* Closes its files, and forgets what is held. */
+void close_journal(struct journal *journal);
 bool has_journal(const struct home *home);
 
 /* Opens the journal that is there, and hands out all that it has, which stays readable until close_records; and what the library says of
@@ -83,10 +107,10 @@ int cut_journal(struct stay *stay, const struct text *all, size_t len);
 /* Has the next record be added at this place, where the whole ones end. */
 void go_on_behind(struct journal *journal, const struct record_place *end);
 
-/* Tells that there is no journal, and why. */
-void tell_no_journal(int error);
+/* Whether records are written, or held. */
+bool takes_records(const struct journal *journal);
 
-/* Adds a record. Where that can't be, there is no journal from then on, and the terminal is told so. */
+/* Adds a record. Where it can't be written it is held, and the terminal is told so. */
 void add_record(struct session *session, enum step step, const uint8_t *bytes, size_t len);
 void add_body(struct session *session, enum step step, struct body *body);
 

@@ -18,6 +18,14 @@
 #include "session/session.h"
 #include "sulgrevad.h"
 
+/* A text that is loaded again and again is to cost a journal next to nothing, so of an answer it has the hash. To say that again the host
+ * has to take first what has come, and edits are quick only where many are taken at once. So where there are some since, answers stay whole
+ * up to so many bytes. */
+enum {
+    LEAST_AGAIN = 256, /* bytes of an answer of which a record has the hash */
+    MOST_WHOLE = 16384
+};
+
 /* ---- A document ---- */
 
 static void add_content(struct body *body, const struct content *content)
@@ -195,6 +203,24 @@ void record_done(struct session *session, enum doing doing, uint16_t tag, const 
     record_copies(session);
 }
 
+void record_down(struct session *session, const uint8_t *bytes, size_t len)
+{
+    struct journal *journal = &session->stay->journal;
+    struct text text = {(uint8_t *)bytes, len};
+    struct body body = {0};
+
+    journal->whole += len;
+    if (len < LEAST_AGAIN || (journal->has_edits && journal->whole < MOST_WHOLE)) {
+        add_record(session, STEP_DOWN, bytes, len);
+        return;
+    }
+    journal->has_edits = false;
+    journal->whole = 0;
+    add_number(&body, len);
+    add_number(&body, content_of(&text).hash);
+    add_body(session, STEP_DOWN_AGAIN, &body);
+}
+
 /* Takes the whole text of a file for a body, behind its length in bytes. */
 static void add_text_of(struct session *session, uint16_t tag, struct body *body)
 {
@@ -210,7 +236,7 @@ void record_file(struct session *session, uint16_t tag)
     char name[NAME_ROOM];
     size_t len = 0;
 
-    if (session->stay->journal.file < 0)
+    if (!takes_records(&session->stay->journal))
         return;
     body.is_short = sam_host_name(&session->host, tag, (uint8_t *)name, NAME_ROOM, &len) != SAM_OK;
     add_data(&body, name, len);

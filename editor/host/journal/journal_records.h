@@ -3,6 +3,7 @@
 #define SAMHOST_JOURNAL_JOURNAL_RECORDS_H
 
 #include <stdbool.h>
+#include <stddef.h>
 #include <stdint.h>
 
 #include "journal/journal.h"
@@ -12,13 +13,16 @@ struct session;
 
 /* The form of the records. It grows with each change of what they say, so that no samhost takes up a session whose records it would read
  * otherwise: tests/host/host_checks/journals.py has a sum of the code that decides. */
-#define RECORDS_FORM 2
+#define RECORDS_FORM 3
 
 /* What the first record says that the others are of: the form, and the library's version. */
 uint64_t form_and_version(uint32_t form, uint32_t version);
 
 /* Records how a session began, and its files. */
 void record_start(struct session *session);
+
+/* Records bytes of the host that the link put. */
+void record_down(struct session *session, const uint8_t *bytes, size_t len);
 
 /* Records a file that the host was given. */
 void record_file(struct session *session, uint16_t tag);

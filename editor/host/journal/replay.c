@@ -5,7 +5,8 @@
  * files is not done again, but for what the process had not come to.
  *
  * The link goes ahead: it puts what the host said, as the journal has it, before the host has said it again. So the host gets much at once,
- * and takes edits of one file together. It catches up before files join, before notes, and where much waits.
+ * and takes edits of one file together. It catches up before files join, before notes, where much waits, and where the journal
+ * has no more than the hash of what it said.
  */
 #define _GNU_SOURCE
 #include <errno.h>
@@ -23,6 +24,7 @@
 #include "log.h"
 #include "net/event_loop.h"
 #include "session/dirty_marks.h"
+#include "session/document.h"
 #include "session/ending.h"
 #include "session/messages.h"
 #include "session/persistent_session.h"
@@ -141,6 +143,41 @@ static void put_again(struct session *session, const struct record *record)
         replay->fault = REPLAY_SHORT;
     else if (replay->came + replay->said.len >= MOST_AHEAD)
         catch_up(session);
+}
+
+/* Takes so many bytes that the host says next. Returns how many there are. */
+static size_t take_said(struct session *session, uint8_t *into, size_t wanted)
+{
+    struct wire *wire = &session->wire;
+    size_t has = 0, len;
+
+    do {
+        if (wire->sent == wire->output_len)
+            send_pending(session); /* fetches more */
+        len = wire->output_len - wire->sent < wanted - has ? wire->output_len - wire->sent : wanted - has;
+        memcpy(into + has, wire->output + wire->sent, len);
+        wire->sent += len;
+        has += len;
+    } while (len > 0);
+    return has;
+}
+
+/* Has the host say again what the journal has the hash of, and the link put it. */
+static void say_again(struct session *session, struct record *record)
+{
+    struct replay *replay = session->stay->replay;
+    uint8_t bytes[PIECE];
+    struct text said = {bytes, 0};
+    uint64_t len = take_number(record), hash = take_number(record);
+
+    catch_up(session);
+    if (replay->fault != REPLAY_OK || record->is_wrong)
+        return;
+    said.len = len > PIECE ? 0 : take_said(session, bytes, (size_t)len);
+    if (said.len != len || content_of(&said).hash != hash)
+        replay->fault = REPLAY_DIFFERS;
+    else if (sam_link_put(&session->stay->link, bytes, said.len) != SAM_OK)
+        replay->fault = REPLAY_SHORT;
 }
 
 static void take_start(struct session *session, struct record *record)
@@ -267,6 +304,7 @@ static void wait_for_answer(struct session *session, struct record *record)
 {
     size_t len;
 
+    session->stay->replay->passed++;
     (void)take_number(record); /* what was done, and whether a text is held */
     (void)take_number(record);
     const uint8_t *answer = take_data(record, &len);
@@ -274,12 +312,25 @@ static void wait_for_answer(struct session *session, struct record *record)
         session->stay->replay->fault = REPLAY_SHORT;
 }
 
+/* Takes what is known of a file since its text was saved aside, as with each pause of the user. The host catches up before that only where
+ * it still has to come to something that was done to files, or to a mark of this one. */
+static void take_kept(struct session *session, struct record *record)
+{
+    const struct replay *replay = session->stay->replay;
+    struct record again = *record;
+    uint64_t tag = take_number(&again);
+
+    if (replay->next != replay->passed || (tag < ALL_TAGS && session->documents[tag].is_unmarked))
+        catch_up(session);
+    take_document(session, record);
+}
+
 static void replay_step(struct session *session, struct record *record)
 {
     struct replay *replay = session->stay->replay;
     uint32_t code = SAM_OK;
 
-    if (record->step == STEP_FILE || record->step == STEP_KEPT || record->step == STEP_KEPT_CUT)
+    if (record->step == STEP_FILE || record->step == STEP_KEPT_CUT)
         catch_up(session);
     if (record->step == STEP_START)
         take_start(session, record);
@@ -292,6 +343,8 @@ static void replay_step(struct session *session, struct record *record)
         code = feed_again(session->stay, record);
     } else if (record->step == STEP_DOWN)
         put_again(session, record);
+    else if (record->step == STEP_DOWN_AGAIN)
+        say_again(session, record);
     else if (record->step == STEP_NOTE)
         message_again(session, record->body, record->len);
     else if (record->step == STEP_NOTED)
@@ -299,7 +352,7 @@ static void replay_step(struct session *session, struct record *record)
     else if (record->step == STEP_DONE)
         wait_for_answer(session, record);
     else if (record->step == STEP_KEPT)
-        take_document(session, record);
+        take_kept(session, record);
     else if (record->step == STEP_KEPT_CUT)
         take_cut_copy(session, record);
     if (code != SAM_OK)

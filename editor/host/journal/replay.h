@@ -27,6 +27,7 @@ enum replay_fault {
 struct replay {
     struct record *done; /* what was done to files, in order */
     size_t count, next;
+    size_t passed;    /* how many of them the steps have come to; the host comes to them later */
     struct body said; /* what the host said before, and has not said again */
     size_t came;      /* how many bytes came for the host since it caught up */
     bool is_other;    /* another version of the library has written it */

@@ -18,6 +18,7 @@
 #include "log.h"
 #include "session/dirty_marks.h"
 #include "session/ending.h"
+#include "session/persistent_session.h"
 #include "session/session.h"
 #include "sulgrevad.h"
 
@@ -126,6 +127,7 @@ static void follow_step(struct session *session, const sam_did *did)
         return;
     session->wire.is_prepared = false;
     session->is_met |= did->kind != KIND_VERSION && did->kind != KIND_OPEN_COMMANDS; /* an edit has no kind */
+    session->stay->journal.has_edits |= is_edit;
     track_snarf(session, is_edit ? KIND_CUT : did->kind, did->tag);
     write_files(session);
     if (did->kind == KIND_VERSION && !is_edit)

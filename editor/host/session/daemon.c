@@ -10,6 +10,7 @@
 #include <stdlib.h>
 #include <string.h>
 #include <sys/socket.h>
+#include <sys/stat.h>
 #include <sys/wait.h>
 #include <time.h>
 #include <unistd.h>
@@ -33,6 +34,7 @@
 
 enum {
     LONGEST_START = 10000, /* milliseconds that a session may take until it listens */
+    LONGEST_BARE = 259200, /* seconds that a folder without a journal stays whose samhost is gone: three days */
     NAP = 20000000         /* nanoseconds between two attempts */
 };
 
@@ -78,8 +80,7 @@ void free_staying(struct session *session)
 
     set_listener(NULL, NULL);
     free_messages(&stay->messages);
-    if (stay->journal.file >= 0)
-        close(stay->journal.file);
+    close_journal(&stay->journal);
     for (int at = 0; at < MOST_CALLERS; at++) {
         if (stay->callers[at].socket >= 0)
             close(stay->callers[at].socket);
@@ -190,12 +191,9 @@ static int begin_in(struct home *home, char **paths, int count, const struct opt
     listen_for_messages(session);
     int status = open_session(session, paths, count, options);
     if (status == STATUS_OK) {
-        int error = make_journal(session->stay, JOURNAL);
-        if (error == 0) {
-            record_start(session);
-            sync_home(&session->stay->home);
-        } else /* one that is not whole is none */
-            tell_no_journal(error);
+        make_journal(session, JOURNAL);
+        record_start(session);
+        sync_home(&session->stay->home);
         write_about(session);
         report_others(session);
         return part(session);
@@ -352,19 +350,21 @@ static int go_on(struct home *home)
     return part(session);
 }
 
-/* Says where the wrong journal is that is all of a session. Returns the exit status. */
-static int report_wrong(const struct home *home)
+/* Says what is left of a session that has no journal, unless that is nothing and its samhost has just ended it. Returns the exit status. */
+static int report_rest(const struct home *home, bool has_ended)
 {
     char *path = find_wrong_journal(home);
+    int status = path != NULL || !has_ended ? STATUS_UNREADABLE : STATUS_OK;
 
     if (path != NULL)
         say("all that is left of session %s is a journal that is wrong, in %s", home->name, path);
-    int status = path != NULL ? STATUS_UNREADABLE : STATUS_OK;
+    else if (!has_ended)
+        say("session %s has no journal, so of its texts nothing is known but the copies that it has saved", home->name);
     free(path);
     return status;
 }
 
-int end_without_samhost(struct home *home)
+int end_without_samhost(struct home *home, bool has_ended)
 {
     struct session *session = make_staying(home, 0);
 
@@ -374,10 +374,11 @@ int end_without_samhost(struct home *home)
         return STATUS_MEMORY;
     }
     session->stay->is_to_end = true;
-    enum replay_fault fault = has_journal(home) ? begin_again(session) : REPLAY_NOTHING;
+    bool has_some = has_journal(home);
+    enum replay_fault fault = has_some ? begin_again(session) : REPLAY_NOTHING;
     if (fault != REPLAY_OK && fault != REPLAY_NOTHING)
         return give_up(session, fault, false);
-    int status = fault == REPLAY_OK ? close_session(session, INPUT_ENDED) : report_wrong(home);
+    int status = !has_some ? report_rest(home, has_ended) : fault == REPLAY_OK ? close_session(session, INPUT_ENDED) : STATUS_OK;
     if (status == STATUS_LOST)
         say("session %s stays, since its journal has what is not saved: --end can be tried again", home->name);
     else
@@ -402,11 +403,27 @@ static int refuse_name(const char *name)
 
 /* ---- Sessions that nobody came back to ---- */
 
+/* Whether a folder has had no journal for a while, nor a wrong one: its samhost had none, and is gone, or never came to one. */
+static bool is_left_bare(const struct home *home)
+{
+    struct stat status;
+    char *wrong = find_wrong_journal(home);
+    bool is_bare = wrong == NULL && !has_journal(home);
+
+    free(wrong);
+    return is_bare && fstat(home->folder, &status) == 0 && time(NULL) - status.st_mtime > LONGEST_BARE;
+}
+
+static bool is_left(const struct home *home)
+{
+    return is_left_alone(home) || is_left_bare(home);
+}
+
 static int find_left(struct home *home, void *at)
 {
     bool *has_some = at;
 
-    *has_some |= is_left_alone(home);
+    *has_some |= is_left(home);
     return 0;
 }
 
@@ -414,8 +431,8 @@ static int find_left(struct home *home, void *at)
 static int end_left(struct home *home, void *at)
 {
     (void)at;
-    if (is_left_alone(home) && lock_home(home) == 0 && is_left_alone(home)) {
-        (void)end_without_samhost(home);
+    if (is_left(home) && lock_home(home) == 0 && is_left(home)) {
+        (void)end_without_samhost(home, false);
         home->all = home->folder = home->lock = -1; /* they are closed */
     }
     return 0;
@@ -451,8 +468,10 @@ int attach(const char *name)
         error = find(&home, &line);
         if (error == ENOENT && home.lock >= 0 && has_journal(&home))
             return go_on(&home);
-        if (error == ENOENT && home.lock >= 0)
+        if (error == ENOENT && home.lock >= 0) {
+            (void)report_rest(&home, false);
             remove_home(&home);
+        }
         close_home(&home);
     }
     if (error == 0)
@@ -477,13 +496,10 @@ int begin_to_stay(char **paths, int count, const struct options *options)
     return error == 0 || error == EWOULDBLOCK ? attach(options->name) : say_home(options->name, error);
 }
 
-/* Whether nothing but a wrong journal is left of a session. */
-static bool is_left_of_one(const struct home *home)
+/* Whether a session is over, and its samhost is gone: it has no journal, but a wrong one perhaps. */
+static bool is_over(struct home *home)
 {
-    char *path = has_journal(home) ? NULL : find_wrong_journal(home);
-
-    free(path);
-    return path != NULL;
+    return !has_journal(home) && lock_home(home) == 0;
 }
 
 /* Notes the name of a session, if it is the first. */
@@ -491,7 +507,7 @@ static int find_only(struct home *home, void *at)
 {
     char *name = at;
 
-    if (is_left_of_one(home))
+    if (is_over(home))
         return 0;
     if (*name != '\0')
         return EEXIST;

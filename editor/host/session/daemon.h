@@ -3,6 +3,7 @@
 #ifndef SAMHOST_SESSION_DAEMON_H
 #define SAMHOST_SESSION_DAEMON_H
 
+#include <stdbool.h>
 #include <stdint.h>
 
 struct home;
@@ -27,7 +28,8 @@ int serve_streams(char **paths, int count, const struct options *options);
 /* Relays to a session that stays. Returns the exit status. */
 int attach(const char *name);
 
-/* Ends a session whose samhost is gone: saves its texts aside. Its folder is locked. Returns the exit status. */
-int end_without_samhost(struct home *home);
+/* Ends a session whose samhost is gone, perhaps since it was asked to end (`has_ended`): saves its texts aside. Its folder is locked.
+ * Returns the exit status. */
+int end_without_samhost(struct home *home, bool has_ended);
 
 #endif

@@ -69,7 +69,7 @@ static ssize_t put_out(struct session *session, const uint8_t *bytes, size_t len
     if (session->stay->messages.waiting == NULL)
         code = sam_link_put(&session->stay->link, bytes, len);
     if (code == SAM_OK) {
-        add_record(session, STEP_DOWN, bytes, len);
+        record_down(session, bytes, len);
         return (ssize_t)len;
     }
     errno = code == SAM_COUNT_FULL ? EOVERFLOW : EAGAIN;
@@ -356,11 +356,12 @@ static enum ending serve_line(struct session *session, const sigset_t *mask)
     enum ending ending = stay->ending;
 
     while (ending == GOES_ON && !is_signalled() && !stay->is_to_end && time_left_alone(session) != 0 && !is_given_up(stay)) {
-        carry(session, mask, -1);
+        carry(session, mask, mending_is_due_in(session));
         if (stay->heir != NULL)
             return GOES_ON;
         ending = take_packets(session);
         send_pending(session);
+        mend_journal(session);
         write_line(session);
         watch_files(session);
         if (save_due(session)) {
@@ -416,10 +417,10 @@ static void say_the_end(struct session *session, const sigset_t *mask, int statu
     }
 }
 
-/* Whether the session is to stay in its folder: a signal has come, its terminal has not left, and its journal is there. */
+/* Whether the session is to stay in its folder: a signal has come, its terminal has not left, and it has a journal. */
 static bool is_kept_at(const struct stay *stay, enum ending ending)
 {
-    return ending == INPUT_ENDED && is_signalled() && !stay->is_to_end && stay->attempt > 0 && stay->journal.file >= 0;
+    return ending == INPUT_ENDED && is_signalled() && !stay->is_to_end && stay->attempt > 0 && takes_records(&stay->journal);
 }
 
 /* Saves the texts aside, and has the journal be on the disk, so that another samhost can go on. Returns whether that is so. */
@@ -430,7 +431,7 @@ static bool keep_session(struct session *session)
     (void)save_changed(session); /* what can't be saved is in the journal */
     record_copies(session);
     sync_journal(session);
-    stay->is_kept = stay->journal.file >= 0;
+    stay->is_kept = begin_journal_anew(session);
     if (stay->is_kept) {
         write_line(session);
         drop_line(stay);
@@ -444,7 +445,7 @@ static int end_for_good(struct session *session)
 {
     struct stay *stay = session->stay;
     int status = close_session(session, stay->ending);
-    stay->is_kept = status == STATUS_LOST && stay->journal.file >= 0;
+    stay->is_kept = status == STATUS_LOST && begin_journal_anew(session);
     if (stay->is_kept)
         say("the journal of session %s stays: samhost --end %s tries again to save what it has", stay->home.name, stay->home.name);
     return status;

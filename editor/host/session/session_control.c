@@ -149,15 +149,17 @@ static void read_about(const struct home *home, char about[ANSWER_ROOM])
 static void list_silent(struct home *home, const char *about)
 {
     char *wrong = find_wrong_journal(home);
+    int error = lock_home(home);
 
-    if (lock_home(home) == EWOULDBLOCK)
+    if (error == EWOULDBLOCK)
         printf("%s  its samhost has not answered in time  %s\n", home->name, about);
     else if (has_journal(home))
         printf("%s  its samhost is gone, and another can begin from its journal  %s\n", home->name, about);
     else if (wrong != NULL) {
         make_printable(wrong);
         printf("%s  its journal is wrong, and kept in %s  %s\n", home->name, wrong, about);
-    }
+    } else if (error == 0)
+        printf("%s  its samhost is gone, and there is no journal  %s\n", home->name, about);
     free(wrong);
 }
 
@@ -255,16 +257,15 @@ static int ask_to_end(const struct home *home, bool *is_asked)
     return error;
 }
 
-/* Has the samhost of a session end, and waits until it has. 0 where it was gone, and its folder is locked now; ENOENT once all of it is
- * gone. */
-static int end_living(struct home *home)
+/* Has the samhost of a session end, and waits until it has; hands out whether it could be asked. 0 where it was gone, and its folder is
+ * locked now; ENOENT once all of it is gone. */
+static int end_living(struct home *home, bool *is_asked)
 {
     const struct timespec nap = {0, NAP};
     int64_t until = now() + LONGEST_END;
-    bool is_asked = false;
 
     for (;;) {
-        int error = is_asked ? 0 : ask_to_end(home, &is_asked);
+        int error = *is_asked ? 0 : ask_to_end(home, is_asked);
         if (error == 0)
             error = lock_home(home);
         if (error != EWOULDBLOCK || now() >= until)
@@ -276,6 +277,7 @@ static int end_living(struct home *home)
 int end_session(const char *name)
 {
     struct home home;
+    bool is_asked = false;
     int error = open_named(name, &home);
 
     if (error == ENOENT) {
@@ -283,9 +285,9 @@ int end_session(const char *name)
         return STATUS_NO_SESSION;
     }
     if (error == 0)
-        error = end_living(&home);
+        error = end_living(&home, &is_asked);
     if (error == 0)
-        return end_without_samhost(&home);
+        return end_without_samhost(&home, is_asked);
     close_home(&home);
     if (error == ENOENT)
         return STATUS_OK;

@@ -115,34 +115,19 @@ static void hand_stay(struct session *session, struct session *heir, struct call
 
 /* ---- The folder ---- */
 
-/* Writes the journal of the new session in the place of the old one's. Where that can't be, none is there: a journal that nobody writes
- * would bring an older text back. */
+/* Writes the journal of the new session in the place of the old one's. Where that can't be it is held, and none is there: a journal that
+ * nobody writes would bring an older text back. */
 static void put_journal(struct session *session, struct session *heir, const struct caller *caller)
 {
     const struct home *home = &heir->stay->home;
-    struct journal *journal = &heir->stay->journal;
-    bool is_told = false;
 
-    if (session->stay->journal.file >= 0)
-        close(session->stay->journal.file);
-    session->stay->journal.file = -1;
-    int error = make_journal(heir->stay, NEW_JOURNAL);
-    if (error == 0) {
-        record_start(heir);
-        add_record(heir, STEP_HELLO, caller->bytes, caller->len);
-        sync_journal(heir);
-        is_told = journal->file < 0; /* it was lost meanwhile */
-        if (!is_told && renameat(home->folder, NEW_JOURNAL, home->folder, JOURNAL) == 0)
-            return;
-        error = errno;
-    }
-    if (journal->file >= 0)
-        close(journal->file);
-    journal->file = -1;
-    (void)unlinkat(home->folder, JOURNAL, 0);
-    (void)unlinkat(home->folder, NEW_JOURNAL, 0);
-    if (!is_told)
-        tell_no_journal(error);
+    close_journal(&session->stay->journal);
+    make_journal(heir, NEW_JOURNAL);
+    record_start(heir);
+    add_record(heir, STEP_HELLO, caller->bytes, caller->len);
+    sync_journal(heir);
+    if (heir->stay->journal.file >= 0 && renameat(home->folder, NEW_JOURNAL, home->folder, JOURNAL) != 0)
+        hold_journal(heir, errno);
 }
 
 /* Writes the journal of the new session, and names its folder by its link. Both names lead to the folder from the first step on, so a kill

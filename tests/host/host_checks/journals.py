@@ -20,7 +20,7 @@ from .support import SAMHOST, expect_equal, made, names_in, text_of
 
 HEAD = 24  # bytes of a journal before its first record
 FRONT, BACK = 24, 4  # bytes of a record before its body, and behind it
-FORM_AND_SUM = (2, "aadcf3e582a1caef")  # of the records, and of the code that makes and reads them
+FORM_AND_SUM = (3, "558a30b69fda1b95")  # of the records, and of the code that makes and reads them
 HELLO, UP, DOWN, DONE = 4, 5, 6, 9  # kinds of records: a connection, bytes that came, bytes that the host said, a file that was written
 
 
@@ -421,6 +421,36 @@ def check_journal_without_room_for_it(folder):
         session.type("five\n")
         session.write()
         expect_equal(text_of(folder / "a.txt"), "one\ntwo\nthree\nfour\nfive\n", "the file")
+        session.leave()
+
+
+def check_journal_does_not_grow_with_loads(folder):
+    """A text that is loaded again and again costs the journal next to nothing, and another samhost says it again just so, also the rest of a
+    load that was under way."""
+    text = "a line of the text\n" * 40_000
+    made(folder, a=text)
+    with Staying(folder, "a.txt", options=("--undo",), kind=sulgrevad.Link) as session:
+        journal, terminal = home_of(folder, session.name) / "journal", session.terminal
+        before = journal.stat().st_size
+        expect(session.text() == text, "the text is another")
+        first, before = journal.stat().st_size - before, journal.stat().st_size
+        expect(0 < first < len(text) // 20, f"it grows by {first:,} bytes")
+        for number in range(4):
+            terminal.select(1, 0, terminal.len(1))
+            terminal.cut(1)
+            session.settle()
+            received = session.link.received
+            terminal.paste(1)
+            if number == 3:
+                terminal.load(1, 0, len(text))
+                session.carry(lambda: session.link.received - received > len(text) // 2, "it isn't loaded")
+                kill(folder, session)
+            session.settle()
+            expect(session.text() == text, f"the text that is loaded for the {number + 2}. time is another")
+        grown = journal.stat().st_size - before
+        expect(grown < 4 * len(text) // 3, f"it grows by {grown:,} bytes with four pastes, of which each is loaded in 1,500 pieces")
+        session.type("after\n")
+        expect(session.text() == text + "after\n", "the text at the end is another")
         session.leave()
 
 

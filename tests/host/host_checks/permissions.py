@@ -127,7 +127,8 @@ def check_guarded_from_another_listener(folder):
             for words in (["--attach", OWN], ["--take", OWN], ["--open", "a.txt"], ["--list"], ["--end", OWN]):
                 ended = subprocess.run([SAMHOST, *words], env=environment, input=b"x" * 42, capture_output=True, timeout=GIVEN_UP)
                 heard = other.stdout.readline() if select.select([other.stdout], [], [], GIVEN_UP)[0] else b"nobody calls\n"
-                expect_equal((ended.stdout, heard), (b"", b"b''\n"), f"{words}: what comes, and what the other user gets")
+                wanted = f"{OWN}  its samhost is gone, and there is no journal  a.txt\n".encode() if words == ["--list"] else b""
+                expect_equal((ended.stdout, heard), (wanted, b"b''\n"), f"{words}: what comes, and what the other user gets")
                 expect(words[0] not in ("--attach", "--take") or ended.returncode == 1, f"{words}: it ends with {ended.returncode}")
         finally:
             other.kill()

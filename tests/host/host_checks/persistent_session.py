@@ -442,6 +442,35 @@ def check_stays_ended_without_its_folder(folder):
         expect_equal(text_of(folder / "a.txt"), "another\n", "the other file")
 
 
+def check_stays_where_its_folder_comes_later(folder):
+    """Where the folder in which a session began isn't there yet, as before it is mounted, the relay says so and ends without an answer, so
+    that the terminal tries again; once it is there the session goes on."""
+    place = folder / "place"
+    place.mkdir()
+    made(place, a="one\n")
+    with Staying(place, "a.txt") as session:
+        session.type("two\n")
+        kill(place, session)
+        session.drop()
+        state = folder / "state"
+        state_of(place).parent.rename(state)
+        session.environment = {**session.environment, "TMPDIR": str(state), "XDG_STATE_HOME": str(state)}
+        session.folder = folder
+        place.rename(folder / "away")
+        for _ in range(2):
+            session.start("--attach", session.name)
+            expect_equal((session.process.stdout.read(), session.wait()), (b"", 1), "the answer, and the status")
+            said = session.process.stderr.read().decode()
+            told = f"samhost: {place}: No such file or directory\nsamhost: session {session.name} can't go on: the folder in which it "
+            expect(said.startswith(told), f"it says {said!r}")
+            session.abandon()
+        (folder / "away").rename(place)
+        session.type("three\n")
+        expect_equal(session.text(), "one\ntwo\nthree\n", "the text")
+        ended = session.run("--end", session.name)
+        expect_equal(ended.returncode, 0, f"after {ended.stderr!r} the status of --end")
+
+
 def check_stays_for_the_last_note(folder):
     """The last note waits for a terminal whose line breaks just then."""
     with typed(folder) as session:

@@ -1,4 +1,5 @@
 """A session that another terminal takes over."""
+import contextlib
 import os
 import signal
 
@@ -6,11 +7,13 @@ import sulgrevad
 from checks import expect, wait_until
 from link_model import What
 
+from .journal_faults import AGAIN
 from .journals import kill, killed, records_of, typed
 from .line import Staying, home_of, is_running, pid_of, state_of, with_calls
 from .support import IDLE, expect_equal, made, names_in, text_of
 
 RENAMES = "renameat,renameat2"  # calls of the system that rename the journal, and then the folder
+RECORDS = 8  # calls that write the new journal: its head, its begin and two syncs
 
 
 def names_of(session):
@@ -170,28 +173,31 @@ def alone(folder, old):
 
 def check_taken_where_the_new_journal_is_lost(folder):
     """Where the new session's journal can't be on the disk no journal is left: one that nobody writes would bring an older text back. The
-    terminal is told."""
+    terminal is told, and the journal is begun anew once it can be."""
     for error, when in (("EIO", 1), ("EIO", 2), ("ENOSPC", 2)):
         place = folder / f"{error}{when}"
         place.mkdir()
         made(place, a="one\n")
-        with Staying(place, "a.txt") as old:
-            pid = alone(place, old)
-            with with_calls(pid, f"inject=fdatasync:error={error}:when={when}"):
-                with Staying(place, takes=old.name) as new:
-                    new.type("three\n")
-                    home = home_of(place, new.name)
-                    journals = [name for name in names_in(home) if name.startswith("journal")]
-                    expect_equal(journals, [], f"{error} at the sync {when}: the journals that are there")
-                    told = [it.text for it in new.of("NO_JOURNAL") if it.text.startswith("the journal can't be written: ")]
-                    expect_equal(len(told), 1, f"how often it says so, in {new.messages}: it")
-                    new.leave()
+        with Staying(place, "a.txt") as old, contextlib.ExitStack() as stack:
+            with with_calls(alone(place, old), f"inject=fdatasync:error={error}:when={when}+"):
+                new = stack.enter_context(Staying(place, takes=old.name))
+                new.type("three\n")
+                new.carry(lambda: new.of("NO_JOURNAL"), "it isn't told")
+                told = [it.text for it in new.of("NO_JOURNAL") if it.text.startswith("the journal can't be written: ")]
+                expect_equal(len(told), 1, f"how often it says so, in {new.messages}: it")
+                new.let_pass(1.5)  # it is tried meanwhile
+                expect(not (home_of(place, new.name) / "journal").exists(), f"{error} at the sync {when}: a journal is there")
+            new.carry(lambda: AGAIN in new.said(), "it isn't begun anew")
+            kill(place, new)
+            expect_equal(new.text(), "one\ntwo\nthree\n", f"{error} at the sync {when}: the text")
+            new.leave()
 
 
 def check_taken_and_killed_at_each_step(folder):
     """Where samhost is killed in a takeover, also between the renaming of the journal and that of the folder, the new terminal goes on by
     the name that it knows."""
-    for call, when in (("fsync", 1), ("fdatasync", 1), ("fdatasync", 2), (RENAMES, 1), (RENAMES, 2), ("fsync", 4)):
+    steps = [("fsync", 1), ("fdatasync", 1), ("fdatasync", 2), (RENAMES, 1), (RENAMES, 2), ("fsync", 4)]
+    for call, when in steps + [("writev", number) for number in range(1, RECORDS + 1)]:
         place = folder / f"{call}{when}"
         place.mkdir()
         made(place, a="one\n")

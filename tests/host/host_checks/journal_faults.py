@@ -1,0 +1,198 @@
+"""A journal that can't be written for a while: that is told, and it is begun anew once it can."""
+import concurrent.futures
+import os
+import resource
+import signal
+import time
+
+from checks import MNT_DETACH, Skipped, expect, libc, wait_until
+from link_model import What
+
+from .journals import kill, records_of, typed
+from .line import Staying, home_of, is_running, pid_of, state_of, with_calls
+from .persistent_session import expect_gone
+from .support import expect_equal, made, names_in, text_of
+
+FAULTS = int(os.environ.get("FAULTS") or 24)  # how many single faults are tried of each call and error; 1000: all that there are
+AT_ONCE = 4
+AGAIN = "the journal is written again"
+ROOM = 512 * 1024  # bytes of a small disk
+
+
+def is_begun_anew(session, times=1):
+    """Waits until the terminal has heard so often that the journal is written again."""
+    session.carry(lambda: session.said().count(AGAIN) == times, "it isn't begun anew")
+
+
+def losses(session):
+    return [message.text for message in session.of("NO_JOURNAL")]
+
+
+def expect_goes_on(folder, session, text):
+    """Another samhost goes on with the same terminal and all that it has typed."""
+    kill(folder, session)
+    session.type("after\n")
+    expect_equal(session.text(), text + "after\n", "the text")
+    session.write()
+    expect_equal(text_of(folder / "a.txt"), text + "after\n", "the file")
+    session.leave()
+
+
+def check_journal_is_begun_anew(folder):
+    """Once the journal can be written again there is one, with all that was typed meanwhile. Both are told, each time."""
+    with typed(folder) as session:
+        journal, pid, text = home_of(folder, session.name) / "journal", pid_of(folder, session.name), "one\ntwo\n"
+        for times in (1, 2):
+            resource.prlimit(pid, resource.RLIMIT_FSIZE, (journal.stat().st_size + 20, resource.RLIM_INFINITY))
+            for number in range(3):
+                session.type(f"{times} {number}\n")
+                text += f"{times} {number}\n"
+            session.carry(lambda: len(losses(session)) == times, "it isn't told")
+            expect(not journal.exists(), "a journal that lacks steps is there")
+            resource.prlimit(pid, resource.RLIMIT_FSIZE, (resource.RLIM_INFINITY, resource.RLIM_INFINITY))
+            is_begun_anew(session, times)
+        expect_equal(records_of(journal.read_bytes())[1], journal.stat().st_size, "where its records end")
+        expect_equal(len(losses(session)), 2, f"how often it says so, in {session.messages}: it")
+        expect_goes_on(folder, session, text)
+
+
+def check_journal_is_begun_anew_before_a_signal_ends_it(folder):
+    """At a signal a journal that was held is begun anew at once, if it can be: the session goes on."""
+    with typed(folder) as session:
+        pid = pid_of(folder, session.name)
+        with with_calls(pid, "inject=writev:error=ENOSPC:when=1"):
+            session.type("three\n")
+            session.carry(lambda: losses(session), "it isn't told")
+            os.kill(pid, 15)
+            wait_until(lambda: (home_of(folder, session.name) / "journal").exists(), "it isn't begun anew")
+        session.type("four\n")
+        expect(pid_of(folder, session.name) != pid, "no other samhost has begun")
+        expect_equal(session.text(), "one\ntwo\nthree\nfour\n", "the text")
+        session.leave()
+
+
+def check_journal_on_a_full_disk(folder):
+    """On a disk without room the session goes on, and its journal is begun anew once there is room."""
+    if "TMP_IS_OWN" not in os.environ:
+        raise Skipped("nothing can be mounted here")
+    state = state_of(folder)
+    state.mkdir(parents=True, mode=0o700)
+    if libc.mount(b"none", os.fsencode(state), b"tmpfs", 0, f"size={ROOM},mode=700".encode()) != 0:
+        raise Skipped("nothing can be mounted here")
+    try:
+        with typed(folder) as session:
+            filler = state / "filler"
+            with open(filler, "wb", buffering=0) as file:
+                try:
+                    while True:
+                        file.write(bytes(4096))
+                except OSError:
+                    pass
+            text = "one\ntwo\n"
+            for number in range(200):
+                text += f"{number:60}\n"
+                session.type(f"{number:60}\n")
+            expect(losses(session)[0].startswith("the journal can't be written: No space left on device"), f"it tells {session.messages}")
+            session.let_pass(4)
+            expect_equal(names_in(home_of(folder, session.name)), ["lock", "name", "socket"], "what is in its folder")
+            filler.unlink()
+            is_begun_anew(session)
+            expect_goes_on(folder, session, text)
+    finally:
+        libc.umount2(os.fsencode(state), MNT_DETACH)
+
+
+def check_journal_that_never_began(folder):
+    """A session that could not begin a journal begins it later."""
+    made(folder, a="one\n")
+    words = ("strace", "-f", "-qq", "-o", "/dev/null", "-e", "inject=writev:error=ENOSPC:when=1")  # of each process, so twice
+    with Staying(folder, "a.txt", prefix=words) as session:
+        is_begun_anew(session)
+        expect_equal(len(losses(session)), 1, f"how often it says so, in {session.messages}: it")
+        session.type("two\n")
+        expect_goes_on(folder, session, "one\ntwo\n")
+
+
+def went_on(place, call, error, when):
+    """Tries a session in which one call on the journal fails, and whose samhost is killed once it is begun anew. Returns whether the call
+    came."""
+    place.mkdir()
+    made(place, a="one\n", b="other\n")
+    with Staying(place, "a.txt", options=("--undo",)) as session:
+        text = "one\n"
+        with with_calls(pid_of(place, session.name), f"inject={call}:error={error}:when={when}"):
+            for number in range(3):
+                session.type(f"{number}\n")
+                text += f"{number}\n"
+            session.write()
+            session.put_note("OPEN", request=1, path=b"b.txt")
+            session.carry(lambda: session.of("OPENED", request=1), "it isn't opened")
+            session.terminal.select(1, 0, 4)
+            session.terminal.cut(1)
+            session.settle()
+            text = text[4:]
+            session.let_pass(0.2)
+            has_come = bool(losses(session))
+            if has_come:
+                is_begun_anew(session)
+        expect_equal(len(losses(session)), int(has_come), f"{call} {when}: how often it says so, in {session.messages}: it")
+        expect_goes_on(place, session, text)
+        expect_equal(len(session.of("OPENED", request=1)), 1, f"{call} {when}: how often it is opened, in {session.messages}")
+    return has_come
+
+
+def check_journal_at_each_fault(folder):
+    """One write or sync of the journal that fails, any of them, costs nothing: it is told, and after a kill the same terminal goes on."""
+
+    def tried(case):
+        call, error, when = case
+        return went_on(folder / f"{call}{error}{when}", call, error, when)
+
+    for call, error in (("writev", "ENOSPC"), ("fdatasync", "EIO"), ("writev", "EIO"), ("fdatasync", "ENOSPC")):
+        with concurrent.futures.ThreadPoolExecutor(AT_ONCE) as pool:
+            came, first = 0, 1
+            while came < FAULTS:
+                found = list(pool.map(tried, [(call, error, when) for when in range(first, first + AT_ONCE)]))
+                came, first = came + sum(found), first + AT_ONCE
+                if not all(found):
+                    break
+        expect(came > 4, f"this test is wrong: {call} fails {came} times")
+
+
+def check_stays_without_a_journal_after_a_kill(folder):
+    """A session whose journal could not be written, and whose samhost was killed then, is not left out: --list and --end say what there is
+    of it, --take without a name takes the other one, and the terminal hears why it is refused. Its folder goes with that, or after three
+    days."""
+    for way in ("--end", "--attach", "days"):
+        place = folder / way.strip("-")
+        place.mkdir()
+        made(place, a="one\n", b="other\n")
+        with Staying(place, "a.txt") as lost, Staying(place, "b.txt") as other:
+            pid = pid_of(place, lost.name)
+            with with_calls(pid, "inject=writev:error=ENOSPC"):
+                lost.type("two\n")
+                wait_until(lambda: not (home_of(place, lost.name) / "journal").exists(), "the journal can be written")
+                lost.drop()
+                os.kill(pid, signal.SIGKILL)
+                wait_until(lambda: not is_running(pid), "it still runs")
+            said = f"session {lost.name} has no journal, so of its texts nothing is known but the copies that it has saved"
+            line = f"{lost.name}  its samhost is gone, and there is no journal  a.txt, in {place}"
+            expect(line in lost.run("--list").stdout.splitlines(), f"{way}: the list is {lost.run('--list').stdout!r}")
+            if way == "--end":
+                ended = lost.run("--end", lost.name)
+                expect_equal((ended.returncode, ended.stderr), (1, f"samhost: {said}\n"), "what comes of --end")
+            elif way == "--attach":
+                lost.start("--attach", lost.name)
+                expect_equal((lost.refusal(), lost.wait()), (What.NO_SESSION, 7), "what the terminal hears")
+                expect(f"samhost: {said}\n" in lost.process.stderr.read().decode(), "it doesn't say why")
+            else:
+                with Staying(place, takes="") as taking:
+                    expect_equal(taking.text(), "other\n", "the text of the session that is taken")
+                    os.utime(home_of(place, lost.name), 2 * (time.time() - 73 * 3600,))
+                    with Staying(place, "a.txt") as new:
+                        expect_gone(place, lost)
+                        new.leave()
+                    taking.leave()
+            expect_gone(place, lost)
+            if way != "days":
+                other.leave()
