@@ -4,7 +4,8 @@
 
 ;; What waits goes to the host before a buffer is killed or Emacs ends; who can't wait is asked.  What the host may not have when a buffer
 ;; or the session goes all the same is kept here, in NAME.sam-here: in the folder in which the session began, or in that for temporary
-;; files.  The buffer of a session that is over is used again for the same file.
+;; files.  A later session tells of it where it shows the file, and M-x sulgrevad-recover takes it, compares or drops it.  The buffer of a
+;; session that is over is used again for the same file.
 
 ;;; Code:
 
@@ -14,6 +15,7 @@
 (require 'sulgrevad-line)
 (require 'sulgrevad-state)
 
+(declare-function diff-no-select "diff" (old new &optional switches no-async buf))
 (declare-function sulgrevad--buffer-of "sulgrevad-files" (tag))
 (declare-function sulgrevad--exit "ext:sulgrevad-module" (term))
 (declare-function sulgrevad--exited "ext:sulgrevad-module" (term))
@@ -28,6 +30,7 @@
 (declare-function sulgrevad--part "ext:sulgrevad-module" (term tag start end))
 (declare-function sulgrevad--pump "sulgrevad" (&optional is-pausing))
 (declare-function sulgrevad--send "sulgrevad" ())
+(declare-function sulgrevad--settle "sulgrevad" (what))
 (declare-function sulgrevad--wait "sulgrevad" (is-there &optional most tell))
 
 ;;; What can't go to the host
@@ -65,11 +68,19 @@ one takes its place.  Return its path, or nil where none can be written."
         (error nil)))
     path))
 
+(defun sulgrevad--kept-base (name)
+  "How the names of files begin in which the text of the file NAME is kept."
+  (let ((last (remq 0 (append (car (last (split-string name "/"))) nil)))) ; no name of a file has a NUL
+    (concat (or (seq-take last sulgrevad-most-in-base) "unnamed") ".sam-here")))
+
+(defun sulgrevad--kept-folders ()
+  "The folders for such files, the first one first."
+  (cl-remove-if #'file-remote-p (list sulgrevad--folder temporary-file-directory)))
+
 (defun sulgrevad--keep-new (name text)
   "Write TEXT to a new file NAME.sam-here.  Return its path, or nil."
-  (let* ((last (remq 0 (append (car (last (split-string name "/"))) nil))) ; no name of a file has a NUL
-         (base (concat (or (seq-take last sulgrevad-most-in-base) "unnamed") ".sam-here")))
-    (cl-loop for folder in (cl-remove-if #'file-remote-p (list sulgrevad--folder temporary-file-directory))
+  (let ((base (sulgrevad--kept-base name)))
+    (cl-loop for folder in (sulgrevad--kept-folders)
              thereis (cl-loop for number from 1 to sulgrevad-most-names
                               for path = (concat (file-name-as-directory folder) base (and (< 1 number) (format ".%d" number)))
                               for made = (sulgrevad--write-new path text)
@@ -153,6 +164,59 @@ memory."
   (cl-loop for buffer in sulgrevad--buffers
            when (and (buffer-live-p buffer) (buffer-modified-p buffer))
            collect (with-current-buffer buffer (sulgrevad--keep-buffer (buffer-name)))))
+
+;;; What an earlier session has kept here
+
+(defun sulgrevad--left-here (name)
+  "The paths of the texts that earlier sessions kept of the file NAME.
+The one that was written last is the first."
+  (let ((pattern (concat "\\`" (regexp-quote (sulgrevad--kept-base name)) "\\(\\.[0-9]+\\)?\\'")) (own (mapcar #'cdr sulgrevad--copies)))
+    (sort (cl-loop for folder in (delete-dups (mapcar #'file-name-as-directory (sulgrevad--kept-folders)))
+                   append (cl-loop for (path . about) in (ignore-errors (directory-files-and-attributes folder t pattern))
+                                   when (and (null (file-attribute-type about)) (eql (file-attribute-user-id about) (user-uid))
+                                             (not (member path own)))
+                                   collect path))
+          #'file-newer-than-file-p)))
+
+(defun sulgrevad--offer-left ()
+  "Say that an earlier session has kept a text of the buffer's file here."
+  (when-let ((left (sulgrevad--left-here sulgrevad--path)))
+    (message "A text of %s was kept here: %s; M-x sulgrevad-recover takes it, compares or drops it"
+             (buffer-name) (string-join left ", "))))
+
+(defun sulgrevad-recover (path)
+  "Take the text at PATH for the buffer, compare the two, or drop it.
+It is one that an earlier session has kept here of the buffer's file.
+When it is taken, undo takes it back, and it stays at PATH."
+  (interactive (progn (unless (sulgrevad--is-ours) (user-error "The buffer is not that of a file of the session"))
+                      (let ((left (sulgrevad--left-here sulgrevad--path)))
+                        (unless left (user-error "No earlier session has kept a text of %s here" (buffer-name)))
+                        (list (if (cdr left) (completing-read "Text: " left nil t nil nil (car left)) (car left))))))
+  (pcase (car (read-multiple-choice (format "%s:" path) '((?t "take") (?c "compare") (?d "drop"))))
+    (?t (sulgrevad--recover path))
+    (?c (require 'diff)
+        (pop-to-buffer (diff-no-select (current-buffer) path)))
+    (?d (when (yes-or-no-p (format "Drop %s for good? " path)) (delete-file path)))))
+
+(defun sulgrevad--recover (path)
+  "Have the buffer's text be that at PATH.  Change only what differs."
+  (let ((text (with-temp-buffer
+                (let ((coding-system-for-read 'utf-8-emacs-unix)) (insert-file-contents path))
+                (buffer-string))))
+    (when (or (not (string-match-p "\\[[0-9]+ characters that were not loaded]" text))
+              (yes-or-no-p (format "%s lacks characters that were not loaded; take it? " path)))
+      (sulgrevad--settle "That")
+      (save-restriction
+        (widen)
+        (let* ((mine (sulgrevad--text)) (front (sulgrevad--same-front mine text))
+               (back (sulgrevad--same-front (reverse (substring mine front)) (reverse (substring text front)))))
+          (undo-boundary)
+          (goto-char (1+ front))
+          (delete-region (point) (- (point-max) back))
+          (insert (substring text front (- (length text) back)))))
+      (message "%s has that text; undo takes it back. It stays in %s until M-x sulgrevad-recover drops it" (buffer-name) path))))
+
+;;; Leaving
 
 (defun sulgrevad--may-kill ()
   "Whether the buffer may be killed.

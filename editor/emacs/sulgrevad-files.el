@@ -110,7 +110,8 @@ Not one whose text stands nowhere else."
     (setq buffer-offer-save 'always)    ; so C-x s asks
     (setq-local revert-buffer-function #'sulgrevad--revert))
   (sulgrevad--hook-up)
-  (sulgrevad-mode))
+  (sulgrevad-mode)
+  (when name (sulgrevad--offer-left)))
 
 (defun sulgrevad--await-whole ()
   "Load the buffer's file, and say how far that is.  \\[keyboard-quit] stops it."
@@ -327,7 +328,7 @@ One is written after the other, so that what the host tells is of that."
 
 (defun sulgrevad--note-written ()
   "Say what became of the file that was written last."
-  (let* ((tag sulgrevad--writing) (told (cdr (assq tag sulgrevad--complaints))) (buffer (sulgrevad--buffer-of tag))
+  (let* ((tag sulgrevad--writing) (told (cadr (assq tag sulgrevad--complaints))) (buffer (sulgrevad--buffer-of tag))
          (name (or (sulgrevad--name sulgrevad--term tag) "the file")))
     (setq sulgrevad--writing nil)
     (when buffer (with-current-buffer buffer (sulgrevad--take-over)))
@@ -335,23 +336,36 @@ One is written after the other, so that what the host tells is of that."
 
 (defun sulgrevad-save ()
   "Have the host write the buffer's file, and wait until it has.
-Where it does not answer, the file is written once it does."
+Where it does not answer, the file is written once it does.  Ask first
+where that would replace what another program has written."
   (interactive)
   (unless (sulgrevad--is-ours) (user-error "The buffer is not that of a file of the session"))
+  (when (sulgrevad--may-replace sulgrevad--tag)
+    (sulgrevad--save)
+    (when (sulgrevad--replaced sulgrevad--tag) (sulgrevad-save))))
+
+(defun sulgrevad--save ()
+  "Have the host write the buffer's file, and wait until it has."
   (when (sulgrevad--wait (lambda () (and (sulgrevad--is-free) (not (sulgrevad--waits)))))
     (sulgrevad--hand-over t))
   (let ((tag sulgrevad--tag))
     (sulgrevad--want-write tag)
-    (if (sulgrevad--wait (lambda () (not (sulgrevad--is-writing tag))))
-        (sulgrevad--offer-again tag)
+    (unless (sulgrevad--wait (lambda () (not (sulgrevad--is-writing tag))))
       (message "The host writes %s once it answers%s" (buffer-name)
                (let ((state (and sulgrevad--line (sulgrevad-line-told-state sulgrevad--line)))) (if state (format " (%s)" state) ""))))))
 
-(defun sulgrevad--offer-again (tag)
-  "Where another program has changed the file TAG, ask, and write it."
-  (let* ((told (cdr (assq tag sulgrevad--complaints))) (why (and told (cdr (assq (sulgrevad-note-code told) sulgrevad--replacing)))))
-    (when (and why (not noninteractive) (yes-or-no-p (format "%s: %s; replace it? " (buffer-name) why)))
-      (sulgrevad-save))))
+(defun sulgrevad--replaced (tag)
+  "Why the next write of the file TAG would replace another program's text.
+nil where that is not known, or nobody is there who may be asked."
+  (pcase (and sulgrevad--term (not noninteractive) (not (sulgrevad--is-writing tag)) (cdr (assq tag sulgrevad--complaints)))
+    (`(,note . ,name) (and (equal name (sulgrevad--name sulgrevad--term tag)) ; else it was told of another file
+                           (cdr (assq (sulgrevad-note-code note) sulgrevad--replacing))))))
+
+(defun sulgrevad--may-replace (tag)
+  "Whether the file TAG may be written.
+It would replace no other program's text, or the user says so."
+  (let ((why (sulgrevad--replaced tag)))
+    (or (null why) (yes-or-no-p (format "%s: %s; replace it? " (buffer-name) why)))))
 
 (defun sulgrevad--write-contents ()
   "Have the host write the buffer, for `save-buffer'."

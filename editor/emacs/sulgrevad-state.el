@@ -64,7 +64,9 @@ Each is a string of bytes, or a pair: `note' and that, or `lost' and why.")
 (defvar sulgrevad--told nil "What was told last, the last first.")
 (defvar sulgrevad--writes nil "Tags of files to be written, oldest first.")
 (defvar sulgrevad--writing nil "The tag of the file that is being written.")
-(defvar sulgrevad--complaints nil "What the host told of files whose last write failed, by their tags.")
+(defvar sulgrevad--complaints nil
+  "What the host told of files whose last write failed.
+Of each its tag, and in a pair the note and the name that it had.")
 (defvar sulgrevad--hidden nil "A table of the tags of files that the host keeps for terminals.")
 (defvar sulgrevad--number 0 "The number of the last question to the host.")
 (defvar sulgrevad--answers nil "Answers, in pairs with such numbers.")

@@ -36,6 +36,7 @@
 (declare-function sulgrevad--load "ext:sulgrevad-module" (term tag place len))
 (declare-function sulgrevad--locked "ext:sulgrevad-module" (term tag))
 (declare-function sulgrevad--make "ext:sulgrevad-module" ())
+(declare-function sulgrevad--name "ext:sulgrevad-module" (term tag))
 (declare-function sulgrevad--next-refusal "ext:sulgrevad-module" (term))
 (declare-function sulgrevad--offer-version "ext:sulgrevad-module" (term version))
 (declare-function sulgrevad--open-cmd "ext:sulgrevad-module" (term))
@@ -227,7 +228,7 @@ Return whether there was any."
 (defun sulgrevad--meet-failure (note)
   "Keep in mind why a write failed, as NOTE has it."
   (let ((tag (sulgrevad-note-tag note)))
-    (push (cons tag note) sulgrevad--complaints)
+    (push (cons tag (cons note (sulgrevad--name sulgrevad--term tag))) sulgrevad--complaints)
     (unless (eql tag sulgrevad--writing) (message "samhost: %s" (sulgrevad-note-text note)))))
 
 (defun sulgrevad--note-told (told)

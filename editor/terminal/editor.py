@@ -86,6 +86,7 @@ class Editor(WindowLayout, KeyQueue, Actions):
         self._asked_in, self._asked_at = self.focus, 0.0  # in which window, and when the key was pressed that made it ask
         self._acts_since = 0.0  # when the key was pressed that acts now
         self._again: Optional[Input] = None  # the key that acts again once the host has answered
+        self._lacks_line = ""  # what is told of that key, where it needs the line
         self._is_again = False  # whether the key that acts does so again
         self._sought_above: Optional[Tuple[int, int]] = None  # from where a search above goes on, and how much it loads next
         self._answered = ""  # the question that the key which acts now answers
@@ -151,15 +152,17 @@ class Editor(WindowLayout, KeyQueue, Actions):
             return COMMAND_NAME if tag == COMMAND else "(closed)"
         return terminal.name(tag) or f"(file {tag}, no name)"
 
-    def show(self, tag: int, replaces: bool = True) -> None:
-        """Shows a file: in its window, else in place of the one that was used last, or in another. Before that it is opened."""
+    def show(self, tag: int, replaces: bool = True) -> bool:
+        """Shows a file: in its window, else in place of the one that was used last, or in another. Before that it is opened. Returns
+        whether that can be done; else it says why not."""
         window = self.window_of(tag)
         if not window.is_open and self.way.is_late:
             self.message = f"{self.name(tag)} is not open: that can be done when the line is back"
-            return
+            return False
         if not window.is_open and not self.is_lost:
             self.terminal.open(tag)
         self.put_up(window, replaces)
+        return True
 
     # ---- What comes from the host
 
@@ -417,7 +420,7 @@ class Editor(WindowLayout, KeyQueue, Actions):
 
     def _act(self, pressed: Pressed) -> None:
         """Does what a key says. A question is over then: the key answers it, or takes it back."""
-        key, is_for_menu = pressed.key, pressed.window is None and self._is_for_menu(pressed.key)
+        key, is_for_menu, stood = pressed.key, pressed.window is None and self._is_for_menu(pressed.key), self.notes.message
         if not self.notes.question or pressed.when >= self._asked_at:  # else the key came before that was asked
             self.notes.take(pressed.has_read)
         if self.is_lost and not is_for_menu and not self._reads(key):
@@ -446,8 +449,9 @@ class Editor(WindowLayout, KeyQueue, Actions):
             raise
         self._answered = ""
         if self._again is not None:
-            self._put_back(pressed._replace(key=self._again, answers="", has_read=False, is_again=True))
-            self._again = None
+            again = pressed._replace(key=self._again, answers="", has_read=False, is_again=True)
+            self._put_back(self.as_told(again, self._lacks_line, stood) if self._lacks_line else again)
+            self._again, self._lacks_line = None, ""
 
     def _reads(self, key: Input) -> bool:
         """Whether a key changes no file."""
@@ -481,6 +485,13 @@ class Editor(WindowLayout, KeyQueue, Actions):
             self._again, self.message = self._acting, why
         else:
             self.message = "that can't be done now"
+
+    def wait_for_line(self, why: str, key: Optional[Input] = None) -> None:
+        """The key that acts now, or another in its place, can't until the line is back. It goes as each such key does; or it acts again
+        then, if something was typed right behind it."""
+        self.message = why
+        if not self.is_lost:
+            self._again, self._lacks_line = key or self._acting, why
 
     def _act_in_menu(self, pressed: Pressed) -> None:
         key = pressed.key

@@ -366,16 +366,16 @@ class Choice:
         olds, steps = self.left.all, {"Up": -1, "Down": 1}
         acts = {"\n": self.left.take, "c": self.left.compare, "d": self.left.remove}
         self.chosen = max(0, min(self.chosen, len(olds) - 1))
-        if self.left.editor.is_alone:
-            self.is_over = True
-            self.left.editor.message = "that can be done only where the host answers"
-        elif isinstance(key, Key) and key.name in steps:
+        is_act = isinstance(key, Text) and key.runes in acts
+        if isinstance(key, Key) and key.name in steps:
             self.chosen = max(0, min(self.chosen + steps[key.name], len(olds) - 1))
-        elif isinstance(key, Text) and key.runes in acts and olds:
+        elif is_act and olds and self.left.editor.is_alone:
+            self.left.editor.wait_for_line("that can be done only where the host answers")
+        elif is_act and olds:
             self.is_over = acts[key.runes](olds[self.chosen])
         elif isinstance(key, (Key, Paste, Text)):
             self.is_over = True
-        return isinstance(key, (Paste, Text)) and not (isinstance(key, Text) and key.runes in acts)
+        return isinstance(key, (Paste, Text)) and not is_act
 
 
 class Differences:

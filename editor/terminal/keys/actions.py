@@ -132,9 +132,10 @@ class Actions(Commands, Moves):
             self.message = "every file has a window"
         elif self.rows * 3 // 4 < LEAST_ROWS * (len(self.files) + 1):
             self.message = "the screen is too small for another window"
-        else:
-            self.show(other, replaces=False)
+        elif self.show(other, replaces=False):
             self.update_windows()
+        else:
+            self.wait_for_line(self.message)
 
     def do_unsplit(self) -> None:
         if self.focus is not self.command and len(self.files) > 1:
@@ -392,7 +393,7 @@ class Actions(Commands, Moves):
         self.focus.anchor = self.focus.goal = None
         is_out_of_reach = step is not None and self.way.is_late and (step.before or step.after) is not None
         if is_out_of_reach:
-            self.message = "what went or came is kept by the host: that can be done when the line is back"
+            self.wait_for_line("what went or came is kept by the host: that can be done when the line is back")
         elif step is None:
             to_text = f" in the command window: {self.keys.of('switch')} goes to the text"
             self.message = nothing + to_text if self.focus is self.command else nothing

@@ -9,7 +9,7 @@ from .bindings import ALL, ANSWERS, FILE, LINE, NOTHING, PATTERN, PLACE, ROWS, S
 from .bindings import PROMPT, Binding, Input, Key, KeySet, Mouse, Paste, Text
 from .local_echo import text_ahead
 from ..view.layout import line_end, line_start
-from ..view.status_line import REPEAT
+from ..view.status_line import READ_AFTER, REPEAT
 from sulgrevad import SamError
 from .motions import Missing
 from ..text.texts import COMMAND
@@ -23,6 +23,9 @@ LEAVING = "leaving; {} again doesn't wait for the host"
 WAITING = "keys wait for the host; {} again leaves without them"
 SILENT = "the host doesn't answer. {} again leaves, and writes here what is loaded of"
 STAYS = "the line is lost. {} again leaves; the session stays there, and what it may lack is written here. Not written: "
+
+CANT_ACT = "can't act until the line is back"
+LINE_STAYS = f"Enter {CANT_ACT}; the command line stays"
 
 # Runes that are loaded in one round trip for a key that goes by text which is not shown, twice as many each time.
 FIRST_REACH, LONGEST_REACH = 4_096, 32_768
@@ -40,6 +43,7 @@ class Pressed(NamedTuple):
     # among all keys, or goes to a menu.
     window: Optional[Window] = None
     work: Optional[Window] = None  # the window of the file that its command line works on
+    told_at: Optional[float] = None  # when its user was told that it can't act until the line is back
 
 
 TAB = Text("\t")
@@ -51,6 +55,7 @@ NO_ACTION = Binding((), "", "", WINDOWS, order=ALL)
 RUNNING = Binding((), "", "", ANSWERS, ROWS, asks=True, order=LINE, shares=PATTERN)  # Enter in the command window
 FINDING = ("look", "search")  # actions that go on in what is loaded where the line is lost
 TURNING = ("page_up", "page_down")  # those that turn pages: the caret stays
+AT_CARET = ("cut", "snarf", "paste", "erase_left", "erase_right", "unindent")  # those that change or copy text at the caret
 OF_THE_FILE = ("write", "reload")  # those that are for the file that was used last, wherever keys go
 BY_ROWS = (ROWS, "up", "down")  # what keys need that go by the rows of the screen
 
@@ -167,7 +172,8 @@ class KeyQueue:
         self._act_in_order()
         if binding.leads or binding is POINTING:
             self._foresee()
-        is_last = bool(self.deferred) and self.deferred[-1].key is key and not self.deferred[-1].answers
+        last = self.deferred[-1] if self.deferred else None
+        is_last = last is not None and last.key is key and not last.answers and last.told_at is None
         if is_last and (binding.waits == ANSWERS or binding.action == "close"):
             if is_leave:
                 self._ask(self.of_leaving(LEAVING if self.is_leaving else WAITING), key)
@@ -380,7 +386,7 @@ class KeyQueue:
             self.give_back(typed, "a file is closed for which keys waited")
 
     def _look_ahead(self) -> None:
-        """Has windows show what keys do that wait for loads alone: those that come first, and go to one window."""
+        """Has windows show what keys do that wait though no answer changes their text: those that come first, and go to one window."""
         for window in self.windows:
             window.ahead = None
         first = self.deferred[0] if self.deferred else None
@@ -404,6 +410,8 @@ class KeyQueue:
             return True
         if self.is_lost:
             return False
+        if pressed.told_at is not None and self.way.is_late:
+            return True
         if self.vault.is_busy or (pressed.is_again and pressed.window is None and self.is_lock_held):
             return True
         if pressed.window is None and self._is_for_menu(key):
@@ -435,7 +443,9 @@ class KeyQueue:
 
     def _look_at_the_line(self) -> None:
         """What would lock a file until the line is back is held back while answers are late."""
-        self.texts.holds_back = self.vault.is_out_of_reach = self.way.note_late()
+        is_late = self.texts.holds_back = self.vault.is_out_of_reach = self.way.note_late()
+        if not is_late and any(pressed.told_at is not None for pressed in self.deferred):
+            self.deferred = deque(pressed._replace(told_at=None) for pressed in self.deferred)
 
     def _needs_line(self, key: Input, binding: Binding) -> bool:
         """Whether a key can't act while answers are late. It waits until the user can know of that; then it says so."""
@@ -444,42 +454,70 @@ class KeyQueue:
         return binding.asks or (binding.action == "paste" and not self.knows_snarfed)
 
     def _is_refused(self, first: Pressed) -> bool:
-        """Whether a key that waits, and for no other key, goes with a word, since the line is lost and the user knows. One that typed text
-        waits behind stays: that text would go elsewhere."""
-        behind = (kept for kept in islice(self.deferred, self._at + 1, None) if isinstance(kept.key, (Text, Paste)))
-        has_text_behind = any(first.window is None or kept.window in (None, first.window, first.work) for kept in behind)
+        """Whether a key that waits, and for no other key, goes, since the line is lost: once its user has had the time to read that it
+        can't act. What is typed right behind it waits with it, and then it stays."""
         is_shown = first.window is not None and first.window.ahead is not None and self._at < first.window.ahead.keys
-        if not self.way.is_known_late or first.answers or has_text_behind or is_shown:
+        if not self.way.is_known_late or first.answers or is_shown or self._is_needed(first):
             return False
+        window = first.window or self.focus
+        if self.action_of(first.key) == "write":
+            del self.deferred[self._at]
+            self.notes.take(first.has_read)
+            self.write_later((first.window or self.active).tag, is_sure=False)
+            return True
+        words = self._refusal_of(first, window)
+        if words == "":
+            return False
+        if first.told_at is None:
+            first = self.deferred[self._at] = self.as_told(first, words, self.notes.message)
+            self.notes.take(first.has_read)
+            self.message = words
+        left = self._left(first.told_at, READ_AFTER)
+        if left > 0:
+            self._asks_at.append(self.clock() + left)
+            return False
+        del self.deferred[self._at]
+        if words == LINE_STAYS:
+            self._keep_line(first.key, window)
+        return True
+
+    def as_told(self, pressed: Pressed, words: str, stood: str) -> Pressed:
+        """A key of which words tell that it can't act. Where these stood there already, its user knew as it was pressed: so each press of
+        a key that is held down goes as soon as the first."""
+        return pressed._replace(told_at=pressed.when if stood == words else self.clock())
+
+    def _is_needed(self, first: Pressed) -> bool:
+        """Whether what waits behind a key would go elsewhere without it: text, and keys that change or copy text at the caret."""
+        moves = self.action_of(first.key) not in AT_CARET
+        for kept in islice(self.deferred, self._at + 1, None):
+            is_there = isinstance(kept.key, (Text, Paste)) or (moves and self.action_of(kept.key) in AT_CARET)
+            if is_there and (first.window is None or kept.window in (None, first.window, first.work)):
+                return True
+        return False
+
+    def _refusal_of(self, first: Pressed, window: Window) -> str:
+        """What is told of a key that can't act until the line is back; empty for text, which waits."""
         key = first.key
         indents = key == TAB and first.window is not None and first.window.is_settled and first.window.targets.may_indent()
         is_for_menu = first.window is None and self._is_for_menu(key)
         is_again_of_menu = is_for_menu and first.is_again  # it would hold all keys back, also the one that closes the menu
         if isinstance(key, (Text, Paste)) and not indents and not is_again_of_menu:
-            return not is_for_menu and self._is_line_refused(key, first.window or self.focus)
-        del self.deferred[self._at]
-        self.notes.take(first.has_read)
+            return LINE_STAYS if not is_for_menu and self._ends_line(key, window) else ""
         name = "Tab" if indents else name_of(key)
-        if self.action_of(key) == "write":
-            self.write_later((first.window or self.active).tag, is_sure=False)
-        else:
-            self.message = f"{name} can't act until the line is back" + (f"; {name} again leaves" if self.action_of(key) == "leave" else "")
-        return True
+        return f"{name} {CANT_ACT}" + (f"; {name} again leaves" if self.action_of(key) == "leave" else "")
 
-    def _is_line_refused(self, key: Input, window: Window) -> bool:
-        """The same of Enter in the command window: the line that it would run stays there, selected, so that the next one that is typed
-        takes its place."""
-        front, newline, rest = key.runes.partition("\n")
-        if window is not self.command or not window.is_settled or isinstance(key, Paste) or not newline or rest:
-            return False
-        del self.deferred[self._at]
-        if front:
-            self.texts.replace(COMMAND, front)
+    def _ends_line(self, key: Input, window: Window) -> bool:
+        """Whether a typed text ends a command line in the command window, and nothing comes behind that."""
+        is_there = window is self.command and window.is_settled and isinstance(key, Text)
+        return is_there and key.runes.partition("\n")[1:] == ("\n", "")
+
+    def _keep_line(self, key: Text, window: Window) -> None:
+        """The line that Enter would run stays in the command window, selected, so that the next one that is typed takes its place."""
+        if len(key.runes) > 1:
+            self.texts.replace(COMMAND, key.runes[:-1])
         start, end = window.dot
         window.select(line_start(window.read, start))
         window.select(line_end(window.read, end), extends=True)
-        self.message = "Enter can't act until the line is back; the command line stays"
-        return True
 
     def _has_shown(self, window: Window, binding: Binding) -> bool:
         """Before a key goes by what a window shows, that shows what the last key did, and asks for what is missing. What is typed at the

@@ -1,5 +1,6 @@
-"""Keys that wait for loads alone, shown as if they had acted. No answer that is due changes the text or the selection then, so what they
-will do is known: what is drawn is what will be there."""
+"""Keys that wait for loads or writes alone, shown as if they had acted. No answer that is due changes the text or the selection then, so
+what they will do is known: what is drawn is what will be there. So it is, but for commands that name other files, while a command line
+works on another file."""
 import re
 from typing import Callable, Iterable, Optional, Tuple
 

@@ -10,6 +10,7 @@ PIECE = 16_384  # runes that are searched at once
 FIRST_REACH, LONGEST_REACH = 4_096, 32_768  # runes that are loaded for a search above, in one round trip, twice as many each time
 MOST_RUNES_IN_PATTERN = 128
 NOWHERE = "it stands nowhere"
+NOT_LOADED = "not in what is loaded below"
 AFTER, BEFORE = ("find", "search"), ("search_back",)  # actions whose keys go to the next place, and to the one before; so do arrows
 
 
@@ -54,8 +55,10 @@ class Find:
         self._why = ""
         name, action = key.name if isinstance(key, Key) else "", self.editor.action_of(key)
         if isinstance(key, Text) and key.runes == "\n":
+            self.is_over, self.editor.message = True, ""
             self._finish()
-        elif isinstance(key, (Text, Paste)) and len(self.pattern) < MOST_RUNES_IN_PATTERN:
+            return False
+        if isinstance(key, (Text, Paste)) and len(self.pattern) < MOST_RUNES_IN_PATTERN:
             self._seek((self.pattern + key.runes)[:MOST_RUNES_IN_PATTERN])
         elif name == "Backspace":
             self._seek(self.pattern[:-1])
@@ -83,8 +86,10 @@ class Find:
             self._select(place, place + len(pattern))
         elif not pattern:
             self.editor.message = nothing_sought(self.editor.keys)
-        elif self._gap == 0 or self.editor.is_alone:
-            self.editor.message = "it stands nowhere above" if self._gap == 0 else "not in what is loaded above"
+        elif self._gap == 0:
+            self.editor.message = "it stands nowhere above"
+        elif self.editor.is_alone:
+            self.editor.wait_for_line("not in what is loaded above")
         else:
             low = max(0, self._gap - reach)
             terminal, tag = self.editor.terminal, self.window.tag
@@ -100,8 +105,10 @@ class Find:
         if place is not None:
             self._select(place, place + len(pattern))
             self.editor.message = self._why.strip(" ()")
+        elif pattern and self._has_gap:
+            self.editor.wait_for_line(NOT_LOADED)
         elif pattern:
-            self.editor.message = "not in what is loaded below" if self._has_gap else NOWHERE
+            self.editor.message = NOWHERE
         else:
             self.editor.message = nothing_sought(self.editor.keys)
 
@@ -188,14 +195,18 @@ class Find:
 
     def _finish(self) -> None:
         """The host goes to the place, also where it is not loaded, and knows the pattern from then on: as it stands where it was found."""
-        self.is_over = True
         start, end = self.window.dot
         found = self.window.read(start, end - start)
         if self._takes_any_case and lowered(found) == self.pattern:
             self.pattern = found
-        self.editor.sought_here = self.pattern if self.editor.is_alone else ""
-        if not self.pattern or self.window is self.editor.command or self.editor.is_alone or not self.editor.command.is_open:
+        editor, is_found = self.editor, found == self.pattern
+        editor.sought_here = self.pattern if editor.is_alone else ""
+        if not self.pattern or self.window is editor.command:
             return
-        place = start if found == self.pattern else self.origin[0]
-        self._select(place, place)
-        self.editor.run_aside(f"/{escaped(self.pattern)}/")
+        place = start if is_found else self.origin[0]
+        if editor.is_alone and not is_found and self._has_gap:
+            self._select(place, place)
+            editor.wait_for_line(NOT_LOADED, Key(editor.keys.of("search")))
+        elif not editor.is_alone and editor.command.is_open:
+            self._select(place, place)
+            editor.run_aside(f"/{escaped(self.pattern)}/")

@@ -3,21 +3,22 @@ done."""
 from contextlib import suppress
 from functools import wraps
 from operator import itemgetter
-from typing import Any, Callable, Dict, Iterator, Optional, Tuple, Union
+from typing import Any, Callable, Dict, Iterator, Optional, Set, Tuple, Union
 
 from sulgrevad import Edits, FileState, Refusal, Step, Terminal, TerminalDid, TerminalState
 from .texts import COMMAND, GAP
 
+TYPING = ("type", "type_text")
 # What changes something of one file alone, where no event is held that may act then, too.
-OF_ONE = ("type", "edit", "select", "view")
+OF_ONE = (*TYPING, "edit", "select", "view")
 # Each other event, and what takes frames in.
 DEEDS = (
-    "dclick", "look", "search", "flush", "cut", "snarf", "paste", "get_snarf", "set_snarf", "scroll", "open", "new_file", "write",
-    "close", "open_cmd", "work", "send", "offer_version", "exit", "feed", "free",
+    "dclick", "look", "search", "flush", "cut", "snarf", "paste", "get_snarf", "set_snarf", "scroll", "open", "new_file", "close",
+    "open_cmd", "work", "send", "offer_version", "exit", "feed", "free",
 )  # fmt: skip
 NAMING = (68, 69, 83)  # the kinds of frames that change a name: Hnewname, Hmovname, Hdelname
 CHECKING = 71  # Hcheck, which may have the terminal ask for more of its file
-LOCKING = ("dclick", "look", "search", "paste", "scroll", "write", "close", "send")  # what locks a file, and isn't only a load
+LOCKING = ("dclick", "look", "search", "paste", "scroll", "close", "send")  # what locks a file, and is neither a load nor a write
 KEEPING = ("open_cmd", "offer_version")  # what locks all files, though its answer changes no text that is open, and no selection
 DONE = (Step.RECEIVED, Step.ACTED, Step.REFUSED)  # steps that may change anything; the others change counts alone
 COUNTS = (
@@ -43,7 +44,10 @@ class CachedTerminal(Terminal):
         self._is_short = False  # memory was out, so some of what was done may be done later
         self.deeds = 0  # how often something was done
         self._keeps_texts = False  # nothing but KEEPING has taken the command lock since
+        self._runs_line = False  # nothing but what was typed in the command file has taken the command lock since
+        self._works_on: Optional[int] = None  # the file on which command lines were told to work last
         self.loads: Dict[int, int] = {}  # of files that loads alone have locked since they were free: how many runes the last one asks for
+        self._written: Set[int] = set()  # the files that writes have locked since they were free, and nothing else but loads
 
     def forget(self) -> None:
         """What is known of files and counts may be otherwise; names are not."""
@@ -97,10 +101,33 @@ class CachedTerminal(Terminal):
             self.loads[tag] = self.bytes(tag, place, place + length)[1] + (0 if is_free else self.loads[tag])
         self._load(tag, place, length)
 
+    def write(self, tag: int) -> None:
+        """Has the host write the file, and notes where nothing but that and loads locks it."""
+        is_free = self.is_open(tag) and not self.locked(tag) and self.held == 0
+        is_alone = is_free or tag in self.loads or tag in self._written
+        self._end_load(tag)
+        if is_alone:
+            self._written.add(tag)
+        self._write(tag)
+
+    def _end_load(self, tag: int) -> None:
+        """Something locks the file that isn't only a load."""
+        self.loads.pop(tag, None)
+        self._written.discard(tag)
+
     def is_kept(self, tag: int) -> bool:
-        """Whether an open file is locked, and no answer that is due changes its text or selection: those to loads don't, nor do those which
-        open the command file or tell names."""
-        return self.is_loading(tag) or (self._keeps_texts and self.command_locked and self.held == 0)
+        """Whether an open file is locked, and no answer that is due changes its text or selection: those to loads and writes don't, nor do
+        those which open the command file or tell names. A command line that works on another file may change this one, too, but hardly
+        ever does: what the user types meanwhile is then shown where its selection was."""
+        if self.is_loading(tag) or self._is_written(tag):
+            return True
+        if not self.command_locked or self.held > 0:
+            return False
+        return self._keeps_texts or (self._runs_line and self._works_on not in (None, tag))
+
+    def _is_written(self, tag: int) -> bool:
+        """Whether a file is locked by a write, and by nothing else but loads."""
+        return tag in self._written and self.locked(tag) and not self.command_locked and self.held == 0
 
     def loading(self) -> Iterator[Tuple[int, int]]:
         """The files that loads alone lock, and how many runes these ask for. Those that are free again are forgotten."""
@@ -219,13 +246,16 @@ class CachedTerminal(Terminal):
 
 
 def _forgetting(deed: Callable[..., Any]) -> Callable[..., Any]:
-    is_locking, is_load, keeps_texts = (deed.__name__ in names for names in (LOCKING, ("load",), KEEPING))
+    is_locking, is_load, keeps_texts, is_typing = (deed.__name__ in names for names in (LOCKING, ("load",), KEEPING, TYPING))
 
     @wraps(deed)
     def done(self: CachedTerminal, *words: Any, **more: Any) -> Any:
         if is_locking:
-            self.loads.pop(words[0], None)
+            self._end_load(words[0])
         self._keeps_texts = keeps_texts or (self._keeps_texts and is_load)
+        self._runs_line = (is_typing and words[0] == COMMAND) or (self._runs_line and is_load)
+        if deed.__name__ == "work":
+            self._works_on = words[0]
         try:
             return deed(self, *words, **more)
         except MemoryError:
@@ -293,8 +323,9 @@ def _count_of(name: str) -> property:
 for _deed in DEEDS:
     setattr(CachedTerminal, _deed, _forgetting(getattr(Terminal, _deed)))
 for _deed in OF_ONE:
-    setattr(CachedTerminal, _deed, _of_one(getattr(Terminal, _deed), _deed == "type"))
+    setattr(CachedTerminal, _deed, _of_one(getattr(Terminal, _deed), _deed in TYPING))
 CachedTerminal.step = _step  # type: ignore[method-assign]
 CachedTerminal._load = _forgetting(Terminal.load)  # type: ignore[attr-defined]
+CachedTerminal._write = _forgetting(Terminal.write)  # type: ignore[attr-defined]
 for _count in COUNTS:
     setattr(CachedTerminal, _count, _count_of(_count))

@@ -4,13 +4,12 @@ from itertools import chain, repeat
 from operator import add, itemgetter
 from typing import Callable, Dict, Iterator, List, NamedTuple, Optional, Sequence, Tuple
 
-from sulgrevad import Edits, Terminal, Unfinished
+from sulgrevad import Edits, SamError, Terminal
 
 COMMAND = 0  # the tag of the command file
 COMMAND_NAME = "~~sam~~"  # which the host tells, too
 GAP = "\ud800"  # stands for a rune that is not loaded: no rune is a surrogate
 MOST_RUNES = 1_000_000  # of a text
-MOST_IN_EVENT = 512  # runes that are typed in one event
 DENSE = 512  # runes that are read in the time that one call takes
 
 
@@ -185,13 +184,13 @@ class Texts:
         self._change(tag, "", lambda: self.terminal.paste(tag))
 
     def _type(self, tag: int, runes: str) -> None:
-        for at in range(0, max(1, len(runes)), MOST_IN_EVENT):
-            self.left = runes[at:]
-            try:
-                self.terminal.type(tag, runes[at : at + MOST_IN_EVENT])
-            except Unfinished:  # it was taken all the same
-                self.left = runes[at + MOST_IN_EVENT :]
-                raise
+        self.left = runes
+        try:
+            self.terminal.type_text(tag, runes)
+        except SamError as error:
+            if error.taken:
+                self.left = runes.encode()[error.taken :].decode()
+            raise
         self.left = ""
 
     def _change(self, tag: int, came: str, act: Callable[[], None]) -> None:

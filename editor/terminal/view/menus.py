@@ -33,12 +33,12 @@ class Help:
 
 
 class Menu:
-    """Entries, each a mark and a name, of which one is chosen; `choose` is told which, as a number from 0. Those are shown whose names have
-    what was typed in them, in letters of any size."""
+    """Entries, each a mark and a name, of which one is chosen; `choose` is told which, as a number from 0, and returns whether the menu is
+    over. Those are shown whose names have what was typed in them, in letters of any size."""
 
     is_box, goes_by_place = True, False
 
-    def __init__(self, what: str, entries: List[Tuple[str, str]], chosen: int, choose: Callable[[int], None]):
+    def __init__(self, what: str, entries: List[Tuple[str, str]], chosen: int, choose: Callable[[int], bool]):
         self.what, self.entries, self.choose = what, entries, choose
         self.typed, self.is_over = "", False
         self.shown = list(range(len(entries)))  # the numbers of those that are shown
@@ -62,8 +62,8 @@ class Menu:
         elif isinstance(key, Text) and key.runes.isprintable():
             self._narrow(self.typed + key.runes)
         elif isinstance(key, Text) and key.runes == "\n" and self.shown:
-            self.is_over = True
-            self.choose(self.shown[self.chosen])
+            self.is_over = True  # also where memory is out
+            self.is_over = self.choose(self.shown[self.chosen])
         elif isinstance(key, Key) and key.name == "Backspace" and self.typed:
             self._narrow(self.typed[:-1])
         elif isinstance(key, (Key, Paste)):

@@ -101,6 +101,12 @@ export class Editor {
     return this.terminal.isChanged(tag);
   }
 
+  /** Whether an answer of the host is waited for. */
+  get isAnswerDue() {
+    const { terminal, views, page } = this;
+    return terminal.held > 0 || terminal.commandLocked || page.isAsking || [...views.keys()].some((tag) => terminal.locked(tag));
+  }
+
   /** Whether something that was done here may not be at the host yet. */
   get lacks() {
     const { terminal, line, waiting } = this;
@@ -326,7 +332,10 @@ export class Editor {
     this.#isUpdating = true;
     try {
       this.#try(() => this.#goOn());
-      if (!this.isOver) this.line.send(this.terminal.takeOut());
+      if (!this.isOver) {
+        this.line.expect(this.isAnswerDue);
+        this.line.send(this.terminal.takeOut());
+      }
     } finally {
       this.#isUpdating = false;
     }
@@ -349,7 +358,7 @@ export class Editor {
     }
     terminal.flushNow();
     if (this.waiting.count > 0) this.#wake(READ_AFTER);
-    else if (!this.line.hasAll || this.line.isLate) this.#wake(TICK);
+    else if (!this.line.hasAll || this.line.isLate || this.isAnswerDue) this.#wake(TICK);
   }
 
   /** The names of the files are known: opens the first one. */

@@ -12,6 +12,7 @@ export class Waiting {
   #actions = [];
   #isActing = false;
   #lateSince = null;
+  #told = { words: "", at: Infinity }; // of which action it was told last that it can't be done, and since when
 
   constructor(editor) {
     this.editor = editor;
@@ -35,6 +36,7 @@ export class Waiting {
   /** Adds an action, which acts once the event that it comes of is over: CodeMirror takes a key's event for one operation, and tells of
    * changes at its end, and the terminal has to know of each before the next. */
   press(action) {
+    action.pressedAt = performance.now();
     this.#actions.push(action);
     queueMicrotask(() => this.editor.update());
   }
@@ -101,11 +103,16 @@ export class Waiting {
   }
 
   /** Tells, once, that an action can't be done. Returns whether the user has had the time to read that: a key that comes then isn't meant
-   * to come behind it. */
+   * to come behind it. Of a key that is held down he has read it when it was told of the first press. */
   #isTold(action) {
     const now = performance.now();
-    if (action.toldAt === undefined) this.editor.say(`${action.name} can't be done until the line is back`);
-    action.toldAt ??= now;
+    if (action.toldAt === undefined) {
+      const words = `${action.name} can't be done until the line is back`;
+      const isKnown = words === this.#told.words && action.pressedAt >= this.#told.at;
+      action.toldAt = isKnown ? action.pressedAt : now;
+      if (!isKnown) this.#told = { words, at: now };
+      this.editor.say(words);
+    }
     return now - action.toldAt >= READ_AFTER;
   }
 }

@@ -69,6 +69,7 @@ export class Line {
   #lastTold = "";
   #isMissing = false; // no host finds the session, and that is told
   #isNamed = false; // the first message has come
+  #expects = false; // an answer of the host is waited for
   #timer = 0;
 
   up = 0; // bytes that have gone each way
@@ -108,6 +109,7 @@ export class Line {
     const [old, time] = [this.#line, now()];
     this.#line = new LibraryLine(id, names.length > 0, time);
     for (let failed = 0; failed < failures; failed++) this.#line.broken(this.#line.connected(time), time);
+    this.#line.expect(this.#expects, time);
     old?.free();
     this.name = nameOf(id);
     this.#names = names;
@@ -235,6 +237,14 @@ export class Line {
     const bytes = writeNote(note);
     this.#unput.push((line) => line.putNote(bytes, now()));
     this.#send();
+  }
+
+  /** Notes whether an answer of the host is waited for: the line may die once it has acknowledged what was asked. */
+  expect(expects) {
+    if (expects === this.#expects) return;
+    this.#expects = expects;
+    this.#line.expect(expects, now());
+    this.#wait();
   }
 
   #send() {

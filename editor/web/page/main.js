@@ -53,6 +53,11 @@ class Page {
     setInterval(() => this.copies.keep(), COPY_AFTER);
   }
 
+  /** Whether an answer of the host is waited for that no file waits for. */
+  get isAsking() {
+    return this.opening.isAsking;
+  }
+
   /** The text has more room now, or less: the caret is to be seen where it was. */
   #meetSize() {
     const { top, clientHeight } = this.cm.getScrollInfo();
@@ -99,6 +104,7 @@ class Page {
     const { kind, code, tag, number, text } = note;
     if (kind === NoteKind.SAVED) this.editor.say(`${this.editor.nameOf(tag)} is written`);
     if (kind === NoteKind.ANEW) this.editor.hide(Number(number));
+    this.copies.meet(note);
     this.opening.meet(note);
     const isPlain = kind === NoteKind.REFUSED || (kind === NoteKind.SAVED && code === NoteCode.NO_CODE);
     if (text !== "" && !isPlain) this.#hear(`samhost: ${text}`);

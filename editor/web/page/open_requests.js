@@ -152,10 +152,16 @@ export class Opening {
     }
   }
 
+  /** Whether an answer of the host is waited for: to a path, or to a question for names. */
+  get isAsking() {
+    return this.#opening !== null || this.#answered !== this.#namesOf;
+  }
+
   /** Sends a request about a path. Returns whether it is short enough for one. */
   #ask(kind, path) {
     try {
       this.editor.line.putNote({ kind, request: this.#number, path: ENCODER.encode(path) });
+      this.editor.update(); // an answer is waited for
       return true;
     } catch (error) {
       if (error instanceof SamError) return false;

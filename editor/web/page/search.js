@@ -59,24 +59,28 @@ export class Find {
     });
   }
 
-  /** Goes to the next place: in what is loaded up to the next gap, else the host looks. */
+  /** Goes to the next place: in what is loaded up to the next gap, else the host looks; where it can't, from the top of what is loaded. */
   next() {
     const { value } = this.field;
     if (value === "") return;
     let isAsked = false;
+    let isLacking = false; // what is loaded doesn't have it
     const act = () => {
       if (isAsked) return this.#meetAnswer(value);
+      if (isLacking && this.editor.line.isLate) return AGAIN;
       const { start, end } = this.editor.active.selection;
       const place = this.#after(start === end ? start : start + 1, value);
       if (place !== null) return this.#select(place, value);
-      if (!this.#isAllLoaded && !this.editor.line.isLate) {
+      if (this.#isAllLoaded) return giveUp();
+      isLacking = true;
+      if (!this.editor.line.isLate) {
         isAsked = true;
         this.#askHost(`/${escaped(value)}/`);
-        return AGAIN;
       }
-      return this.#wrap(this.#after(0, value), value);
+      return AGAIN;
     };
-    this.editor.press("finding", act);
+    const giveUp = () => this.#wrap(this.#after(0, value), value);
+    this.editor.press("finding", act, { giveUp });
   }
 
   /** Goes to the place before, in what is loaded. */
@@ -175,8 +179,7 @@ export class Find {
     const { terminal, active, loading, line } = this.editor;
     const end = Math.min(place + Math.max(1, runesOf(value)), terminal.len(active.tag));
     if (terminal.bytes(active.tag, place, end).gaps === 0) return this.#select(place, value);
-    if (line.isLate) return undefined;
-    loading.around(active.tag, place);
+    if (!line.isLate) loading.around(active.tag, place);
     return AGAIN;
   }
 }

@@ -13,10 +13,10 @@ from pathlib import Path
 from checks import Skipped
 
 from .fuzz import Run
-from .messages import NoteCode, NoteKind, not_saved, replacing
+from .messages import NoteCode, not_saved, replacing
 from .model import Model
 from .pairs import LONG as MANY_LINES
-from .pairs import Line, in_a_small_window, loads_of, opened
+from .pairs import Line, in_a_small_window, loads_of, opened, with_line
 from .slow_line import QUIET_LOOP, least_loop
 from .stalled_line import MOST_FOR_A_KEY
 from .support import COMMAND_WINDOW, READ_AFTER, SAMHOST, SAMHOST_WORD, STATE, Session, expect, host_that, made, wait_for_text, wait_until
@@ -26,93 +26,7 @@ LINES = [f"line {number} {'x' * (number * 7 % 60)}\n" for number in range(1, 150
 LONG = "".join(LINES)
 
 
-def with_line(*texts, **more):
-    """An editor with windows for texts, and its line."""
-    pair, editor, key, text = opened(*texts, **more)
-    line = pair.take_line(Line())
-    return pair, editor, key, text, line
-
-
 # ---- Without a screen
-
-
-def check_keys_on_a_lost_line(folder):
-    """While the line is lost all that needs no answer acts at once, what can't act says so, and nothing locks a file."""
-    pair, editor, key, text, line = with_line("one two\nthree\n", has_vault=True)
-    line.is_broken = True
-    pair.wait(0.5)
-    keys = (text("x"), key("^Right"), key("^W"), key("Shift-Home"), key("^X"), key("^End"), key("^V"), text("!"), key("^Z"), key("^R"))
-    for each in keys:
-        editor.take(each)
-        expect(not editor.deferred and not pair.terminal.locked(1), f"{each} waits, or locks the file")
-    model = Model("one two\nthree\n", 200)
-    for act in (lambda: model.type("x"), lambda: model.word_right(False), lambda: model.home(True), model.cut, model.last, model.paste):
-        act()
-    model.type("!")
-    window = editor.focus
-    expect(window.read(0, window.length) == model.text, f"the text is {window.read(0, window.length)!r}, wanted {model.text!r}")
-    pair.wait(4)
-    for name in ("^N", "^K", "^D", "^E"):
-        editor.take(key(name))
-        expect(f"{name} can't act until the line is back" in editor.message and not editor.deferred, f"{name}: {editor.message}")
-    for name in ("^L", "^F", "^S"):
-        editor.take(key(name))
-        expect(not editor.deferred and not pair.terminal.locked(1), f"{name} waits")
-    editor.take(key("Esc"))
-    for each in (key("Esc"), text("1d\n"), key("Esc"), text("?")):
-        editor.take(each)
-    expect(pair.terminal.read(0, 0, 10) == list("1d"), "the command line is not there, or has run")
-    model.last()
-    model.type("?")
-    line.is_broken = False
-    pair.finish()
-    expect(pair.host.text(1) == model.text, f"the host has {pair.host.text(1)!r}, wanted {model.text!r}")
-    expect(pair.written == [1], "the file is not written once the line is back")
-    expect(pair.host.text(0) == "1d", f"the command window has {pair.host.text(0)!r}")
-
-
-def check_keys_of_a_short_break(folder):
-    """Over a break of less than three seconds keys do what they do over a line that holds; and no key that has text typed behind it goes,
-    however long the break is."""
-    for seconds, keys in ((2, ("^D", "^F", "Esc", "1d\n", "Esc", "x")), (9, ("^D", "x")), (9, ("^N", "x", "Esc", "f name\n"))):
-        texts = []
-        for is_broken in (False, True):
-            pair, editor, key, text, line = with_line("one two\ntwo\n", "b\n")
-            line.is_broken = is_broken
-            pair.wait(0.2)
-            for name in keys:
-                editor.take(text(name) if name[0] not in "^E" else key(name))
-                if not is_broken:
-                    pair.finish()
-            pair.wait(seconds)
-            line.is_broken = False
-            pair.finish()
-            texts.append({tag: (pair.host.name(tag), pair.host.text(tag)) for tag in pair.terminal.files()})
-        expect(texts[0] == texts[1], f"{keys}: over a break of {seconds} s {texts[1]}, else {texts[0]}")
-
-
-def check_enter_of_a_menu_on_a_lost_line(folder):
-    """Enter in the menu of files, which waits for a write, says that it can't act once the line is known to be lost, wherever keys go; and
-    keys act again. Over a short break it opens the path once the write is answered."""
-    for goes_to_commands, seconds in ((False, 4), (True, 4), (False, 2), (True, 2)):
-        pair, editor, key, text, line = with_line("one\n")
-        editor.take(text("x"))
-        if goes_to_commands:
-            pair.press(key("Esc"))
-        for each in (key("^W"), key("F2"), text("two.txt"), text("\n")):
-            editor.take(each)
-        expect(len(editor.deferred) == 1, f"this test is wrong: {editor.deferred}")
-        line.is_broken = True
-        pair.wait(seconds)
-        is_refused = "Enter can't act until the line is back" == editor.message
-        expect(is_refused == (seconds > 3) == (not editor.deferred), f"after {seconds} s: {editor.message!r}, {editor.deferred}")
-        if is_refused:
-            editor.take(key("Esc"))
-            expect(editor.menu is None and not editor.deferred, f"Esc waits: {editor.deferred}")
-        line.is_broken = False
-        pair.finish()
-        opened_paths = [note.path for note in line.notes if note.kind == NoteKind.OPEN]
-        expect(opened_paths == ([] if is_refused else [b"two.txt"]), f"after {seconds} s it opens {opened_paths}")
 
 
 def check_nothing_is_loaded_without_a_line(folder):
@@ -340,12 +254,14 @@ def check_lost_line(folder):
         for key, words in (("C-d", "^D can't act until the line is back"), ("C-n", "^N can't act"), ("C-k", "^K can't act")):
             session.keys(key)
             session.wait_for(words)
+            time.sleep(READ_AFTER)
         session.switch()
         for line in ("1d", "2d"):  # the second takes the place of the first
             session.type(line)
             wait_until(lambda: line in session.rows(COMMAND_WINDOW), lambda: f"the command window has {session.rows(COMMAND_WINDOW)}")
             session.keys("Enter")
             session.wait_for("the command line stays")
+            time.sleep(READ_AFTER)
         session.switch()
         session.type("z")
         session.wait_for("xyzone")

@@ -6,7 +6,7 @@ import struct
 import subprocess
 from pathlib import Path
 
-from checks import Skipped, expect_equal, times_longer
+from checks import Failed, Skipped, expect_equal, times_longer
 
 from .key_times import LINE, LINES, PACE, ROW, WORDS, after_the_start, of_words, until_all_is_loaded
 from .pairs import LONG, Line, Pair, loads_of, opened
@@ -59,11 +59,11 @@ def run_until(pair, when):
                 pair.editor.feed(item[2])
 
 
-def shown(pair):
-    """The rows of the windows, and the cursor."""
+def shown(pair, *windows):
+    """The rows of these windows, or of all, and the cursor."""
     editor = pair.editor
     rows = {}
-    for window in editor.windows:
+    for window in windows or editor.windows:
         rows.update(pair.screen.window_rows(editor, window))
     return rows, pair.screen.cursor_of(editor)
 
@@ -152,50 +152,118 @@ def check_words_meet_no_lock(folder):
         expect(pair.host.text(1).startswith(typed + LINE.format(0)), f"{each_way} s each way: the host has {pair.host.text(1)[:120]!r}")
 
 
-def check_keys_under_loads(folder):
-    """Typing, Backspace and Enter show at once while the file is loaded or the command file is opened, just as they stand there once they
-    have acted; and nothing shows of other keys, nor of those after them."""
+def waits_for_a_load(pair, numbers):
+    """The first page is there, or what some keys lead to; and a load is under way, or the command file is opened."""
+    until_text(pair)
+    if numbers.random() < 0.6:
+        for name in numbers.choice((["Down"] * 4, ["End", "Down"], ["^End"], ["Page Down", "Down"])):
+            pair.editor.take(pair.keys.Key(name))
+        run_until(pair, pair.now + numbers.choice((1.0, 3.0, 6.0)))
+    for _ in range(400):
+        if not pair.editor.deferred and pair.terminal.is_kept(1):
+            return
+        run_until(pair, pair.now + 0.02)
+
+
+def waits_for_a_text(pair):
+    """All of the first text is loaded."""
+    until_text(pair)
+    while pair.editor.active.read(0, pair.editor.active.length).count(pair.gap) and pair.now < 60:
+        run_until(pair, pair.now + 1)
+
+
+def until_rest(pair):
+    """No key waits, and no lock is held."""
+    for _ in range(200):
+        run_until(pair, pair.now + 0.1)
+        if not pair.editor.deferred and not pair.editor.is_lock_held:
+            return
+    raise Failed("this test is wrong: keys wait though nothing is asked for")
+
+
+def waits_for_a_write(pair, numbers):
+    """Something is typed into a text that is loaded, and written; the answer is under way."""
+    waits_for_a_text(pair)
+    for name in numbers.choice(([], ["Down", "Right"], ["^End"], ["Page Down", "Up"])):
+        pair.editor.take(pair.keys.Key(name))
+    pair.editor.take(pair.keys.Text(numbers.choice(("x", "\n", "日本"))))
+    until_rest(pair)
+    pair.editor.take(pair.keys.Key("^W"))
+    run_until(pair, pair.now + numbers.choice((0.0, 0.1, 0.25)))
+
+
+def waits_for_a_line(pair, numbers):
+    """A command line works on the second text, and its answer is under way. Keys go to the first, which is shown and loaded."""
+    waits_for_a_text(pair)
+    pair.editor.show(2, replaces=False)
+    for key in (pair.keys.Key("Esc"), pair.keys.Key("^End"), pair.keys.Text(numbers.choice((",d\n", ",x/e/c/bb/\n")))):
+        until_rest(pair)
+        pair.editor.take(key)
+    pair.editor.update()
+    pair.editor.go_to(pair.editor.window_of(1))
+    run_until(pair, pair.now + numbers.choice((0.0, 0.1, 0.25)))
+
+
+def is_shown_ahead(pair, numbers, seed):
+    """Whether keys that come now are shown at once; if so, they show just what stands there once they have acted."""
+    editor, key = pair.editor, pair.keys.Key
+    if editor.deferred or not pair.terminal.is_kept(1):
+        return False
+    for at in range(numbers.randrange(1, 12)):
+        name = numbers.choice(KEYS)
+        editor.take(key(name) if name == "Backspace" else pair.keys.Text(name))
+    editor.update()
+    waiting = len(editor.deferred)
+    before = shown(pair, editor.active)
+    ahead = editor.active.ahead
+    if ahead is None or ahead.keys < waiting or not pair.terminal.is_kept(1):
+        return False
+    text = ahead.read(0, ahead.length)
+    while editor.deferred:
+        run_until(pair, pair.now + 0.01)
+        expect(not editor.is_lost, editor.message)
+    after = shown(pair, editor.active)
+    window = editor.active
+    loaded = window.read(0, window.length)
+    expect(len(loaded) == len(text), f"seed {seed}: {len(text)} runes were shown ahead, {len(loaded)} are there")
+    differ = [at for at, (one, other) in enumerate(zip(text, loaded)) if one not in (other, pair.gap)]
+    expect(not differ, f"seed {seed}: at {differ[:3]} another text was shown ahead than is there")
+    if "░" not in str(before[0]):  # what is missing may move the window as it comes
+        expect(before[1] == after[1], f"seed {seed}: the cursor stood at {before[1]}, and then at {after[1]}")
+        rows = [(y, before[0][y], after[0].get(y)) for y in before[0] if before[0][y] != after[0].get(y)]
+        expect(not rows, f"seed {seed}: other rows were shown ahead than are there: {rows[:2]}")
+    return True
+
+
+def shown_ahead(waits, speed, *others):
+    """How often of 30 times keys are shown at once in the first text, where something waits. They show what stands there later."""
+    sizes = ((22, 80), (40, 120)) if others else ((12, 40), (22, 80), (40, 120))  # two rows of a text may begin elsewhere once keys act
     seen = 0
     for seed in range(30):
         numbers = random.Random(seed)
-        pair = slow(numbers.choice(TEXTS), speed=20_000, seed=seed, size=numbers.choice(((12, 40), (22, 80), (40, 120))))
-        editor, key = pair.editor, pair.keys.Key
-        until_text(pair)
-        if numbers.random() < 0.6:
-            for name in numbers.choice((["Down"] * 4, ["End", "Down"], ["^End"], ["Page Down", "Down"])):
-                editor.take(key(name))
-            run_until(pair, pair.now + numbers.choice((1.0, 3.0, 6.0)))
-        for _ in range(400):
-            if not editor.deferred and pair.terminal.is_kept(1):
-                break
-            run_until(pair, pair.now + 0.02)
-        if editor.deferred or not pair.terminal.is_kept(1):
-            continue
-        for at in range(numbers.randrange(1, 12)):
-            name = numbers.choice(KEYS)
-            editor.take(key(name) if name == "Backspace" else pair.keys.Text(name))
-        editor.update()
-        waiting = len(editor.deferred)
-        before = shown(pair)
-        ahead = editor.active.ahead
-        if ahead is None or ahead.keys < waiting or not pair.terminal.is_kept(1):
-            continue
-        seen += 1
-        text = ahead.read(0, ahead.length)
-        while editor.deferred:
-            run_until(pair, pair.now + 0.01)
-            expect(not editor.is_lost, editor.message)
-        after = shown(pair)
-        window = editor.active
-        loaded = window.read(0, window.length)
-        expect(len(loaded) == len(text), f"seed {seed}: {len(text)} runes were shown ahead, {len(loaded)} are there")
-        differ = [at for at, (one, other) in enumerate(zip(text, loaded)) if one not in (other, pair.gap)]
-        expect(not differ, f"seed {seed}: at {differ[:3]} another text was shown ahead than is there")
-        if "░" not in str(before[0]):  # what is missing may move the window as it comes
-            expect(before[1] == after[1], f"seed {seed}: the cursor stood at {before[1]}, and then at {after[1]}")
-            rows = [(y, before[0][y], after[0].get(y)) for y in before[0] if before[0][y] != after[0].get(y)]
-            expect(not rows, f"seed {seed}: other rows were shown ahead than are there: {rows[:2]}")
+        pair = slow(numbers.choice(TEXTS), *others, speed=speed, seed=seed, size=numbers.choice(sizes))
+        waits(pair, numbers)
+        seen += is_shown_ahead(pair, numbers, seed)
+    return seen
+
+
+def check_keys_under_loads(folder):
+    """Typing, Backspace and Enter show at once while the file is loaded or the command file is opened, just as they stand there once they
+    have acted; and nothing shows of other keys, nor of those after them."""
+    seen = shown_ahead(waits_for_a_load, speed=20_000)
     expect(seen >= 10, f"this test is wrong: it saw keys shown ahead {seen} times")
+
+
+def check_keys_under_writes(folder):
+    """They show at once, too, while the answer to a write is under way."""
+    seen = shown_ahead(waits_for_a_write, speed=1_000_000)
+    expect(seen >= 25, f"keys behind a write were shown at once {seen} times of 30")
+
+
+def check_keys_under_lines(folder):
+    """And so they do while a command line works on another file."""
+    seen = shown_ahead(waits_for_a_line, 1_000_000, "another text\n")
+    expect(seen >= 25, f"keys behind a command line were shown at once {seen} times of 30")
 
 
 def check_other_keys_under_loads(folder):

@@ -1,5 +1,8 @@
 """Keys mean the same however they arrive, and go where they say over text that is not loaded."""
 import random
+import time
+
+from checks import Skipped
 
 from .model import Model
 from .pairs import opened
@@ -7,6 +10,7 @@ from .support import COMMAND_WINDOW, Session, expect, made, wait_until
 
 ENDS = ((2_700, (24, 80)), (10_000, (50, 80)), (20_000, (24, 80)))  # of long lines, and the screen
 SELECTING = ("left", "right", "up", "down", "home", "end", "word_left", "word_right")
+KNOWN_LATE = 4  # seconds without an answer after which a key that needs one may be refused
 NAMES = {"word_left": "^Left", "word_right": "^Right", "first": "^Home", "last": "^End"}
 
 
@@ -192,6 +196,7 @@ def check_esc_behind_any_key(folder):
         session.keys("C-p", "C-p")
         session.wait_to_go_to("a.txt")
         session.wait_for_quiet()
+        start = time.monotonic()
         with session.stopped_host():
             session.keys("C-v", "C-p", "Z")
             session.keys("Escape")
@@ -206,6 +211,8 @@ def check_esc_behind_any_key(folder):
             wait_until(lambda: not session.goes_to(COMMAND_WINDOW), "it shows the command window")
             session.keys("F2", "Down", "Escape", "Escape")
             session.wait_to_go_to(COMMAND_WINDOW)
+            if time.monotonic() - start > KNOWN_LATE:
+                raise Skipped("the machine is so busy that keys may be refused, as on a lost line")
             wait_until(lambda: session.held() > 10, lambda: "nothing waits: this test is wrong\n" + "\n".join(session.screen()))
         session.wait_for("N")
         session.wait_for_quiet()

@@ -322,12 +322,14 @@ def check_calls_of_a_key(folder):
 
 
 def check_find(folder):
-    """Finding as the user types, next and previous; the host finds what is not loaded, and knows the pattern."""
+    """Finding as the user types, next and previous, asks no host; at Enter it goes to the place, and knows the pattern. All is loaded, and
+    the command file is open: else both come at the first rest, which brings bytes."""
     lines = "".join(f"line {at}\n" for at in range(3000))
     made(folder, a=lines)
     with Session(folder, "a.txt", slow=50) as session:
         session.wait_for("line 14")
-        session.wait_for_quiet()
+        wait_until(lambda: session.bytes_down() > len(lines), lambda: f"the text is not loaded: {session.status()}")
+        session.open_command_file()
         before = session.bytes_down()
         session.keys("C-s")
         session.type("ne 1")
@@ -339,8 +341,9 @@ def check_find(folder):
         session.type("2")
         session.wait_for(f"{lines.find('ne 12')},{lines.find('ne 12') + 5} of")
         session.type("34")
-        session.wait_for("Enter asks the host")
+        session.wait_for(f"{lines.find('ne 1234')},{lines.find('ne 1234') + 7} of")
         session.keys("Enter")
+        wait_until(lambda: not session.shows("find:"), "Enter doesn't end the search")
         session.wait_for(f"{lines.find('ne 1234')},{lines.find('ne 1234') + 7} of")
         session.wait_for("line 1236")
         origin = lines.find("ne 1234")

@@ -464,15 +464,16 @@ def without_memory(pair, taken):
     """Has the terminal's memory run out after so many typed pieces."""
     from sulgrevad import NoMemory, Status
 
-    kind, left = pair.terminal.type, [taken]
+    kind = pair.terminal.type_text
 
-    def short(*words):
-        if left[0] == 0:
-            raise NoMemory(Status.NO_MEMORY)
-        left[0] -= 1
-        kind(*words)
+    def short(tag, text):
+        if taken:
+            kind(tag, text[: 512 * taken])
+        error = NoMemory(Status.NO_MEMORY)
+        error.taken = len(text[: 512 * taken].encode())
+        raise error
 
-    pair.terminal.type = short
+    pair.terminal.type_text = short
 
 
 def check_change_without_memory(folder):
@@ -487,7 +488,7 @@ def check_change_without_memory(folder):
         editor.texts.listeners.append(told.extend)
         without_memory(pair, taken)
         editor.take(pair.keys.Paste("".join(pieces[:count]) if count > 1 else "x"))
-        del pair.terminal.type
+        del pair.terminal.type_text
         expect("not enough memory" in editor.message, f"this test is wrong: {editor.message!r}")
         came = "".join(pieces[:taken])
         wanted = [(1, 0, gone, came)] if taken else []

@@ -217,6 +217,13 @@ def opened(*texts, has_vault=False, size=(60, 200), key_set="sam"):
     return pair, pair.editor, pair.keys.Key, pair.keys.Text
 
 
+def with_line(*texts, **more):
+    """An editor with windows for texts, and its line."""
+    pair, editor, key, text = opened(*texts, **more)
+    line = pair.take_line(Line())
+    return pair, editor, key, text, line
+
+
 LONG = "".join(f"line {at} foo\n" for at in range(3000))
 
 

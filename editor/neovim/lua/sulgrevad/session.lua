@@ -19,7 +19,6 @@ local Session = {}
 Session.__index = Session
 
 local VERSION = 2 -- of the core protocol
-local MOST_TYPED = library.number.SAM_MOST_IN_TYPE
 local ALL = 0xFFFFFFFF -- runes, or the place behind them
 local TICK = 500 -- milliseconds after which the clock is looked at again
 local SECONDS_UNKEPT = 10 -- of a lost line, until what the host may not have is kept here again
@@ -603,19 +602,14 @@ function Session:run(file, line, from, to)
   self:pump()
 end
 
--- Types a line at the end of the command file, which is free: at most so many runes at once. What was printed without a newline gets one
+-- Types a line at the end of the command file, which is free. What was printed without a newline gets one
 -- together with the line, which alone runs.
 function Session:type(commands, line)
   local len = self:file_state(0).len
   local rest = (commands.is_bare and "\n" or "") .. line .. "\n"
   commands.seen, commands.is_bare, commands.has_printed = len + text.runes(rest), false, false
   must("term_select", self.term, 0, len, len)
-  while rest ~= "" do
-    local cut = math.min(#rest, MOST_TYPED)
-    while cut < #rest and text.is_inside(rest:byte(cut + 1)) do cut = cut - 1 end
-    must("term_type", self.term, 0, rest:sub(1, cut), cut)
-    rest = rest:sub(cut + 1)
-  end
+  must("term_type_text", self.term, 0, rest, #rest, size)
 end
 
 -- Shows what command lines have printed.
