@@ -1,0 +1,111 @@
+/* record_body.c: the bodies of a journal's records, made and read. */
+#include <stdlib.h>
+#include <string.h>
+
+#include "journal/record_body.h"
+
+enum { ROOM_FIRST = 256 };
+
+/* ---- Numbers ---- */
+
+static void put_number(uint8_t *into, uint64_t number, int bytes)
+{
+    for (int at = bytes - 1; at >= 0; at--, number >>= 8)
+        into[at] = (uint8_t)number;
+}
+
+static uint64_t number_at(const uint8_t *bytes, int count)
+{
+    uint64_t number = 0;
+
+    for (int at = 0; at < count; at++)
+        number = number << 8 | bytes[at];
+    return number;
+}
+
+/* ---- Bodies ---- */
+
+bool has_room(struct body *body, size_t more)
+{
+    size_t room = body->room == 0 ? ROOM_FIRST : body->room;
+
+    while (room - body->len < more)
+        room *= 2;
+    if (room != body->room) {
+        uint8_t *bytes = realloc(body->bytes, room);
+        body->is_short |= bytes == NULL;
+        if (bytes == NULL)
+            return false;
+        body->bytes = bytes;
+        body->room = room;
+    }
+    return true;
+}
+
+void add_number(struct body *body, uint64_t number)
+{
+    if (has_room(body, 8)) {
+        put_number(body->bytes + body->len, number, 8);
+        body->len += 8;
+    }
+}
+
+void add_raw(struct body *body, const void *bytes, size_t len)
+{
+    if (len > 0 && has_room(body, len)) {
+        memcpy(body->bytes + body->len, bytes, len);
+        body->len += len;
+    }
+}
+
+void add_data(struct body *body, const void *bytes, size_t len)
+{
+    add_number(body, len);
+    add_raw(body, bytes, len);
+}
+
+void add_words(struct body *body, const char *words)
+{
+    add_number(body, words != NULL);
+    if (words != NULL)
+        add_data(body, words, strlen(words));
+}
+
+uint64_t take_number(struct record *record)
+{
+    if (record->len < 8) {
+        record->is_wrong = true;
+        return 0;
+    }
+    record->body += 8;
+    record->len -= 8;
+    return number_at(record->body - 8, 8);
+}
+
+const uint8_t *take_data(struct record *record, size_t *len)
+{
+    uint64_t wanted = take_number(record);
+
+    *len = 0;
+    record->is_wrong |= wanted > record->len;
+    if (record->is_wrong)
+        return NULL;
+    *len = (size_t)wanted;
+    record->body += wanted;
+    record->len -= wanted;
+    return record->body - wanted;
+}
+
+char *take_words(struct record *record)
+{
+    size_t len = 0;
+    const uint8_t *bytes = take_number(record) != 0 ? take_data(record, &len) : NULL;
+    char *words = bytes == NULL ? NULL : malloc(len + 1);
+
+    record->is_short |= bytes != NULL && words == NULL;
+    if (words != NULL) {
+        memcpy(words, bytes, len);
+        words[len] = '\0';
+    }
+    return words;
+}
