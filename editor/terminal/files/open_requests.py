@@ -50,7 +50,7 @@ class OpenRequests:
         """Has the host open a file. Returns whether that is asked; else the key acts again, or can't act."""
         editor = self.editor
         if editor.way.is_late:
-            editor.message = f"{path} can be opened when the line is back"
+            editor.wait_for_line(f"{path} can be opened when the line is back")
             return False
         if editor.is_lock_held:
             editor.act_again("waits for the host")

@@ -123,7 +123,14 @@ class Actions(Commands, Moves):
             self.message = f"the menu has the first {MOST_IN_MENU:,} of {len(self.tags):,} files; a path opens any"
         entries = [("* " if self.is_changed(tag) else "  ", self.name(tag)) for tag in tags]
         chosen = tags.index(self.active.tag) if self.active.tag in tags else 0
-        self.menu = Files(self.joining, entries, chosen, lambda at: self.show(tags[at]))
+        self.menu = Files(self.joining, entries, chosen, lambda at: self._show_chosen(tags[at]))
+
+    def _show_chosen(self, tag: int) -> bool:
+        """Shows the file that was chosen in the menu. Returns whether that can be done; else the key waits for the line."""
+        is_shown = self.show(tag)
+        if not is_shown:
+            self.wait_for_line(self.message)
+        return is_shown
 
     def do_split(self) -> None:
         shown = [window.tag for window in self.windows]

@@ -10,7 +10,7 @@ import threading
 import time
 from pathlib import Path
 
-from checks import Skipped
+from checks import Failed, Skipped
 
 from .fuzz import Run
 from .messages import NoteCode, not_saved, replacing
@@ -94,11 +94,13 @@ class BrokenRun(Run):
 
     HOW = (signal.SIGKILL, signal.SIGTERM, signal.SIGSTOP)
     LONG_PAUSE, STEADY = 4, 1.0  # seconds: after such a pause a connection stands for so long, so that pauses begin anew
-    REFUSED = "can't act until the line is back"  # what samterm says of a key that asks the host, once the line is lost for seconds
+    # What samterm says of a key that asks the host, once the line is lost for seconds; of Enter in a menu that is no matter, as it goes on.
+    REFUSED = re.compile(r"(?<!Enter )can't act until the line is back|the command line stays")
+    EACH = 0.1  # seconds, after each of which it is looked whether that is said: it stands there for longer
 
     def __init__(self, seed):
         super().__init__(seed, delay=None)
-        self.breaks = 0
+        self.breaks, self.is_refused = 0, False
 
     def session(self, folder):
         return Session(folder, "a.txt", slow=self.delay, width=self.width, height=self.height, stays=True)
@@ -133,26 +135,51 @@ class BrokenRun(Run):
         thread = threading.Thread(target=go_on)
         thread.start()
         try:
-            yield
+            with self.watched(session):
+                yield
         finally:
             is_over.set()
             thread.join()
 
+    @contextlib.contextmanager
+    def watched(self, session):
+        """Notes meanwhile whether a key is refused. What is judged before is no matter then."""
+        is_over = threading.Event()
+
+        def look():
+            while not is_over.wait(self.EACH):
+                self.is_refused = self.is_refused or any(map(self.REFUSED.search, session.screen()))
+
+        thread = threading.Thread(target=look)
+        thread.start()
+        try:
+            yield
+        except Failed:
+            self.skip_where_refused()
+            raise
+        finally:
+            is_over.set()
+            thread.join()
+        self.skip_where_refused()
+
     def check(self, session):
-        wait_until(lambda: not session.shows("LINE LOST"), "the line doesn't come back")
-        self.skip_where_refused(session)
-        super().check(session)
+        with self.watched(session):
+            self.wait_for_line(session)
+            super().check(session)
+
+    def wait_for_line(self, session):
+        """Waits until the line is back, and answers come over it."""
+        wait_until(lambda: not session.shows("LINE LOST") and not session.shows("no answer for"), "the line doesn't come back")
 
     def arrive(self, session, keys):
         with self.broken(session):
             for key in keys:
                 self.send(session, key)
                 time.sleep(self.numbers.choice((0, 0.05, 0.3, 0.6)))
-                self.skip_where_refused(session)
 
-    def skip_where_refused(self, session):
+    def skip_where_refused(self):
         """The model knows of no key that is refused. On a busy machine a break may take so long: from there on nothing is judged."""
-        if session.shows(self.REFUSED):
+        if self.is_refused:
             raise Skipped(f"seed {self.seed}: a break took seconds, so a key was refused")
 
 

@@ -139,19 +139,43 @@ def check_keys_once_a_refusal_is_read(folder):
 
 
 def check_menu_entry_on_a_lost_line(folder):
-    """While the line is lost the menu stays where the chosen file is not open; what is typed behind that goes into no file."""
-    pair = Pair(random.Random(1), ("one\n", "two\n"))
-    editor, key, text = pair.editor, pair.keys.Key, pair.keys.Text
-    pair.finish(3)
-    line = pair.take_line(Line())
-    line.is_broken = True
-    pair.wait(KNOWN_LATE)
-    for each in (key("F2"), key("Down"), text("\n"), text("x")):
-        editor.take(each)
-    expect(editor.menu is not None, f"the menu goes: {editor.message!r}")
-    line.is_broken = False
-    pair.finish()
-    expect([pair.host.text(tag) for tag in (1, 2)] == ["one\n", "two\n"], f"it is typed into {[pair.host.text(tag) for tag in (1, 2)]}")
+    """While the line is lost the menu stays where the chosen file is not open, and Enter goes once its user has read that it can't act.
+    What is typed right behind it waits with it, and goes into the chosen file."""
+    for typed, wanted in (("", ["one\n", "two\n"]), ("x", ["one\n", "xtwo\n"])):
+        pair = Pair(random.Random(1), ("one\n", "two\n"))
+        editor, key, text = pair.editor, pair.keys.Key, pair.keys.Text
+        pair.finish(3)
+        line = pair.take_line(Line())
+        line.is_broken = True
+        pair.wait(KNOWN_LATE)
+        for each in (key("F2"), key("Down"), text("\n"), *map(text, typed)):
+            editor.take(each)
+        expect(editor.menu is not None, f"the menu goes: {editor.message!r}")
+        pair.wait(TOLD)
+        expect(bool(editor.deferred) == bool(typed), f"{typed!r} behind Enter: {editor.deferred} wait")
+        line.is_broken = False
+        pair.finish()
+        texts = [pair.host.text(tag) for tag in (1, 2)]
+        expect(texts == wanted, f"{typed!r} behind Enter leads to {texts}")
+
+
+def check_enter_of_a_menu_in_a_short_break(folder):
+    """Enter on a path, or on a file that is not open, which comes while the line is gone for a moment, acts once it is back."""
+    for keys, tag in (((("F2"), "two.txt", "\n"), None), (("F2", "Down", "\n"), 2)):
+        pair = Pair(random.Random(1), ("one\n", "two\n"))
+        editor, key, text = pair.editor, pair.keys.Key, pair.keys.Text
+        pair.finish(3)
+        line = pair.take_line(Line())
+        line.is_broken = True
+        pair.wait(0.2)
+        for name in keys:
+            editor.take(text(name) if name in ("two.txt", "\n") else key(name))
+        expect("the line is back" in editor.message, f"{keys}: it tells {editor.message!r}")
+        line.is_broken = False
+        pair.finish()
+        opened_paths = [note.path for note in line.notes if note.kind == NoteKind.OPEN]
+        expect(opened_paths == ([b"two.txt"] if tag is None else []), f"{keys}: it opens {opened_paths}")
+        expect(tag is None or editor.active.tag == tag, f"{keys}: it shows {editor.active.tag}")
 
 
 def check_old_texts_on_a_lost_line(folder):

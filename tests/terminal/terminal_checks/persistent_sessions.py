@@ -17,6 +17,7 @@ UNDO, REDO, WRITE, MENU = "\x1a", "\x12", "\x17", "F2"
 MENU_TITLE = "Files; a path"
 DRAW = "\x1b[15~"  # F5, which would try a line that is known to be lost, and give the screen back meanwhile
 MOST_RUNES = 4_000  # of a text, so that all of it is soon loaded
+OPENED_WITHIN = 2  # seconds after the line is back, where Enter waited for it
 
 
 class OneSession(BrokenRun):
@@ -82,25 +83,30 @@ class OneSession(BrokenRun):
 
     def open(self, session, name):
         """Opens a file by its path, or goes to its window; where that can't be until the line is back, again."""
-        while True:
-            session.keys(MENU)
-            session.type(name)
-            session.keys("Enter")
-            wait_until(
-                lambda: session.goes_to(name) or self.could_not(session),
-                lambda: f"{name} is not opened:\n" + "\n".join(session.screen()),
-            )
-            if session.goes_to(name):
-                break
+        while not self.tried_to_open(session, name):
             if session.shows(MENU_TITLE):
                 session.keys("Escape")
-            wait_until(lambda: not session.shows("LINE LOST"), "the line doesn't come back")
             self.send(session, "\x1b[D")  # what it says goes with the next key
             wait_until(lambda: not self.could_not(session), "it stays")
         self.opened += 1
         self.show(name)
         self.send(session, "\x1b[1;5F")
         self.model.last()
+
+    def tried_to_open(self, session, name):
+        """Types a path in the menu. Returns whether its file is shown: if the line was gone for a moment, that is once it is back."""
+        session.keys(MENU)
+        session.type(name)
+        session.keys("Enter")
+        wait_until(
+            lambda: session.goes_to(name) or self.could_not(session),
+            lambda: f"{name} is not opened:\n" + "\n".join(session.screen()),
+        )
+        if not session.goes_to(name):
+            self.wait_for_line(session)
+            with contextlib.suppress(Failed):
+                wait_until(lambda: session.goes_to(name), "", OPENED_WITHIN)
+        return session.goes_to(name)
 
     def could_not(self, session):
         """Whether it says that a file can't be opened before the line is back."""
