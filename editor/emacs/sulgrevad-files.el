@@ -290,12 +290,8 @@ What an event changes at once no step tells."
   (when (< sulgrevad-most-runes (+ from (length line))) (user-error "The command file has no room for so long a line"))
   (let ((len (sulgrevad--len sulgrevad--term 0)))
     (sulgrevad--select sulgrevad--term 0 from len)
-    (cl-loop for at from 0 below (length line) by sulgrevad-most-typed
-             for text = (substring line at (min (length line) (+ at sulgrevad-most-typed)))
-             for place = from then (+ from at)
-             do (sulgrevad--type sulgrevad--term 0 text)
-             if (= 0 (sulgrevad--held sulgrevad--term))
-             do (sulgrevad--note-change place (if (= at 0) (- len from) 0) (length text)))
+    (sulgrevad--type sulgrevad--term 0 line)
+    (when (= 0 (sulgrevad--held sulgrevad--term)) (sulgrevad--note-change from (- len from) (length line)))
     (sulgrevad--take-over)))
 
 ;;; Writing

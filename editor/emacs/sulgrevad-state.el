@@ -30,7 +30,6 @@ nil is samhost's own choice."
 
 (defconst sulgrevad-version-offered 2 "The version of the protocol.")
 (defconst sulgrevad-all-tags 65536 "How many tags a session has at most.")
-(defconst sulgrevad-most-typed 512 "How many runes are typed at once.")
 (defconst sulgrevad-most-runes 1000000 "How many runes a text has at most.")
 (defconst sulgrevad-most-load 262144 "How many runes are loaded at once.")
 (defconst sulgrevad-most-changes 200

@@ -111,11 +111,11 @@ static emacs_value event(emacs_env *env, ptrdiff_t count, emacs_value *words, vo
 static emacs_value type(emacs_env *env, ptrdiff_t count, emacs_value *words, void *data)
 {
     (void)count, (void)data;
-    size_t len = 0;
+    size_t len = 0, taken = 0;
     uint8_t *text = utf8(env, words[2], &len);
     if (text == NULL)
         return nil(env);
-    sam_status status = sam_term_type(term_of(env, words[0]), tag_of(env, words[1]), text, len);
+    sam_status status = sam_term_type_text(term_of(env, words[0]), tag_of(env, words[1]), text, len, &taken);
     free(text);
     return done(env, status);
 }

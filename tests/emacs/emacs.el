@@ -25,11 +25,9 @@
     (check "a refused event is said"
            (is-said "SAM_REFUSAL_BAD_POSITION"
                     (said (lambda () (sulgrevad--select sulgrevad--term sulgrevad--tag 2 1) (run-hooks 'post-command-hook)))))
-    (check "a refused command line is said"
-           (is-said "SAM_REFUSAL_TEXT_TOO_LONG"
-                    (said (lambda ()
-                            (sulgrevad--type sulgrevad--term 0 (concat (make-string 512 ?k) "\n"))
-                            (run-hooks 'post-command-hook)))))
+    (check "a refused text is said"
+           (is-said "SAM_REFUSAL_NO_FILE"
+                    (said (lambda () (sulgrevad--type sulgrevad--term 7777 "k") (run-hooks 'post-command-hook)))))
     (check "nothing is said twice" (null (said (lambda () (run-hooks 'post-command-hook)))))
     (let* ((buffer (sulgrevad--show 0)) (printed (with-current-buffer buffer (sulgrevad--text))))
       (check "an edit of the command file is refused"
