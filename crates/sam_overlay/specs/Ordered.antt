@@ -17,8 +17,8 @@ use Rattle.sam_overlay.specs.declared.shown_change.Turn.{Turn}
 use Rattle.sam_overlay.specs.declared.shown_change.Turn.TheVariants as turn
 
 -- so many requests wait at most
-abbrev pub most_requests : ℕ
-most_requests = 1_000
+abbrev pub most_waiting_requests : ℕ
+most_waiting_requests = 1_000
 
 -- ## Edits
 

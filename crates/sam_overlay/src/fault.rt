@@ -58,7 +58,7 @@ pub enum AskFault {
     /// An edit that was put has to act first: go on by steps.
     #[error("an edit has to act first")]
     Waiting,
-    /// `MOST_REQUESTS` wait.
+    /// `MOST_WAITING_REQUESTS` wait.
     #[error("too many requests wait")]
     TooMany,
     /// 2^32-1 groups of edits were closed while edits or requests waited.

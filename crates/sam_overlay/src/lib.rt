@@ -14,6 +14,6 @@ mod shown_change;
 mod steps;
 
 pub use fault::{AskFault, PutFault, ReplaceFault};
-pub use ordered::{MOST_REQUESTS, OrderedOverlay};
+pub use ordered::{MOST_WAITING_REQUESTS, OrderedOverlay};
 pub use overlay::{Overlay, is_request};
 pub use shown_change::{OverlayStep, Put, Told, Turn};

@@ -4,7 +4,7 @@ ghost use Rattle.std.specs.Prelude.{◌≡◌, ◌≢◌, ◌⊎◌, ◌↔◌, 
 ghost use Rattle.sam_runes.specs.Checks.{first_of_checks};
 ghost use Rattle.sam_endpoint.specs.TermStepping.{Steps};
 ghost use Rattle.sam_overlay.specs.Calls.{Brings, CellsGo, DropsUpTo, Keeps, KeepsTexts, PutsUpTo, cells_at, new_overlay, shown_at};
-ghost use Rattle.sam_overlay.specs.Ordered.{ActsNext, Asked, NoneFinds, closing_group, most_requests, ordered_checks};
+ghost use Rattle.sam_overlay.specs.Ordered.{ActsNext, Asked, NoneFinds, closing_group, most_waiting_requests, ordered_checks};
 ghost use Rattle.sam_overlay.specs.Outcomes.{Leads, Replaces};
 ghost use Rattle.sam_overlay.specs.Overlays.{StopsOnly, end_step, is_request, told_at};
 ghost use Rattle.sam_overlay.specs.Requests.{put_limit};
@@ -20,7 +20,7 @@ use sam_term::{Refusal, UserEvent};
 use std::alloc::Global;
 
 /// The most requests that wait.
-pub const MOST_REQUESTS: usize = 1_000;
+pub const MOST_WAITING_REQUESTS: usize = 1_000;
 
 /// An overlay whose requests stand in one order with the edits. A request is what isn't an edit of a text: a write, a close, a search, a
 /// command line. It is taken in at once, also while a file is locked, and finds the text that was shown when it was asked for, with the
@@ -106,22 +106,23 @@ impl OrderedOverlay {
     /// Takes a request in behind the others. It finds what is shown now. Paste, cut and text of files but the command file are no requests
     /// (see `is_request`). A place that it names is one of the text that it finds, and does not move with the host's changes.
     ///
-    /// Errors, in this order, after which all is as before: `Waiting` while an edit that was put has not acted: go on by steps; `TooMany` if
-    /// `MOST_REQUESTS` wait; `CountFull` if 2^32-1 groups of edits were closed while edits or requests waited; `OutOfMemory`.
+    /// Errors, in this order, after which all is as before: `Waiting` while an edit that was put has not acted: go on by steps; `TooMany`
+    /// if `MOST_WAITING_REQUESTS` wait; `CountFull` if 2^32-1 groups of edits were closed while edits or requests waited; `OutOfMemory`.
     #[tactic(auto, using(crate::proofs::OrderLaws::ask_facts))]
     pub fn ask(&mut self, event: UserEvent) -> Result<(), AskFault>
         requires { IsTrue (is_request event) }
         ensures asked { OnOk result (Asked self.old event self.new) }
         ensures waiting { (result ≡ Err AskFault.Waiting) ↔ (is_some self.old.overlay.putting ≡ true) }
-        ensures many { (result ≡ Err AskFault.TooMany) ↔ ((self.old.overlay.putting ≡ None) × (most_requests ≤ length self.old.queue)) }
-        ensures full { (result ≡ Err AskFault.CountFull) ↔ ((self.old.overlay.putting ≡ None) × (length self.old.queue < most_requests)
-            × (2 ^ 32 - 1 ≤ closing_group self.old)) }
+        ensures many { (result ≡ Err AskFault.TooMany) ↔ ((self.old.overlay.putting ≡ None)
+            × (most_waiting_requests ≤ length self.old.queue)) }
+        ensures full { (result ≡ Err AskFault.CountFull) ↔ ((self.old.overlay.putting ≡ None)
+            × (length self.old.queue < most_waiting_requests) × (2 ^ 32 - 1 ≤ closing_group self.old)) }
         ensures err { OnErr result (self.new ≡ self.old) }
     {
         if self.overlay.is_putting() {
             return Err(AskFault::Waiting);
         }
-        if self.queue.len() >= MOST_REQUESTS {
+        if self.queue.len() >= MOST_WAITING_REQUESTS {
             return Err(AskFault::TooMany);
         }
         let group = self.overlay.newest().max(self.queue.next_group());

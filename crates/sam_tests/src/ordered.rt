@@ -1,6 +1,8 @@
 //! Requests in one order with the edits, before a host whose answers come when a test says so: what a write saves, what a close refuses.
 use sam_endpoint::{HostEndpoint, TermStep};
-use sam_overlay::{AskFault, MOST_REQUESTS, OrderedOverlay, Put, ReplaceFault, Turn, is_request};
+use sam_overlay::{
+    AskFault, MOST_WAITING_REQUESTS, OrderedOverlay, Put, ReplaceFault, Turn, is_request,
+};
 use sam_term::{Refusal, UserEvent};
 use sam_test_support::lent;
 use std::alloc::Global;
@@ -257,9 +259,9 @@ const TOO_MANY: [Step<'_>; 9] = [
     Step::PutAlone(1),
     Step::Unasked(Wish::Write(1), AskFault::Waiting),
     Step::Put(1, Put::NotFree),
-    Step::AskMany(Wish::Write(1), MOST_REQUESTS),
+    Step::AskMany(Wish::Write(1), MOST_WAITING_REQUESTS),
     Step::Unasked(Wish::Write(1), AskFault::TooMany),
-    Step::Waiting(MOST_REQUESTS),
+    Step::Waiting(MOST_WAITING_REQUESTS),
 ];
 
 #[test]
