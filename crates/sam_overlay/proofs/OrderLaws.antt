@@ -1,24 +1,25 @@
 -- Requests in one order with the edits.
-use Rattle.std.proofs.Common.{◌≡◌, ap, ◌∙◌, ℕ, ◌≤◌, List, [], ◌∷◌, Option, Result, Ok, Err, Some, None, arith}
+use Rattle.std.proofs.Common.{◌≡◌, refl, ap, ◌∙◌, ℕ, ◌≤◌, List, [], ◌∷◌, ◌++◌, Option, Result, Ok, Err, Some, None, arith}
 use Rattle.std.specs.Prelude.{OnOk}
-use Rattle.sam_runes.specs.Slots.{Slots}
+use Rattle.sam_runes.specs.Slots.{Slots, slot}
 use Rattle.sam_pending.specs.Layers.{Layer}
 use Rattle.sam_pending.specs.Cells.{Cell, replaced, text_at}
 use Rattle.sam_pending.proofs.GroupLaws.{text_replaced, text_shown}
 use Rattle.sam_term.specs.Term.{rasp_at}
 use Rattle.sam_term.specs.declared.event.UserEvent.{UserEvent}
+use Rattle.sam_term.specs.declared.event.UserEvent.TheVariants as event
 use Rattle.sam_endpoint.specs.TermEndpoints.{PlainTermEndpoint}
 use Rattle.sam_endpoint.specs.TermStepping.{BringsEvent}
 use Rattle.sam_endpoint.specs.declared.fault.TermStop.{TermStop}
 use Rattle.sam_endpoint.specs.declared.step.BringFault.{BringFault}
 use Rattle.sam_overlay.specs.Calls.{Asks, Keeps, PlainOverlay, cells_at, shown_at}
-use Rattle.sam_overlay.specs.Ordered.{NoneFinds, closing_group}
-use Rattle.sam_overlay.specs.Outcomes.{ReplacesFrom, newest_over}
+use Rattle.sam_overlay.specs.Ordered.{Joins, NoneFinds, Shares, closing_group, shared_with}
+use Rattle.sam_overlay.specs.Outcomes.{ReplacesFrom, newest_in, newest_over}
 use Rattle.sam_overlay.specs.Requests.{next_group}
 use Rattle.sam_overlay.specs.declared.ordered.OrderedOverlay.{OrderedOverlay}
 use Rattle.sam_overlay.specs.declared.request.Request.{Request}
 use Rattle.sam_overlay.proofs.CallLaws.{any_replaces, newer-all}
-use Rattle.sam_overlay.proofs.QueueLaws.{newest_all}
+use Rattle.sam_overlay.proofs.QueueLaws.{newest_all, shared_finds, shared_request}
 
 none-finds : (rs : List Request) (g p q : ℕ) (s : List ℕ) (cs ds : List Cell) → next_group rs ≤ g → ds ≡ replaced g p q s cs → NoneFinds rs cs ds
 none-finds [] g p q s cs ds later is = tt
@@ -38,7 +39,19 @@ asked_finds o f =
     text_shown (closing_group o) (cells_at o.overlay f)
     (newer-all (newest_over o.overlay.layers) (next_group o.queue) (cells_at o.overlay f) (newest_all o.overlay.layers f (rasp_at o.overlay.end.term f)))
 
-pub ruleset ask_facts = (asked_finds)
+-- a write that is shared is the request at its place, which comes to what is shown
+pub asked_shares : (o : OrderedOverlay) (e : UserEvent) (k : ℕ) → shared_with o e ≡ Some k → Shares o e k o
+asked_shares o (event.Write f) k is =
+    let x = shared_request o.queue f (newest_in (slot o.overlay.layers f)) k is in
+    record { shared = is; file = f; group = x.0; writes = refl; waits = x.1; finds = shared_finds o.overlay f x.0 x.2; same = refl }
+asked_shares o e k is = absurd cc
+
+-- another request stands behind the others
+pub asked_joins : (o : OrderedOverlay) (e : UserEvent) (q : List Request) → shared_with o e ≡ None
+    → q ≡ o.queue ++ record { event = e; group = closing_group o } ∷ [] → Joins o e (record o { queue = q })
+asked_joins o e q alone is = record { alone = alone; taken = ap (λ q. record o { queue = q }) is; finds = asked_finds o }
+
+pub ruleset ask_facts = (asked_joins)
 
 -- ## The next request
 

@@ -1,20 +1,22 @@
 -- The queue of requests, and what stands before them.
-use Rattle.std.proofs.Common.{◌≡◌, refl, sym, ap, ◌∙◌, subst, ℕ, zero, suc, ◌+◌, ◌<◌, ◌≤◌, ◌^◌, Bool, true, false, nat_lt, ◌||◌, List, [], ◌∷◌, ◌++◌, drop, length, Option, Some, None, arith}
-use Rattle.std.specs.Prelude.{◌↔◌, All, IfSome, max, min, not, slice_get}
+use Rattle.std.proofs.Common.{◌≡◌, refl, sym, ap, ◌∙◌, subst, ℕ, zero, suc, ◌+◌, ◌<◌, ◌≤◌, ◌^◌, Bool, true, false, cond, nat_lt, nat_le, ◌||◌, List, [], ◌∷◌, ◌++◌, drop, length, Option, Some, None, is_some, option_map, arith}
+use Rattle.std.specs.Prelude.{◌↔◌, ◌&&◌, All, IfSome, max, min, not, slice_get}
 use Rattle.std.proofs.lemmas.Bool.Decides.{nat_tests}
 use Rattle.std.proofs.lemmas.List.Elements.{All-map}
 use Rattle.sam_runes.specs.Slots.{Slots, slot}
 use Rattle.sam_runes.proofs.SlotLaws.{slot_past}
-use Rattle.sam_pending.specs.Cells.{IsNewest, PartialText, arrived, resting}
+use Rattle.sam_pending.specs.Cells.{IsNewest, PartialText, arrived, resting, text_at}
 use Rattle.sam_pending.specs.Groups.{IsPutUpTo, is_due_by}
 use Rattle.sam_pending.specs.Layers.{Layer}
+use Rattle.sam_pending.proofs.GroupLaws.{text_shown}
 use Rattle.sam_pending.proofs.LayerLaws.{newest_cells}
 use Rattle.sam_term.specs.Term.{PlainTerminal, rasp_at, window_at}
 use Rattle.sam_term.specs.declared.event.UserEvent.{UserEvent}
-use Rattle.sam_overlay.specs.Calls.{CanAct, IsIdle, IsReady, PlainOverlay}
+use Rattle.sam_term.specs.declared.event.UserEvent.TheVariants as event
+use Rattle.sam_overlay.specs.Calls.{CanAct, IsIdle, IsReady, PlainOverlay, cells_at, shown_at}
 use Rattle.sam_overlay.specs.Outcomes.{IsOverRasp, SaysLeft, cells_in, newest_in, newest_over}
 use Rattle.sam_overlay.specs.Overlays.{is_request}
-use Rattle.sam_overlay.specs.Requests.{AreAsked, concerns}
+use Rattle.sam_overlay.specs.Requests.{AreAsked, concerns, put_limit, serves, shared_write, writes}
 use Rattle.sam_overlay.specs.declared.request.Request.{Request}
 use Rattle.sam_overlay.proofs.CallLaws.{newer-all}
 
@@ -112,3 +114,85 @@ acts_all o e g i idle unlocked before past = record { idle = idle; unlocked = un
               clear = subst (λ x. IsPutUpTo g (cells_in (rasp_at o.end.term f) x)) (sym (slot_past o.layers f layers)) (resting-put g (rasp_at o.end.term f));
               free = ap (λ b. b || nat_lt 0 (window_at o.end.term f).locks) unlocked ∙ ap (nat_lt 0) (blank-locks o.end.term f (slot_past o.end.term.files f files));
             }
+
+-- ## Writes that are shared
+
+-- the write that is found, where `found` was found among the requests before place n, and these stand from there on
+abbrev pub found_in : Option ℕ → ℕ → List Request → ℕ → ℕ → Option ℕ
+found_in found n rs f newest = cond (is_some (put_limit rs f)) (option_map (λ k. n + k) (shared_write rs f newest)) found
+
+and-first : (a b : Bool) → (a && b) ≡ true → a ≡ true
+and-first true b is = refl
+and-first false b is = absurd cc
+
+and-second : (a b : Bool) → (a && b) ≡ true → b ≡ true
+and-second true b is = is
+and-second false b is = absurd cc
+
+writes-concerns : (e : UserEvent) (f : ℕ) → writes f e ≡ true → concerns e f ≡ true
+writes-concerns (event.Write g) f is = is
+writes-concerns e f is = absurd cc
+
+-- where no request concerns the file no write of it is found
+none-found : (rs : List Request) (f newest : ℕ) → is_some (put_limit rs f) ≡ false → shared_write rs f newest ≡ None
+none-found [] f newest none = refl
+none-found (r ∷ rs) f newest none =
+    step (concerns r.event f) (serves f newest r) (put_limit rs f)
+    (λ is. writes-concerns r.event f (and-first (writes f r.event) (nat_le newest r.group) is)) none
+  where
+    step : (c w : Bool) (l : Option ℕ) → (w ≡ true → c ≡ true) → is_some (cond c (Some r.group) l) ≡ false
+        → cond (is_some l) (option_map suc (shared_write rs f newest)) (cond w (Some 0) None) ≡ None
+    step true w l up none = absurd cc
+    step false true l up none = let wrong : false ≡ true = up refl in absurd cc
+    step false false l up none = rw none refl
+
+zero-on : (o : Option ℕ) → option_map (λ k. 0 + k) o ≡ o
+zero-on None = refl
+zero-on (Some k) = ap Some (omega arith)
+
+pub found_first : (rs : List Request) (f newest : ℕ) → found_in None 0 rs f newest ≡ shared_write rs f newest
+found_first rs f newest = go (is_some (put_limit rs f)) refl
+  where
+    go : (t : Bool) → is_some (put_limit rs f) ≡ t → found_in None 0 rs f newest ≡ shared_write rs f newest
+    go true is = rw is (zero-on (shared_write rs f newest))
+    go false is = rw is (sym (none-found rs f newest is))
+
+writes-is : (e : UserEvent) (f : ℕ) → writes f e ≡ true → e ≡ event.Write f
+writes-is (event.Write g) f is = ap event.Write (grind (arith, is, nat_tests))
+writes-is e f is = absurd cc
+
+-- the write that is shared stands at its place, and no edit of the file was made behind it
+pub shared_request : (rs : List Request) (f newest k : ℕ) → shared_write rs f newest ≡ Some k
+    → (g : ℕ) × (slice_get rs k ≡ Some (record { event = event.Write f; group = g })) × (newest ≤ g)
+shared_request [] f newest k is = absurd cc
+shared_request (r ∷ rs) f newest k is =
+    go (is_some (put_limit rs f)) (shared_write rs f newest) refl (serves f newest r) refl k is (shared_request rs f newest)
+  where
+    go : (t : Bool) (m : Option ℕ) → shared_write rs f newest ≡ m → (w : Bool) → serves f newest r ≡ w → (k : ℕ)
+        → cond t (option_map suc m) (cond w (Some 0) None) ≡ Some k
+        → ((j : ℕ) → shared_write rs f newest ≡ Some j → (g : ℕ) × (slice_get rs j ≡ Some (record { event = event.Write f; group = g })) × (newest ≤ g))
+        → (g : ℕ) × (slice_get (r ∷ rs) k ≡ Some (record { event = event.Write f; group = g })) × (newest ≤ g)
+    go true None has w serve k is next = absurd cc
+    go true (Some j) has w serve k is next =
+        let x = next j has in
+        let behind : suc j ≡ k = cc in
+        (x.0, subst (λ i. slice_get (r ∷ rs) i ≡ Some (record { event = event.Write f; group = x.0 })) behind x.1, x.2)
+    go false m has true serve k is next =
+        let first : 0 ≡ k = cc in
+        let written : r.event ≡ event.Write f = writes-is r.event f (and-first (writes f r.event) (nat_le newest r.group) serve) in (
+          r.group,
+          subst (λ i. slice_get (r ∷ rs) i ≡ Some (record { event = event.Write f; group = r.group })) first
+              (ap (λ e. Some (record { event = e; group = r.group })) written),
+          grind (arith, (and-second (writes f r.event) (nat_le newest r.group) serve), nat_tests),
+        )
+    go false m has false serve k is next = absurd cc
+
+max-above : (a b : ℕ) → a ≤ b → max a b ≡ b
+max-above a b up = omega (arith, up)
+
+-- while no edit of a later group waits over a file, what a request of the group comes to is shown
+pub shared_finds : (o : PlainOverlay) (f g : ℕ) → newest_in (slot o.layers f) ≤ g → text_at g (cells_at o f) ≡ shown_at o f
+shared_finds o f g up =
+    text_shown g (cells_at o f)
+    (subst (λ k. All (IsNewest k) (cells_at o f)) (max-above (newest_in (slot o.layers f)) g up)
+    (newer-all (newest_in (slot o.layers f)) g (cells_at o f) (newest-in (rasp_at o.end.term f) (slot o.layers f))))

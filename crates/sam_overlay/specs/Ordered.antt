@@ -1,18 +1,22 @@
 -- An overlay whose requests stand in one order with the edits, and what its calls do.
-use Rattle.std.specs.Prelude.{◌≡◌, ◌^◌, ◌-◌, ℕ, max, List, [], ◌∷◌, ◌++◌, Some, Result, Ok, Err}
+use Rattle.std.specs.Prelude.{◌≡◌, ◌^◌, ◌-◌, ℕ, max, List, [], ◌∷◌, ◌++◌, Option, Some, None, Result, Ok, Err, slice_get}
 use Rattle.sam_runes.specs.Checks.{Checks}
+use Rattle.sam_runes.specs.Slots.{slot}
 use Rattle.sam_pending.specs.Cells.{Cell, text_at}
 use Rattle.sam_term.specs.declared.event.UserEvent.{UserEvent}
+use Rattle.sam_term.specs.declared.event.UserEvent.TheVariants as event
 use Rattle.sam_endpoint.specs.TermStepping.{BringsEvent}
 use Rattle.sam_overlay.specs.Calls.{CanAct, FindsText, Keeps, cells_at, replace_checks, shown_at}
-use Rattle.sam_overlay.specs.Outcomes.{newest_over}
-use Rattle.sam_overlay.specs.Requests.{is_closing, is_leaving, next_group}
+use Rattle.sam_overlay.specs.Outcomes.{newest_in, newest_over}
+use Rattle.sam_overlay.specs.Requests.{is_closing, is_leaving, next_group, shared_write}
 use Rattle.sam_overlay.specs.declared.fault.ReplaceFault.{ReplaceFault}
 use Rattle.sam_overlay.specs.declared.fault.ReplaceFault.TheVariants as refuses
 use Rattle.sam_overlay.specs.declared.fault.PutFault.{PutFault}
 use Rattle.sam_overlay.specs.declared.fault.PutFault.TheVariants as unput
 use Rattle.sam_overlay.specs.declared.ordered.OrderedOverlay.{OrderedOverlay}
 use Rattle.sam_overlay.specs.declared.request.Request.{Request}
+use Rattle.sam_overlay.specs.declared.shown_change.Asked.{Asked}
+use Rattle.sam_overlay.specs.declared.shown_change.Asked.TheVariants as asked
 use Rattle.sam_overlay.specs.declared.shown_change.Turn.{Turn}
 use Rattle.sam_overlay.specs.declared.shown_change.Turn.TheVariants as turn
 
@@ -38,10 +42,30 @@ NoneFinds (r ∷ rs) cs ds = (text_at r.group ds ≡ text_at r.group cs) × None
 abbrev pub closing_group : OrderedOverlay → ℕ
 closing_group o = max (newest_over o.overlay.layers) (next_group o.queue)
 
+-- the place among the requests of the write that an event shares, if it is a write and shares one
+abbrev pub shared_with : OrderedOverlay → UserEvent → Option ℕ
+shared_with o (event.Write f) = shared_write o.queue f (newest_in (slot o.overlay.layers f))
+shared_with o e = None
+
 -- the event is taken in behind the others, and comes to what is shown now of every file
-pub record Asked (o : OrderedOverlay) (e : UserEvent) (n : OrderedOverlay) : Type 0 where
+pub record Joins (o : OrderedOverlay) (e : UserEvent) (n : OrderedOverlay) : Type 0 where
+  pub alone : shared_with o e ≡ None
   pub taken : n ≡ record o { queue = o.queue ++ record { event = e; group = closing_group o } ∷ [] }
   pub finds : (f : ℕ) → text_at (closing_group o) (cells_at o.overlay f) ≡ shown_at o.overlay f
+
+-- the event is a write of a file, as is the request at that place, which comes to what is shown now of the file; nothing is taken in
+pub record Shares (o : OrderedOverlay) (e : UserEvent) (place : ℕ) (n : OrderedOverlay) : Type 0 where
+  pub shared : shared_with o e ≡ Some place
+  pub file : ℕ
+  pub group : ℕ
+  pub writes : e ≡ event.Write file
+  pub waits : slice_get o.queue place ≡ Some (record { event = e; group = group })
+  pub finds : text_at group (cells_at o.overlay file) ≡ shown_at o.overlay file
+  pub same : n ≡ o
+
+abbrev pub IsAsked : OrderedOverlay → UserEvent → Asked → OrderedOverlay → Type 0
+IsAsked o e asked.New n = Joins o e n
+IsAsked o e (asked.Shares place) n = Shares o e place n
 
 -- the oldest request leaves the queue, and is the one event that the end holds
 pub record Acts (o n : OrderedOverlay) : Type 0 where

@@ -1,5 +1,5 @@
 -- Requests of the user that wait: one queue over all files, in the order in which they were asked for. What is not an edit is a request.
-use Rattle.std.specs.Prelude.{◌≡◌, ℕ, ◌+◌, ◌<◌, ◌^◌, max, Bool, true, false, ◌==◌, ◌||◌, if◌then◌else◌, List, [], ◌∷◌, Option, Some, None}
+use Rattle.std.specs.Prelude.{◌≡◌, ℕ, suc, ◌+◌, ◌<◌, ◌^◌, max, nat_le, Bool, true, false, ◌==◌, ◌&&◌, ◌||◌, if◌then◌else◌, List, [], ◌∷◌, Option, Some, None, is_some, option_map}
 use Rattle.sam_runes.specs.Slots.{Slots}
 use Rattle.sam_pending.specs.Cells.{text_at}
 use Rattle.sam_pending.specs.Groups.{IsPutUpTo}
@@ -58,6 +58,22 @@ is_leaving (r ∷ rs) = leaves r.event || is_leaving rs
 abbrev pub is_closing : List Request → ℕ → Bool
 is_closing [] f = false
 is_closing (r ∷ rs) f = closes f r.event || is_closing rs f
+
+-- ## Writes that are shared
+
+abbrev pub writes : ℕ → UserEvent → Bool
+writes f (event.Write g) = g == f
+writes f e = false
+
+-- a write of file f, behind which no edit of it was made: the newest group of those that wait over the file is not later than the write's
+abbrev pub serves : ℕ → ℕ → Request → Bool
+serves f newest r = writes f r.event && nat_le newest r.group
+
+-- the place, the oldest at 0, of the write of file f that another one shares: the youngest request which concerns the file, if it serves
+abbrev pub shared_write : List Request → ℕ → ℕ → Option ℕ
+shared_write [] f newest = None
+shared_write (r ∷ rs) f newest =
+    if is_some (put_limit rs f) then option_map suc (shared_write rs f newest) else (if serves f newest r then Some 0 else None)
 
 -- ## The law
 

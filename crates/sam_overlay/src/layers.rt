@@ -104,6 +104,16 @@ impl Layers {
         newest_over(self.slots.as_slice())
     }
 
+    /// Returns the newest group that waits over a file; 0 if none does.
+    pub fn newest_at(&self, tag: u16) -> u32
+        ensures { result ≡ newest_in (slot self.now tag) }
+    {
+        match self.at(tag) {
+            Some(pending) => pending.newest(),
+            None => 0,
+        }
+    }
+
     /// Returns the first file from that tag on over which an edit waits; `None` if there is none.
     #[tactic(auto, using(crate::proofs::SlotSteps::waiting_facts))]
     pub fn next_waiting(&self, from: u16) -> Option<u16>

@@ -16,4 +16,4 @@ mod steps;
 pub use fault::{AskFault, PutFault, ReplaceFault};
 pub use ordered::{MOST_WAITING_REQUESTS, OrderedOverlay};
 pub use overlay::{Overlay, is_request};
-pub use shown_change::{OverlayStep, Put, Told, Turn};
+pub use shown_change::{Asked, OverlayStep, Put, Told, Turn};

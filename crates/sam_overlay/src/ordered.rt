@@ -4,7 +4,7 @@ ghost use Rattle.std.specs.Prelude.{◌≡◌, ◌≢◌, ◌⊎◌, ◌↔◌, 
 ghost use Rattle.sam_runes.specs.Checks.{first_of_checks};
 ghost use Rattle.sam_endpoint.specs.TermStepping.{Steps};
 ghost use Rattle.sam_overlay.specs.Calls.{Brings, CellsGo, DropsUpTo, Keeps, KeepsTexts, PutsUpTo, cells_at, new_overlay, shown_at};
-ghost use Rattle.sam_overlay.specs.Ordered.{ActsNext, Asked, NoneFinds, closing_group, most_waiting_requests, ordered_checks};
+ghost use Rattle.sam_overlay.specs.Ordered.{ActsNext, IsAsked, NoneFinds, closing_group, most_waiting_requests, ordered_checks, shared_with};
 ghost use Rattle.sam_overlay.specs.Outcomes.{Leads, Replaces};
 ghost use Rattle.sam_overlay.specs.Overlays.{StopsOnly, end_step, is_request, told_at};
 ghost use Rattle.sam_overlay.specs.Requests.{put_limit};
@@ -13,7 +13,7 @@ use crate::fault::{AskFault, PutFault, ReplaceFault};
 use crate::layers::Place;
 use crate::overlay::Overlay;
 use crate::request::{Request, RequestQueue};
-use crate::shown_change::{OverlayStep, Put, Turn};
+use crate::shown_change::{Asked, OverlayStep, Put, Turn};
 use sam_endpoint::{BringFault, EndpointFault, TermStop};
 use sam_pending::{Dropped, PendingFault};
 use sam_term::{Refusal, UserEvent};
@@ -32,7 +32,7 @@ pub const MOST_WAITING_REQUESTS: usize = 1_000;
 ///
 /// ```rust
 /// front.replace(1, 0, 0, &['a'])?;
-/// front.ask(UserEvent::Write(1))?; // it will write the `a`, though the file is locked
+/// front.ask(UserEvent::Write(1))?; // `Asked::New`: it will write the `a`, though the file is locked
 /// front.replace(1, 1, 1, &['b'])?; // `ab` is shown, and the `b` is not written
 /// // once the file is free:
 /// front.put_next(1)?; // `Put::Edit`: the `a`; it acts by the next step
@@ -106,21 +106,29 @@ impl OrderedOverlay {
     /// Takes a request in behind the others. It finds what is shown now. Paste, cut and text of files but the command file are no requests
     /// (see `is_request`). A place that it names is one of the text that it finds, and does not move with the host's changes.
     ///
-    /// Errors, in this order, after which all is as before: `Waiting` while an edit that was put has not acted: go on by steps; `TooMany`
-    /// if `MOST_WAITING_REQUESTS` wait; `CountFull` if 2^32-1 groups of edits were closed while edits or requests waited; `OutOfMemory`.
+    /// A write shares one that waits, and none is added, where it would find the same text: where of the requests that concern its file the
+    /// youngest is a write, and no edit of the file was made behind that. Then the answer is that write's place among the requests that
+    /// wait. A program that keeps what it has to answer of each, in their order, finds there whom else to answer once that write is done.
+    ///
+    /// Errors, in this order, after which all is as before: `Waiting` while an edit that was put has not acted: go on by steps; and, where
+    /// no write is shared, `TooMany` if `MOST_WAITING_REQUESTS` wait; `CountFull` if 2^32-1 groups of edits were closed while edits or
+    /// requests waited; `OutOfMemory`.
     #[tactic(auto, using(crate::proofs::OrderLaws::ask_facts))]
-    pub fn ask(&mut self, event: UserEvent) -> Result<(), AskFault>
+    pub fn ask(&mut self, event: UserEvent) -> Result<Asked, AskFault>
         requires { IsTrue (is_request event) }
-        ensures asked { OnOk result (Asked self.old event self.new) }
+        ensures asked { IfOk result (λ x. IsAsked self.old event x self.new) }
         ensures waiting { (result ≡ Err AskFault.Waiting) ↔ (is_some self.old.overlay.putting ≡ true) }
-        ensures many { (result ≡ Err AskFault.TooMany) ↔ ((self.old.overlay.putting ≡ None)
+        ensures many { (result ≡ Err AskFault.TooMany) ↔ ((self.old.overlay.putting ≡ None) × (shared_with self.old event ≡ None)
             × (most_waiting_requests ≤ length self.old.queue)) }
-        ensures full { (result ≡ Err AskFault.CountFull) ↔ ((self.old.overlay.putting ≡ None)
+        ensures full { (result ≡ Err AskFault.CountFull) ↔ ((self.old.overlay.putting ≡ None) × (shared_with self.old event ≡ None)
             × (length self.old.queue < most_waiting_requests) × (2 ^ 32 - 1 ≤ closing_group self.old)) }
         ensures err { OnErr result (self.new ≡ self.old) }
     {
         if self.overlay.is_putting() {
             return Err(AskFault::Waiting);
+        }
+        if let Some(place) = self.shared_with(&event) {
+            return Ok(Asked::Shares(place));
         }
         if self.queue.len() >= MOST_WAITING_REQUESTS {
             return Err(AskFault::TooMany);
@@ -130,8 +138,18 @@ impl OrderedOverlay {
             return Err(AskFault::CountFull);
         }
         match self.queue.push(Request { event, group }) {
-            Ok(()) => Ok(()),
+            Ok(()) => Ok(Asked::New),
             Err(_) => Err(AskFault::OutOfMemory),
+        }
+    }
+
+    /// Returns the place, among the requests that wait, of the write that an event shares, the oldest at 0; `None` if it shares none.
+    fn shared_with(&self, event: &UserEvent) -> Option<usize>
+        ensures { result ≡ shared_with self.now event.now }
+    {
+        match event {
+            UserEvent::Write(tag) => self.queue.shared_write(*tag, self.overlay.newest_at(*tag)),
+            _ => None,
         }
     }
 

@@ -2,6 +2,7 @@
 
 ghost use Rattle.std.specs.Prelude.{◌≡◌, ◌≢◌, ◌⊎◌, ◌↔◌, ◌<◌, ◌≤◌, ℕ, OnErr, OnOk, IfOk, IfErr, IsTrue, MatchOption, Some, None, Err, if◌then◌else◌, is_some, length, false, drop, take, slice_get, ◌^◌, IfSome};
 ghost use Rattle.sam_runes.specs.Checks.{first_of_checks};
+ghost use Rattle.sam_runes.specs.Slots.{slot};
 ghost use Rattle.sam_runes.specs.Texts.{max_runes};
 ghost use Rattle.sam_pending.specs.Layers.{IsOver, cells_over, next_edit, next_made, rasp_length, shown_members};
 ghost use Rattle.sam_pending.specs.Cells.{IsTakenBack, PartialText, rasp_of, resting, shown_of};
@@ -9,7 +10,7 @@ ghost use Rattle.sam_pending.specs.Runs.{has_next};
 ghost use Rattle.sam_endpoint.specs.TermEndpoints.{IsDone};
 ghost use Rattle.sam_endpoint.specs.TermStepping.{Steps};
 ghost use Rattle.sam_overlay.specs.Calls.{Asks, Brings, CanAct, CellsGo, FindsText, IsIdle, IsReady, KeepsTexts, Drops, DropsUpTo, IsFree, IsNotNow, Keeps, is_free, Puts, PutsUpTo, IsShownFrom, cells_at, gap_from, gap_in, has_edit_at, new_overlay, replace_checks, shown_at, waiting_at};
-ghost use Rattle.sam_overlay.specs.Outcomes.{IsNextKept, IsNextWaiting, Leads, Replaces, ReplacesFrom, newest_over};
+ghost use Rattle.sam_overlay.specs.Outcomes.{IsNextKept, IsNextWaiting, Leads, Replaces, ReplacesFrom, newest_in, newest_over};
 ghost use Rattle.sam_overlay.specs.Overlays.{StopsOnly, end_step, is_request, told_at};
 ghost use Rattle.sam_term.specs.Term.{is_known, is_open, rasp_at};
 
@@ -338,6 +339,13 @@ impl Overlay {
         ensures { result ≡ newest_over self.now.layers }
     {
         self.layers.newest()
+    }
+
+    /// Returns the newest group that waits over a file; 0 if none does.
+    pub(crate) fn newest_at(&self, tag: u16) -> u32
+        ensures { result ≡ newest_in (slot self.now.layers tag) }
+    {
+        self.layers.newest_at(tag)
     }
 
     /// Returns whether an event that stands behind the edits up to a group can act at once; then it finds the text that a request of that

@@ -1,8 +1,8 @@
 //! Requests of the user that wait, and which edits stand before them.
 
-ghost use Rattle.std.specs.Prelude.{◌≡◌, ◌++◌, ◌<◌, ◌+◌, ◌^◌, ◌∷◌, [], IfSome, IsTrue, OnErr, OnOk, true, drop, length, option_copied, slice_get};
+ghost use Rattle.std.specs.Prelude.{◌≡◌, ◌++◌, ◌<◌, ◌+◌, ◌^◌, ◌∷◌, [], IfSome, IsTrue, None, OnErr, OnOk, Some, if◌then◌else◌, true, drop, length, option_copied, slice_get};
 ghost use Rattle.sam_overlay.specs.Overlays.{is_request};
-ghost use Rattle.sam_overlay.specs.Requests.{AreAsked, closes, concerns, is_closing, is_leaving, leaves, next_group, put_limit};
+ghost use Rattle.sam_overlay.specs.Requests.{AreAsked, closes, concerns, is_closing, is_leaving, leaves, next_group, put_limit, serves, shared_write, writes};
 ghost use Rattle.sam_term.specs.Events.{file_of, waits_for_all};
 
 use sam_term::UserEvent;
@@ -81,6 +81,14 @@ impl RequestQueue {
         is_leaving(self.waiting.as_slice())
     }
 
+    /// Returns the place, the oldest at 0, of the write of a file that another write of it shares, where `newest` is the newest group of the
+    /// edits that wait over the file; `None` if there is none.
+    pub fn shared_write(&self, tag: u16, newest: u32) -> Option<usize>
+        ensures { result ≡ shared_write self.now tag newest }
+    {
+        shared_write(self.waiting.as_slice(), tag, newest)
+    }
+
     /// Returns the oldest; `None` if none waits.
     #[tactic(auto, using(crate::proofs::QueueLaws::first_asked))]
     pub fn first(&self) -> Option<&Request>
@@ -137,6 +145,31 @@ fn put_limit(requests: &[Request], tag: u16) -> Option<u32>
     None
 }
 
+/// Returns the place of the youngest request that concerns a file, if it serves for a write of it; `None` if not.
+#[tactic(auto, using(crate::proofs::QueueLaws::found_first))]
+fn shared_write(requests: &[Request], tag: u16, newest: u32) -> Option<usize>
+    ensures { result ≡ shared_write requests.now tag newest }
+{
+    let mut shared = None;
+    for (place, request) in requests.iter().enumerate() {
+        if concerns(&request.event, tag) {
+            shared = served_at(place, request, tag, newest);
+        }
+    }
+    shared
+}
+
+/// Returns the place if the request serves for a write of a file; `None` if not.
+fn served_at(place: usize, request: &Request, tag: u16, newest: u32) -> Option<usize>
+    ensures { result ≡ (if serves tag newest request.now then Some place else None) }
+{
+    if writes(&request.event, tag) && newest <= request.group {
+        Some(place)
+    } else {
+        None
+    }
+}
+
 /// Returns whether a request closes a file.
 fn is_closing(requests: &[Request], tag: u16) -> bool
     ensures { result ≡ is_closing requests.now tag }
@@ -180,6 +213,16 @@ fn closes(event: &UserEvent, tag: u16) -> bool
 {
     match event {
         UserEvent::Close(file) => *file == tag,
+        _ => false,
+    }
+}
+
+/// Returns whether an event writes a file.
+fn writes(event: &UserEvent, tag: u16) -> bool
+    ensures { result ≡ writes tag event.now }
+{
+    match event {
+        UserEvent::Write(file) => *file == tag,
         _ => false,
     }
 }

@@ -44,6 +44,16 @@ pub enum Put {
     Edit,
 }
 
+/// How a request was taken in.
+#[derive(Clone, Copy, Debug, PartialEq, Eq, Drop)]
+pub enum Asked {
+    /// It waits behind all others.
+    New,
+    /// `(place)`: it is a write, and one that waits will write the same text for it: that at this place among the requests that wait, the
+    /// oldest at 0.
+    Shares(usize),
+}
+
 /// What became of the oldest request as it was to act.
 #[derive(Clone, Copy, Debug, PartialEq, Eq, Drop)]
 pub enum Turn {

@@ -1,7 +1,7 @@
 //! Requests in one order with the edits, before a host whose answers come when a test says so: what a write saves, what a close refuses.
 use sam_endpoint::{HostEndpoint, TermStep};
 use sam_overlay::{
-    AskFault, MOST_WAITING_REQUESTS, OrderedOverlay, Put, ReplaceFault, Turn, is_request,
+    AskFault, Asked, MOST_WAITING_REQUESTS, OrderedOverlay, Put, ReplaceFault, Turn, is_request,
 };
 use sam_term::{Refusal, UserEvent};
 use sam_test_support::lent;
@@ -22,6 +22,7 @@ enum Wish {
     Load(u16),
     Write(u16),
     Close(u16),
+    Search(u16),
     Command,
     Leave,
 }
@@ -29,8 +30,10 @@ enum Wish {
 /// A call, or a look with its answer.
 #[derive(Clone, Copy)]
 enum Step<'a> {
-    /// A request is taken in.
+    /// A request is taken in behind the others.
     Ask(Wish),
+    /// A write shares the one that waits at this place.
+    Shares(Wish, usize),
     /// One is not, and this is why.
     Unasked(Wish, AskFault),
     /// So many requests are taken in.
@@ -71,12 +74,13 @@ fn event_of(wish: Wish) -> UserEvent {
         Wish::Load(tag) => UserEvent::Load(tag, 0, 5),
         Wish::Write(tag) => UserEvent::Write(tag),
         Wish::Close(tag) => UserEvent::Close(tag),
+        Wish::Search(tag) => UserEvent::Search(tag),
         Wish::Command => UserEvent::OpenCmd,
         Wish::Leave => UserEvent::Exit,
     }
 }
 
-fn ask(front: &mut OrderedOverlay, wish: Wish) -> Result<(), AskFault> {
+fn ask(front: &mut OrderedOverlay, wish: Wish) -> Result<Asked, AskFault> {
     let event = event_of(wish);
     if !is_request(&event) {
         return Err(AskFault::OutOfMemory);
@@ -86,7 +90,7 @@ fn ask(front: &mut OrderedOverlay, wish: Wish) -> Result<(), AskFault> {
 
 fn ask_many(front: &mut OrderedOverlay, wish: Wish, count: usize) -> bool {
     for _ in 0..count {
-        if ask(front, wish).is_err() {
+        if ask(front, wish) != Ok(Asked::New) {
             return false;
         }
     }
@@ -132,7 +136,8 @@ fn saved(host: &HostEndpoint, tag: u16) -> Option<usize> {
 fn is_right(sides: &mut Sides, step: Step<'_>) -> bool {
     let front = &mut sides.front;
     match step {
-        Step::Ask(wish) => ask(front, wish).is_ok(),
+        Step::Ask(wish) => ask(front, wish) == Ok(Asked::New),
+        Step::Shares(wish, place) => ask(front, wish) == Ok(Asked::Shares(place)),
         Step::Unasked(wish, why) => ask(front, wish) == Err(why),
         Step::AskMany(wish, count) => ask_many(front, wish, count),
         Step::Act(turn) => act(front, turn),
@@ -251,16 +256,68 @@ const WRITE_BEHIND_A_CLOSE: [Step<'_>; 12] = [
     Step::WasRefused(Refusal::NoFile),
 ];
 
-/// So many requests wait and not one more, and none is taken in while an edit has to act.
-const TOO_MANY: [Step<'_>; 9] = [
+/// Two writes of each file, with no edit of it between them, are one, and a third one behind an edit is not. The first ones save `hello!`.
+const WRITES_SHARE: [Step<'_>; 25] = [
+    Step::Do(Wish::Version),
+    Step::Do(Wish::Open(1)),
+    Step::Do(Wish::Open(2)),
+    Step::Ask(Wish::Load(1)),
+    Step::Act(Turn::Request),
+    Step::Replace(1, 5, 5, &['!']),
+    Step::Ask(Wish::Write(1)),
+    Step::Ask(Wish::Write(2)),
+    Step::Shares(Wish::Write(1), 0),
+    Step::Replace(1, 6, 6, &['?']),
+    Step::Shares(Wish::Write(2), 1),
+    Step::Ask(Wish::Write(1)),
+    Step::Shares(Wish::Write(1), 2),
+    Step::Waiting(3),
+    Step::Travel,
+    Step::Put(1, Put::Edit),
+    Step::Act(Turn::Request),
+    Step::Act(Turn::Request),
+    Step::Travel,
+    Step::Saved(1, 6),
+    Step::Put(1, Put::Edit),
+    Step::Act(Turn::Request),
+    Step::Travel,
+    Step::Saved(1, 7),
+    Step::Act(Turn::Nothing),
+];
+
+/// A write shares none that another request of its file, or a command line, stands behind; nor one that acted. It does share one if the
+/// edit behind that came to nothing.
+const WRITES_APART: [Step<'_>; 16] = [
+    Step::Do(Wish::Version),
+    Step::Do(Wish::Open(1)),
+    Step::Ask(Wish::Write(1)),
+    Step::Replace(1, 0, 0, &['a']),
+    Step::Replace(1, 0, 1, &[]),
+    Step::Shares(Wish::Write(1), 0),
+    Step::Ask(Wish::Search(1)),
+    Step::Ask(Wish::Write(1)),
+    Step::Ask(Wish::Command),
+    Step::Ask(Wish::Write(1)),
+    Step::Waiting(5),
+    Step::Act(Turn::Request),
+    Step::Shares(Wish::Write(1), 3),
+    Step::Replace(1, 1, 4, &[]),
+    Step::Ask(Wish::Write(1)),
+    Step::Waiting(5),
+];
+
+/// So many requests wait and not one more, and none is taken in while an edit has to act. A write that shares one is still taken.
+const TOO_MANY: [Step<'_>; 11] = [
     Step::Do(Wish::Version),
     Step::Do(Wish::Open(1)),
     Step::Replace(1, 0, 0, &['a']),
     Step::PutAlone(1),
     Step::Unasked(Wish::Write(1), AskFault::Waiting),
     Step::Put(1, Put::NotFree),
-    Step::AskMany(Wish::Write(1), MOST_WAITING_REQUESTS),
-    Step::Unasked(Wish::Write(1), AskFault::TooMany),
+    Step::Ask(Wish::Write(1)),
+    Step::AskMany(Wish::Search(2), MOST_WAITING_REQUESTS - 1),
+    Step::Unasked(Wish::Write(2), AskFault::TooMany),
+    Step::Shares(Wish::Write(1), 0),
     Step::Waiting(MOST_WAITING_REQUESTS),
 ];
 
@@ -271,6 +328,8 @@ fn requests_act_behind_edits(rt: HostRuntime) {
         TWO_FILES.as_slice(),
         CLOSE_AND_LEAVE.as_slice(),
         WRITE_BEHIND_A_CLOSE.as_slice(),
+        WRITES_SHARE.as_slice(),
+        WRITES_APART.as_slice(),
         TOO_MANY.as_slice(),
     ] {
         let wrong = match sides_of(rt.alloc()) {
